@@ -1,0 +1,3 @@
+-- Definitions of the type table.
+pub mod Table
+pub mod Reply

@@ -1,0 +1,18 @@
+-- What opening a table returns, and the number that document 01 gives to each refusal ("Returned by a call").
+use Prim.Native.Nat.{ℕ}
+use mathlib.Core.Bool.{cond}
+use mathlib.Core.List.{List}
+use Rattle.lattice.specs.declared.TableFault.{TableFault}
+use Rattle.lattice.specs.declared.TableFault.the-variants.{Size, Order, Bounds}
+use Rattle.lattice.specs.declared.Opened.{Opened}
+use Rattle.lattice.specs.declared.Opened.the-variants.{Accepted, Refused}
+use Rattle.lattice.specs.Table.{sized, ordered, bounded}
+
+abbrev pub tableNumber : TableFault → ℕ
+tableNumber Size = 1
+tableNumber Order = 2
+tableNumber Bounds = 3
+
+-- the checks in the order 1, 2, 3
+unfoldable pub opened : ℕ → List ℕ → Opened
+opened n t = cond (sized n t) (cond (ordered n t) (cond (bounded n t) Accepted (Refused Bounds)) (Refused Order)) (Refused Size)

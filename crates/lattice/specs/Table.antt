@@ -1,0 +1,127 @@
+-- The type table (document 01, "Type table"): the order that its bytes state, when it is an order with meets and joins,
+-- and when it admits differences. `t` is the list of the table's bytes and `n` the number of types. Everything here computes.
+use Prim.Native.Nat.{ℕ, zero, suc, _+_, _*_, _-_, _/_, _%_, _^_}
+use mathlib.Core.Bool.{Bool, true, false, cond, not, _&&_, _||_}
+use mathlib.Core.List.{List, [], _∷_, _++_, map}
+use mathlib.Core.Option.{Option, none, some}
+use lib.ListN.{length, getD, set}
+use lib.Dec.{leb, eqb}
+
+-- whether every number below n passes
+unfoldable pub every : ℕ → (ℕ → Bool) → Bool
+every zero p = true
+every (suc n) p = every n p && p n
+
+-- the greatest number below n that passes
+unfoldable pub last : ℕ → (ℕ → Bool) → Option ℕ
+last zero p = none
+last (suc n) p = cond (p n) (some n) (last n p)
+
+-- 0, 1, .., n - 1
+unfoldable pub upto : ℕ → List ℕ
+upto zero = []
+upto (suc n) = upto n ++ (n ∷ [])
+
+abbrev pub implies : Bool → Bool → Bool
+implies a b = not a || b
+
+-- "Row i is 8 bytes; bit j of the row (bit j mod 8 of byte j div 8) stands when type j is below or equal to type i"
+unfoldable pub below : List ℕ → ℕ → ℕ → Bool
+below t j i = eqb ((getD t (8 * i + j / 8) 0 / 2 ^ (j % 8)) % 2) 1
+
+abbrev pub found : Option ℕ → Bool
+found none = false
+found (some c) = true
+
+-- the bound was found and is below p
+abbrev pub foundBelow : List ℕ → ℕ → Option ℕ → Bool
+foundBelow t p none = false
+foundBelow t p (some c) = below t c p
+
+-- "A table has n types, 2 to 64, and 8 × n bytes"; else 1
+unfoldable pub sized : ℕ → List ℕ → Bool
+sized n t = leb 2 n && leb n 64 && eqb (length t) (8 * n)
+
+module _ (n : ℕ) (t : List ℕ) where
+  -- no bit at n or above
+  unfoldable pub within : Bool
+  within = every n λ i. every 64 λ j. implies (below t j i) (leb (suc j) n)
+
+  -- "The rows must be an order"
+  unfoldable pub reflexive : Bool
+  reflexive = every n λ i. below t i i
+
+  unfoldable pub antisymmetric : Bool
+  antisymmetric = every n λ i. every n λ j. implies (below t i j && below t j i) (eqb i j)
+
+  unfoldable pub transitive : Bool
+  transitive = every n λ i. every n λ j. every n λ k. implies (below t i j && below t j k) (below t i k)
+
+  -- "Type 0 is the contradiction and the least"
+  unfoldable pub least : Bool
+  least = every n λ i. below t 0 i
+
+  -- "type n−1 says nothing and is the greatest, here called top"
+  unfoldable pub greatest : Bool
+  greatest = every n λ i. below t i (n - 1)
+
+  -- the tests of refusal 2
+  unfoldable pub ordered : Bool
+  ordered = within && reflexive && antisymmetric && transitive && least && greatest
+
+  -- c is below a and below b, and every such type is below c: the greatest lower bound
+  unfoldable pub isMeet : ℕ → ℕ → ℕ → Bool
+  isMeet a b c = below t c a && below t c b && every n λ d. implies (below t d a && below t d b) (below t d c)
+
+  -- c is above a and above b, and every such type is above c: the least upper bound
+  unfoldable pub isJoin : ℕ → ℕ → ℕ → Bool
+  isJoin a b c = below t a c && below t b c && every n λ d. implies (below t a d && below t b d) (below t c d)
+
+  unfoldable pub meet : ℕ → ℕ → Option ℕ
+  meet a b = last n (isMeet a b)
+
+  unfoldable pub join : ℕ → ℕ → Option ℕ
+  join a b = last n (isJoin a b)
+
+  -- "every two types must have a meet (greatest lower bound) and a join (least upper bound)"; else 3
+  unfoldable pub bounded : Bool
+  bounded = every n λ a. every n λ b. found (meet a b) && found (join a b)
+
+  -- "A table is accepted when none of 1 to 3 applies to it"
+  unfoldable pub accepted : Bool
+  accepted = sized n t && ordered && bounded
+
+  -- the meet of c and q is below p
+  unfoldable pub meetBelow : ℕ → ℕ → ℕ → Bool
+  meetBelow p q c = foundBelow t p (meet c q)
+
+  -- c is the greatest type whose meet with q is below p
+  unfoldable pub isResidual : ℕ → ℕ → ℕ → Bool
+  isResidual p q c = meetBelow p q c && every n λ d. implies (meetBelow p q d) (below t d c)
+
+  -- the wanted type (document 01): the relative pseudo-complement of q with respect to p
+  unfoldable pub residual : ℕ → ℕ → Option ℕ
+  residual p q = last n (isResidual p q)
+
+  -- "A table admits differences when for all types p, q there is a greatest type c whose meet with q is below or equal to p"
+  unfoldable pub admits : Bool
+  admits = every n λ p. every n λ q. found (residual p q)
+
+-- the number in a cell of the two tables: a type, or 64, which is none, where there is no bound
+abbrev pub cell : Option ℕ → ℕ
+cell none = 64
+cell (some c) = c
+
+-- row a of a table of bounds: 64 numbers, those at types below n the bounds, the others 0
+unfoldable pub boundRow : ℕ → (ℕ → ℕ → Option ℕ) → ℕ → List ℕ
+boundRow n bound a = map (λ b. cond (leb (suc b) n) (cell (bound a b)) 0) (upto 64)
+
+-- rows 0 to n - 1 overwritten, the others as they were
+unfoldable pub overwrite : ℕ → (ℕ → List ℕ) → List (List ℕ) → List (List ℕ)
+overwrite zero row rows = rows
+overwrite (suc k) row rows = set (overwrite k row rows) k (row k)
+
+-- "Meets and joins stand in two tables of 64 rows by 64 entries once a table is accepted": what a lent table holds
+-- after opening. It is filled once 1 and 2 do not apply, and unchanged otherwise.
+unfoldable pub filled : ℕ → List ℕ → (ℕ → ℕ → Option ℕ) → List (List ℕ) → List (List ℕ)
+filled n t bound rows = cond (sized n t && ordered n t) (overwrite n (boundRow n bound) rows) rows
