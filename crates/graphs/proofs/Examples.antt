@@ -1,0 +1,55 @@
+-- Document 01's cases 1 to 6, computed by the definitions over the diamond.
+use mathlib.Core.Path.{_≡_, refl}
+use mathlib.Core.List.{List, [], _∷_}
+use Prim.Native.Nat.{ℕ}
+use Rattle.graphs.specs.Rows.{from, target, linksOf}
+use Rattle.graphs.specs.Number.{written, canonical, visit, each, member, indexOf, outDegree, linkCount, rowOf}
+use Rattle.graphs.specs.Generalize.{generalization}
+use Rattle.graphs.specs.Unify.{
+  unification,
+  classGraph,
+  className,
+  hasCycle,
+  hasClash,
+  firstOf,
+  anyOf,
+  deep,
+  merge,
+  apart,
+  unsettled,
+  close,
+  classLink,
+  classLabel,
+}
+use Rattle.graphs.specs.Small.{Diamond, a, b, top, leaf, P, Q, R, commonPart, combination, loops, clashes, gives}
+
+-- 1. Common part of a[0: b] and b: a lone top.
+case-1 : commonPart ((a, (0, 1) ∷ []) ∷ leaf b ∷ []) (leaf b ∷ []) ≡ written (leaf top ∷ [])
+unfolding canonical visit each member from linkCount outDegree rowOf linksOf indexOf target generalization
+case-1 = refl
+
+-- 2. Combine a with b: a clash.
+case-2 : combination (leaf a ∷ []) (leaf b ∷ []) (0 ∷ []) (0 ∷ []) ≡ clashes
+unfolding canonical visit each member from linkCount outDegree rowOf linksOf indexOf target unification classGraph className hasCycle hasClash firstOf anyOf deep merge apart unsettled close classLink classLabel
+case-2 = refl
+
+-- 3. Combine P with top[0: a, 1: top]: R.
+case-3 : combination P ((top, (0, 1) ∷ (1, 2) ∷ []) ∷ leaf a ∷ leaf top ∷ []) (0 ∷ 1 ∷ []) (0 ∷ 1 ∷ 2 ∷ []) ≡ gives (written R)
+unfolding canonical visit each member from linkCount outDegree rowOf linksOf indexOf target unification classGraph className hasCycle hasClash firstOf anyOf deep merge apart unsettled close classLink classLabel
+case-3 = refl
+
+-- 4. Combine P with top[0: a, 1: b]: a clash.
+case-4 : combination P ((top, (0, 1) ∷ (1, 2) ∷ []) ∷ leaf a ∷ leaf b ∷ []) (0 ∷ 1 ∷ []) (0 ∷ 1 ∷ 2 ∷ []) ≡ clashes
+unfolding canonical visit each member from linkCount outDegree rowOf linksOf indexOf target unification classGraph className hasCycle hasClash firstOf anyOf deep merge apart unsettled close classLink classLabel
+case-4 = refl
+
+-- 5. Combine P with top[0: Z a, 1: b[0: Z]]: a cycle, though a and b clash too.
+case-5 :
+    combination P ((top, (0, 1) ∷ (1, 2) ∷ []) ∷ leaf a ∷ (b, (0, 1) ∷ []) ∷ []) (0 ∷ 1 ∷ []) (0 ∷ 1 ∷ 2 ∷ []) ≡ loops
+unfolding canonical visit each member from linkCount outDegree rowOf linksOf indexOf target unification classGraph className hasCycle hasClash firstOf anyOf deep merge apart unsettled close classLink classLabel
+case-5 = refl
+
+-- 6. Common part of P and Q: Q.
+case-6 : commonPart P Q ≡ written Q
+unfolding canonical visit each member from linkCount outDegree rowOf linksOf indexOf target generalization
+case-6 = refl

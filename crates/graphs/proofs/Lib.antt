@@ -1,0 +1,3 @@
+-- Theorems about typed feature graphs.
+pub mod Examples
+pub mod Walk

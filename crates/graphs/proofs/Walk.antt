@@ -1,0 +1,62 @@
+-- Laws of walks: along an append, one feature more at the end, and what is reached.
+use mathlib.Core.Path.{_≡_, refl, sym, _∙_, ap}
+use mathlib.Core.List.{List, [], _∷_, _++_, append-nil, append-assoc}
+use mathlib.Core.Option.{Option, none, some}
+use Prim.Native.Nat.{ℕ}
+use native.Mathlib.Omega.{arith}
+use Rattle.graphs.specs.Graph.{Graph, step, follow, walk, Reached, Corefer}
+
+pub some-injective : {A : Type 0} {v w : A} → _≡_ {A = Option A} (some v) (some w) → v ≡ w
+some-injective e = cc
+
+pub none-some : {A : Type 0} {v : A} {C : Type 0} → _≡_ {A = Option A} none (some v) → C
+none-some e = let z : _≡_ {A = ℕ} 0 1 = cc in absurd (omega arith)
+
+-- Induction over a list from its end.
+pub snoc-induction :
+    (P : List ℕ → Type 0) → P [] → ((p : List ℕ) (f : ℕ) → P p → P (p ++ (f ∷ []))) → (p : List ℕ) → P p
+snoc-induction P base more p = go [] p base
+  where
+    go : (q p : List ℕ) → P q → P (q ++ p)
+    go q [] h = rw append-nil h
+    go q (f ∷ p) h = rw append-assoc at (go (q ++ (f ∷ [])) p (more q f h))
+
+module _ {A : Type 0} (link : A → ℕ → Option A) where
+  pub follow-none : (p : List ℕ) → follow link none p ≡ none
+  unfolding follow
+  follow-none [] = refl
+  follow-none (f ∷ p) = follow-none p
+
+  pub follow-append : (o : Option A) (p q : List ℕ) → follow link o (p ++ q) ≡ follow link (follow link o p) q
+  unfolding follow
+  follow-append o [] q = refl
+  follow-append o (f ∷ p) q = follow-append (step link o f) p q
+
+  pub follow-nil : (o : Option A) → follow link o [] ≡ o
+  unfolding follow
+  follow-nil o = refl
+
+  pub follow-cons : (o : Option A) (f : ℕ) (p : List ℕ) → follow link o (f ∷ p) ≡ follow link (step link o f) p
+  unfolding follow
+  follow-cons o f p = refl
+
+  pub follow-snoc : (o : Option A) (p : List ℕ) (f : ℕ) → follow link o (p ++ (f ∷ [])) ≡ step link (follow link o p) f
+  unfolding follow
+  follow-snoc o p f = follow-append o p (f ∷ [])
+
+  -- where a walk of one feature more stands, its last node stood before
+  pub follow-last : (o : Option A) (p : List ℕ) (f : ℕ) (w : A) → follow link o (p ++ (f ∷ [])) ≡ some w →
+      (v : A) × (follow link o p ≡ some v) × (link v f ≡ some w)
+  follow-last o p f w e = go (follow link o p) refl (sym (follow-snoc o p f) ∙ e)
+    where
+      go : (x : Option A) → follow link o p ≡ x → step link (follow link o p) f ≡ some w →
+          (v : A) × (follow link o p ≡ some v) × (link v f ≡ some w)
+      go none h e = none-some (sym (ap (λ x. step link x f) h) ∙ e)
+      go (some v) h e = (v, h, sym (ap (λ x. step link x f) h) ∙ e)
+
+pub reached-root : {L A : Type 0} (g : Graph L A) → Reached g (g .root)
+unfolding follow
+reached-root g = ([], refl)
+
+pub reached-link : {L A : Type 0} (g : Graph L A) {v w : A} (f : ℕ) → Reached g v → g .link v f ≡ some w → Reached g w
+reached-link g f r e = (r .0 ++ (f ∷ []), follow-snoc (g .link) (some (g .root)) (r .0) f ∙ ap (λ x. step (g .link) x f) (r .1) ∙ e)

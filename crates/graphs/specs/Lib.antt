@@ -1,0 +1,8 @@
+-- Definitions of typed feature graphs, over any lattice of labels.
+pub mod Label
+pub mod Graph
+pub mod Rows
+pub mod Number
+pub mod Generalize
+pub mod Unify
+pub mod Small

@@ -1,0 +1,169 @@
+-- Unification, document 01's combination (001, the closure): over paths, and computed on the nodes of both graphs.
+use mathlib.Core.Path.{_≡_}
+use mathlib.Core.Bool.{Bool, true, false, cond, _||_}
+use mathlib.Core.List.{List, [], _∷_, _++_, map, foldr}
+use mathlib.Core.Logic.{_↔_, _⊎_, inl, inr}
+use mathlib.Core.Option.{Option, none, some}
+use Prim.Native.Nat.{ℕ, zero, suc, _+_}
+use lib.ListN.{length}
+use Rattle.graphs.specs.Label.{Labels}
+use Rattle.graphs.specs.Graph.{Graph, onward, orElse, walk, Corefer}
+use Rattle.graphs.specs.Generalize.{both}
+use Rattle.graphs.specs.Rows.{features}
+
+module _ {L A B : Type 0} (g : Graph L A) (h : Graph L B) where
+  -- "Sharing is the smallest equivalence that holds both graphs' sharing and passes down equal features." A path of the
+  -- unification is one that is joined to itself.
+  pub data Joined : List ℕ → List ℕ → Type 0 where
+    left : {p q : List ℕ} → Corefer g p q → Joined p q
+    right : {p q : List ℕ} → Corefer h p q → Joined p q
+    flip : {p q : List ℕ} → Joined p q → Joined q p
+    chain : {p q r : List ℕ} → Joined p q → Joined q r → Joined p r
+    down : {p q : List ℕ} (f : ℕ) → Joined p q → Joined (p ++ (f ∷ [])) (p ++ (f ∷ [])) → Joined (p ++ (f ∷ [])) (q ++ (f ∷ []))
+
+module _ (𝓛 : Labels) {A B : Type 0} (g : Graph (𝓛 .L) A) (h : Graph (𝓛 .L) B) where
+  -- a lies below every label in the class of the path p
+  pub record UnderClass (p : List ℕ) (a : 𝓛 .L) : Type 0 where
+    pub first : (q : List ℕ) (v : A) → Joined g h p q → walk g q ≡ some v → 𝓛 .le a (g .label v) ≡ true
+    pub second : (q : List ℕ) (w : B) → Joined g h p q → walk h q ≡ some w → 𝓛 .le a (h .label w) ≡ true
+
+  -- "A class has the meet of all types in it."
+  pub record ClassMeet (p : List ℕ) (a : 𝓛 .L) : Type 0 where
+    pub under : UnderClass p a
+    pub greatest : (b : 𝓛 .L) → UnderClass p b → 𝓛 .le b a ≡ true
+
+  -- "A loop is a class that reaches itself."
+  abbrev pub Cycle : Type 0
+  Cycle = (p : List ℕ) × (f : ℕ) × (r : List ℕ) × Joined g h p (p ++ f ∷ r)
+
+  -- "A clash is a class whose meet is type 0."
+  abbrev pub Clash : Type 0
+  Clash = (p : List ℕ) × (a : 𝓛 .L) × Joined g h p p × ClassMeet p a × (𝓛 .contradiction a ≡ true)
+
+  -- The unification: its paths, coreference and labels are those of the classes.
+  pub record IsUnification {C : Type 0} (u : Graph (𝓛 .L) C) : Type 0 where
+    pub corefers : (p q : List ℕ) → Corefer u p q ↔ Joined g h p q
+    pub labels : (p : List ℕ) (x : C) → walk u p ≡ some x → ClassMeet p (u .label x)
+
+-- What follows computes a unification on the nodes of both graphs.
+
+-- the graphs side by side
+abbrev pub beside : {A B : Type 0} → (A → ℕ → Option A) → (B → ℕ → Option B) → A ⊎ B → ℕ → Option (A ⊎ B)
+beside l m (inl v) f = onward inl (l v f)
+beside l m (inr v) f = onward inr (m v f)
+
+abbrev pub labelBeside : {L A B : Type 0} → (A → L) → (B → L) → A ⊎ B → L
+labelBeside l m (inl v) = l v
+labelBeside l m (inr v) = m v
+
+abbrev pub sameBeside : {A B : Type 0} → (A → A → Bool) → (B → B → Bool) → A ⊎ B → A ⊎ B → Bool
+sameBeside s t (inl v) (inl w) = s v w
+sameBeside s t (inl v) (inr w) = false
+sameBeside s t (inr v) (inl w) = false
+sameBeside s t (inr v) (inr w) = t v w
+
+-- the first that is found along a list
+unfoldable pub firstOf : {X Y : Type 0} → List X → (X → Option Y) → Option Y
+firstOf [] find = none
+firstOf (x ∷ xs) find = orElse (find x) (firstOf xs find)
+
+unfoldable pub anyOf : {X : Type 0} → List X → (X → Bool) → Bool
+anyOf [] test = false
+anyOf (x ∷ xs) test = test x || anyOf xs test
+
+abbrev pub holds : {X : Type 0} → (X → Bool) → Option X → Bool
+holds test none = false
+holds test (some x) = test x
+
+-- whether a walk of k links starts at v
+unfoldable pub deep : {N : Type 0} → (N → ℕ → Option N) → ℕ → N → Bool
+deep link zero v = true
+deep link (suc k) v = anyOf features λ f. holds (deep link k) (link v f)
+
+-- Classes of nodes, each named by one of its nodes: `name x` names the class of x. `same` tells nodes apart, `nodes` lists them all.
+module _ {N : Type 0} (same : N → N → Bool) where
+  -- the class of x joined to that of y
+  unfoldable pub merge : (N → N) → N → N → N → N
+  merge name x y =
+      let a = name x in
+      let b = name y in
+      λ z. let c = name z in cond (same c a) b c
+
+  -- both targets, where they are there and lie in different classes
+  unfoldable pub apart : (N → N) → Option (N × N) → Option (N × N)
+  apart name none = none
+  apart name (some xy) = cond (same (name (xy .0)) (name (xy .1))) none (some xy)
+
+  abbrev pub settle : (N → N) → Option (N × N) → N → N
+  settle name none = name
+  settle name (some xy) = merge name (xy .0) (xy .1)
+
+module _ {N : Type 0} (same : N → N → Bool) (link : N → ℕ → Option N) (nodes : List N) where
+  -- two nodes that equal features of one class lead to, and that lie in different classes
+  unfoldable pub unsettled : (N → N) → Option (N × N)
+  unsettled name =
+      firstOf nodes λ x.
+      firstOf nodes λ y.
+      cond (same (name x) (name y)) (firstOf features λ f. apart same name (both (link x f) (link y f))) none
+
+  -- merges passed down equal features, at most k times
+  unfoldable pub close : ℕ → (N → N) → N → N
+  close zero name = name
+  close (suc k) name = close k (settle same name (unsettled name))
+
+  -- the target of a class: that of any of its nodes
+  unfoldable pub classLink : (N → N) → N → ℕ → Option N
+  classLink name c f = firstOf nodes λ x. cond (same (name x) c) (onward name (link x f)) none
+
+-- "a class has the meet of all types in it"
+unfoldable pub classLabel : (𝓛 : Labels) {N : Type 0} → (N → N → Bool) → List N → (N → 𝓛 .L) → (N → N) → N → 𝓛 .L
+classLabel 𝓛 same nodes label name c =
+    foldr (λ x a. cond (same (name x) c) (𝓛 .meet (label x) a) a) (𝓛 .top) nodes
+
+-- What unification gives: a loop; a clash, and no loop; or a graph.
+pub data Unified (L N : Type 0) : Type 0 where
+  cycle : Unified L N
+  clash : Unified L N
+  unified : Graph L N → Unified L N
+
+-- both graphs' nodes
+abbrev pub nodesBeside : {A B : Type 0} → List A → List B → List (A ⊎ B)
+nodesBeside gs hs = map inl gs ++ map inr hs
+
+module _ {A B : Type 0} (sameA : A → A → Bool) (sameB : B → B → Bool) {L : Type 0} where
+  -- the classes of the nodes of both graphs, which the two lists give: the roots joined, and what follows from that
+  unfoldable pub className : Graph L A → List A → Graph L B → List B → A ⊎ B → A ⊎ B
+  className g gs h hs =
+      let same = sameBeside sameA sameB in
+      let nodes = nodesBeside gs hs in
+      close same (beside (g .link) (h .link)) nodes (length nodes) (merge same (λ x. x) (inl (g .root)) (inr (h .root)))
+
+module _ (𝓛 : Labels) {A B : Type 0} (sameA : A → A → Bool) (sameB : B → B → Bool) where
+  -- the graph of the classes
+  unfoldable pub classGraph : Graph (𝓛 .L) A → List A → Graph (𝓛 .L) B → List B → Graph (𝓛 .L) (A ⊎ B)
+  classGraph g gs h hs =
+      let same = sameBeside sameA sameB in
+      let nodes = nodesBeside gs hs in
+      let name = className sameA sameB g gs h hs in
+      record {
+        root = name (inl (g .root));
+        label = classLabel 𝓛 same nodes (labelBeside (g .label) (h .label)) name;
+        link = classLink same (beside (g .link) (h .link)) nodes name;
+      }
+
+  -- whether a class reaches itself: a walk of as many links as there are nodes
+  unfoldable pub hasCycle : Graph (𝓛 .L) A → List A → Graph (𝓛 .L) B → List B → Bool
+  hasCycle g gs h hs =
+      let u = classGraph g gs h hs in
+      deep (u .link) (length gs + length hs) (u .root)
+
+  -- whether the meet of a class is the contradiction
+  unfoldable pub hasClash : Graph (𝓛 .L) A → List A → Graph (𝓛 .L) B → List B → Bool
+  hasClash g gs h hs =
+      let u = classGraph g gs h hs in
+      let name = className sameA sameB g gs h hs in
+      anyOf (nodesBeside gs hs) λ x. 𝓛 .contradiction (u .label (name x))
+
+  unfoldable pub unification : Graph (𝓛 .L) A → List A → Graph (𝓛 .L) B → List B → Unified (𝓛 .L) (A ⊎ B)
+  unification g gs h hs =
+      cond (hasCycle g gs h hs) cycle (cond (hasClash g gs h hs) clash (unified (classGraph g gs h hs)))
