@@ -21,7 +21,8 @@ use Rattle.graphs.specs.Unify.{
   classLink,
   classLabel,
 }
-use Rattle.graphs.specs.Small.{Diamond, a, b, top, leaf, P, Q, R, commonPart, combination, loops, clashes, gives}
+use Rattle.graphs.specs.Difference.{difference, keptLink, keeps, keptItself, lead, leaders, groupOf, spread, touch, bare, covers, incoming, select, linksFrom, leastOf, meetOver, meetWhere, byNumber}
+use Rattle.graphs.specs.Small.{Diamond, a, b, top, leaf, P, Q, R, commonPart, combination, differenceOf, loops, clashes, gives}
 
 -- 1. Common part of a[0: b] and b: a lone top.
 case-1 : commonPart ((a, (0, 1) ∷ []) ∷ leaf b ∷ []) (leaf b ∷ []) ≡ written (leaf top ∷ [])
@@ -53,3 +54,30 @@ case-5 = refl
 case-6 : commonPart P Q ≡ written Q
 unfolding canonical visit each member from linkCount outDegree rowOf linksOf indexOf target generalization
 case-6 = refl
+
+-- 7. Difference of g = P, s = R: top[0: a].
+case-7 : differenceOf P (0 ∷ 1 ∷ []) R (0 ∷ 1 ∷ []) (0 ∷ 1 ∷ []) ≡ written ((top, (0, 1) ∷ []) ∷ leaf a ∷ [])
+unfolding canonical visit each member from linkCount outDegree rowOf linksOf indexOf target anyOf difference keptLink keeps keptItself lead leaders groupOf spread touch bare covers incoming select linksFrom leastOf meetOver meetWhere byNumber
+case-7 = refl
+
+-- 8. Difference of g = Q, s = R: R.
+case-8 : differenceOf Q (0 ∷ 1 ∷ 2 ∷ []) R (0 ∷ 1 ∷ []) (0 ∷ 1 ∷ 1 ∷ []) ≡ written R
+unfolding canonical visit each member from linkCount outDegree rowOf linksOf indexOf target anyOf difference keptLink keeps keptItself lead leaders groupOf spread touch bare covers incoming select linksFrom leastOf meetOver meetWhere byNumber
+case-8 = refl
+
+-- 9. Difference of a graph from itself: a lone top.
+case-9 : differenceOf R (0 ∷ 1 ∷ []) R (0 ∷ 1 ∷ []) (0 ∷ 1 ∷ []) ≡ written (leaf top ∷ [])
+unfolding canonical visit each member from linkCount outDegree rowOf linksOf indexOf target anyOf difference keptLink keeps keptItself lead leaders groupOf spread touch bare covers incoming select linksFrom leastOf meetOver meetWhere byNumber
+case-9 = refl
+
+-- 11. s = top[0: X top, 1: X, 2: X]; g the same with 0 and 1 shared, 2 apart, all top: top[0: X top, 2: X].
+case-11 :
+    differenceOf
+    ((top, (0, 1) ∷ (1, 1) ∷ (2, 2) ∷ []) ∷ leaf top ∷ leaf top ∷ [])
+    (0 ∷ 1 ∷ 2 ∷ [])
+    ((top, (0, 1) ∷ (1, 1) ∷ (2, 1) ∷ []) ∷ leaf top ∷ [])
+    (0 ∷ 1 ∷ [])
+    (0 ∷ 1 ∷ 1 ∷ [])
+    ≡ written ((top, (0, 1) ∷ (2, 1) ∷ []) ∷ leaf top ∷ [])
+unfolding canonical visit each member from linkCount outDegree rowOf linksOf indexOf target anyOf difference keptLink keeps keptItself lead leaders groupOf spread touch bare covers incoming select linksFrom leastOf meetOver meetWhere byNumber
+case-11 = refl

@@ -5,4 +5,5 @@ pub mod Rows
 pub mod Number
 pub mod Generalize
 pub mod Unify
+pub mod Difference
 pub mod Small

@@ -1,37 +1,16 @@
 -- Document 01's small graphs over the diamond, and what the definitions compute on some of its cases.
-use mathlib.Core.Path.{_≡_, refl}
-use mathlib.Core.Bool.{Bool, true, false, cond, _&&_, _||_}
+use mathlib.Core.Bool.{Bool, true, false, _&&_}
 use mathlib.Core.List.{List, [], _∷_}
-use mathlib.Core.Logic.{_⊎_, inl, inr}
-use mathlib.Core.Option.{Option, none, some}
+use mathlib.Core.Logic.{_⊎_}
 use Prim.Native.Nat.{ℕ}
 use lib.Dec.{eqb}
+use lib.ListN.{getD}
 use Rattle.graphs.specs.Label.{Labels}
-use Rattle.graphs.specs.Graph.{Graph}
-use Rattle.graphs.specs.Rows.{Row, graphOf, from, target, linksOf}
-use Rattle.graphs.specs.Number.{Canonical, manyNodes, manyLinks, written, canonical, visit, each, member, indexOf, outDegree, linkCount, rowOf}
+use Rattle.graphs.specs.Rows.{Row, graphOf}
+use Rattle.graphs.specs.Number.{Canonical, canonical}
 use Rattle.graphs.specs.Generalize.{generalization}
-use Rattle.graphs.specs.Unify.{
-  Unified,
-  cycle,
-  clash,
-  unified,
-  unification,
-  classGraph,
-  className,
-  hasCycle,
-  hasClash,
-  sameBeside,
-  firstOf,
-  anyOf,
-  deep,
-  merge,
-  apart,
-  unsettled,
-  close,
-  classLink,
-  classLabel,
-}
+use Rattle.graphs.specs.Difference.{difference, meetOver, byNumber}
+use Rattle.graphs.specs.Unify.{Unified, cycle, clash, unified, unification, sameBeside}
 
 -- "The diamond used below: n = 4 .. Types 1 and 2 are called a and b; 3 is top."
 pub data Diamond : Type 0 where
@@ -119,3 +98,23 @@ combined (unified u) = gives (canonical (sameBeside eqb eqb) u)
 
 abbrev pub combination : List (Row Diamond) → List (Row Diamond) → List ℕ → List ℕ → Combined
 combination g h gs hs = combined (unification diamond eqb eqb (graphOf top g) gs (graphOf top h) hs)
+
+-- the greatest c whose meet with q is p, for p below q
+abbrev pub residualD : Diamond → Diamond → Diamond
+residualD top p = p
+residualD a least = b
+residualD a a = top
+residualD a b = top
+residualD a top = top
+residualD b least = a
+residualD b a = top
+residualD b b = top
+residualD b top = top
+residualD least p = top
+
+-- the written form of the difference of g and s; `over` lists the nodes of s under those of g
+abbrev pub differenceOf : List (Row Diamond) → List ℕ → List (Row Diamond) → List ℕ → List ℕ → Canonical Diamond
+differenceOf g gs s ss over =
+    canonical eqb
+    (difference diamond eqb eqb byNumber (graphOf top s) ss (graphOf top g) gs (λ y. getD over y 0)
+    (λ v. residualD (meetOver diamond eqb (graphOf top g) gs (λ y. getD over y 0) v) (graphOf top s .label v)))
