@@ -1,6 +1,7 @@
 -- Definitions of typed feature graphs, over any lattice of labels.
 pub mod Label
 pub mod Graph
+pub mod Map
 pub mod Rows
 pub mod Number
 pub mod Generalize
