@@ -52,7 +52,7 @@ module _ {A : Type 0} (same : A → A → Bool) (link : A → ℕ → Option A) 
   -- nodes numbered so far, the last first, once v is visited. A 256th node gives none. The first argument is one more than
   -- the number of links that may still be followed down.
   unfoldable pub visit : ℕ → A → List A → Option (List A)
-  visit zero v seen = cond (member same v seen) (some seen) none
+  visit zero v seen = otherwise (member same v seen) (some seen) λ _. none
   visit (suc d) v seen =
       otherwise (member same v seen) (some seen)
       λ _. otherwise (leb 255 (length seen)) none λ _. each link (visit d) v features (v ∷ seen)
