@@ -1,5 +1,11 @@
 -- Theorems about typed feature graphs.
-pub mod Examples
 pub mod Walk
+pub mod Distinct
+pub mod Below
+pub mod Finite
+pub mod Product
 pub mod Bisimilar
 pub mod Invariant
+pub mod Visited
+pub mod Canonical
+pub mod Examples

@@ -4,13 +4,23 @@ use mathlib.Core.List.{List, [], _∷_, _++_, append-nil, append-assoc}
 use mathlib.Core.Option.{Option, none, some}
 use Prim.Native.Nat.{ℕ}
 use native.Mathlib.Omega.{arith}
-use Rattle.graphs.specs.Graph.{Graph, step, follow, walk, Reached, Corefer}
+use Rattle.graphs.specs.Graph.{Graph, onward, step, follow, walk, Reached}
 
 pub some-injective : {A : Type 0} {v w : A} → _≡_ {A = Option A} (some v) (some w) → v ≡ w
 some-injective e = cc
 
 pub none-some : {A : Type 0} {v : A} {C : Type 0} → _≡_ {A = Option A} none (some v) → C
 none-some e = let z : _≡_ {A = ℕ} 0 1 = cc in absurd (omega arith)
+
+-- what may be missing is one thing
+pub some-unique : {A : Type 0} {o : Option A} {v w : A} → o ≡ some v → o ≡ some w → v ≡ w
+some-unique d e = some-injective (sym d ∙ e)
+
+-- what a function makes something of was something
+pub onward-some : {X Y : Type 0} (f : X → Y) (o : Option X) {y : Y} → onward f o ≡ some y →
+    (x : X) × (o ≡ some x) × (f x ≡ y)
+onward-some f none e = none-some e
+onward-some f (some x) e = (x, refl, some-injective e)
 
 -- Induction over a list from its end.
 pub snoc-induction :
@@ -26,6 +36,11 @@ module _ {A : Type 0} (link : A → ℕ → Option A) where
   unfolding follow
   follow-none [] = refl
   follow-none (f ∷ p) = follow-none p
+
+  -- a walk that ends somewhere begins somewhere
+  pub follow-start : (o : Option A) (p : List ℕ) (x : A) → follow link o p ≡ some x → (v : A) × (o ≡ some v)
+  follow-start none p x e = none-some (sym (follow-none p) ∙ e)
+  follow-start (some v) p x e = (v, refl)
 
   pub follow-append : (o : Option A) (p q : List ℕ) → follow link o (p ++ q) ≡ follow link (follow link o p) q
   unfolding follow
@@ -58,5 +73,15 @@ pub reached-root : {L A : Type 0} (g : Graph L A) → Reached g (g .root)
 unfolding follow
 reached-root g = ([], refl)
 
+-- a walk goes on from where it stands
+pub walk-append : {L A : Type 0} (g : Graph L A) {v : A} (p q : List ℕ) → walk g p ≡ some v →
+    walk g (p ++ q) ≡ follow (g .link) (some v) q
+walk-append g p q e = follow-append (g .link) (some (g .root)) p q ∙ ap (λ x. follow (g .link) x q) e
+
+pub walk-snoc : {L A : Type 0} (g : Graph L A) {v : A} (p : List ℕ) (f : ℕ) → walk g p ≡ some v →
+    walk g (p ++ (f ∷ [])) ≡ g .link v f
+unfolding follow
+walk-snoc g p f e = walk-append g p (f ∷ []) e
+
 pub reached-link : {L A : Type 0} (g : Graph L A) {v w : A} (f : ℕ) → Reached g v → g .link v f ≡ some w → Reached g w
-reached-link g f r e = (r .0 ++ (f ∷ []), follow-snoc (g .link) (some (g .root)) (r .0) f ∙ ap (λ x. step (g .link) x f) (r .1) ∙ e)
+reached-link g f r l = (r .0 ++ (f ∷ []), walk-snoc g (r .0) f (r .1) ∙ l)

@@ -2,6 +2,7 @@
 pub mod Label
 pub mod Graph
 pub mod Map
+pub mod Bounds
 pub mod Rows
 pub mod Number
 pub mod Generalize

@@ -1,0 +1,199 @@
+-- Finite graphs. A walk in a graph without cycles is shorter than any list of its nodes; and where all walks are shorter than
+-- some number, the walks by the features 0 to 63 list the nodes that are reached. So what lies above a graph of any size is
+-- one too: its paths are among those of the graph below. No test of equality is asked for.
+use mathlib.Core.Path.{_≡_, refl, sym, _∙_, ap}
+use mathlib.Core.Bool.{Bool, true, false, true≢false}
+use mathlib.Core.List.{
+  List,
+  [],
+  _∷_,
+  _++_,
+  flatMap,
+  List·Memᴰ,
+  List·Memᴰ·head,
+  List·Memᴰ·tail,
+  List·Memᴰ·not-nil,
+  List·Memᴰ·cases-cons,
+  List·Memᴰ·append-cases,
+  Memᴰ·append-left,
+  Memᴰ·append-right,
+}
+use mathlib.Core.Logic.{_↔_, _⊎_, inl, inr, ⊎-elim}
+use mathlib.Core.Option.{Option, none, some}
+use Prim.Native.Nat.{ℕ, zero, suc, _+_, _<_, _≤_}
+use native.Mathlib.Decide.{ℕ-discrete}
+use native.Mathlib.Omega.{arith}
+use lib.ListN.{length}
+use Rattle.graphs.specs.Label.{Labels, Lattice}
+use Rattle.graphs.specs.Graph.{Graph, Below, SameMeaning, AnySize, walk, follow, Reached}
+use Rattle.graphs.specs.Rows.{from, features}
+use Rattle.graphs.proofs.Walk.{some-injective, none-some, follow-none, follow-start, follow-last, walk-append, walk-snoc}
+use Rattle.graphs.proofs.Below.{same-below}
+
+-- Lists.
+
+module _ {X Y : Type 0} (make : X → List Y) where
+  pub flatMap-member : {x : X} {y : Y} {l : List X} → List·Memᴰ x l → List·Memᴰ y (make x) → List·Memᴰ y (flatMap make l)
+  unfolding flatMap
+  flatMap-member (List·Memᴰ·head {xs = xs} e) n = Memᴰ·append-left (flatMap make xs) (rw e at n)
+  flatMap-member (List·Memᴰ·tail {x = z} m) n = Memᴰ·append-right (make z) (flatMap-member m n)
+
+  pub flatMap-source : {y : Y} (l : List X) → List·Memᴰ y (flatMap make l) → (x : X) × List·Memᴰ y (make x)
+  unfolding flatMap
+  flatMap-source [] m = absurd (List·Memᴰ·not-nil m)
+  flatMap-source {y} (x ∷ l) m = go (flatMap-source l) (List·Memᴰ·append-cases (make x) m)
+    where
+      go : (List·Memᴰ y (flatMap make l) → (z : X) × List·Memᴰ y (make z)) →
+          List·Memᴰ y (make x) ⊎ List·Memᴰ y (flatMap make l) → (z : X) × List·Memᴰ y (make z)
+      go rest (inl n) = (x, n)
+      go rest (inr n) = rest n
+
+pub from-member : (f k n : ℕ) → f ≤ n → n < f + k → List·Memᴰ n (from f k)
+unfolding from
+from-member f zero n low high = absurd (omega arith)
+from-member f (suc k) n low high = go (ℕ-discrete n f) (from-member (suc f) k n)
+  where
+    go : Dec (n ≡ f) → (suc f ≤ n → n < suc f + k → List·Memᴰ n (from (suc f) k)) → List·Memᴰ n (f ∷ from (suc f) k)
+    go (yes e) rest = List·Memᴰ·head e
+    go (no d) rest = List·Memᴰ·tail (rest (omega arith) (omega arith))
+
+-- A list without one place of v: all else is still there.
+pub remove : {A : Type 0} {v : A} {l : List A} → List·Memᴰ v l →
+    (r : List A) × (length l ≡ suc (length r)) × ((y : A) → List·Memᴰ y l → (y ≡ v) ⊎ List·Memᴰ y r)
+remove (List·Memᴰ·head {xs = xs} e) =
+    (xs, refl, λ y m. ⊎-elim (λ d. inl (d ∙ sym e)) (λ n. inr n) (List·Memᴰ·cases-cons m))
+remove (List·Memᴰ·tail {x = x} m) =
+    let (r, n, other) = remove m in (
+      x ∷ r,
+      ap suc n,
+      λ y k.
+          ⊎-elim (λ e. inr (List·Memᴰ·head e)) (λ k. ⊎-elim (λ e. inl e) (λ i. inr (List·Memᴰ·tail i)) (other y k))
+          (List·Memᴰ·cases-cons k),
+    )
+
+-- Short paths.
+
+-- A walk is shorter than a list of all that its start reaches, where nothing of that reaches itself: without the start, the list
+-- still holds what comes after.
+short-follow : {A : Type 0} (link : A → ℕ → Option A) (p : List ℕ) (o : Option A) (x : A) (l : List A) →
+    ((q : List ℕ) (y : A) → follow link o q ≡ some y → List·Memᴰ y l) →
+    ((q : List ℕ) (y : A) (f : ℕ) (r : List ℕ) → follow link o q ≡ some y → follow link (some y) (f ∷ r) ≡ some y → ⊥) →
+    follow link o p ≡ some x → length p < length l
+unfolding follow
+short-follow link [] o x l all acyclic e =
+    let (r, n, _) = remove (all [] x e) in
+    omega arith
+short-follow link (f ∷ p) none x l all acyclic e = none-some (sym (follow-none link p) ∙ e)
+short-follow {A} link (f ∷ p) (some v) x l all acyclic e =
+    let (r, n, other) = remove (all [] v refl) in
+    let shorter = short-follow link p (link v f) x r (after other) (λ q. acyclic (f ∷ q)) e in
+    omega arith
+  where
+    after : {r : List A} → ((y : A) → List·Memᴰ y l → (y ≡ v) ⊎ List·Memᴰ y r) →
+        (q : List ℕ) (y : A) → follow link (link v f) q ≡ some y → List·Memᴰ y r
+    after other q y d =
+        ⊎-elim (λ z. absurd (acyclic [] v f q refl (d ∙ ap some z))) (λ m. m) (other y (all (f ∷ q) y d))
+
+-- In a graph without cycles a walk is shorter than a list of the nodes.
+pub short-paths : {L A : Type 0} (g : Graph L A) (nodes : List A) → ((v : A) → Reached g v → List·Memᴰ v nodes) →
+    ((v : A) (f : ℕ) (p : List ℕ) → Reached g v → follow (g .link) (some v) (f ∷ p) ≡ some v → ⊥) →
+    (p : List ℕ) (v : A) → walk g p ≡ some v → length p < length nodes
+short-paths g nodes all acyclic p v e =
+    short-follow (g .link) p (some (g .root)) v nodes (λ q y d. all y (q, d)) (λ q y f r d. acyclic y f r (q, d)) e
+
+-- Finitely many nodes.
+
+module _ {A : Type 0} (link : A → ℕ → Option A) where
+  -- the nodes that fewer than k links by the features 0 to 63 lead to
+  unfoldable pub within : ℕ → Option A → List A
+  within zero o = []
+  within (suc k) none = []
+  within (suc k) (some v) = v ∷ flatMap (λ f. within k (link v f)) features
+
+  within-reached : (k : ℕ) (o : Option A) (x : A) → List·Memᴰ x (within k o) → (p : List ℕ) × (follow link o p ≡ some x)
+  unfolding within follow
+  within-reached zero o x m = absurd (List·Memᴰ·not-nil m)
+  within-reached (suc k) none x m = absurd (List·Memᴰ·not-nil m)
+  within-reached (suc k) (some v) x m = go (λ f. within-reached k (link v f) x) (List·Memᴰ·cases-cons m)
+    where
+      go : ((f : ℕ) → List·Memᴰ x (within k (link v f)) → (p : List ℕ) × (follow link (link v f) p ≡ some x)) →
+          (x ≡ v) ⊎ List·Memᴰ x (flatMap (λ f. within k (link v f)) features) → (p : List ℕ) × (follow link (some v) p ≡ some x)
+      go rest (inl e) = ([], ap some (sym e))
+      go rest (inr n) =
+          let (f, i) = flatMap-source (λ f. within k (link v f)) features n in
+          let (p, e) = rest f i in
+          (f ∷ p, e)
+
+  reached-within : (k : ℕ) (o : Option A) (p : List ℕ) (x : A) →
+      ((q : List ℕ) (v w : A) (f : ℕ) → follow link o q ≡ some v → link v f ≡ some w → f < 64) → length p < k →
+      follow link o p ≡ some x → List·Memᴰ x (within k o)
+  unfolding within follow
+  reached-within zero o p x small short e = absurd (omega arith)
+  reached-within (suc k) none p x small short e = none-some (sym (follow-none link p) ∙ e)
+  reached-within (suc k) (some v) [] x small short e = List·Memᴰ·head (sym (some-injective e))
+  reached-within (suc k) (some v) (f ∷ p) x small short e =
+      let (w, to) = follow-start link (link v f) p x e in
+      List·Memᴰ·tail
+      (flatMap-member (λ f. within k (link v f)) (from-member 0 64 f (omega arith) (small [] v w f refl to))
+      (reached-within k (link v f) p x (λ q. small (f ∷ q)) (omega arith) e))
+
+-- Where all walks are short and all features small, a list holds just the nodes that are reached.
+pub finite-reached : {L A : Type 0} (g : Graph L A) (n : ℕ) →
+    ((v w : A) (f : ℕ) → Reached g v → g .link v f ≡ some w → f < 64) →
+    ((p : List ℕ) (v : A) → walk g p ≡ some v → length p < n) →
+    (nodes : List A) × ((v : A) → Reached g v ↔ List·Memᴰ v nodes)
+finite-reached g n small short = (
+  within (g .link) n (some (g .root)),
+  λ v. (
+    λ r. reached-within (g .link) n (some (g .root)) (r .0) v (λ q x w f e. small x w f (q, e)) (short (r .0) v (r .1)) (r .1),
+    within-reached (g .link) n (some (g .root)) v,
+  ),
+)
+
+-- Above a graph of any size.
+
+module _ {𝓛 : Labels} {A B : Type 0} {s : Graph (𝓛 .L) A} {g : Graph (𝓛 .L) B} (below : Below 𝓛 s g) (sound : AnySize 𝓛 s) where
+  pub features-up : (v w : B) (f : ℕ) → Reached g v → g .link v f ≡ some w → f < 64
+  features-up v w f r l =
+      let (y, d, _) = below .paths (r .0 ++ (f ∷ [])) w (walk-snoc g (r .0) f (r .1) ∙ l) in
+      let (x, e, m) = follow-last (s .link) (some (s .root)) (r .0) f y d in
+      sound .features x y f (r .0, e) m
+
+  pub acyclic-up : (v : B) (f : ℕ) (p : List ℕ) → Reached g v → follow (g .link) (some v) (f ∷ p) ≡ some v → ⊥
+  acyclic-up v f p r e =
+      let (w, d, c) = below .corefers (r .0) (r .0 ++ (f ∷ p)) (v, r .1, walk-append g (r .0) (f ∷ p) (r .1) ∙ e) in
+      sound .acyclic w f p (r .0, d) (sym (walk-append s (r .0) (f ∷ p) d) ∙ c)
+
+  -- The paths of g are paths of s, so none is longer than those.
+  pub short-up : (p : List ℕ) (v : B) → walk g p ≡ some v → length p < length (sound .nodes)
+  short-up p v e =
+      let (w, d, _) = below .paths p v e in
+      short-paths s (sound .nodes) (λ v. sound .listed v .0) (sound .acyclic) p w d
+
+module _ {𝓛 : Labels} (lattice : Lattice 𝓛) {A B : Type 0} {s : Graph (𝓛 .L) A} {g : Graph (𝓛 .L) B} (below : Below 𝓛 s g)
+    (sound : AnySize 𝓛 s) where
+  pub consistent-up : (v : B) → Reached g v → 𝓛 .contradiction (g .label v) ≡ false
+  consistent-up v r = go (𝓛 .contradiction (g .label v)) refl
+    where
+      go : (b : Bool) → 𝓛 .contradiction (g .label v) ≡ b → 𝓛 .contradiction (g .label v) ≡ false
+      go false e = e
+      go true e =
+          let (w, d, l) = below .paths (r .0) v (r .1) in
+          absurd (true≢false (sym (lattice .contradiction-down _ _ l e) ∙ sound .consistent w (r .0, d)))
+
+  -- What lies above a graph of any size is a graph of any size.
+  pub above-any-size : AnySize 𝓛 g
+  above-any-size =
+      let (nodes, listed) = finite-reached g (length (sound .nodes)) (features-up below sound) (short-up below sound) in
+      record {
+        nodes = nodes;
+        listed = listed;
+        features = features-up below sound;
+        consistent = consistent-up;
+        acyclic = acyclic-up below sound;
+      }
+
+-- What means the same as a graph of any size is one.
+pub same-any-size : {𝓛 : Labels} → Lattice 𝓛 → {A B : Type 0} {g : Graph (𝓛 .L) A} {h : Graph (𝓛 .L) B} →
+    SameMeaning 𝓛 g h → AnySize 𝓛 g → AnySize 𝓛 h
+same-any-size lattice m = above-any-size lattice (same-below lattice m)
