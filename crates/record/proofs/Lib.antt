@@ -1,0 +1,2 @@
+-- Proofs about records.
+pub mod Examples

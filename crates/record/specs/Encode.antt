@@ -1,0 +1,46 @@
+-- The bytes of a record with given rows (document 01, "Graph record"), and what writing them leaves in a lent output.
+use mathlib.Core.Bool.{Bool, true, false, cond}
+use mathlib.Core.List.{List, [], _∷_, _++_, map}
+use mathlib.Core.Option.{Option, none, some}
+use Prim.Native.Nat.{ℕ, zero, suc, _+_, _*_}
+use lib.Dec.{leb}
+use lib.ListN.{length, drop}
+use Rattle.graphs.specs.Rows.{Row, from, target}
+use Rattle.graphs.specs.Number.{Canonical, manyNodes, manyLinks, written, countSome}
+use Rattle.record.specs.declared.Written.{Written}
+use Rattle.record.specs.declared.Written.the-variants as outcome
+
+-- the number whose k lowest bits say which of the features from f on stand among the links
+unfoldable pub bitsFrom : List (ℕ × ℕ) → ℕ → ℕ → ℕ
+bitsFrom links f zero = 0
+bitsFrom links f (suc k) = countSome (target links f) + 2 * bitsFrom links (suc f) k
+
+-- "one type byte, 8 bytes of feature map .., then one target byte for each standing bit, lowest feature first"
+unfoldable pub encodedRow : Row ℕ → List ℕ
+encodedRow r = r .0 ∷ map (λ k. bitsFrom (r .1) (8 * k) 8) (from 0 8) ++ map (λ l. l .1) (r .1)
+
+unfoldable pub encodedRows : List (Row ℕ) → List ℕ
+encodedRows [] = []
+encodedRows (r ∷ rs) = encodedRow r ++ encodedRows rs
+
+-- "Byte 0 is the node count"
+unfoldable pub encoded : List (Row ℕ) → List ℕ
+encoded rows = length rows ∷ encodedRows rows
+
+-- What is answered and what the output holds: "its first bytes are the record, the others unchanged"; on a refusal, unchanged.
+pub record Outcome : Type 0 where
+  pub answer : Written
+  pub output : List ℕ
+
+-- the record where it fits, else 8
+unfoldable pub fitted : List ℕ → List ℕ → Outcome
+fitted bytes old =
+    cond (leb (length bytes) (length old))
+    (record { answer = outcome.Length (length bytes); output = bytes ++ drop (length bytes) old })
+    (record { answer = outcome.NoRoom; output = old })
+
+-- "result over 255 nodes or 2,048 links" is 11, then 8
+unfoldable pub writtenOut : Canonical ℕ → List ℕ → Outcome
+writtenOut manyNodes old = record { answer = outcome.TooLarge; output = old }
+writtenOut manyLinks old = record { answer = outcome.TooLarge; output = old }
+writtenOut (written rows) old = fitted (encoded rows) old

@@ -1,0 +1,56 @@
+-- Reading a record over a table with n types: the graph's rows, or the first of refusals 4 to 7 that applies, each over the whole
+-- record before the next (document 01, "Returned by a call").
+use mathlib.Core.Bool.{Bool, true, false, cond, not, _&&_}
+use mathlib.Core.List.{List, [], _∷_}
+use mathlib.Core.Option.{Option, none, some}
+use Prim.Native.Nat.{ℕ, suc}
+use lib.Dec.{eqb, leb}
+use lib.ListN.{length}
+use Rattle.graphs.specs.Graph.{Graph}
+use Rattle.graphs.specs.Rows.{Row, from, graphOf}
+use Rattle.graphs.specs.Number.{visit}
+use Rattle.graphs.specs.Unify.{anyOf, deep, holds}
+use Rattle.record.specs.declared.GraphFault.{GraphFault}
+use Rattle.record.specs.declared.GraphFault.the-variants.{Malformed, OutOfRange, Cyclic, Unreached}
+use Rattle.record.specs.Decode.{decoded}
+
+abbrev pub graphNumber : GraphFault → ℕ
+graphNumber Malformed = 4
+graphNumber OutOfRange = 5
+graphNumber Cyclic = 6
+graphNumber Unreached = 7
+
+-- the graph that rows of type numbers state
+abbrev pub graphOfRows : List (Row ℕ) → Graph ℕ ℕ
+graphOfRows rows = graphOf 0 rows
+
+unfoldable pub allOf : {X : Type 0} → List X → (X → Bool) → Bool
+allOf [] test = true
+allOf (x ∷ xs) test = test x && allOf xs test
+
+-- not "a type that is 0 or at least n; a target at least N"
+unfoldable pub inRange : ℕ → List (Row ℕ) → Bool
+inRange n rows =
+    allOf rows λ r. not (eqb (r .0) 0) && leb (suc (r .0)) n && allOf (r .1) λ l. leb (suc (l .1)) (length rows)
+
+-- "a node reaches itself": from some node there is a walk of as many links as there are nodes
+unfoldable pub cyclic : List (Row ℕ) → Bool
+cyclic rows = anyOf (from 0 (length rows)) λ v. deep (graphOfRows rows .link) (length rows) v
+
+-- not "a node the root does not reach": the visit from the root finds as many nodes as there are
+unfoldable pub reachesAll : List (Row ℕ) → Bool
+reachesAll rows = holds (λ seen. eqb (length seen) (length rows)) (visit eqb (graphOfRows rows .link) 255 0 [])
+
+pub data Reading : Type 0 where
+  refused : GraphFault → Reading
+  accepted : List (Row ℕ) → Reading
+
+abbrev pub judged : ℕ → Option (List (Row ℕ)) → Reading
+judged n none = refused Malformed
+judged n (some rows) =
+    cond (inRange n rows)
+    (cond (cyclic rows) (refused Cyclic) (cond (reachesAll rows) (accepted rows) (refused Unreached)))
+    (refused OutOfRange)
+
+unfoldable pub reading : ℕ → List ℕ → Reading
+reading n bytes = judged n (decoded bytes)

@@ -1,0 +1,73 @@
+// Acyclicity: depth-first over all nodes with three colours. It also yields the nodes in an order with targets first.
+
+// How a node was left: the number of finished nodes, or a link back to a node on the way down.
+pub enum Leaving {
+    Count(usize),
+    Back,
+}
+
+// Finishes all that hangs below v, and then v. A node is white (0), on the way down (1) or finished (2).
+pub fn finish<'a>(
+    first: &'a [u16],
+    targets: &'a [u16],
+    colour: &mut [u8; 510],
+    order: &mut [u16; 510],
+    v: usize,
+    depth: usize,
+    done: usize,
+) -> Leaving {
+    colour[v] = 1;
+    let end = first[v + 1] as usize;
+    let mut k = first[v] as usize;
+    let mut count = done;
+    while k < end {
+        let w = targets[k] as usize;
+        let c = colour[w];
+        if c == 1 {
+            return Leaving::Back;
+        }
+        if c == 0 {
+            if depth == 0 {
+                return Leaving::Back;
+            }
+            match finish(first, targets, colour, order, w, depth - 1, count) {
+                Leaving::Count(n) => {
+                    count = n;
+                }
+                Leaving::Back => {
+                    return Leaving::Back;
+                }
+            }
+        }
+        k += 1;
+    }
+    colour[v] = 2;
+    order[count] = v as u16;
+    Leaving::Count(count + 1)
+}
+
+// Whether some node reaches itself; if none does, `order` holds the nodes with targets first.
+pub fn has_cycle<'a>(
+    nodes: usize,
+    first: &'a [u16],
+    targets: &'a [u16],
+    order: &mut [u16; 510],
+) -> bool {
+    let mut colour = [0u8; 510];
+    let mut count = 0;
+    let mut v = 0;
+    while v < nodes {
+        if colour[v] == 0 {
+            match finish(first, targets, &mut colour, order, v, nodes, count) {
+                Leaving::Count(n) => {
+                    count = n;
+                }
+                Leaving::Back => {
+                    return true;
+                }
+            }
+        }
+        v += 1;
+    }
+    false
+}

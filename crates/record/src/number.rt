@@ -1,0 +1,61 @@
+// Numbering by first visit, from the root, lowest feature first, following links downward, never deeper than 254 links.
+
+// The number of a node that has none yet.
+pub const NONE: u16 = 0xFFFF;
+
+// Numbers v, which has no number yet, and all that hangs below it. Answers how many nodes then have one; 256 where a node is
+// left without.
+pub fn visit<'a>(
+    first: &'a [u16],
+    targets: &'a [u16],
+    numbers: &mut [u16; 510],
+    visited: &mut [u16; 255],
+    v: usize,
+    depth: usize,
+    given: usize,
+) -> usize {
+    numbers[v] = given as u16;
+    visited[given] = v as u16;
+    let mut count = given + 1;
+    let end = first[v + 1] as usize;
+    let mut k = first[v] as usize;
+    while k < end {
+        let w = targets[k] as usize;
+        if numbers[w] == NONE {
+            if 255 <= count {
+                return 256;
+            }
+            if depth == 0 {
+                return 256;
+            }
+            count = visit(first, targets, numbers, visited, w, depth - 1, count);
+            if 255 < count {
+                return 256;
+            }
+        }
+        k += 1;
+    }
+    count
+}
+
+// Numbers the nodes that the root reaches: `numbers[v]` is the number of v, `visited[i]` the node with number i. Answers how many
+// there are, 256 for more than 255.
+pub fn number<'a>(
+    nodes: usize,
+    first: &'a [u16],
+    targets: &'a [u16],
+    numbers: &mut [u16; 510],
+    visited: &mut [u16; 255],
+) -> usize {
+    clear(nodes, numbers);
+    visit(first, targets, numbers, visited, 0, 254, 0)
+}
+
+// Takes the numbers of the first `nodes` nodes away.
+fn clear(nodes: usize, numbers: &mut [u16; 510]) {
+    let mut v = 0;
+    while v < nodes {
+        numbers[v] = NONE;
+        v += 1;
+    }
+}
