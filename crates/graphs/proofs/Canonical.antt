@@ -9,60 +9,28 @@ use mathlib.Core.List.{
   _++_,
   map,
   reverse,
-  reverseAux,
   List·Memᴰ,
-  List·Memᴰ·head,
-  List·Memᴰ·tail,
   List·Memᴰ·not-nil,
   List·Memᴰ·append-cases,
 }
-use mathlib.Core.Logic.{_↔_, _⊎_, inl, inr, ⊎-elim}
+use mathlib.Core.Logic.{_↔_, ⊎-elim}
 use mathlib.Core.Option.{Option, none, some}
 use Prim.Native.Nat.{ℕ, zero, suc, _+_, _≤_, _<_}
 use native.Mathlib.Omega.{arith}
-use borrow.Author.Tests.{eqb-true, eqb-false, eq-eqb, ne-eqb, leb-true, leb-false}
+use borrow.Author.Tests.{eqb-true, eqb-false, ne-eqb, leb-true, leb-false}
 use lib.Dec.{eqb, leb}
 use lib.ListN.{length, getD}
 use Rattle.graphs.specs.Label.{Labels}
-use Rattle.graphs.specs.Graph.{Graph, Tells, onward, follow, walk, Reached, SameMeaning}
+use Rattle.graphs.specs.Graph.{Graph, Tells, onward, walk, Reached, SameMeaning}
 use Rattle.graphs.specs.Rows.{Row, from, features, target, graphOf, linksOf, addLink}
-use Rattle.graphs.specs.Number.{Canonical, canonical, counted, indexOf, linkCount, manyLinks, manyNodes, rowOf, visit, written}
-use Rattle.graphs.proofs.Distinct.{Distinct}
-use Rattle.graphs.proofs.Walk.{some-injective, none-some, onward-some, reached-root, reached-link, snoc-induction, follow-last, follow-nil}
+use Rattle.graphs.specs.Number.{canonical, counted, indexOf, linkCount, manyLinks, rowOf, visit, written}
+use Rattle.graphs.specs.Large.{Distinct}
+use Rattle.graphs.proofs.Walk.{some-injective, onward-some, reached-root, reached-link, snoc-induction, follow-last, follow-nil}
+use Rattle.graphs.proofs.Lists.{mem-reverse, mem-unreverse, reverse-snoc, getD-index, index-injective, index-first}
 use Rattle.graphs.proofs.Below.{same-sym, same-trans}
 use Rattle.graphs.proofs.Bisimilar.{Alike, absent, present, Bisimilar, bisimilar-same}
 use Rattle.graphs.proofs.Invariant.{same-canonical}
 use Rattle.graphs.proofs.Visited.{Grown, visit-all, visit-first}
-
--- Reversal
-
-module _ {A : Type 0} where
-  mem-reverseAux : {v : A} (vs : List A) {ws : List A} → List·Memᴰ v ws → List·Memᴰ v (reverseAux vs ws)
-  mem-reverseAux [] m = m
-  mem-reverseAux (x ∷ vs) m = mem-reverseAux vs (List·Memᴰ·tail m)
-
-  mem-reverse-onto : {v : A} {vs : List A} (ws : List A) → List·Memᴰ v vs → List·Memᴰ v (reverseAux vs ws)
-  mem-reverse-onto ws (List·Memᴰ·head {x = x} {xs = xs} e) = mem-reverseAux xs (List·Memᴰ·head {x = x} {xs = ws} e)
-  mem-reverse-onto ws (List·Memᴰ·tail {x = x} m) = mem-reverse-onto (x ∷ ws) m
-
-  unreverse-onto : {v : A} (vs : List A) {ws : List A} → List·Memᴰ v (reverseAux vs ws) → List·Memᴰ v vs ⊎ List·Memᴰ v ws
-  unreverse-onto [] m = inr m
-  unreverse-onto (x ∷ vs) m = back (unreverse-onto vs m)
-    where
-      back : {v : A} {ws : List A} → List·Memᴰ v vs ⊎ List·Memᴰ v (x ∷ ws) → List·Memᴰ v (x ∷ vs) ⊎ List·Memᴰ v ws
-      back (inl n) = inl (List·Memᴰ·tail n)
-      back (inr (List·Memᴰ·head e)) = inl (List·Memᴰ·head e)
-      back (inr (List·Memᴰ·tail n)) = inr n
-
-  mem-unreverse : {v : A} {vs : List A} → List·Memᴰ v (reverse vs) → List·Memᴰ v vs
-  mem-unreverse {vs = vs} m = ⊎-elim (λ n. n) (λ n. absurd (List·Memᴰ·not-nil n)) (unreverse-onto vs m)
-
-  pub mem-reverse : {v : A} {vs : List A} → List·Memᴰ v vs → List·Memᴰ v (reverse vs)
-  mem-reverse m = mem-reverse-onto [] m
-
-  reverse-snoc : (vs ws : List A) (v : A) → reverseAux (vs ++ (v ∷ [])) ws ≡ v ∷ reverseAux vs ws
-  reverse-snoc [] ws v = refl
-  reverse-snoc (x ∷ vs) ws v = reverse-snoc vs (x ∷ ws) v
 
 -- A row's links by feature
 
@@ -114,32 +82,6 @@ target-linksOf next narrow f = go (leb 64 f) refl (next f) refl
     go false e o q = target-at next 0 64 f (omega arith) (omega (arith, leb-false 64 f e))
     go true e none q = target-past next 0 64 f (omega (arith, leb-true 64 f e)) ∙ sym q
     go true e (some w) q = absurd (omega (arith, leb-true 64 f e, narrow f w q))
-
--- Places along a list
-
-module _ {A : Type 0} (same : A → A → Bool) (tells : Tells same) where
-  getD-index : {C : Type 0} (c : A → C) (d : C) (v : A) (vs : List A) → List·Memᴰ v vs → getD (map c vs) (indexOf same v vs) d ≡ c v
-  unfolding indexOf
-  getD-index c d v (w ∷ ws) m = go (same v w) refl m (getD-index c d v ws)
-    where
-      go : (t : Bool) → same v w ≡ t → List·Memᴰ v (w ∷ ws) →
-          (List·Memᴰ v ws → getD (map c ws) (indexOf same v ws) d ≡ c v) →
-          getD (c w ∷ map c ws) (cond t 0 (suc (indexOf same v ws))) d ≡ c v
-      go true e m later = ap c (sym (tells v w .0 e))
-      go false e (List·Memᴰ·head q) later =
-          let h : same v w ≡ true = tells v w .1 q in
-          let z : _≡_ {A = ℕ} 0 1 = cc in
-          absurd (omega arith)
-      go false e (List·Memᴰ·tail n) later = later n
-  getD-index c d v [] m = absurd (List·Memᴰ·not-nil m)
-
-  index-injective : (v w : A) (vs : List A) → List·Memᴰ v vs → List·Memᴰ w vs → indexOf same v vs ≡ indexOf same w vs → v ≡ w
-  index-injective v w vs m n e =
-      sym (getD-index (λ x. x) v v vs m) ∙ ap (λ (i : ℕ). getD (map (λ x. x) vs) i v) e ∙ getD-index (λ x. x) v w vs n
-
-  index-first : (v : A) (vs : List A) → indexOf same v (v ∷ vs) ≡ 0
-  unfolding indexOf
-  index-first v vs = ap (λ (t : Bool). cond t 0 (suc (indexOf same v vs))) (tells v v .1 refl)
 
 module _ {L A : Type 0} (same : A → A → Bool) (tells : Tells same) (g : Graph L A)
     (narrow : (v w : A) (f : ℕ) → Reached g v → g .link v f ≡ some w → f < 64) where
@@ -211,7 +153,7 @@ module _ {L A : Type 0} (same : A → A → Bool) (tells : Tells same) (g : Grap
         let (xs, q) = visit-first same tells (g .link) (Reached g) onto narrow (g .root) now (reached-root g) e in (
           reached-listed (g .root) (reached-root g),
           ap (λ (l : List A). indexOf same (g .root) (reverse l)) q
-              ∙ ap (indexOf same (g .root)) (reverse-snoc xs [] (g .root))
+              ∙ ap (indexOf same (g .root)) (reverse-snoc xs (g .root))
               ∙ index-first same tells (g .root) (reverse xs),
         )
 

@@ -1,6 +1,6 @@
 -- Theorems about typed feature graphs.
 pub mod Walk
-pub mod Distinct
+pub mod Lists
 pub mod Below
 pub mod Finite
 pub mod Product
