@@ -27,6 +27,8 @@ use mathlib.Core.Logic.{_⊎_, inl, inr, ⊎-elim}
 use Prim.Native.Nat.{ℕ, zero, suc, _+_, _≤_, _<_, zero-le}
 use native.Mathlib.Decide.{ℕ-discrete}
 use native.Mathlib.Omega.{arith}
+use borrow.Author.Tests.{eqb-true, eq-eqb}
+use lib.Dec.{eqb}
 use lib.ListN.{length, getD}
 use Rattle.graphs.specs.Graph.{Tells}
 use Rattle.graphs.specs.Rows.{from, features}
@@ -52,6 +54,9 @@ from-range f (suc k) n m = ⊎-elim (λ (e : n ≡ f). omega arith) (λ m′. le
 -- every feature is listed
 pub mem-features : (f : ℕ) → f < 64 → List·Memᴰ f features
 mem-features f h = from-member 0 64 f (omega arith) (omega arith)
+
+pub features-small : (f : ℕ) → List·Memᴰ f features → f < 64
+features-small f m = omega (arith, from-range 0 64 f m)
 
 -- Lists made of lists.
 
@@ -133,6 +138,9 @@ distinct-flatMap make (x ∷ l) d each apart =
     (λ y m n. let (z, k, i) = flatMap-source make l n in d .0 (Memᴰ·cast (apart x z y m i) k))
 
 -- Membership as a test, and the place of an element.
+
+pub tells-eqb : Tells eqb
+tells-eqb v w = (eqb-true v w, eq-eqb v w)
 
 module _ {A : Type 0} (same : A → A → Bool) (tells : Tells same) where
   pub member-true : (v : A) (vs : List A) → member same v vs ≡ true → List·Memᴰ v vs
