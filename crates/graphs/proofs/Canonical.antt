@@ -1,5 +1,5 @@
 -- The written form has the meaning of the graph that was written: node v of the graph and row `indexOf v` of its form are alike. So
--- graphs that fit have equal meaning exactly when they have equal forms.
+-- graphs that fit have equal meaning exactly when they have equal forms, and a form is written again as it is.
 use mathlib.Core.Path.{_≡_, refl, sym, _∙_, ap, subst}
 use mathlib.Core.Bool.{Bool, true, false, cond}
 use mathlib.Core.List.{
@@ -9,137 +9,53 @@ use mathlib.Core.List.{
   _++_,
   map,
   reverse,
-  reverseAux,
   List·Memᴰ,
-  List·Memᴰ·head,
-  List·Memᴰ·tail,
   List·Memᴰ·not-nil,
   List·Memᴰ·append-cases,
 }
-use mathlib.Core.Logic.{_↔_, _⊎_, inl, inr, ⊎-elim}
+use mathlib.Core.Logic.{_↔_, ⊎-elim}
 use mathlib.Core.Option.{Option, none, some}
-use Prim.Native.Nat.{ℕ, zero, suc, _+_, _≤_, _<_}
+use Prim.Native.Nat.{ℕ, _≤_, _<_}
 use native.Mathlib.Omega.{arith}
-use borrow.Author.Tests.{eqb-true, eqb-false, eq-eqb, ne-eqb, leb-true, leb-false}
+use borrow.Author.Tests.{leb-true}
 use lib.Dec.{eqb, leb}
 use lib.ListN.{length, getD}
 use Rattle.graphs.specs.Label.{Labels}
-use Rattle.graphs.specs.Graph.{Graph, Tells, onward, follow, walk, Reached, SameMeaning}
-use Rattle.graphs.specs.Rows.{Row, from, features, target, graphOf, linksOf, addLink}
-use Rattle.graphs.specs.Number.{Canonical, canonical, counted, indexOf, linkCount, manyLinks, manyNodes, rowOf, visit, written}
-use Rattle.graphs.proofs.Distinct.{Distinct}
-use Rattle.graphs.proofs.Walk.{some-injective, none-some, onward-some, reached-root, reached-link, snoc-induction, follow-last, follow-nil}
+use Rattle.graphs.specs.Graph.{Graph, Tells, onward, walk, Reached, SameMeaning}
+use Rattle.graphs.specs.Rows.{Row, target, graphOf}
+use Rattle.graphs.specs.Number.{canonical, counted, indexOf, linkCount, manyLinks, rowOf, visit, written}
+use Rattle.graphs.specs.Large.{Distinct}
+use Rattle.graphs.proofs.Walk.{some-injective, onward-some, reached-root, reached-link, snoc-induction, follow-last, follow-nil}
+use Rattle.graphs.proofs.Lists.{mem-reverse, mem-unreverse, reverse-snoc, getD-index, index-injective, index-first, tells-eqb}
+use Rattle.graphs.proofs.Rows.{target-linksOf}
 use Rattle.graphs.proofs.Below.{same-sym, same-trans}
 use Rattle.graphs.proofs.Bisimilar.{Alike, absent, present, Bisimilar, bisimilar-same}
-use Rattle.graphs.proofs.Invariant.{same-canonical}
+use Rattle.graphs.proofs.Invariant.{bisimilar-canonical, same-canonical}
 use Rattle.graphs.proofs.Visited.{Grown, visit-all, visit-first}
 
--- Reversal
-
-module _ {A : Type 0} where
-  mem-reverseAux : {v : A} (vs : List A) {ws : List A} → List·Memᴰ v ws → List·Memᴰ v (reverseAux vs ws)
-  mem-reverseAux [] m = m
-  mem-reverseAux (x ∷ vs) m = mem-reverseAux vs (List·Memᴰ·tail m)
-
-  mem-reverse-onto : {v : A} {vs : List A} (ws : List A) → List·Memᴰ v vs → List·Memᴰ v (reverseAux vs ws)
-  mem-reverse-onto ws (List·Memᴰ·head {x = x} {xs = xs} e) = mem-reverseAux xs (List·Memᴰ·head {x = x} {xs = ws} e)
-  mem-reverse-onto ws (List·Memᴰ·tail {x = x} m) = mem-reverse-onto (x ∷ ws) m
-
-  unreverse-onto : {v : A} (vs : List A) {ws : List A} → List·Memᴰ v (reverseAux vs ws) → List·Memᴰ v vs ⊎ List·Memᴰ v ws
-  unreverse-onto [] m = inr m
-  unreverse-onto (x ∷ vs) m = back (unreverse-onto vs m)
+module _ {L A : Type 0} (same : A → A → Bool) (g : Graph L A) where
+  -- What a written form was made of.
+  pub canonical-written : (form : List (Row L)) → canonical same g ≡ written form →
+      (now : List A) ×
+      (visit same (g .link) 255 (g .root) [] ≡ some now) ×
+      (linkCount (g .link) now ≤ 2048) ×
+      (map (rowOf same g (reverse now)) (reverse now) ≡ form)
+  unfolding canonical
+  canonical-written form e = go (visit same (g .link) 255 (g .root) []) refl e
     where
-      back : {v : A} {ws : List A} → List·Memᴰ v vs ⊎ List·Memᴰ v (x ∷ ws) → List·Memᴰ v (x ∷ vs) ⊎ List·Memᴰ v ws
-      back (inl n) = inl (List·Memᴰ·tail n)
-      back (inr (List·Memᴰ·head e)) = inl (List·Memᴰ·head e)
-      back (inr (List·Memᴰ·tail n)) = inr n
+      fits : (now : List A) (t : Bool) → leb (linkCount (g .link) now) 2048 ≡ t →
+          cond t (written (map (rowOf same g (reverse now)) (reverse now))) manyLinks ≡ written form →
+          (linkCount (g .link) now ≤ 2048) × (map (rowOf same g (reverse now)) (reverse now) ≡ form)
+      fits now true h q = (leb-true (linkCount (g .link) now) 2048 h, cc)
+      fits now false h q = let z : _≡_ {A = ℕ} 0 1 = cc in absurd (omega arith)
 
-  mem-unreverse : {v : A} {vs : List A} → List·Memᴰ v (reverse vs) → List·Memᴰ v vs
-  mem-unreverse {vs = vs} m = ⊎-elim (λ n. n) (λ n. absurd (List·Memᴰ·not-nil n)) (unreverse-onto vs m)
-
-  pub mem-reverse : {v : A} {vs : List A} → List·Memᴰ v vs → List·Memᴰ v (reverse vs)
-  mem-reverse m = mem-reverse-onto [] m
-
-  reverse-snoc : (vs ws : List A) (v : A) → reverseAux (vs ++ (v ∷ [])) ws ≡ v ∷ reverseAux vs ws
-  reverse-snoc [] ws v = refl
-  reverse-snoc (x ∷ vs) ws v = reverse-snoc vs (x ∷ ws) v
-
--- A row's links by feature
-
-target-skip : (next : ℕ → Option ℕ) (k n f : ℕ) → f < k → target (linksOf next (from k n)) f ≡ none
-unfolding from linksOf target
-target-skip next k zero f h = refl
-target-skip next k (suc n) f h = go (next k) (target-skip next (suc k) n f (omega arith))
-  where
-    go : (o : Option ℕ) → target (linksOf next (from (suc k) n)) f ≡ none →
-        target (addLink k o (linksOf next (from (suc k) n))) f ≡ none
-    go none e = e
-    go (some w) e = ap (λ (t : Bool). cond t (some w) (target (linksOf next (from (suc k) n)) f)) (ne-eqb k f (omega arith)) ∙ e
-
-target-past : (next : ℕ → Option ℕ) (k n f : ℕ) → k + n ≤ f → target (linksOf next (from k n)) f ≡ none
-unfolding from linksOf target
-target-past next k zero f h = refl
-target-past next k (suc n) f h = go (next k) (target-past next (suc k) n f (omega arith))
-  where
-    go : (o : Option ℕ) → target (linksOf next (from (suc k) n)) f ≡ none →
-        target (addLink k o (linksOf next (from (suc k) n))) f ≡ none
-    go none e = e
-    go (some w) e = ap (λ (t : Bool). cond t (some w) (target (linksOf next (from (suc k) n)) f)) (ne-eqb k f (omega arith)) ∙ e
-
-target-at : (next : ℕ → Option ℕ) (k n f : ℕ) → k ≤ f → f < k + n → target (linksOf next (from k n)) f ≡ next f
-unfolding from linksOf target
-target-at next k zero f low high = absurd (omega arith)
-target-at next k (suc n) f low high = go (eqb k f) refl (next k) refl (λ h. target-at next (suc k) n f h (omega arith))
-  where
-    rest : List (ℕ × ℕ)
-    rest = linksOf next (from (suc k) n)
-
-    go : (t : Bool) → eqb k f ≡ t → (o : Option ℕ) → next k ≡ o → (suc k ≤ f → target rest f ≡ next f) →
-        target (addLink k o rest) f ≡ next f
-    go true e none q later =
-        let h : k ≡ f = eqb-true k f e in
-        target-skip next (suc k) n f (omega arith) ∙ sym (ap next (sym h) ∙ q)
-    go true e (some w) q later =
-        let h : k ≡ f = eqb-true k f e in
-        ap (λ (t : Bool). cond t (some w) (target rest f)) e ∙ sym (ap next (sym h) ∙ q)
-    go false e none q later = later (omega (arith, eqb-false k f e))
-    go false e (some w) q later =
-        ap (λ (t : Bool). cond t (some w) (target rest f)) e ∙ later (omega (arith, eqb-false k f e))
-
--- the links of a row are those that it was made of
-target-linksOf : (next : ℕ → Option ℕ) → ((f w : ℕ) → next f ≡ some w → f < 64) → (f : ℕ) → target (linksOf next features) f ≡ next f
-target-linksOf next narrow f = go (leb 64 f) refl (next f) refl
-  where
-    go : (t : Bool) → leb 64 f ≡ t → (o : Option ℕ) → next f ≡ o → target (linksOf next features) f ≡ next f
-    go false e o q = target-at next 0 64 f (omega arith) (omega (arith, leb-false 64 f e))
-    go true e none q = target-past next 0 64 f (omega (arith, leb-true 64 f e)) ∙ sym q
-    go true e (some w) q = absurd (omega (arith, leb-true 64 f e, narrow f w q))
-
--- Places along a list
-
-module _ {A : Type 0} (same : A → A → Bool) (tells : Tells same) where
-  getD-index : {C : Type 0} (c : A → C) (d : C) (v : A) (vs : List A) → List·Memᴰ v vs → getD (map c vs) (indexOf same v vs) d ≡ c v
-  unfolding indexOf
-  getD-index c d v (w ∷ ws) m = go (same v w) refl m (getD-index c d v ws)
-    where
-      go : (t : Bool) → same v w ≡ t → List·Memᴰ v (w ∷ ws) →
-          (List·Memᴰ v ws → getD (map c ws) (indexOf same v ws) d ≡ c v) →
-          getD (c w ∷ map c ws) (cond t 0 (suc (indexOf same v ws))) d ≡ c v
-      go true e m later = ap c (sym (tells v w .0 e))
-      go false e (List·Memᴰ·head q) later =
-          let h : same v w ≡ true = tells v w .1 q in
-          let z : _≡_ {A = ℕ} 0 1 = cc in
-          absurd (omega arith)
-      go false e (List·Memᴰ·tail n) later = later n
-  getD-index c d v [] m = absurd (List·Memᴰ·not-nil m)
-
-  index-injective : (v w : A) (vs : List A) → List·Memᴰ v vs → List·Memᴰ w vs → indexOf same v vs ≡ indexOf same w vs → v ≡ w
-  index-injective v w vs m n e =
-      sym (getD-index (λ x. x) v v vs m) ∙ ap (λ (i : ℕ). getD (map (λ x. x) vs) i v) e ∙ getD-index (λ x. x) v w vs n
-
-  index-first : (v : A) (vs : List A) → indexOf same v (v ∷ vs) ≡ 0
-  unfolding indexOf
-  index-first v vs = ap (λ (t : Bool). cond t 0 (suc (indexOf same v vs))) (tells v v .1 refl)
+      go : (o : Option (List A)) → visit same (g .link) 255 (g .root) [] ≡ o → counted same g o ≡ written form →
+          (now : List A) ×
+          (visit same (g .link) 255 (g .root) [] ≡ some now) ×
+          (linkCount (g .link) now ≤ 2048) ×
+          (map (rowOf same g (reverse now)) (reverse now) ≡ form)
+      go none h q = let z : _≡_ {A = ℕ} 0 1 = cc in absurd (omega arith)
+      go (some now) h q = let (few, r) = fits now (leb (linkCount (g .link) now) 2048) refl q in (now, h, few, r)
 
 module _ {L A : Type 0} (same : A → A → Bool) (tells : Tells same) (g : Graph L A)
     (narrow : (v w : A) (f : ℕ) → Reached g v → g .link v f ≡ some w → f < 64) where
@@ -211,7 +127,7 @@ module _ {L A : Type 0} (same : A → A → Bool) (tells : Tells same) (g : Grap
         let (xs, q) = visit-first same tells (g .link) (Reached g) onto narrow (g .root) now (reached-root g) e in (
           reached-listed (g .root) (reached-root g),
           ap (λ (l : List A). indexOf same (g .root) (reverse l)) q
-              ∙ ap (indexOf same (g .root)) (reverse-snoc xs [] (g .root))
+              ∙ ap (indexOf same (g .root)) (reverse-snoc xs (g .root))
               ∙ index-first same tells (g .root) (reverse xs),
         )
 
@@ -251,22 +167,16 @@ module _ {L A : Type 0} (same : A → A → Bool) (tells : Tells same) (g : Grap
           back = λ v v′ i i′ (m, q) (n, r) h. index-injective same tells v v′ nodes m n (q ∙ h ∙ sym r);
         }
 
-  -- what a written form was made of
-  canonical-written : (form : List (Row L)) → canonical same g ≡ written form →
-      (now : List A) × (visit same (g .link) 255 (g .root) [] ≡ some now) × (map (rowOf same g (reverse now)) (reverse now) ≡ form)
-  unfolding canonical
-  canonical-written form e = go (visit same (g .link) 255 (g .root) []) refl e
-    where
-      fits : (now : List A) (t : Bool) →
-          cond t (written (map (rowOf same g (reverse now)) (reverse now))) manyLinks ≡ written form →
-          map (rowOf same g (reverse now)) (reverse now) ≡ form
-      fits now true q = cc
-      fits now false q = let z : _≡_ {A = ℕ} 0 1 = cc in absurd (omega arith)
-
-      go : (o : Option (List A)) → visit same (g .link) 255 (g .root) [] ≡ o → counted same g o ≡ written form →
-          (now : List A) × (visit same (g .link) 255 (g .root) [] ≡ some now) × (map (rowOf same g (reverse now)) (reverse now) ≡ form)
-      go none h q = let z : _≡_ {A = ℕ} 0 1 = cc in absurd (omega arith)
-      go (some now) h q = (now, h, fits now (leb (linkCount (g .link) now) 2048) q)
+  -- The rows, written again, are the rows.
+  pub canonical-idempotent : (d : L) (form : List (Row L)) → canonical same g ≡ written form →
+      canonical eqb (graphOf d form) ≡ written form
+  unfolding rows nodes
+  canonical-idempotent d form e =
+      let (now, h, _, q) = canonical-written same g form e in
+      sym
+      (subst (λ (r : List (Row L)). canonical same g ≡ canonical eqb (graphOf d r)) q
+      (bisimilar-canonical same eqb tells tells-eqb (Numbered d now h) g (graphOf d (rows d now h)) (written-bisimilar d now h)))
+      ∙ e
 
 module _ (𝓛 : Labels) {A : Type 0} (same : A → A → Bool) (tells : Tells same) (g : Graph (𝓛 .L) A)
     (narrow : (v w : A) (f : ℕ) → Reached g v → g .link v f ≡ some w → f < 64) where
@@ -274,7 +184,7 @@ module _ (𝓛 : Labels) {A : Type 0} (same : A → A → Bool) (tells : Tells s
   pub canonical-meaning : (form : List (Row (𝓛 .L))) → canonical same g ≡ written form → SameMeaning 𝓛 g (graphOf (𝓛 .top) form)
   unfolding rows nodes
   canonical-meaning form e =
-      let (now, h, q) = canonical-written same tells g narrow form e in
+      let (now, h, _, q) = canonical-written same g form e in
       subst (λ (r : List (Row (𝓛 .L))). SameMeaning 𝓛 g (graphOf (𝓛 .top) r)) q
       (bisimilar-same 𝓛 (Numbered same tells g narrow (𝓛 .top) now h) g (graphOf (𝓛 .top) (rows same tells g narrow (𝓛 .top) now h))
       (written-bisimilar same tells g narrow (𝓛 .top) now h))

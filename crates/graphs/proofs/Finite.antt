@@ -14,62 +14,18 @@ use mathlib.Core.List.{
   List·Memᴰ·tail,
   List·Memᴰ·not-nil,
   List·Memᴰ·cases-cons,
-  List·Memᴰ·append-cases,
-  Memᴰ·append-left,
-  Memᴰ·append-right,
 }
 use mathlib.Core.Logic.{_↔_, _⊎_, inl, inr, ⊎-elim}
 use mathlib.Core.Option.{Option, none, some}
-use Prim.Native.Nat.{ℕ, zero, suc, _+_, _<_, _≤_}
-use native.Mathlib.Decide.{ℕ-discrete}
+use Prim.Native.Nat.{ℕ, zero, suc, _<_}
 use native.Mathlib.Omega.{arith}
 use lib.ListN.{length}
 use Rattle.graphs.specs.Label.{Labels, Lattice}
 use Rattle.graphs.specs.Graph.{Graph, Below, SameMeaning, AnySize, walk, follow, Reached}
-use Rattle.graphs.specs.Rows.{from, features}
+use Rattle.graphs.specs.Rows.{features}
 use Rattle.graphs.proofs.Walk.{some-injective, none-some, follow-none, follow-start, follow-last, walk-append, walk-snoc}
+use Rattle.graphs.proofs.Lists.{mem-features, flatMap-member, flatMap-source, remove}
 use Rattle.graphs.proofs.Below.{same-below}
-
--- Lists.
-
-module _ {X Y : Type 0} (make : X → List Y) where
-  pub flatMap-member : {x : X} {y : Y} {l : List X} → List·Memᴰ x l → List·Memᴰ y (make x) → List·Memᴰ y (flatMap make l)
-  unfolding flatMap
-  flatMap-member (List·Memᴰ·head {xs = xs} e) n = Memᴰ·append-left (flatMap make xs) (rw e at n)
-  flatMap-member (List·Memᴰ·tail {x = z} m) n = Memᴰ·append-right (make z) (flatMap-member m n)
-
-  pub flatMap-source : {y : Y} (l : List X) → List·Memᴰ y (flatMap make l) → (x : X) × List·Memᴰ y (make x)
-  unfolding flatMap
-  flatMap-source [] m = absurd (List·Memᴰ·not-nil m)
-  flatMap-source {y} (x ∷ l) m = go (flatMap-source l) (List·Memᴰ·append-cases (make x) m)
-    where
-      go : (List·Memᴰ y (flatMap make l) → (z : X) × List·Memᴰ y (make z)) →
-          List·Memᴰ y (make x) ⊎ List·Memᴰ y (flatMap make l) → (z : X) × List·Memᴰ y (make z)
-      go rest (inl n) = (x, n)
-      go rest (inr n) = rest n
-
-pub from-member : (f k n : ℕ) → f ≤ n → n < f + k → List·Memᴰ n (from f k)
-unfolding from
-from-member f zero n low high = absurd (omega arith)
-from-member f (suc k) n low high = go (ℕ-discrete n f) (from-member (suc f) k n)
-  where
-    go : Dec (n ≡ f) → (suc f ≤ n → n < suc f + k → List·Memᴰ n (from (suc f) k)) → List·Memᴰ n (f ∷ from (suc f) k)
-    go (yes e) rest = List·Memᴰ·head e
-    go (no d) rest = List·Memᴰ·tail (rest (omega arith) (omega arith))
-
--- A list without one place of v: all else is still there.
-pub remove : {A : Type 0} {v : A} {l : List A} → List·Memᴰ v l →
-    (r : List A) × (length l ≡ suc (length r)) × ((y : A) → List·Memᴰ y l → (y ≡ v) ⊎ List·Memᴰ y r)
-remove (List·Memᴰ·head {xs = xs} e) =
-    (xs, refl, λ y m. ⊎-elim (λ d. inl (d ∙ sym e)) (λ n. inr n) (List·Memᴰ·cases-cons m))
-remove (List·Memᴰ·tail {x = x} m) =
-    let (r, n, other) = remove m in (
-      x ∷ r,
-      ap suc n,
-      λ y k.
-          ⊎-elim (λ e. inr (List·Memᴰ·head e)) (λ k. ⊎-elim (λ e. inl e) (λ i. inr (List·Memᴰ·tail i)) (other y k))
-          (List·Memᴰ·cases-cons k),
-    )
 
 -- Short paths.
 
@@ -120,7 +76,7 @@ module _ {A : Type 0} (link : A → ℕ → Option A) where
           (x ≡ v) ⊎ List·Memᴰ x (flatMap (λ f. within k (link v f)) features) → (p : List ℕ) × (follow link (some v) p ≡ some x)
       go rest (inl e) = ([], ap some (sym e))
       go rest (inr n) =
-          let (f, i) = flatMap-source (λ f. within k (link v f)) features n in
+          let (f, _, i) = flatMap-source (λ f. within k (link v f)) features n in
           let (p, e) = rest f i in
           (f ∷ p, e)
 
@@ -134,7 +90,7 @@ module _ {A : Type 0} (link : A → ℕ → Option A) where
   reached-within (suc k) (some v) (f ∷ p) x small short e =
       let (w, to) = follow-start link (link v f) p x e in
       List·Memᴰ·tail
-      (flatMap-member (λ f. within k (link v f)) (from-member 0 64 f (omega arith) (small [] v w f refl to))
+      (flatMap-member (λ f. within k (link v f)) (mem-features f (small [] v w f refl to))
       (reached-within k (link v f) p x (λ q. small (f ∷ q)) (omega arith) e))
 
 -- Where all walks are short and all features small, a list holds just the nodes that are reached.

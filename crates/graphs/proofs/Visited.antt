@@ -1,7 +1,7 @@
 -- What a visit finds: it adds, each once, nodes that are reached, and all that their links lead to; so from the root it finds every
 -- reached node. Where it gives nothing there are 256 different reached nodes.
 use mathlib.Core.Path.{_≡_, refl, sym, _∙_, ap, subst}
-use mathlib.Core.Bool.{Bool, true, false, _||_}
+use mathlib.Core.Bool.{Bool, true, false}
 use mathlib.Core.List.{
   List,
   [],
@@ -10,13 +10,13 @@ use mathlib.Core.List.{
   append-assoc,
   List·Memᴰ,
   List·Memᴰ·head,
-  List·Memᴰ·tail,
   List·Memᴰ·not-nil,
   List·Memᴰ·cases-cons,
   List·Memᴰ·append-cases,
   List·Memᴰ·eq-of-singleton,
+  Memᴰ·append-right,
 }
-use mathlib.Core.Logic.{_⊎_, inl, inr, ⊎-elim}
+use mathlib.Core.Logic.{⊎-elim}
 use mathlib.Core.Option.{Option, none, some}
 use Prim.Native.Nat.{ℕ, zero, suc, _+_, _≤_, _<_}
 use native.Mathlib.Omega.{arith}
@@ -24,49 +24,11 @@ use borrow.Author.Tests.{leb-true, leb-false}
 use lib.Dec.{leb}
 use lib.ListN.{length, length-append}
 use Rattle.graphs.specs.Graph.{Tells, andThen}
-use Rattle.graphs.specs.Rows.{from, features}
+use Rattle.graphs.specs.Rows.{features}
 use Rattle.graphs.specs.Number.{each, enter, member, otherwise, visit}
+use Rattle.graphs.specs.Large.{Distinct}
 use Rattle.graphs.proofs.Walk.{some-injective, none-some}
-use Rattle.graphs.proofs.Distinct.{Distinct, mem-left, mem-right}
-
-mem-from : (k n f : ℕ) → k ≤ f → f < k + n → List·Memᴰ f (from k n)
-unfolding from
-mem-from k zero f low high = absurd (omega arith)
-mem-from k (suc n) f low high = go (leb f k) refl (λ h. mem-from (suc k) n f h (omega arith))
-  where
-    go : (t : Bool) → leb f k ≡ t → (suc k ≤ f → List·Memᴰ f (from (suc k) n)) → List·Memᴰ f (k ∷ from (suc k) n)
-    go true e later = let h : f ≡ k = omega (arith, leb-true f k e) in List·Memᴰ·head h
-    go false e later = List·Memᴰ·tail (later (omega (arith, leb-false f k e)))
-
--- every feature is listed
-pub mem-features : (f : ℕ) → f < 64 → List·Memᴰ f features
-mem-features f h = mem-from 0 64 f (omega arith) (omega arith)
-
-module _ {A : Type 0} (same : A → A → Bool) (tells : Tells same) where
-  pub member-true : (v : A) (vs : List A) → member same v vs ≡ true → List·Memᴰ v vs
-  unfolding member
-  member-true v [] e = let z : _≡_ {A = ℕ} 0 1 = cc in absurd (omega arith)
-  member-true v (w ∷ ws) e = go (same v w) refl e (member-true v ws)
-    where
-      go : (t : Bool) → same v w ≡ t → (t || member same v ws) ≡ true → (member same v ws ≡ true → List·Memᴰ v ws) →
-          List·Memᴰ v (w ∷ ws)
-      go true h q later = List·Memᴰ·head (tells v w .0 h)
-      go false h q later = List·Memᴰ·tail (later q)
-
-  pub member-complete : (v : A) (vs : List A) → List·Memᴰ v vs → member same v vs ≡ true
-  unfolding member
-  member-complete v (w ∷ ws) (List·Memᴰ·head e) = ap (λ (t : Bool). t || member same v ws) (tells v w .1 e)
-  member-complete v (w ∷ ws) (List·Memᴰ·tail m) = go (same v w) (member-complete v ws m)
-    where
-      go : (t : Bool) → member same v ws ≡ true → (t || member same v ws) ≡ true
-      go true q = refl
-      go false q = q
-
-  pub member-false : (v : A) (vs : List A) → member same v vs ≡ false → List·Memᴰ v vs → ⊥
-  member-false v vs e m =
-      let h : member same v vs ≡ true = member-complete v vs m in
-      let z : _≡_ {A = ℕ} 0 1 = cc in
-      omega arith
+use Rattle.graphs.proofs.Lists.{mem-features, member-true, member-false}
 
 module _ {A : Type 0} (same : A → A → Bool) (tells : Tells same) (link : A → ℕ → Option A) (P : A → Type 0)
     (onto : (v w : A) (f : ℕ) → P v → link v f ≡ some w → P w) (narrow : (v w : A) (f : ℕ) → P v → link v f ≡ some w → f < 64) where
@@ -91,7 +53,7 @@ module _ {A : Type 0} (same : A → A → Bool) (tells : Tells same) (link : A �
       }
 
   pub mem-grown : {old now : List A} → Grown old now → (x : A) → List·Memᴰ x old → List·Memᴰ x now
-  mem-grown {old} gr x m = subst (λ (l : List A). List·Memᴰ x l) (sym (gr .joined)) (mem-right (gr .new) m)
+  mem-grown {old} gr x m = subst (λ (l : List A). List·Memᴰ x l) (sym (gr .joined)) (Memᴰ·append-right (gr .new) m)
 
   grown-trans : {old mid now : List A} → Grown old mid → Grown mid now → Grown old now
   grown-trans {old} {mid} {now} a b =

@@ -5,6 +5,7 @@ pub mod Map
 pub mod Bounds
 pub mod Rows
 pub mod Number
+pub mod Large
 pub mod Generalize
 pub mod Unify
 pub mod Difference
