@@ -1,5 +1,10 @@
 // Acyclicity: depth-first over all nodes with three colours. It also yields the nodes in an order with targets first.
 
+ghost use lib.ListN.{length};
+ghost use mathlib.Core.Path.{_≡_};
+ghost use Rattle.record.specs.Arrays.{Linked};
+ghost use Rattle.record.specs.Promise.{Sorts};
+
 // How a node was left: the number of finished nodes, or a link back to a node on the way down.
 pub enum Leaving {
     Count(usize),
@@ -52,7 +57,12 @@ pub fn has_cycle<'a>(
     first: &'a [u16],
     targets: &'a [u16],
     order: &mut [u16; 510],
-) -> bool {
+) -> bool
+    requires { ⌜ Linked nodes (now first) (now targets) ⌝ }
+    requires { ⌜ length (now order) ≡ 510 ⌝ }
+    ensures { λ r. ⌜ Sorts nodes (now (first .entry)) (now (targets .entry)) (now (order .exit)) r ⌝ }
+    ensures { λ r. ⌜ length (now (order .exit)) ≡ 510 ⌝ }
+{
     let mut colour = [0u8; 510];
     let mut count = 0;
     let mut v = 0;

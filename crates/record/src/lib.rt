@@ -8,6 +8,14 @@ pub mod number;
 pub mod parse;
 pub mod range;
 
+ghost use mathlib.Core.Path.{_≡_};
+ghost use Rattle.graphs.specs.Number.{canonical};
+ghost use Rattle.record.specs.Arrays.{Sound, rowsOf};
+ghost use Rattle.record.specs.Encode.{Outcome, writtenOut};
+ghost use Rattle.record.specs.Promise.{Reads};
+ghost use Rattle.record.specs.Read.{graphOfRows};
+ghost use lib.Dec.{eqb};
+
 // Why a record is no graph: document 01's refusals 4 to 7.
 pub enum GraphFault {
     Malformed,
@@ -51,7 +59,9 @@ fn refusal(fault: GraphFault, graph: Graph) -> Reading {
 }
 
 // Reads a record over a table with n types.
-pub fn read(n: usize, bytes: &[u8]) -> Reading {
+pub fn read(n: usize, bytes: &[u8]) -> Reading
+    ensures { λ r. ⌜ Reads n (now (bytes .entry)) (r .verdict) (r .graph) ⌝ }
+{
     let parsed = parse::parse(bytes);
     let graph = parsed.graph;
     let nodes = graph.nodes;
@@ -92,7 +102,11 @@ pub fn write<'a>(
     features: &'a [u8],
     targets: &'a [u16],
     out: &mut [u8],
-) -> Written {
+) -> Written
+    requires { ⌜ Sound nodes (now types) (now first) (now features) (now targets) ⌝ }
+    ensures { λ r. ⌜ r ≡ writtenOut (canonical eqb (graphOfRows (rowsOf nodes (now (types .entry)) (now (first .entry)) (now (features .entry)) (now (targets .entry))))) (now (out .entry)) .answer ⌝ }
+    ensures { λ r. ⌜ now (out .exit) ≡ writtenOut (canonical eqb (graphOfRows (rowsOf nodes (now (types .entry)) (now (first .entry)) (now (features .entry)) (now (targets .entry))))) (now (out .entry)) .output ⌝ }
+{
     let mut numbers = [0u16; 510];
     let mut visited = [0u16; 255];
     let count = number::number(nodes, first, targets, &mut numbers, &mut visited);

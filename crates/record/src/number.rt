@@ -1,5 +1,10 @@
 // Numbering by first visit, from the root, lowest feature first, following links downward, never deeper than 254 links.
 
+ghost use lib.ListN.{length};
+ghost use mathlib.Core.Path.{_≡_};
+ghost use Rattle.record.specs.Arrays.{Linked};
+ghost use Rattle.record.specs.Promise.{Numbers};
+
 // The number of a node that has none yet.
 pub const NONE: u16 = 0xFFFF;
 
@@ -46,7 +51,14 @@ pub fn number<'a>(
     targets: &'a [u16],
     numbers: &mut [u16; 510],
     visited: &mut [u16; 255],
-) -> usize {
+) -> usize
+    requires { ⌜ Linked nodes (now first) (now targets) ⌝ }
+    requires { ⌜ length (now numbers) ≡ 510 ⌝ }
+    requires { ⌜ length (now visited) ≡ 255 ⌝ }
+    ensures { λ r. ⌜ Numbers (now (first .entry)) (now (targets .entry)) r (now (numbers .exit)) (now (visited .exit)) ⌝ }
+    ensures { λ r. ⌜ length (now (numbers .exit)) ≡ 510 ⌝ }
+    ensures { λ r. ⌜ length (now (visited .exit)) ≡ 255 ⌝ }
+{
     clear(nodes, numbers);
     visit(first, targets, numbers, visited, 0, 254, 0)
 }

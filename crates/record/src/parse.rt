@@ -1,6 +1,7 @@
 // Parsing: a record's bytes into compressed rows, or nothing where they are no record (refusal 4).
 
 use crate::Graph;
+ghost use Rattle.record.specs.Promise.{Parses};
 
 pub struct Parsed {
     pub ok: bool,
@@ -62,7 +63,9 @@ pub fn take_links(
 }
 
 // The record's graph.
-pub fn parse(bytes: &[u8]) -> Parsed {
+pub fn parse(bytes: &[u8]) -> Parsed
+    ensures { λ r. ⌜ Parses (now (bytes .entry)) (r .ok) (r .graph) ⌝ }
+{
     let mut types = [0u8; 255];
     let mut first = [0u16; 256];
     let mut features = [0u8; 2048];

@@ -1,12 +1,21 @@
 // Ranges: every type is one of the table's and not the contradiction, every target is a node (refusal 5 otherwise).
 
+ghost use Prim.Native.Nat.{_≤_};
+ghost use Rattle.record.specs.Arrays.{Laid};
+ghost use Rattle.record.specs.Promise.{Ranges};
+
+// Whether the types of the nodes are among the n, and the targets of all links among the nodes.
 pub fn in_range<'a>(
     n: usize,
     nodes: usize,
     types: &'a [u8; 255],
     first: &'a [u16; 256],
     targets: &'a [u16; 2048],
-) -> bool {
+) -> bool
+    requires { ⌜ Laid nodes (now first) (now targets) ⌝ }
+    requires { ⌜ nodes ≤ 255 ⌝ }
+    ensures { λ r. ⌜ Ranges n nodes (now (types .entry)) (now (first .entry)) (now (targets .entry)) r ⌝ }
+{
     let mut v = 0;
     while v < nodes {
         let t = types[v] as usize;
