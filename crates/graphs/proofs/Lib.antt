@@ -11,4 +11,13 @@ pub mod Visited
 pub mod Canonical
 pub mod Large
 pub mod Form
+pub mod Search
+pub mod Deep
+pub mod Related
+pub mod Classes
+pub mod Beside
+pub mod Quotient
+pub mod ClassGraph
+pub mod Unifier
+pub mod Outcome
 pub mod Examples

@@ -1,2 +1,3 @@
 -- Proofs about records.
 pub mod Examples
+pub mod RoundTrip

@@ -1,0 +1,165 @@
+-- What a search along a list finds: the first value (`firstOf`), whether a test holds somewhere (`anyOf`), and where it
+-- holds (`those`). The features are such a list. Each search is described by membership, so that no proof about
+-- unification has to look at the order of a list.
+use mathlib.Core.Path.{_≡_, refl, sym, _∙_, ap}
+use mathlib.Core.Bool.{Bool, true, false, cond, _||_, true≢false}
+use mathlib.Core.List.{List, [], _∷_, List·Memᴰ, List·Memᴰ·head, List·Memᴰ·tail, List·Memᴰ·not-nil, List·Memᴰ·cases-cons}
+use mathlib.Core.Logic.{_⊎_, inl, inr, ⊎-elim}
+use mathlib.Core.Option.{Option, none, some}
+use Prim.Native.Nat.{ℕ, suc, _≤_, _<_}
+use native.Mathlib.Omega.{arith}
+use lib.ListN.{length}
+use Rattle.graphs.specs.Graph.{orElse}
+use Rattle.graphs.specs.Rows.{features}
+use Rattle.graphs.specs.Unify.{firstOf, anyOf}
+use Rattle.graphs.proofs.Walk.{none-some}
+
+pub true-false : {b : Bool} {C : Type 0} → b ≡ true → b ≡ false → C
+true-false p q = absurd (true≢false (sym p ∙ q))
+
+pub not-true : (b : Bool) → (b ≡ true → ⊥) → b ≡ false
+not-true true h = absurd (h refl)
+not-true false h = refl
+
+pub true-or-false : (b : Bool) → (b ≡ true) ⊎ (b ≡ false)
+true-or-false true = inl refl
+true-or-false false = inr refl
+
+pub cond-some : {Y : Type 0} (b : Bool) (o : Option Y) (y : Y) → cond b o none ≡ some y → (b ≡ true) × (o ≡ some y)
+cond-some true o y e = (refl, e)
+cond-some false o y e = none-some e
+
+pub listed-length : {X : Type 0} {x : X} {xs : List X} → List·Memᴰ x xs → 0 < length xs
+listed-length (List·Memᴰ·head e) = omega arith
+listed-length (List·Memᴰ·tail m) = omega arith
+
+module _ {X Y : Type 0} (find : X → Option Y) where
+  pub firstOf-some : (xs : List X) (y : Y) → firstOf xs find ≡ some y → (x : X) × List·Memᴰ x xs × (find x ≡ some y)
+  unfolding firstOf
+  firstOf-some [] y e = none-some e
+  firstOf-some (x ∷ xs) y e = go (find x) refl e (firstOf-some xs y)
+    where
+      go : (o : Option Y) → find x ≡ o → orElse o (firstOf xs find) ≡ some y →
+          (firstOf xs find ≡ some y → (z : X) × List·Memᴰ z xs × (find z ≡ some y)) →
+          (z : X) × List·Memᴰ z (x ∷ xs) × (find z ≡ some y)
+      go none h e later = let r = later e in (r .0, List·Memᴰ·tail (r .1), r .2)
+      go (some z) h e later = (x, List·Memᴰ·head refl, h ∙ e)
+
+  pub firstOf-none : (xs : List X) → firstOf xs find ≡ none → (x : X) → List·Memᴰ x xs → find x ≡ none
+  unfolding firstOf
+  firstOf-none [] e x m = absurd (List·Memᴰ·not-nil m)
+  firstOf-none (z ∷ xs) e x m = go (find z) refl e (firstOf-none xs) (List·Memᴰ·cases-cons m)
+    where
+      go : (o : Option Y) → find z ≡ o → orElse o (firstOf xs find) ≡ none →
+          (firstOf xs find ≡ none → (x : X) → List·Memᴰ x xs → find x ≡ none) → (x ≡ z) ⊎ List·Memᴰ x xs → find x ≡ none
+      go none h e later (inl q) = ap find q ∙ h
+      go none h e later (inr m) = later e x m
+      go (some y) h e later q = none-some (sym e)
+
+  -- where something is found at some element, something is found
+  pub firstOf-finds : (xs : List X) (x : X) (y : Y) → List·Memᴰ x xs → find x ≡ some y → (z : Y) × (firstOf xs find ≡ some z)
+  firstOf-finds xs x y m e = go (firstOf xs find) refl
+    where
+      go : (o : Option Y) → firstOf xs find ≡ o → (z : Y) × (firstOf xs find ≡ some z)
+      go none h = none-some (sym (firstOf-none xs h x m) ∙ e)
+      go (some z) h = (z, h)
+
+module _ {X : Type 0} (test : X → Bool) where
+  pub anyOf-true : (xs : List X) → anyOf xs test ≡ true → (x : X) × List·Memᴰ x xs × (test x ≡ true)
+  unfolding anyOf
+  anyOf-true [] e = true-false e refl
+  anyOf-true (x ∷ xs) e = go (test x) refl e (anyOf-true xs)
+    where
+      go : (b : Bool) → test x ≡ b → (b || anyOf xs test) ≡ true →
+          (anyOf xs test ≡ true → (z : X) × List·Memᴰ z xs × (test z ≡ true)) → (z : X) × List·Memᴰ z (x ∷ xs) × (test z ≡ true)
+      go true h e later = (x, List·Memᴰ·head refl, h)
+      go false h e later = let r = later e in (r .0, List·Memᴰ·tail (r .1), r .2)
+
+  pub anyOf-finds : (xs : List X) (x : X) → List·Memᴰ x xs → test x ≡ true → anyOf xs test ≡ true
+  unfolding anyOf
+  anyOf-finds [] x m e = absurd (List·Memᴰ·not-nil m)
+  anyOf-finds (z ∷ xs) x m e = go (test z) refl (anyOf-finds xs x) (List·Memᴰ·cases-cons m)
+    where
+      go : (b : Bool) → test z ≡ b → (List·Memᴰ x xs → test x ≡ true → anyOf xs test ≡ true) →
+          (x ≡ z) ⊎ List·Memᴰ x xs → (b || anyOf xs test) ≡ true
+      go true h later q = refl
+      go false h later (inl q) = true-false e (ap test q ∙ h)
+      go false h later (inr m) = later m e
+
+  -- those for which the test holds
+  pub those : List X → List X
+  those [] = []
+  those (x ∷ xs) = cond (test x) (x ∷ those xs) (those xs)
+
+  pub those-sound : (xs : List X) (x : X) → List·Memᴰ x (those xs) → List·Memᴰ x xs × (test x ≡ true)
+  unfolding those
+  those-sound [] x m = absurd (List·Memᴰ·not-nil m)
+  those-sound (z ∷ xs) x m = go (test z) refl m (those-sound xs x)
+    where
+      later : List·Memᴰ x xs × (test x ≡ true) → List·Memᴰ x (z ∷ xs) × (test x ≡ true)
+      later r = (List·Memᴰ·tail (r .0), r .1)
+
+      go : (b : Bool) → test z ≡ b → List·Memᴰ x (cond b (z ∷ those xs) (those xs)) →
+          (List·Memᴰ x (those xs) → List·Memᴰ x xs × (test x ≡ true)) → List·Memᴰ x (z ∷ xs) × (test x ≡ true)
+      go true h m below =
+          ⊎-elim (λ q. (List·Memᴰ·head q, ap test q ∙ h)) (λ m. later (below m)) (List·Memᴰ·cases-cons m)
+      go false h m below = later (below m)
+
+  pub those-finds : (xs : List X) (x : X) → List·Memᴰ x xs → test x ≡ true → List·Memᴰ x (those xs)
+  unfolding those
+  those-finds [] x m e = absurd (List·Memᴰ·not-nil m)
+  those-finds (z ∷ xs) x m e = go (test z) refl (λ m. those-finds xs x m e) (List·Memᴰ·cases-cons m)
+    where
+      go : (b : Bool) → test z ≡ b → (List·Memᴰ x xs → List·Memᴰ x (those xs)) →
+          (x ≡ z) ⊎ List·Memᴰ x xs → List·Memᴰ x (cond b (z ∷ those xs) (those xs))
+      go true h later (inl q) = List·Memᴰ·head q
+      go true h later (inr m) = List·Memᴰ·tail (later m)
+      go false h later (inl q) = true-false e (ap test q ∙ h)
+      go false h later (inr m) = later m
+
+  pub those-length : (xs : List X) → length (those xs) ≤ length xs
+  unfolding those
+  those-length [] = omega arith
+  those-length (x ∷ xs) = go (test x) (those-length xs)
+    where
+      go : (b : Bool) → length (those xs) ≤ length xs → length (cond b (x ∷ those xs) (those xs)) ≤ suc (length xs)
+      go true h = omega arith
+      go false h = omega arith
+
+-- a test that holds less often finds fewer
+module _ {X : Type 0} (less more : X → Bool) where
+  pub those-fewer : (xs : List X) → ((x : X) → List·Memᴰ x xs → less x ≡ true → more x ≡ true) →
+      length (those less xs) ≤ length (those more xs)
+  unfolding those
+  those-fewer [] weaker = omega arith
+  those-fewer (x ∷ xs) weaker =
+      go (less x) (more x) (weaker x (List·Memᴰ·head refl)) (those-fewer xs (λ z m. weaker z (List·Memᴰ·tail m)))
+    where
+      go : (b c : Bool) → (b ≡ true → c ≡ true) → length (those less xs) ≤ length (those more xs) →
+          length (cond b (x ∷ those less xs) (those less xs)) ≤ length (cond c (x ∷ those more xs) (those more xs))
+      go true true w h = omega arith
+      go true false w h = true-false (w refl) refl
+      go false true w h = omega arith
+      go false false w h = omega arith
+
+  pub those-fewer-strict : (xs : List X) → ((x : X) → List·Memᴰ x xs → less x ≡ true → more x ≡ true) →
+      (a : X) → List·Memᴰ a xs → more a ≡ true → less a ≡ false → length (those less xs) < length (those more xs)
+  unfolding those
+  those-fewer-strict [] weaker a m yes-more not-less = absurd (List·Memᴰ·not-nil m)
+  those-fewer-strict (x ∷ xs) weaker a m yes-more not-less =
+      go (less x) refl (more x) refl (weaker x (List·Memᴰ·head refl)) (those-fewer xs below)
+      (λ m. those-fewer-strict xs below a m yes-more not-less) (List·Memᴰ·cases-cons m)
+    where
+      below : (z : X) → List·Memᴰ z xs → less z ≡ true → more z ≡ true
+      below z m = weaker z (List·Memᴰ·tail m)
+
+      go : (b : Bool) → less x ≡ b → (c : Bool) → more x ≡ c → (b ≡ true → c ≡ true) →
+          length (those less xs) ≤ length (those more xs) →
+          (List·Memᴰ a xs → length (those less xs) < length (those more xs)) → (a ≡ x) ⊎ List·Memᴰ a xs →
+          length (cond b (x ∷ those less xs) (those less xs)) < length (cond c (x ∷ those more xs) (those more xs))
+      go true p true q w h s (inl e) = true-false p (ap less (sym e) ∙ not-less)
+      go true p true q w h s (inr m) = let r = s m in omega arith
+      go true p false q w h s d = true-false (w refl) refl
+      go false p true q w h s d = omega arith
+      go false p false q w h s (inl e) = true-false yes-more (ap more e ∙ q)
+      go false p false q w h s (inr m) = s m
