@@ -1,3 +1,2 @@
 -- Proofs about records.
 pub mod Examples
-pub mod RoundTrip
