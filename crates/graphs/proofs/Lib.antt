@@ -20,4 +20,5 @@ pub mod Quotient
 pub mod ClassGraph
 pub mod Unifier
 pub mod Outcome
+pub mod Theorems
 pub mod Examples

@@ -1,0 +1,158 @@
+-- The theorems about graphs of any size, in one place, each with its statement and a line that cites its proof. `𝓛` is any
+-- lattice of labels; graphs have any type of nodes, and nothing bounds their size but where "fits" is said.
+use mathlib.Core.Path.{_≡_, refl}
+use mathlib.Core.Bool.{Bool}
+use mathlib.Core.List.{List}
+use mathlib.Core.Logic.{_↔_, _⊎_, inl, inr, ⊎-elim}
+use mathlib.Core.Option.{some}
+use Prim.Native.Nat.{ℕ, _<_}
+use Rattle.graphs.specs.Label.{Labels, Lattice}
+use Rattle.graphs.specs.Graph.{Graph, Tells, Reached, Below, SameMeaning, AnySize}
+use Rattle.graphs.specs.Map.{NodeMap, Exact}
+use Rattle.graphs.specs.Bounds.{LeastAbove, GreatestBelow}
+use Rattle.graphs.specs.Rows.{Row, graphOf}
+use Rattle.graphs.specs.Number.{canonical, written, manyNodes, manyLinks}
+use Rattle.graphs.specs.Large.{ManyNodes, ManyLinks}
+use Rattle.graphs.specs.Generalize.{IsGeneralization, generalization}
+use Rattle.graphs.specs.Unify.{Cycle, Clash, IsUnification, Unified, cycle, clash, unified, unification}
+use Rattle.graphs.proofs.Below as Below
+use Rattle.graphs.proofs.Product as Product
+use Rattle.graphs.proofs.Invariant as Invariant
+use Rattle.graphs.proofs.Canonical as Canonical
+use Rattle.graphs.proofs.Large as Large
+use Rattle.graphs.proofs.Unifier as Unifier
+use Rattle.graphs.proofs.Beside.{Operands, any-size-operands}
+use Rattle.graphs.proofs.Outcome as Outcome
+
+-- features below 64, as in every graph of any size
+abbrev pub Narrow : {L A : Type 0} → Graph L A → Type 0
+Narrow {A = A} g = (v w : A) (f : ℕ) → Reached g v → g .link v f ≡ some w → f < 64
+
+module _ (𝓛 : Labels) (lattice : Lattice 𝓛) where
+  -- 1. The order: a preorder whose equivalence is equal meaning; where all nodes are reached it is the existence of a node map.
+
+  pub order-reflexive : {A : Type 0} (g : Graph (𝓛 .L) A) → Below 𝓛 g g
+  order-reflexive g = Below.below-refl lattice g
+
+  pub order-transitive : {A B C : Type 0} (s : Graph (𝓛 .L) A) (g : Graph (𝓛 .L) B) (h : Graph (𝓛 .L) C) → Below 𝓛 s g →
+      Below 𝓛 g h → Below 𝓛 s h
+  order-transitive s g h a b = Below.below-trans lattice a b
+
+  pub order-antisymmetric : {A B : Type 0} (g : Graph (𝓛 .L) A) (h : Graph (𝓛 .L) B) →
+      SameMeaning 𝓛 g h ↔ (Below 𝓛 g h × Below 𝓛 h g)
+  order-antisymmetric g h = Below.same-meaning lattice g h
+
+  pub order-by-map : {A B : Type 0} (s : Graph (𝓛 .L) A) (g : Graph (𝓛 .L) B) → ((v : B) → Reached g v) →
+      Below 𝓛 s g ↔ ((to : B → A) × NodeMap 𝓛 s g to)
+  order-by-map s g all = (λ b. Below.below-map b (λ v. yes (all v)), λ m. Below.map-below (m .1))
+
+  pub meaning-by-map : {A B : Type 0} (g : Graph (𝓛 .L) A) (h : Graph (𝓛 .L) B) → ((v : A) → Reached g v) →
+      SameMeaning 𝓛 g h ↔ ((to : A → B) × Exact to g h)
+  meaning-by-map g h all = (λ m. Below.same-exact m (λ v. yes (all v)), λ e. Below.exact-same (e .1))
+
+  -- 2. The written form: it depends on meaning alone, has the graph's meaning, and is missing exactly for what is too large.
+
+  pub form-of-meaning : {A B : Type 0} (sameA : A → A → Bool) (sameB : B → B → Bool) → Tells sameA → Tells sameB →
+      (g : Graph (𝓛 .L) A) (h : Graph (𝓛 .L) B) → SameMeaning 𝓛 g h → canonical sameA g ≡ canonical sameB h
+  form-of-meaning sameA sameB tellsA tellsB g h m = Invariant.same-canonical 𝓛 sameA sameB tellsA tellsB g h m
+
+  pub meaning-of-form : {A : Type 0} (same : A → A → Bool) → Tells same → (g : Graph (𝓛 .L) A) → Narrow g →
+      (form : List (Row (𝓛 .L))) → canonical same g ≡ written form → SameMeaning 𝓛 g (graphOf (𝓛 .top) form)
+  meaning-of-form same tells g narrow form e = Canonical.canonical-meaning 𝓛 same tells g narrow form e
+
+  pub form-exact : {A B : Type 0} (sameA : A → A → Bool) (sameB : B → B → Bool) → Tells sameA → Tells sameB → (g : Graph (𝓛 .L) A)
+      (h : Graph (𝓛 .L) B) → Narrow g → Narrow h → (form : List (Row (𝓛 .L))) → canonical sameA g ≡ written form →
+      SameMeaning 𝓛 g h ↔ (canonical sameB h ≡ written form)
+  form-exact sameA sameB tellsA tellsB g h narrowA narrowB form e =
+      Canonical.canonical-exact 𝓛 sameA sameB tellsA tellsB g h narrowA narrowB form e
+
+  pub too-many-nodes : {A : Type 0} (same : A → A → Bool) → Tells same → (g : Graph (𝓛 .L) A) → Narrow g →
+      (canonical same g ≡ manyNodes) ↔ ManyNodes g
+  too-many-nodes same tells g narrow = Large.canonical-many-nodes same tells g narrow
+
+  pub too-many-links : {A : Type 0} (same : A → A → Bool) → Tells same → (g : Graph (𝓛 .L) A) → Narrow g →
+      (canonical same g ≡ manyLinks) ↔ ((ManyNodes g → ⊥) × ManyLinks g)
+  too-many-links same tells g narrow = Large.canonical-many-links same tells g narrow
+
+  pub fits : {A : Type 0} (same : A → A → Bool) → Tells same → (g : Graph (𝓛 .L) A) → Narrow g →
+      ((ManyNodes g → ⊥) × (ManyLinks g → ⊥)) ↔ ((form : List (Row (𝓛 .L))) × (canonical same g ≡ written form))
+  fits same tells g narrow = Large.canonical-fits same tells g narrow
+
+  -- 3. Generalization: the paths of both with their joins; the least graph above both, of any size if the operands are.
+
+  pub generalization-is : {A B : Type 0} (g : Graph (𝓛 .L) A) (h : Graph (𝓛 .L) B) → IsGeneralization 𝓛 g h (generalization 𝓛 g h)
+  generalization-is g h = Product.product-is-generalization 𝓛 g h
+
+  pub generalization-least : {A B : Type 0} (g : Graph (𝓛 .L) A) (h : Graph (𝓛 .L) B) → LeastAbove 𝓛 g h (generalization 𝓛 g h)
+  generalization-least g h = Product.generalization-least lattice (Product.product-is-generalization 𝓛 g h)
+
+  pub generalization-any-size : {A B : Type 0} (g : Graph (𝓛 .L) A) (h : Graph (𝓛 .L) B) → AnySize 𝓛 g → AnySize 𝓛 h →
+      AnySize 𝓛 (generalization 𝓛 g h)
+  generalization-any-size g h a b = Product.generalization-any-size lattice (Product.product-is-generalization 𝓛 g h) a
+
+  -- 4. Unification: what is computed on nodes is the closure over paths; the greatest graph below both, of any size; there is a
+  -- cycle or a clash exactly when no graph of any size lies below both, and a cycle is told before a clash.
+
+  module _ {A B : Type 0} (sameA : A → A → Bool) (sameB : B → B → Bool) (tellsA : Tells sameA) (tellsB : Tells sameB)
+      (g : Graph (𝓛 .L) A) (h : Graph (𝓛 .L) B) (a : AnySize 𝓛 g) (b : AnySize 𝓛 h) where
+    given : Operands sameA sameB g (a .nodes) h (b .nodes)
+    given = any-size-operands tellsA tellsB a b
+
+    pub unification-is : (u : Graph (𝓛 .L) (A ⊎ B)) → unification 𝓛 sameA sameB g (a .nodes) h (b .nodes) ≡ unified u →
+        IsUnification 𝓛 g h u × AnySize 𝓛 u × GreatestBelow 𝓛 g h u
+    unification-is u e =
+        let (size, is) = Outcome.graph-right lattice given u e in (
+          is,
+          size,
+          record {
+            left = Unifier.unification-left is;
+            right = Unifier.unification-right is;
+            greatest = λ m below-g below-h. Unifier.unification-greatest below-g below-h is;
+          },
+        )
+
+    pub unification-cycle : (unification 𝓛 sameA sameB g (a .nodes) h (b .nodes) ≡ cycle) ↔ Cycle 𝓛 g h
+    unification-cycle = Outcome.answers-cycle lattice given
+
+    pub unification-clash : (unification 𝓛 sameA sameB g (a .nodes) h (b .nodes) ≡ clash) ↔ ((Cycle 𝓛 g h → ⊥) × Clash 𝓛 g h)
+    unification-clash = Outcome.answers-clash lattice given
+
+    pub unification-none : (Cycle 𝓛 g h ⊎ Clash 𝓛 g h) ↔
+        ((C : Type 0) (k : Graph (𝓛 .L) C) → AnySize 𝓛 k → Below 𝓛 k g → Below 𝓛 k h → ⊥)
+    unification-none = (
+      λ bad C k size below-g below-h.
+          ⊎-elim (Unifier.below-no-cycle below-g below-h size) (Unifier.below-no-clash below-g below-h lattice size) bad,
+      λ none. found (unification 𝓛 sameA sameB g (a .nodes) h (b .nodes)) refl none,
+    )
+      where
+        found : (o : Unified (𝓛 .L) (A ⊎ B)) → unification 𝓛 sameA sameB g (a .nodes) h (b .nodes) ≡ o →
+            ((C : Type 0) (k : Graph (𝓛 .L) C) → AnySize 𝓛 k → Below 𝓛 k g → Below 𝓛 k h → ⊥) → Cycle 𝓛 g h ⊎ Clash 𝓛 g h
+        found cycle e none = inl (unification-cycle .0 e)
+        found clash e none = inr (unification-clash .0 e .1)
+        found (unified u) e none =
+            let (is, size, best) = unification-is u e in
+            absurd (none (A ⊎ B) u size (best .left) (best .right))
+
+  -- 5. Bounds of one pair have equal meaning.
+
+  pub least-unique : {A B C D : Type 0} (g : Graph (𝓛 .L) A) (h : Graph (𝓛 .L) B) (k : Graph (𝓛 .L) C) (m : Graph (𝓛 .L) D) →
+      LeastAbove 𝓛 g h k → LeastAbove 𝓛 g h m → SameMeaning 𝓛 k m
+  least-unique g h k m a b = Product.least-unique lattice a b
+
+  pub greatest-unique : {A B C D : Type 0} (g : Graph (𝓛 .L) A) (h : Graph (𝓛 .L) B) (k : Graph (𝓛 .L) C) (m : Graph (𝓛 .L) D) →
+      GreatestBelow 𝓛 g h k → GreatestBelow 𝓛 g h m → SameMeaning 𝓛 k m
+  greatest-unique g h k m a b = Product.greatest-unique lattice a b
+
+  -- 6. Both operations keep the order.
+
+  pub generalization-monotone : {A B C D : Type 0} (g : Graph (𝓛 .L) A) (h : Graph (𝓛 .L) B) (k : Graph (𝓛 .L) C) (m : Graph (𝓛 .L) D) →
+      Below 𝓛 g k → Below 𝓛 h m → Below 𝓛 (generalization 𝓛 g h) (generalization 𝓛 k m)
+  generalization-monotone g h k m a b = Product.product-monotone lattice a b
+
+  pub unification-monotone : {A B C D : Type 0} (sameA : A → A → Bool) (sameB : B → B → Bool) (sameC : C → C → Bool)
+      (sameD : D → D → Bool) → Tells sameA → Tells sameB → Tells sameC → Tells sameD → (g : Graph (𝓛 .L) A) (h : Graph (𝓛 .L) B)
+      (k : Graph (𝓛 .L) C) (m : Graph (𝓛 .L) D) (a : AnySize 𝓛 g) (b : AnySize 𝓛 h) (c : AnySize 𝓛 k) (d : AnySize 𝓛 m) → Below 𝓛 g k →
+      Below 𝓛 h m → (u : Graph (𝓛 .L) (A ⊎ B)) → unification 𝓛 sameA sameB g (a .nodes) h (b .nodes) ≡ unified u →
+      (w : Graph (𝓛 .L) (C ⊎ D)) × (unification 𝓛 sameC sameD k (c .nodes) m (d .nodes) ≡ unified w) × Below 𝓛 u w
+  unification-monotone sameA sameB sameC sameD tA tB tC tD g h k m a b c d p q u e =
+      Outcome.unification-monotone lattice (any-size-operands tA tB a b) (any-size-operands tC tD c d) p q u e
