@@ -4,3 +4,4 @@ pub mod Encode
 pub mod Read
 pub mod Arrays
 pub mod Promise
+pub mod Labels
