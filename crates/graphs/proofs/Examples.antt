@@ -1,8 +1,11 @@
 -- Document 01's cases 1 to 6, computed by the definitions over the diamond.
 use mathlib.Core.Path.{_≡_, refl}
+use mathlib.Core.Bool.{true, false}
 use mathlib.Core.List.{List, [], _∷_}
 use Prim.Native.Nat.{ℕ}
-use Rattle.graphs.specs.Rows.{from, target, linksOf}
+use lib.Dec.{eqb}
+use Rattle.graphs.specs.Rows.{graphOf, from, target, linksOf}
+use Rattle.graphs.specs.Order.{allOf, within, fitsAt, subsumes}
 use Rattle.graphs.specs.Number.{written, canonical, visit, each, member, indexOf, outDegree, linkCount, rowOf}
 use Rattle.graphs.specs.Generalize.{generalization}
 use Rattle.graphs.specs.Unify.{
@@ -22,7 +25,7 @@ use Rattle.graphs.specs.Unify.{
   classLabel,
 }
 use Rattle.graphs.specs.Difference.{difference, keptLink, keeps, keptItself, lead, leaders, groupOf, spread, touch, bare, covers, incoming, select, linksFrom, leastOf, meetOver, meetWhere, byNumber}
-use Rattle.graphs.specs.Small.{Diamond, a, b, top, leaf, P, Q, R, commonPart, combination, differenceOf, loops, clashes, gives}
+use Rattle.graphs.specs.Small.{Diamond, a, b, top, leaf, P, Q, R, commonPart, combination, differenceOf, loops, clashes, gives, diamond}
 
 -- 1. Common part of a[0: b] and b: a lone top.
 case-1 : commonPart ((a, (0, 1) ∷ []) ∷ leaf b ∷ []) (leaf b ∷ []) ≡ written (leaf top ∷ [])
@@ -69,6 +72,15 @@ case-8 = refl
 case-9 : differenceOf R (0 ∷ 1 ∷ []) R (0 ∷ 1 ∷ []) (0 ∷ 1 ∷ []) ≡ written (leaf top ∷ [])
 unfolding canonical visit each member from linkCount outDegree rowOf linksOf indexOf target anyOf difference keptLink keeps keptItself lead leaders groupOf spread touch bare covers incoming select linksFrom leastOf meetOver meetWhere byNumber
 case-9 = refl
+
+-- 10. Difference of g = P, s = Q: refused, since Q is not below P; R is.
+case-10 : subsumes diamond eqb eqb (graphOf top Q) (graphOf top P) 2 ≡ false
+unfolding subsumes allOf within fitsAt from target
+case-10 = refl
+
+case-10-below : subsumes diamond eqb eqb (graphOf top R) (graphOf top P) 2 ≡ true
+unfolding subsumes allOf within fitsAt from target
+case-10-below = refl
 
 -- 11. s = top[0: X top, 1: X, 2: X]; g the same with 0 and 1 shared, 2 apart, all top: top[0: X top, 2: X].
 case-11 :

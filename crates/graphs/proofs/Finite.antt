@@ -21,6 +21,7 @@ use Prim.Native.Nat.{ℕ, zero, suc, _<_}
 use native.Mathlib.Omega.{arith}
 use lib.ListN.{length}
 use Rattle.graphs.specs.Label.{Labels, Lattice}
+use Rattle.graphs.specs.Order.{within}
 use Rattle.graphs.specs.Graph.{Graph, Below, SameMeaning, AnySize, walk, follow, Reached}
 use Rattle.graphs.specs.Rows.{features}
 use Rattle.graphs.proofs.Walk.{some-injective, none-some, follow-none, follow-start, follow-last, walk-append, walk-snoc}
@@ -60,29 +61,23 @@ short-paths g nodes all acyclic p v e =
 -- Finitely many nodes.
 
 module _ {A : Type 0} (link : A → ℕ → Option A) where
-  -- the nodes that fewer than k links by the features 0 to 63 lead to
-  unfoldable pub within : ℕ → Option A → List A
-  within zero o = []
-  within (suc k) none = []
-  within (suc k) (some v) = v ∷ flatMap (λ f. within k (link v f)) features
-
-  within-reached : (k : ℕ) (o : Option A) (x : A) → List·Memᴰ x (within k o) → (p : List ℕ) × (follow link o p ≡ some x)
+  pub within-reached : (k : ℕ) (o : Option A) (x : A) → List·Memᴰ x (within link k o) → (p : List ℕ) × (follow link o p ≡ some x)
   unfolding within follow
   within-reached zero o x m = absurd (List·Memᴰ·not-nil m)
   within-reached (suc k) none x m = absurd (List·Memᴰ·not-nil m)
   within-reached (suc k) (some v) x m = go (λ f. within-reached k (link v f) x) (List·Memᴰ·cases-cons m)
     where
-      go : ((f : ℕ) → List·Memᴰ x (within k (link v f)) → (p : List ℕ) × (follow link (link v f) p ≡ some x)) →
-          (x ≡ v) ⊎ List·Memᴰ x (flatMap (λ f. within k (link v f)) features) → (p : List ℕ) × (follow link (some v) p ≡ some x)
+      go : ((f : ℕ) → List·Memᴰ x (within link k (link v f)) → (p : List ℕ) × (follow link (link v f) p ≡ some x)) →
+          (x ≡ v) ⊎ List·Memᴰ x (flatMap (λ f. within link k (link v f)) features) → (p : List ℕ) × (follow link (some v) p ≡ some x)
       go rest (inl e) = ([], ap some (sym e))
       go rest (inr n) =
-          let (f, _, i) = flatMap-source (λ f. within k (link v f)) features n in
+          let (f, _, i) = flatMap-source (λ f. within link k (link v f)) features n in
           let (p, e) = rest f i in
           (f ∷ p, e)
 
-  reached-within : (k : ℕ) (o : Option A) (p : List ℕ) (x : A) →
+  pub reached-within : (k : ℕ) (o : Option A) (p : List ℕ) (x : A) →
       ((q : List ℕ) (v w : A) (f : ℕ) → follow link o q ≡ some v → link v f ≡ some w → f < 64) → length p < k →
-      follow link o p ≡ some x → List·Memᴰ x (within k o)
+      follow link o p ≡ some x → List·Memᴰ x (within link k o)
   unfolding within follow
   reached-within zero o p x small short e = absurd (omega arith)
   reached-within (suc k) none p x small short e = none-some (sym (follow-none link p) ∙ e)
@@ -90,7 +85,7 @@ module _ {A : Type 0} (link : A → ℕ → Option A) where
   reached-within (suc k) (some v) (f ∷ p) x small short e =
       let (w, to) = follow-start link (link v f) p x e in
       List·Memᴰ·tail
-      (flatMap-member (λ f. within k (link v f)) (mem-features f (small [] v w f refl to))
+      (flatMap-member (λ f. within link k (link v f)) (mem-features f (small [] v w f refl to))
       (reached-within k (link v f) p x (λ q. small (f ∷ q)) (omega arith) e))
 
 -- Where all walks are short and all features small, a list holds just the nodes that are reached.

@@ -5,6 +5,7 @@ pub mod Rows
 pub mod Below
 pub mod Finite
 pub mod Product
+pub mod Order
 pub mod Bisimilar
 pub mod Invariant
 pub mod Visited

@@ -1,11 +1,12 @@
 -- The theorems about graphs of any size, in one place, each with its statement and a line that cites its proof. `𝓛` is any
 -- lattice of labels; graphs have any type of nodes, and nothing bounds their size but where "fits" is said.
 use mathlib.Core.Path.{_≡_, refl}
-use mathlib.Core.Bool.{Bool}
+use mathlib.Core.Bool.{Bool, true}
 use mathlib.Core.List.{List}
 use mathlib.Core.Logic.{_↔_, _⊎_, inl, inr, ⊎-elim}
 use mathlib.Core.Option.{some}
 use Prim.Native.Nat.{ℕ, _<_}
+use lib.ListN.{length}
 use Rattle.graphs.specs.Label.{Labels, Lattice}
 use Rattle.graphs.specs.Graph.{Graph, Tells, Reached, Below, SameMeaning, AnySize}
 use Rattle.graphs.specs.Map.{NodeMap, Exact}
@@ -13,10 +14,13 @@ use Rattle.graphs.specs.Bounds.{LeastAbove, GreatestBelow}
 use Rattle.graphs.specs.Rows.{Row, graphOf}
 use Rattle.graphs.specs.Number.{canonical, written, manyNodes, manyLinks}
 use Rattle.graphs.specs.Large.{ManyNodes, ManyLinks}
+use Rattle.graphs.specs.Order.{subsumes}
 use Rattle.graphs.specs.Generalize.{IsGeneralization, generalization}
 use Rattle.graphs.specs.Unify.{Cycle, Clash, IsUnification, Unified, cycle, clash, unified, unification}
 use Rattle.graphs.proofs.Below as Below
+use Rattle.graphs.proofs.Finite as Finite
 use Rattle.graphs.proofs.Product as Product
+use Rattle.graphs.proofs.Order as Order
 use Rattle.graphs.proofs.Invariant as Invariant
 use Rattle.graphs.proofs.Canonical as Canonical
 use Rattle.graphs.proofs.Large as Large
@@ -49,6 +53,12 @@ module _ (𝓛 : Labels) (lattice : Lattice 𝓛) where
   pub meaning-by-map : {A B : Type 0} (g : Graph (𝓛 .L) A) (h : Graph (𝓛 .L) B) → ((v : A) → Reached g v) →
       SameMeaning 𝓛 g h ↔ ((to : A → B) × Exact to g h)
   meaning-by-map g h all = (λ m. Below.same-exact m (λ v. yes (all v)), λ e. Below.exact-same (e .1))
+
+  pub order-computed : {A B : Type 0} (sameA : A → A → Bool) (sameB : B → B → Bool) → Tells sameA → Tells sameB → (s : Graph (𝓛 .L) A)
+      (g : Graph (𝓛 .L) B) (b : AnySize 𝓛 g) → (subsumes 𝓛 sameA sameB s g (length (b .nodes)) ≡ true) ↔ Below 𝓛 s g
+  order-computed sameA sameB tellsA tellsB s g b =
+      Order.subsumes-exact 𝓛 sameA sameB tellsA tellsB s g (b .features) (length (b .nodes))
+      (Finite.short-paths g (b .nodes) (λ v r. b .listed v .0 r) (b .acyclic))
 
   -- 2. The written form: it depends on meaning alone, has the graph's meaning, and is missing exactly for what is too large.
 

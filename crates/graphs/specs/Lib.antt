@@ -7,6 +7,7 @@ pub mod Rows
 pub mod Number
 pub mod Large
 pub mod Generalize
+pub mod Order
 pub mod Unify
 pub mod Difference
 pub mod Small
