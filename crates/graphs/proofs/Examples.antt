@@ -75,11 +75,11 @@ case-9 = refl
 
 -- 10. Difference of g = P, s = Q: refused, since Q is not below P; R is.
 case-10 : subsumes diamond eqb eqb (graphOf top Q) (graphOf top P) 2 ≡ false
-unfolding subsumes allOf within fitsAt from target
+unfolding subsumes allOf within fitsAt from target mathlib.Core.List.flatMap
 case-10 = refl
 
 case-10-below : subsumes diamond eqb eqb (graphOf top R) (graphOf top P) 2 ≡ true
-unfolding subsumes allOf within fitsAt from target
+unfolding subsumes allOf within fitsAt from target mathlib.Core.List.flatMap
 case-10-below = refl
 
 -- 11. s = top[0: X top, 1: X, 2: X]; g the same with 0 and 1 shared, 2 apart, all top: top[0: X top, 2: X].
