@@ -1,0 +1,132 @@
+//! The calls on bytes: rewriting, order, common part, combination, difference.
+//! Checks run in document 01's order: the table (1, 2, 3), the first graph and
+//! then the second (4 to 7), then 13, 12, 9, 10, 11 and 8. The output changes
+//! only where a length is returned, and then only its first bytes.
+
+use crate::canonical::canonical;
+use crate::combination::unification;
+use crate::common::generalization;
+use crate::difference;
+use crate::graph::Graph;
+use crate::order::below;
+use crate::record::{self, LONGEST_RECORD, MOST_LINKS, MOST_NODES};
+use crate::reply::{Refusal, Reply, Which};
+use crate::table::Table;
+
+/// A call that takes a table and two graphs and writes a record.
+pub type Call = fn(usize, &[u8], &[u8], &[u8], &mut [u8]) -> Reply;
+
+/// Makes a call with an output as long as the longest record, and gives the
+/// record it writes there.
+pub fn written(
+    call: Call,
+    n: usize,
+    table: &[u8],
+    first: &[u8],
+    second: &[u8],
+) -> Result<Vec<u8>, Refusal> {
+    let mut output = vec![0; LONGEST_RECORD];
+    match call(n, table, first, second, &mut output) {
+        Reply::Length(length) => {
+            output.truncate(length);
+            Ok(output)
+        }
+        Reply::Refused(refusal) => Err(refusal),
+        Reply::Yes | Reply::No => unreachable!("a call that writes gives a length"),
+    }
+}
+
+/// Rewrites one record in canonical (written) form.
+pub fn rewrite(n: usize, table: &[u8], graph: &[u8], output: &mut [u8]) -> Reply {
+    let result = accept_table(n, table)
+        .and_then(|table| accept_graph(&table, graph, Which::First))
+        .and_then(|graph| deliver(&graph, output));
+    reply(result)
+}
+
+/// Whether the first graph is below the second.
+pub fn order(n: usize, table: &[u8], first: &[u8], second: &[u8]) -> Reply {
+    let result = accept(n, table, first, second).map(|(table, first, second)| {
+        if below(&table, &first, &second) {
+            Reply::Yes
+        } else {
+            Reply::No
+        }
+    });
+    reply(result)
+}
+
+/// The common part (generalization) of two graphs.
+pub fn common_part(
+    n: usize,
+    table: &[u8],
+    first: &[u8],
+    second: &[u8],
+    output: &mut [u8],
+) -> Reply {
+    let result = accept(n, table, first, second)
+        .map(|(table, first, second)| generalization(&table, &first, &second))
+        .and_then(|common| deliver(&common, output));
+    reply(result)
+}
+
+/// The combination (unification) of two graphs.
+pub fn combination(
+    n: usize,
+    table: &[u8],
+    first: &[u8],
+    second: &[u8],
+    output: &mut [u8],
+) -> Reply {
+    let result = accept(n, table, first, second)
+        .and_then(|(table, first, second)| unification(&table, &first, &second))
+        .and_then(|combined| deliver(&combined, output));
+    reply(result)
+}
+
+/// The difference: g first, s second, for s below g.
+pub fn difference(n: usize, table: &[u8], g: &[u8], s: &[u8], output: &mut [u8]) -> Reply {
+    let result = accept(n, table, g, s)
+        .and_then(|(table, g, s)| difference::difference(&table, &g, &s))
+        .and_then(|difference| deliver(&difference, output));
+    reply(result)
+}
+
+/// The table and both graphs, where none of 1 to 7 applies.
+fn accept(
+    n: usize,
+    table: &[u8],
+    first: &[u8],
+    second: &[u8],
+) -> Result<(Table, Graph, Graph), Refusal> {
+    let table = accept_table(n, table)?;
+    let first = accept_graph(&table, first, Which::First)?;
+    let second = accept_graph(&table, second, Which::Second)?;
+    Ok((table, first, second))
+}
+
+fn accept_table(n: usize, bytes: &[u8]) -> Result<Table, Refusal> {
+    Table::accept(n, bytes).map_err(Refusal::Table)
+}
+
+fn accept_graph(table: &Table, bytes: &[u8], which: Which) -> Result<Graph, Refusal> {
+    record::read(table, bytes).map_err(|fault| Refusal::Graph(fault, which))
+}
+
+/// Writes a result in canonical form: 11 if it is too large for a record, 8 if
+/// the output is too short, else its bytes and its length.
+fn deliver(graph: &Graph, output: &mut [u8]) -> Result<Reply, Refusal> {
+    if graph.nodes.len() > MOST_NODES || graph.link_count() > MOST_LINKS {
+        return Err(Refusal::TooLarge);
+    }
+    let record = record::write(&canonical(graph));
+    let Some(place) = output.get_mut(..record.len()) else {
+        return Err(Refusal::ShortOutput);
+    };
+    place.copy_from_slice(&record);
+    Ok(Reply::Length(record.len()))
+}
+
+fn reply(result: Result<Reply, Refusal>) -> Reply {
+    result.unwrap_or_else(Reply::Refused)
+}

@@ -1,0 +1,49 @@
+//! The canonical form, document 01's written form: nodes numbered by first
+//! visit from the root, depth first, lowest feature first. Two graphs mean the
+//! same exactly when their canonical forms are equal.
+
+use crate::graph::{Graph, Node, ROOT};
+use std::collections::BTreeMap;
+
+/// The same graph with its nodes numbered as written. Nodes that the root does
+/// not reach are not visited and so are left out.
+pub fn canonical(graph: &Graph) -> Graph {
+    let mut visits = Visits::default();
+    visits.visit(graph, ROOT);
+    let renumbered = |old: &usize| {
+        let node = &graph.nodes[*old];
+        Node {
+            node_type: node.node_type,
+            links: node
+                .links
+                .iter()
+                .map(|(&feature, target)| (feature, visits.number[target]))
+                .collect(),
+        }
+    };
+    Graph {
+        nodes: visits.order.iter().map(renumbered).collect(),
+    }
+}
+
+/// The nodes visited so far, in order, and the number each has got.
+#[derive(Default)]
+struct Visits {
+    order: Vec<usize>,
+    number: BTreeMap<usize, usize>,
+}
+
+impl Visits {
+    /// Numbers a node and all that hangs below it, unless it has a number.
+    /// In an acyclic graph of N nodes this goes at most N − 1 links down.
+    fn visit(&mut self, graph: &Graph, node: usize) {
+        if self.number.contains_key(&node) {
+            return;
+        }
+        self.number.insert(node, self.order.len());
+        self.order.push(node);
+        for &target in graph.nodes[node].links.values() {
+            self.visit(graph, target);
+        }
+    }
+}

@@ -1,0 +1,143 @@
+//! The difference of two graphs, for s below g: the most general graph that
+//! combined with g gives back s. It is a part of s with residuals for types.
+//! Document 01's rules are followed word for word: groups of incoming links,
+//! wanted types (residuals), kept links. Refusals 13, then 12.
+
+use crate::canonical::canonical;
+use crate::graph::{Graph, Link, Node, ROOT};
+use crate::order::{Morphism, subsumption};
+use crate::reply::Refusal;
+use crate::table::{Table, Type};
+use std::collections::BTreeSet;
+
+/// The difference of s from g.
+pub fn difference(table: &Table, g: &Graph, s: &Graph) -> Result<Graph, Refusal> {
+    if !table.admits_differences() {
+        return Err(Refusal::NoDifferences);
+    }
+    // "Number s as written."
+    let s = canonical(s);
+    let Some(morphism) = subsumption(table, g, &s) else {
+        return Err(Refusal::NotBelow);
+    };
+    let overlay = Overlay::new(g, &s, &morphism);
+    let wanted: Vec<Type> = (0..s.nodes.len())
+        .map(|node| overlay.wanted_type(table, node))
+        .collect();
+    let kept = overlay.kept_links(table, &wanted);
+    // "Kept nodes carry their wanted types." A node that a kept link leaves is the
+    // root or is itself entered by a kept link, by the last condition for one
+    // group. So the kept nodes are those the root reaches by kept links, and the
+    // canonical form leaves out the others.
+    let nodes = s.nodes.iter().enumerate().map(|(parent, node)| Node {
+        node_type: wanted[parent],
+        links: node
+            .links
+            .iter()
+            .map(|(&feature, &target)| (feature, target))
+            .filter(|&(feature, _)| kept.contains(&Link { parent, feature }))
+            .collect(),
+    });
+    Ok(canonical(&Graph {
+        nodes: nodes.collect(),
+    }))
+}
+
+/// The graph s, and for its nodes and links what of g lies over them.
+struct Overlay<'a> {
+    g: &'a Graph,
+    s: &'a Graph,
+    /// For each node of s the nodes of g over it.
+    nodes_over: Vec<Vec<usize>>,
+    /// For each node of g the links of s under the links of g that enter it.
+    links_under: Vec<BTreeSet<Link>>,
+    /// The links of s that some link of g lies over.
+    covered: BTreeSet<Link>,
+}
+
+impl<'a> Overlay<'a> {
+    fn new(g: &'a Graph, s: &'a Graph, morphism: &Morphism) -> Overlay<'a> {
+        let mut nodes_over = vec![Vec::new(); s.nodes.len()];
+        for (over, &node) in morphism.image.iter().enumerate() {
+            nodes_over[node].push(over);
+        }
+        // A link of g lies over the link of s with the same feature that leaves
+        // the node its own parent lies over.
+        let link_under = |link: &Link| Link {
+            parent: morphism.image[link.parent],
+            feature: link.feature,
+        };
+        let links_under: Vec<BTreeSet<Link>> = g
+            .incoming()
+            .iter()
+            .map(|links| links.iter().map(link_under).collect())
+            .collect();
+        Overlay {
+            g,
+            s,
+            nodes_over,
+            covered: links_under.iter().flatten().copied().collect(),
+            links_under,
+        }
+    }
+
+    /// The greatest type whose meet with the meet of all g types over the node
+    /// (top if none) equals the type in s.
+    fn wanted_type(&self, table: &Table, node: usize) -> Type {
+        let types_over = self.nodes_over[node]
+            .iter()
+            .map(|&over| self.g.nodes[over].node_type);
+        table
+            .wanted(table.meet_of(types_over), self.s.nodes[node].node_type)
+            .expect("the table admits differences and s is below g")
+    }
+
+    /// The groups of the links that enter a node other than the root. Two are in
+    /// one group when two links of g that enter one node of g lie over them,
+    /// closed transitively; a link with nothing of g over it stays alone.
+    fn groups(&self, node: usize, incoming: &[Link]) -> Vec<BTreeSet<Link>> {
+        let mut groups: Vec<BTreeSet<Link>> = incoming
+            .iter()
+            .map(|&link| BTreeSet::from([link]))
+            .collect();
+        for &over in &self.nodes_over[node] {
+            let together = &self.links_under[over];
+            let (joined, others): (Vec<_>, Vec<_>) = groups
+                .into_iter()
+                .partition(|group| !group.is_disjoint(together));
+            groups = others;
+            groups.push(joined.into_iter().flatten().collect());
+        }
+        groups
+    }
+
+    /// The links of s that the difference keeps. Nodes are taken after all their
+    /// targets, so which links leaving a node are kept is settled before it.
+    fn kept_links(&self, table: &Table, wanted: &[Type]) -> BTreeSet<Link> {
+        let incoming = self.s.incoming();
+        let mut kept = BTreeSet::new();
+        for node in self.s.bottom_up().expect("an acyclic graph") {
+            if node == ROOT {
+                continue;
+            }
+            let groups = self.groups(node, &incoming[node]);
+            let keeps = match groups.as_slice() {
+                [group] => {
+                    let nothing_over = group.is_disjoint(&self.covered);
+                    let a_leaving_link_is_kept = self.s.nodes[node].links.keys().any(|&feature| {
+                        kept.contains(&Link {
+                            parent: node,
+                            feature,
+                        })
+                    });
+                    nothing_over || wanted[node] != table.top() || a_leaving_link_is_kept
+                }
+                _ => true,
+            };
+            if keeps {
+                kept.extend(groups.iter().filter_map(|group| group.first()));
+            }
+        }
+        kept
+    }
+}

@@ -1,0 +1,23 @@
+//! A plain reference for typed map graphs (typed feature structures) and their
+//! algebra: subsumption, generalization, unification and difference, on bytes.
+//! Written from document 01 alone, sentence by sentence, for reading first and
+//! for speed second; it is meant to judge other engines on many inputs.
+
+#![forbid(unsafe_code)]
+#![warn(missing_docs)]
+
+pub mod calls;
+pub mod canonical;
+pub mod combination;
+pub mod common;
+pub mod difference;
+pub mod graph;
+pub mod mapcalc;
+pub mod notation;
+pub mod order;
+pub mod paths;
+pub mod random;
+pub mod reader;
+pub mod record;
+pub mod reply;
+pub mod table;

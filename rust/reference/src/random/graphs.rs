@@ -1,0 +1,257 @@
+//! Random graphs of a wanted shape, graphs above a given one, and pairs of both
+//! kinds. All of them are graphs that a record can hold.
+
+use super::Xorshift;
+use crate::graph::{Feature, Graph, Node, ROOT};
+use crate::record::{MOST_LINKS, MOST_NODES};
+use crate::table::{Table, Type};
+use std::collections::BTreeMap;
+
+/// What a random graph is to be like.
+#[derive(Clone, Debug, PartialEq, Eq)]
+pub struct Shape {
+    /// How many nodes.
+    pub nodes: usize,
+    /// How many links to try for beyond those that reach each node once.
+    pub extra_links: usize,
+    /// The features to use, at least one.
+    pub features: Vec<Feature>,
+    /// Each new node hangs below one of the last so many; 1 makes a chain.
+    pub spread: usize,
+    /// Of four nodes so many are top, the others of any type.
+    pub tops: usize,
+}
+
+impl Shape {
+    /// A shape of a few nodes and features.
+    pub fn small(random: &mut Xorshift, most_nodes: usize, most_features: usize) -> Shape {
+        let features = random.between(1, most_features);
+        let most_extra = *random.choose(&[1, most_nodes, 4 * most_nodes]);
+        Shape {
+            nodes: random.between(1, most_nodes),
+            extra_links: random.between(0, most_extra),
+            features: (0..features as Feature).collect(),
+            spread: random.between(1, most_nodes),
+            tops: *random.choose(&[0, 2, 2, 4]),
+        }
+    }
+
+    /// Mostly small shapes, some of any size that a record can have.
+    pub fn any(random: &mut Xorshift) -> Shape {
+        let most_nodes = *random.choose(&[3, 5, 5, 8, 8, 16, 40, 120, MOST_NODES]);
+        let mut shape = Shape::small(random, most_nodes, 6);
+        if random.chance(1, 4) {
+            shape.extra_links = random.pick(MOST_LINKS);
+        }
+        if random.chance(1, 3) {
+            shape.features = any_features(random);
+        }
+        if random.chance(1, 50) {
+            shape.nodes = MOST_NODES;
+            shape.extra_links = 2 * MOST_LINKS;
+            shape.features = (0..64).collect();
+        }
+        shape
+    }
+}
+
+/// Some of the 64 features.
+fn any_features(random: &mut Xorshift) -> Vec<Feature> {
+    let mut features: Vec<Feature> = (0..64).collect();
+    random.shuffle(&mut features);
+    let count = *random.choose(&[1, 2, 4, 8, 16, 64]);
+    features.truncate(count);
+    features
+}
+
+/// A graph over n types that a record can hold, in any numbering with the root at 0.
+pub fn graph(random: &mut Xorshift, n: usize, shape: &Shape) -> Graph {
+    let mut nodes: Vec<Node> = Vec::new();
+    for number in 0..shape.nodes.min(MOST_NODES) {
+        nodes.push(Node {
+            node_type: node_type(random, n, shape.tops),
+            links: BTreeMap::new(),
+        });
+        if number > ROOT {
+            let nearest = number.saturating_sub(shape.spread);
+            let parent = random.between(nearest, number - 1);
+            let feature = *random.choose(&shape.features);
+            // The node before this one has no links yet, so it has room.
+            let parent = match nodes[parent].links.contains_key(&feature) {
+                true => number - 1,
+                false => parent,
+            };
+            nodes[parent].links.insert(feature, number);
+        }
+    }
+    let mut links = nodes.len() - 1;
+    for _ in 0..shape.extra_links {
+        // Links go from lower to higher numbers, so no node reaches itself.
+        let (a, b) = (random.pick(nodes.len()), random.pick(nodes.len()));
+        let feature = *random.choose(&shape.features);
+        let parent = &mut nodes[a.min(b)];
+        if a != b && links < MOST_LINKS && !parent.links.contains_key(&feature) {
+            parent.links.insert(feature, a.max(b));
+            links += 1;
+        }
+    }
+    renumbered(random, &Graph { nodes })
+}
+
+/// A type that a node can have, top in so many of four cases and otherwise any.
+pub(super) fn node_type(random: &mut Xorshift, n: usize, tops: usize) -> Type {
+    if random.chance(tops, 4) {
+        (n - 1) as Type
+    } else {
+        random.between(1, n - 1) as Type
+    }
+}
+
+/// The same graph in any numbering with the root at 0.
+pub fn renumbered(random: &mut Xorshift, graph: &Graph) -> Graph {
+    let mut old: Vec<usize> = (0..graph.nodes.len()).collect();
+    random.shuffle(&mut old[1..]);
+    let number: BTreeMap<usize, usize> = old.iter().copied().zip(0..).collect();
+    let nodes = old.iter().map(|&old| Node {
+        node_type: graph.nodes[old].node_type,
+        links: graph.nodes[old]
+            .links
+            .iter()
+            .map(|(&feature, target)| (feature, number[target]))
+            .collect(),
+    });
+    Graph {
+        nodes: nodes.collect(),
+    }
+}
+
+/// A chain of nodes of one type on one feature.
+pub fn chain_graph(nodes: usize, feature: Feature, node_type: Type) -> Graph {
+    ladder(nodes, &[feature], node_type)
+}
+
+/// Nodes of one type in a row, each with a link to the next for every feature: with
+/// two features or more the paths are exponentially many.
+pub fn ladder(nodes: usize, features: &[Feature], node_type: Type) -> Graph {
+    let node = |number: usize| Node {
+        node_type,
+        links: features
+            .iter()
+            .filter(|_| number + 1 < nodes)
+            .map(|&feature| (feature, number + 1))
+            .collect(),
+    };
+    Graph {
+        nodes: (0..nodes).map(node).collect(),
+    }
+}
+
+/// A graph above the one given, by one step: a type raised, a link dropped with
+/// what only it reaches, or a shared node parted in two. Nothing where the step
+/// drawn cannot be taken.
+pub fn weakened(random: &mut Xorshift, table: &Table, graph: &Graph) -> Option<Graph> {
+    match random.pick(5) {
+        0 | 1 => Some(raised(random, table, graph)),
+        2 => dropped(random, graph),
+        _ => parted(random, graph),
+    }
+}
+
+/// The graph with the type of a node raised, or left as it is.
+fn raised(random: &mut Xorshift, table: &Table, graph: &Graph) -> Graph {
+    let mut weaker = graph.clone();
+    let node = random.pick(graph.nodes.len());
+    let other = random.pick(table.n()) as Type;
+    weaker.nodes[node].node_type = table.join(graph.nodes[node].node_type, other);
+    weaker
+}
+
+/// The graph without one of its links, if it has any.
+fn dropped(random: &mut Xorshift, graph: &Graph) -> Option<Graph> {
+    let links = graph.incoming().concat();
+    if links.is_empty() {
+        return None;
+    }
+    let link = random.choose(&links);
+    let mut weaker = graph.clone();
+    weaker.nodes[link.parent].links.remove(&link.feature);
+    Some(without_unreached(&weaker))
+}
+
+/// The graph with a shared node parted in two, some of its incoming links leading
+/// to each, if it has one and a record can hold the result.
+fn parted(random: &mut Xorshift, graph: &Graph) -> Option<Graph> {
+    let incoming = graph.incoming();
+    let shared: Vec<usize> = (0..graph.nodes.len())
+        .filter(|&node| incoming[node].len() >= 2)
+        .collect();
+    if shared.is_empty() {
+        return None;
+    }
+    let node = *random.choose(&shared);
+    let mut weaker = graph.clone();
+    let copy = graph.nodes.len();
+    weaker.nodes.push(graph.nodes[node].clone());
+    // At least one link is moved to the copy, and at least one stays.
+    let mut links = incoming[node].clone();
+    random.shuffle(&mut links);
+    let moved = random.between(1, links.len() - 1);
+    for link in &links[..moved] {
+        weaker.nodes[link.parent].links.insert(link.feature, copy);
+    }
+    let fits = weaker.nodes.len() <= MOST_NODES && weaker.link_count() <= MOST_LINKS;
+    fits.then_some(weaker)
+}
+
+/// The graph without the nodes that its root does not reach.
+fn without_unreached(graph: &Graph) -> Graph {
+    let number: BTreeMap<usize, usize> = graph.reached().into_iter().zip(0..).collect();
+    let nodes = number.keys().map(|&old| Node {
+        node_type: graph.nodes[old].node_type,
+        links: graph.nodes[old]
+            .links
+            .iter()
+            .map(|(&feature, target)| (feature, number[target]))
+            .collect(),
+    });
+    Graph {
+        nodes: nodes.collect(),
+    }
+}
+
+/// A graph above the one given, by several steps.
+pub fn graph_above(random: &mut Xorshift, table: &Table, graph: &Graph) -> Graph {
+    let mut above = graph.clone();
+    let steps = *random.choose(&[0, 1, 2, 4, 8, 16]);
+    for _ in 0..steps {
+        above = weakened(random, table, &above).unwrap_or(above);
+    }
+    renumbered(random, &above)
+}
+
+/// Two graphs made apart from each other, with the same features.
+pub fn unrelated(random: &mut Xorshift, n: usize, shape: &Shape) -> (Graph, Graph) {
+    let other = Shape {
+        nodes: random.between(1, shape.nodes),
+        extra_links: random.between(shape.extra_links / 2, shape.extra_links),
+        ..shape.clone()
+    };
+    let first = graph(random, n, shape);
+    (first, graph(random, n, &other))
+}
+
+/// Two graphs: unrelated, or one above the other, or both above a third.
+pub fn pair(random: &mut Xorshift, table: &Table, shape: &Shape) -> (Graph, Graph) {
+    if random.chance(2, 6) {
+        return unrelated(random, table.n(), shape);
+    }
+    let base = graph(random, table.n(), shape);
+    match random.pick(4) {
+        0 => (base.clone(), graph_above(random, table, &base)),
+        1 => {
+            let first = graph_above(random, table, &base);
+            (first, graph_above(random, table, &base))
+        }
+        _ => (graph_above(random, table, &base), base),
+    }
+}

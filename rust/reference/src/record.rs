@@ -1,0 +1,117 @@
+//! Graph records: bytes to a graph with refusals 4 to 7, and a graph to bytes.
+//! The four refusals are looked for in that order, each over the whole record
+//! before the next. Writing keeps the numbering of the graph it is given; the
+//! written form of document 01 is that of `canonical`.
+
+use crate::graph::{Feature, Graph, Node};
+use crate::reader::Reader;
+use crate::table::{CONTRADICTION, Table};
+use std::collections::BTreeMap;
+
+/// A record has at most this many nodes.
+pub const MOST_NODES: usize = 255;
+
+/// A record has at most this many links.
+pub const MOST_LINKS: usize = 2048;
+
+/// The longest record: the count, 255 nodes of 9 bytes, 2,048 targets.
+pub const LONGEST_RECORD: usize = 1 + 9 * MOST_NODES + MOST_LINKS;
+
+/// Why a record is not accepted.
+#[derive(Clone, Copy, Debug, PartialEq, Eq)]
+pub enum GraphFault {
+    /// 4: N is 0, the record is short or has bytes left over, or has more than 2,048 links.
+    Shape,
+    /// 5: a type that is 0 or at least n, or a target at least N.
+    Value,
+    /// 6: a node reaches itself.
+    Cycle,
+    /// 7: a node the root does not reach.
+    Unreached,
+}
+
+impl GraphFault {
+    /// The number of this fault in document 01.
+    pub fn number(self) -> u8 {
+        match self {
+            GraphFault::Shape => 4,
+            GraphFault::Value => 5,
+            GraphFault::Cycle => 6,
+            GraphFault::Unreached => 7,
+        }
+    }
+}
+
+/// Reads a record; the graph keeps the numbering of the record.
+pub fn read(table: &Table, record: &[u8]) -> Result<Graph, GraphFault> {
+    let Some(graph) = parse(record) else {
+        return Err(GraphFault::Shape);
+    };
+    if graph.link_count() > MOST_LINKS {
+        return Err(GraphFault::Shape);
+    }
+    let type_stands =
+        |node: &Node| node.node_type != CONTRADICTION && usize::from(node.node_type) < table.n();
+    let targets_stand = |node: &Node| {
+        node.links
+            .values()
+            .all(|&target| target < graph.nodes.len())
+    };
+    if !graph
+        .nodes
+        .iter()
+        .all(|node| type_stands(node) && targets_stand(node))
+    {
+        return Err(GraphFault::Value);
+    }
+    if graph.bottom_up().is_none() {
+        return Err(GraphFault::Cycle);
+    }
+    if graph.reached().len() != graph.nodes.len() {
+        return Err(GraphFault::Unreached);
+    }
+    Ok(graph)
+}
+
+/// The nodes as the bytes give them; nothing if N is 0 or the length does not fit.
+fn parse(record: &[u8]) -> Option<Graph> {
+    let mut reader = Reader::new(record);
+    let count = reader.byte()?;
+    if count == 0 {
+        return None;
+    }
+    let mut nodes = Vec::new();
+    for _ in 0..count {
+        let node_type = reader.byte()?;
+        let map = reader.take(8)?;
+        let mut links = BTreeMap::new();
+        for feature in features(map) {
+            links.insert(feature, usize::from(reader.byte()?));
+        }
+        nodes.push(Node { node_type, links });
+    }
+    reader.at_end().then_some(Graph { nodes })
+}
+
+/// The features of a map, lowest first.
+fn features(map: &[u8]) -> Vec<Feature> {
+    (0..64)
+        .filter(|&feature| map[usize::from(feature / 8)] >> (feature % 8) & 1 == 1)
+        .collect()
+}
+
+/// The bytes of a graph of at most 255 nodes, in its own numbering.
+pub fn write(graph: &Graph) -> Vec<u8> {
+    let byte = |number: usize| u8::try_from(number).expect("at most 255 nodes");
+    let mut record = vec![byte(graph.nodes.len())];
+    for node in &graph.nodes {
+        let mut map = [0; 8];
+        for &feature in node.links.keys() {
+            map[usize::from(feature / 8)] |= 1 << (feature % 8);
+        }
+        record.push(node.node_type);
+        record.extend(map);
+        record.extend(node.links.values().map(|&target| byte(target)));
+    }
+    record
+}

@@ -1,0 +1,74 @@
+//! What a call gives back: a length, yes, no, or a refusal with the number it
+//! has in document 01. A refusal of a graph tells the kind and which graph.
+
+use crate::record::GraphFault;
+use crate::table::TableFault;
+
+/// Which of the two graphs of a call; a lone graph counts as the first.
+#[derive(Clone, Copy, Debug, PartialEq, Eq)]
+pub enum Which {
+    /// The first graph.
+    First,
+    /// The second graph.
+    Second,
+}
+
+/// Why a call has no result.
+#[derive(Clone, Copy, Debug, PartialEq, Eq)]
+pub enum Refusal {
+    /// 1 to 3: the table.
+    Table(TableFault),
+    /// 4 to 7: one of the graphs.
+    Graph(GraphFault, Which),
+    /// 8: the result exists and the output is shorter.
+    ShortOutput,
+    /// 9: combination, a class reaches itself.
+    Loop,
+    /// 10: combination, a class has the contradiction for its meet, and no loop.
+    Clash,
+    /// 11: the result has over 255 nodes or 2,048 links.
+    TooLarge,
+    /// 12: difference, s is not below g.
+    NotBelow,
+    /// 13: difference, the table does not admit it.
+    NoDifferences,
+}
+
+impl Refusal {
+    /// The number of this refusal in document 01.
+    pub fn number(self) -> u8 {
+        match self {
+            Refusal::Table(fault) => fault.number(),
+            Refusal::Graph(fault, _) => fault.number(),
+            Refusal::ShortOutput => 8,
+            Refusal::Loop => 9,
+            Refusal::Clash => 10,
+            Refusal::TooLarge => 11,
+            Refusal::NotBelow => 12,
+            Refusal::NoDifferences => 13,
+        }
+    }
+}
+
+/// The reply of a call.
+#[derive(Clone, Copy, Debug, PartialEq, Eq)]
+pub enum Reply {
+    /// The record stands in the first bytes of the output, this many.
+    Length(usize),
+    /// The order holds.
+    Yes,
+    /// The order does not hold.
+    No,
+    /// There is no result, and the output is unchanged.
+    Refused(Refusal),
+}
+
+impl Reply {
+    /// The number of the refusal in document 01; none for a length, yes or no.
+    pub fn number(self) -> Option<u8> {
+        match self {
+            Reply::Length(_) | Reply::Yes | Reply::No => None,
+            Reply::Refused(refusal) => Some(refusal.number()),
+        }
+    }
+}

@@ -1,0 +1,289 @@
+//! Bounded searches over all small graphs. What a search over small graphs finds
+//! against a result refutes it; finding nothing proves nothing about larger
+//! graphs, so each test says which half of its claim is exact.
+
+use reference::canonical::canonical;
+use reference::combination::unification;
+use reference::common::generalization;
+use reference::difference::difference;
+use reference::graph::{Feature, Graph, Node};
+use reference::order::below;
+use reference::random::{self, TableBytes};
+use reference::table::Table;
+use std::collections::{BTreeMap, BTreeSet};
+
+/// All canonical graphs with a few nodes and features over a table, and for each
+/// the places of the graphs above and below it.
+struct Universe {
+    table: Table,
+    graphs: Vec<Graph>,
+    place: BTreeMap<Graph, usize>,
+    above: Vec<BTreeSet<usize>>,
+    below: Vec<BTreeSet<usize>>,
+}
+
+impl Universe {
+    fn new(table: &TableBytes, most_nodes: usize, features: Feature) -> Universe {
+        let table = table.accepted();
+        let mut graphs = Vec::new();
+        for nodes in 1..=most_nodes {
+            for shape in shapes(nodes, features, table.top()) {
+                graphs.extend(typings(&shape, &table));
+            }
+        }
+        let place = graphs.iter().cloned().zip(0..).collect();
+        let mut universe = Universe {
+            table,
+            graphs,
+            place,
+            above: Vec::new(),
+            below: Vec::new(),
+        };
+        universe.above = (universe.graphs.iter())
+            .map(|graph| universe.places_above(graph))
+            .collect();
+        universe.below = (universe.graphs.iter())
+            .map(|graph| universe.places_below(graph))
+            .collect();
+        universe
+    }
+
+    fn places(&self) -> std::ops::Range<usize> {
+        0..self.graphs.len()
+    }
+
+    fn places_above(&self, graph: &Graph) -> BTreeSet<usize> {
+        self.places()
+            .filter(|&upper| below(&self.table, graph, &self.graphs[upper]))
+            .collect()
+    }
+
+    fn places_below(&self, graph: &Graph) -> BTreeSet<usize> {
+        self.places()
+            .filter(|&lower| below(&self.table, &self.graphs[lower], graph))
+            .collect()
+    }
+
+    /// For each pair: the common part is above both, and is below all small
+    /// graphs above both. The first half is exact; a small graph above both and
+    /// not above the common part would refute that it is the least.
+    fn check_common_parts(&self) -> usize {
+        let mut above_common: BTreeMap<Graph, BTreeSet<usize>> = BTreeMap::new();
+        for a in self.places() {
+            for b in a..self.graphs.len() {
+                let (first, second) = (&self.graphs[a], &self.graphs[b]);
+                let common = canonical(&generalization(&self.table, first, second));
+                assert!(below(&self.table, first, &common));
+                assert!(below(&self.table, second, &common));
+                let above_both: BTreeSet<usize> = self.above[a]
+                    .intersection(&self.above[b])
+                    .copied()
+                    .collect();
+                let above_common = above_common
+                    .entry(common)
+                    .or_insert_with_key(|common| self.places_above(common));
+                assert_eq!(above_both, *above_common, "{first:?} {second:?}");
+            }
+        }
+        above_common.len()
+    }
+
+    /// For each pair: a combination is below both, and above all small graphs
+    /// below both; where it is refused no small graph is below both. That it is
+    /// below both is exact, and so a pair with a combination is rightly not
+    /// refused. A small graph below both would refute a refusal, or that the
+    /// combination is the greatest; a graph with more nodes is not looked for.
+    fn check_combinations(&self) -> (usize, usize) {
+        let mut below_combined: BTreeMap<Graph, BTreeSet<usize>> = BTreeMap::new();
+        let mut refused = 0;
+        for a in self.places() {
+            for b in a..self.graphs.len() {
+                let (first, second) = (&self.graphs[a], &self.graphs[b]);
+                let mut below_both = self.below[a].intersection(&self.below[b]).copied();
+                let Ok(combined) = unification(&self.table, first, second) else {
+                    assert_eq!(below_both.next(), None, "{first:?} {second:?}");
+                    refused += 1;
+                    continue;
+                };
+                let combined = canonical(&combined);
+                assert!(below(&self.table, &combined, first));
+                assert!(below(&self.table, &combined, second));
+                let below_combined = below_combined
+                    .entry(combined)
+                    .or_insert_with_key(|combined| self.places_below(combined));
+                assert!(below_both.eq(below_combined.iter().copied()));
+            }
+        }
+        (below_combined.len(), refused)
+    }
+
+    /// For each s below a g: the difference combined with g is exactly s, and no
+    /// small graph strictly more general than the difference restores s. The
+    /// first half is exact; the second looks at small graphs only.
+    ///
+    /// It suffices to try the small graphs next above the difference d: were c
+    /// above d to restore s, all between d and c would too, as their combination
+    /// with g lies between those of d and of c, which both are s.
+    fn check_differences(&self) -> usize {
+        let next_above: Vec<Vec<usize>> = self.places().map(|d| self.next_above(d)).collect();
+        let mut checked = 0;
+        for s in self.places() {
+            for &g in &self.above[s] {
+                let (lower, upper) = (&self.graphs[s], &self.graphs[g]);
+                let result = difference(&self.table, upper, lower).expect("s is below g");
+                assert_eq!(self.restored(&result, upper).as_ref(), Some(lower));
+                // A difference is a part of s, so it is among the small graphs.
+                for &candidate in &next_above[self.place[&result]] {
+                    let candidate = &self.graphs[candidate];
+                    assert_ne!(self.restored(candidate, upper).as_ref(), Some(lower));
+                }
+                checked += 1;
+            }
+        }
+        checked
+    }
+
+    fn restored(&self, difference: &Graph, g: &Graph) -> Option<Graph> {
+        let combined = unification(&self.table, difference, g).ok()?;
+        Some(canonical(&combined))
+    }
+
+    /// The small graphs strictly above one, with no small graph between.
+    fn next_above(&self, place: usize) -> Vec<usize> {
+        let strictly_above = |&&upper: &&usize| upper != place;
+        self.above[place]
+            .iter()
+            .filter(strictly_above)
+            .filter(|&&upper| {
+                let between = self.above[place].intersection(&self.below[upper]);
+                between.count() == 2
+            })
+            .copied()
+            .collect()
+    }
+}
+
+/// All canonical graphs of so many nodes, all of one type.
+fn shapes(nodes: usize, features: Feature, node_type: u8) -> Vec<Graph> {
+    let places = nodes * usize::from(features);
+    // A counter with a digit for each node and feature: no link, or its target.
+    let mut digits = vec![0; places];
+    let mut shapes = Vec::new();
+    loop {
+        let node = |digits: &[usize]| Node {
+            node_type,
+            links: (0..features)
+                .zip(digits)
+                .filter(|&(_, &digit)| digit > 0)
+                .map(|(feature, &digit)| (feature, digit - 1))
+                .collect(),
+        };
+        let graph = Graph {
+            nodes: digits.chunks(usize::from(features)).map(node).collect(),
+        };
+        if graph.bottom_up().is_some() && canonical(&graph) == graph {
+            shapes.push(graph);
+        }
+        let Some(place) = digits.iter().position(|&digit| digit < nodes) else {
+            return shapes;
+        };
+        digits[..place].fill(0);
+        digits[place] += 1;
+    }
+}
+
+/// A graph with all choices of types for its nodes.
+fn typings(shape: &Graph, table: &Table) -> Vec<Graph> {
+    let mut graphs = vec![shape.clone()];
+    for node in 0..shape.nodes.len() {
+        graphs = graphs
+            .iter()
+            .flat_map(|graph| {
+                table.types().skip(1).map(|node_type| {
+                    let mut typed = graph.clone();
+                    typed.nodes[node].node_type = node_type;
+                    typed
+                })
+            })
+            .collect();
+    }
+    graphs
+}
+
+#[test]
+fn the_small_graphs_are_all_there() {
+    // One node: a lone node. Two: by feature 0, by 1, by both. Three: one path to
+    // each new node or two, counted by hand as 16.
+    let shape_counts: Vec<usize> = (1..=3).map(|nodes| shapes(nodes, 2, 3).len()).collect();
+    assert_eq!(shape_counts, [1, 3, 16]);
+    let universe = Universe::new(&random::diamond(), 3, 2);
+    assert_eq!(universe.graphs.len(), 3 + 3 * 9 + 16 * 27);
+    assert_eq!(universe.place.len(), universe.graphs.len());
+}
+
+#[test]
+fn small_graphs_below_each_other_are_equal() {
+    let universe = Universe::new(&random::diamond(), 3, 2);
+    for place in universe.places() {
+        let equal: Vec<usize> = universe.above[place]
+            .intersection(&universe.below[place])
+            .copied()
+            .collect();
+        assert_eq!(equal, [place]);
+    }
+}
+
+#[test]
+fn common_parts_over_the_diamond() {
+    let parts = Universe::new(&random::diamond(), 3, 2).check_common_parts();
+    assert!(parts > 462, "common parts of more than three nodes come up");
+}
+
+#[test]
+fn common_parts_over_other_lattices() {
+    for table in [random::pentagon(), random::middles(3), random::chain(3)] {
+        let parts = Universe::new(&table, 2, 2).check_common_parts();
+        assert!(parts > 1);
+        let parts = Universe::new(&table, 3, 1).check_common_parts();
+        assert!(parts > 1);
+    }
+    let parts = Universe::new(&random::chain(2), 4, 2).check_common_parts();
+    assert!(parts > 1);
+}
+
+#[test]
+fn combinations_over_the_diamond() {
+    let (combined, refused) = Universe::new(&random::diamond(), 3, 2).check_combinations();
+    assert!(
+        combined > 462,
+        "combinations of more than three nodes come up"
+    );
+    assert!(refused > 0);
+}
+
+#[test]
+fn combinations_over_other_lattices() {
+    for table in [random::pentagon(), random::middles(3), random::chain(3)] {
+        let (combined, _) = Universe::new(&table, 2, 2).check_combinations();
+        assert!(combined > 1);
+        let (combined, _) = Universe::new(&table, 3, 1).check_combinations();
+        assert!(combined > 1);
+    }
+    // Over two types nothing clashes, so every refusal is a loop.
+    let (_, refused) = Universe::new(&random::chain(2), 4, 2).check_combinations();
+    assert!(refused > 0);
+}
+
+#[test]
+fn differences_over_the_diamond() {
+    let checked = Universe::new(&random::diamond(), 3, 2).check_differences();
+    assert!(checked > 1000);
+}
+
+#[test]
+fn differences_over_chains() {
+    let checked = Universe::new(&random::chain(3), 3, 2).check_differences();
+    assert!(checked > 100);
+    let checked = Universe::new(&random::chain(2), 4, 2).check_differences();
+    assert!(checked > 100);
+}

@@ -1,0 +1,499 @@
+//! Properties over many random small graphs and several lattices, from fixed seeds.
+//! The operations are held against document 01's sentences over paths, taken
+//! literally, and against the laws of the lattice of graphs.
+
+use reference::calls::{self, Call, written};
+use reference::canonical::canonical;
+use reference::combination::unification;
+use reference::common::generalization;
+use reference::difference::difference;
+use reference::graph::{Graph, Node, ROOT};
+use reference::order::{below, strictly_more_general};
+use reference::paths::{self, PathGraph};
+use reference::random::{self, Shape, TableBytes, Xorshift};
+use reference::record;
+use reference::reply::{Refusal, Reply};
+use reference::table::{Table, Type};
+use std::collections::BTreeSet;
+
+/// Calls the property with many random pairs of small graphs, over all kinds of
+/// accepted tables.
+fn for_pairs(seed: u64, count: usize, property: impl FnMut(&Table, &Graph, &Graph)) {
+    for_pairs_over(seed, count, random::valid_table, property);
+}
+
+/// The same over tables of one kind.
+fn for_pairs_over(
+    seed: u64,
+    count: usize,
+    table: impl Fn(&mut Xorshift) -> TableBytes,
+    mut property: impl FnMut(&Table, &Graph, &Graph),
+) {
+    let mut random = Xorshift::new(seed);
+    for _ in 0..count {
+        let table = table(&mut random).accepted();
+        for _ in 0..10 {
+            let shape = Shape::small(&mut random, 6, 3);
+            let (first, second) = random::pair(&mut random, &table, &shape);
+            property(&table, &first, &second);
+        }
+    }
+}
+
+/// Whether the paths are few enough to be listed and compared in pairs.
+fn few_paths(graph: &Graph) -> bool {
+    paths::paths(graph).len() <= 60
+}
+
+#[test]
+fn order_agrees_with_the_sentence_over_paths() {
+    let (mut yes, mut no) = (0, 0);
+    for_pairs(1, 600, |table, s, g| {
+        if !few_paths(s) || !few_paths(g) {
+            return;
+        }
+        let by_paths = paths::below(table, &PathGraph::of(s), &PathGraph::of(g));
+        assert_eq!(below(table, s, g), by_paths, "{s:?} {g:?}");
+        match by_paths {
+            true => yes += 1,
+            false => no += 1,
+        }
+    });
+    assert!(yes > 500 && no > 500, "{yes} {no}");
+}
+
+#[test]
+fn order_is_reflexive_transitive_and_tells_graphs_apart() {
+    let mut random = Xorshift::new(2);
+    let mut chains = 0;
+    for_pairs(3, 400, |table, first, second| {
+        assert!(below(table, first, first));
+        let both = below(table, first, second) && below(table, second, first);
+        assert_eq!(both, canonical(first) == canonical(second));
+        let third = random::graph_above(&mut random, table, second);
+        assert!(below(table, second, &third));
+        if below(table, first, second) {
+            assert!(below(table, first, &third));
+            chains += 1;
+        }
+        assert_eq!(
+            strictly_more_general(table, &third, second),
+            canonical(&third) != canonical(second)
+        );
+    });
+    assert!(chains > 300, "{chains}");
+}
+
+#[test]
+fn canonical_numbers_follow_the_least_paths() {
+    // Going down lowest feature first meets the paths in the order of a
+    // dictionary, so a node's first visit is by its least path.
+    for_pairs(4, 300, |_, graph, _| {
+        if !few_paths(graph) {
+            return;
+        }
+        let written = canonical(graph);
+        let mut first_visits = Vec::new();
+        for (_, node) in paths::paths(&written) {
+            if !first_visits.contains(&node) {
+                first_visits.push(node);
+            }
+        }
+        assert_eq!(first_visits, Vec::from_iter(0..graph.nodes.len()));
+        assert_eq!(PathGraph::of(&written), PathGraph::of(graph));
+        assert_eq!(PathGraph::of(graph).graph(), written);
+    });
+}
+
+#[test]
+fn rewriting_is_idempotent_and_forgets_the_numbering() {
+    let mut random = Xorshift::new(5);
+    let rewrite = |n: usize, table: &[u8], record: &[u8]| {
+        let mut output = vec![0; record::LONGEST_RECORD];
+        match calls::rewrite(n, table, record, &mut output) {
+            Reply::Length(length) => output[..length].to_vec(),
+            reply => panic!("{reply:?}"),
+        }
+    };
+    for _ in 0..300 {
+        let table = random::valid_table(&mut random);
+        let shape = Shape::any(&mut random);
+        let graph = random::graph(&mut random, table.n, &shape);
+        let record = record::write(&graph);
+        let once = rewrite(table.n, &table.bytes, &record);
+        assert_eq!(once.len(), record.len());
+        assert_eq!(rewrite(table.n, &table.bytes, &once), once);
+        let renumbered = record::write(&random::renumbered(&mut random, &graph));
+        assert_eq!(rewrite(table.n, &table.bytes, &renumbered), once);
+        let yes = calls::order(table.n, &table.bytes, &record, &once);
+        assert_eq!(yes, Reply::Yes);
+        let yes = calls::order(table.n, &table.bytes, &once, &record);
+        assert_eq!(yes, Reply::Yes);
+    }
+}
+
+#[test]
+fn common_part_agrees_with_the_sentence_over_paths() {
+    for_pairs(6, 500, |table, first, second| {
+        if !few_paths(first) || !few_paths(second) {
+            return;
+        }
+        let (p, q) = (PathGraph::of(first), PathGraph::of(second));
+        let by_paths = paths::generalization(table, &p, &q);
+        let common = generalization(table, first, second);
+        assert_eq!(PathGraph::of(&common), by_paths);
+        assert_eq!(canonical(&common), by_paths.graph());
+    });
+}
+
+#[test]
+fn common_part_is_above_both_and_below_what_is_above_both() {
+    for_pairs(7, 500, |table, first, second| {
+        let common = generalization(table, first, second);
+        assert!(below(table, first, &common));
+        assert!(below(table, second, &common));
+        let swapped = generalization(table, second, first);
+        assert_eq!(canonical(&common), canonical(&swapped));
+        // Steps that weaken the first give graphs above it; those above the
+        // second too must be above the common part.
+        for weaker in weakenings(table, first) {
+            if below(table, second, &weaker) {
+                assert!(below(table, &common, &weaker));
+            }
+        }
+        let with_itself = generalization(table, first, first);
+        assert_eq!(canonical(&with_itself), canonical(first));
+    });
+}
+
+#[test]
+fn combination_agrees_with_the_sentence_over_paths() {
+    let (mut results, mut loops, mut clashes) = (0, 0, 0);
+    for_pairs(8, 700, |table, first, second| {
+        if !few_paths(first) || !few_paths(second) {
+            return;
+        }
+        let (p, q) = (PathGraph::of(first), PathGraph::of(second));
+        let by_paths = paths::unification(table, &p, &q);
+        match unification(table, first, second) {
+            Ok(combined) => {
+                assert_eq!(Ok(canonical(&combined)), by_paths.map(|p| p.graph()));
+                results += 1;
+            }
+            Err(refusal) => {
+                assert_eq!(Some(refusal), by_paths.err());
+                match refusal {
+                    Refusal::Loop => loops += 1,
+                    _ => clashes += 1,
+                }
+            }
+        }
+    });
+    let counts = (results, loops, clashes);
+    assert!(results > 500 && loops > 50 && clashes > 50, "{counts:?}");
+}
+
+#[test]
+fn combination_is_below_both_and_above_what_is_below_both() {
+    let mut random = Xorshift::new(9);
+    for_pairs(10, 500, |table, first, second| {
+        let result = unification(table, first, second).map(|graph| canonical(&graph));
+        let swapped = unification(table, second, first).map(|graph| canonical(&graph));
+        assert_eq!(result, swapped);
+        if let Ok(combined) = result {
+            assert!(below(table, &combined, first));
+            assert!(below(table, &combined, second));
+        }
+        // Two graphs above a third have a combination, and it is above the third.
+        let upper = random::graph_above(&mut random, table, first);
+        let other = random::graph_above(&mut random, table, first);
+        let combined = unification(table, &upper, &other);
+        assert!(combined.is_ok_and(|combined| below(table, first, &combined)));
+    });
+}
+
+#[test]
+fn common_part_and_combination_absorb_each_other() {
+    for_pairs(11, 500, |table, first, second| {
+        let common = generalization(table, first, second);
+        let back = unification(table, first, &common);
+        assert_eq!(back.map(|g| canonical(&g)), Ok(canonical(first)));
+        if let Ok(combined) = unification(table, first, second) {
+            let back = generalization(table, first, &combined);
+            assert_eq!(canonical(&back), canonical(first));
+        }
+        // The order is the one both operations make.
+        let is_below = below(table, first, second);
+        assert_eq!(is_below, canonical(&common) == canonical(second));
+        let combined = unification(table, first, second).map(|g| canonical(&g));
+        assert_eq!(is_below, combined == Ok(canonical(first)));
+    });
+}
+
+/// All graphs one step above a graph: a link dropped, a type raised, or a shared
+/// node parted in two copies between which its incoming links are shared out.
+///
+/// Every graph c strictly above d is above one of these, so if none of them
+/// restores s from g, no graph strictly more general than d does: were c to
+/// restore s, so would all graphs between d and c. Why c is above one of them:
+/// take the morphism from c into d. If no link of c lies over some link of d, that
+/// link can be dropped. If the meet of the types over some node is not the type
+/// of that node, its type can be raised to the meet. Else, as c is not d, two
+/// nodes of c lie over one node of d; take such a node above which there is no
+/// other. Over each of its incoming links lies exactly one link of c, so the
+/// links can be shared out by the nodes of c they lead to.
+fn weakenings(table: &Table, graph: &Graph) -> Vec<Graph> {
+    let mut weaker = Vec::new();
+    let incoming = graph.incoming();
+    for (number, node) in graph.nodes.iter().enumerate() {
+        for feature in node.links.keys() {
+            let mut without = graph.clone();
+            without.nodes[number].links.remove(feature);
+            weaker.push(canonical(&without));
+        }
+        for raised in table.types() {
+            if raised != node.node_type && table.below(node.node_type, raised) {
+                let mut typed = graph.clone();
+                typed.nodes[number].node_type = raised;
+                weaker.push(typed);
+            }
+        }
+        // Each way to move some of the incoming links, but not the first, to a copy.
+        let links = &incoming[number];
+        for moved in 1..1_usize << links.len().saturating_sub(1) {
+            let mut parted = graph.clone();
+            for (place, link) in links.iter().skip(1).enumerate() {
+                if moved >> place & 1 == 1 {
+                    let copy = graph.nodes.len();
+                    parted.nodes[link.parent].links.insert(link.feature, copy);
+                }
+            }
+            parted.nodes.push(node.clone());
+            weaker.push(parted);
+        }
+    }
+    weaker
+}
+
+#[test]
+fn steps_that_weaken_lead_strictly_up() {
+    for_pairs(12, 100, |table, graph, _| {
+        for weaker in weakenings(table, graph) {
+            assert!(strictly_more_general(table, &weaker, graph));
+        }
+    });
+}
+
+#[test]
+fn difference_restores_and_nothing_more_general_does() {
+    let mut differences = 0;
+    for_pairs_over(13, 2000, random::brouwer_table, |table, g, s| {
+        if !below(table, s, g) {
+            assert_eq!(difference(table, g, s), Err(Refusal::NotBelow));
+            return;
+        }
+        let result = difference(table, g, s).expect("s is below g");
+        let restored = |d: &Graph| unification(table, d, g).map(|graph| canonical(&graph));
+        assert_eq!(restored(&result), Ok(canonical(s)));
+        assert!(below(table, s, &result));
+        for weaker in weakenings(table, &result) {
+            assert_ne!(restored(&weaker), Ok(canonical(s)), "{g:?} {s:?}");
+        }
+        differences += 1;
+    });
+    assert!(differences > 8_000, "{differences}");
+}
+
+#[test]
+fn difference_and_combination_give_back_the_bytes() {
+    let mut random = Xorshift::new(14);
+    for _ in 0..400 {
+        let table = random::brouwer_table(&mut random);
+        let accepted = table.accepted();
+        let shape = Shape::any(&mut random);
+        let s = random::graph(&mut random, table.n, &shape);
+        let g = random::graph_above(&mut random, &accepted, &s);
+        let (s_record, g_record) = (record::write(&s), record::write(&g));
+        let make = |call: Call, first: &[u8], second: &[u8]| {
+            written(call, table.n, &table.bytes, first, second).expect("a record")
+        };
+        let difference = make(calls::difference, &g_record, &s_record);
+        let restored = make(calls::combination, &difference, &g_record);
+        assert_eq!(restored, record::write(&canonical(&s)));
+    }
+}
+
+#[test]
+fn difference_from_itself_is_a_lone_top() {
+    for_pairs_over(15, 200, random::brouwer_table, |table, graph, _| {
+        let lone_top = Graph::lone(table.top());
+        assert_eq!(difference(table, graph, graph), Ok(lone_top.clone()));
+        // The difference from the graph that says nothing is the graph.
+        assert_eq!(difference(table, &lone_top, graph), Ok(canonical(graph)));
+    });
+}
+
+#[test]
+fn difference_is_refused_where_the_table_does_not_admit_it() {
+    let tables = [random::middles(3), random::middles(5), random::pentagon()];
+    for table in tables {
+        for_pairs_over(
+            16,
+            20,
+            |_| table.clone(),
+            |table, first, second| {
+                let result = difference(table, first, second);
+                assert_eq!(result, Err(Refusal::NoDifferences));
+            },
+        );
+    }
+}
+
+/// The greatest of the types that pass a test, found from the order alone.
+fn greatest(table: &Table, test: impl Fn(Type) -> bool) -> Option<Type> {
+    let passing: Vec<Type> = table.types().filter(|&c| test(c)).collect();
+    let is_greatest = |c: &Type| passing.iter().all(|&d| table.below(d, *c));
+    passing.iter().copied().find(is_greatest)
+}
+
+#[test]
+fn tables_have_the_meets_joins_and_residuals_of_their_order() {
+    let mut random = Xorshift::new(17);
+    for _ in 0..150 {
+        let table = random::valid_table(&mut random).accepted();
+        if table.n() > 16 {
+            continue;
+        }
+        let mut distributive = true;
+        for a in table.types() {
+            for b in table.types() {
+                let meet = greatest(&table, |c| table.below(c, a) && table.below(c, b));
+                assert_eq!(Some(table.meet(a, b)), meet);
+                let join = table.join(a, b);
+                assert!(table.below(a, join) && table.below(b, join));
+                for c in table.types() {
+                    let above_both = table.below(a, c) && table.below(b, c);
+                    assert_eq!(above_both, table.below(join, c));
+                    let left = table.meet(c, join);
+                    let right = table.join(table.meet(c, a), table.meet(c, b));
+                    distributive &= left == right;
+                }
+                let residual = greatest(&table, |c| table.below(table.meet(c, b), a));
+                assert_eq!(table.residual(a, b), residual);
+                if table.below(a, b) && residual.is_some() {
+                    assert_eq!(table.wanted(b, a), residual);
+                }
+            }
+        }
+        // A finite lattice is Brouwer's exactly when it is distributive.
+        assert_eq!(table.admits_differences(), distributive);
+    }
+}
+
+#[test]
+fn wanted_types_over_the_diamond() {
+    let table = random::diamond().accepted();
+    let (a, b, top) = (1, 2, 3);
+    assert_eq!(table.wanted(a, a), Some(top));
+    assert_eq!(table.wanted(top, a), Some(a));
+    assert_eq!(table.wanted(top, top), Some(top));
+    assert_eq!(table.wanted(a, 0), Some(b));
+    assert_eq!(table.wanted(a, b), None);
+    assert_eq!(table.residual(b, a), Some(b));
+}
+
+#[test]
+fn the_output_beyond_the_record_and_under_a_refusal_is_unchanged() {
+    let mut random = Xorshift::new(18);
+    let mut numbers = BTreeSet::new();
+    for round in 0..3000 {
+        let table = match random.chance(1, 6) {
+            true => random::damaged_table(&mut random),
+            false => random::valid_table(&mut random),
+        };
+        let types = table.n.clamp(2, 64);
+        let record = |random: &mut Xorshift| match random.chance(1, 5) {
+            true => random::damaged_record(random, types),
+            false => {
+                let shape = Shape::small(random, 5, 2);
+                record::write(&random::graph(random, types, &shape))
+            }
+        };
+        let (first, second) = (record(&mut random), record(&mut random));
+        let calls: [Call; 3] = [calls::common_part, calls::combination, calls::difference];
+        let length = *random.choose(&[0, 9, 10, 30, 100, record::LONGEST_RECORD]);
+        let before: Vec<u8> = (0..length).map(|_| random.byte()).collect();
+        let mut after = before.clone();
+        let reply = match round % 4 {
+            3 => calls::rewrite(table.n, &table.bytes, &first, &mut after),
+            k => calls[k](table.n, &table.bytes, &first, &second, &mut after),
+        };
+        match reply {
+            Reply::Length(written) => {
+                assert_eq!(after[written..], before[written..]);
+                let graph = record::read(&table.accepted(), &after[..written]);
+                let graph = graph.expect("what is written is accepted");
+                assert_eq!(canonical(&graph), graph);
+            }
+            _ => assert_eq!(after, before),
+        }
+        numbers.insert(reply.number());
+    }
+    for number in (1..=13).filter(|&number| number != 11) {
+        assert!(numbers.contains(&Some(number)), "{number}");
+    }
+    assert!(numbers.contains(&None));
+}
+
+#[test]
+fn graphs_of_any_size_go_by_the_same_rules() {
+    // Larger than a record: two chains of 300 nodes on different features.
+    let table = random::diamond().accepted();
+    let (first, second) = (
+        random::chain_graph(300, 0, 3),
+        random::chain_graph(300, 1, 3),
+    );
+    let combined = unification(&table, &first, &second).expect("nothing clashes");
+    assert_eq!(combined.nodes.len(), 599);
+    assert!(below(&table, &combined, &first) && below(&table, &combined, &second));
+    assert!(!below(&table, &first, &combined));
+    // A common part of more than 255 nodes is above both.
+    let shape = Shape {
+        nodes: 60,
+        extra_links: 400,
+        features: vec![0, 1, 2, 3],
+        spread: 4,
+        tops: 2,
+    };
+    let mut random = Xorshift::new(19);
+    let mut largest = 0;
+    for _ in 0..20 {
+        let one = random::graph(&mut random, 4, &shape);
+        let other = random::graph(&mut random, 4, &shape);
+        let common = generalization(&table, &one, &other);
+        assert!(below(&table, &one, &common) && below(&table, &other, &common));
+        largest = largest.max(common.nodes.len());
+    }
+    assert!(largest > 255, "{largest}");
+}
+
+#[test]
+fn notation_reads_what_it_says() {
+    let read = reference::notation::graph(3, "top[0: X a[2: b], 1: X, 63: Y 3]");
+    let node = |node_type: Type, links: &[(u8, usize)]| Node {
+        node_type,
+        links: links.iter().copied().collect(),
+    };
+    let nodes = vec![
+        node(3, &[(0, 1), (1, 1), (63, 3)]),
+        node(1, &[(2, 2)]),
+        node(2, &[]),
+        node(3, &[]),
+    ];
+    assert_eq!(read, Graph { nodes });
+    assert_eq!(read.reached().len(), 4);
+    assert_eq!(
+        read.bottom_up().map(|order| order.last() == Some(&ROOT)),
+        Some(true)
+    );
+}
