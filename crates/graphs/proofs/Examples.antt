@@ -24,7 +24,7 @@ use Rattle.graphs.specs.Unify.{
   classLink,
   classLabel,
 }
-use Rattle.graphs.specs.Difference.{difference, keptLink, keeps, keptItself, lead, leaders, groupOf, spread, touch, bare, covers, incoming, select, linksFrom, leastOf, meetOver, meetWhere, byNumber}
+use Rattle.graphs.specs.Difference.{differ, difference, keptLink, keeps, keptItself, lead, leaders, groupOf, spread, touch, bare, covers, incoming, select, linksFrom, leastOf, meetOver, meetWhere, byNumber}
 use Rattle.graphs.specs.Small.{Diamond, a, b, top, leaf, P, Q, R, commonPart, combination, differenceOf, loops, clashes, gives, diamond}
 
 -- 1. Common part of a[0: b] and b: a lone top.
@@ -60,17 +60,17 @@ case-6 = refl
 
 -- 7. Difference of g = P, s = R: top[0: a].
 case-7 : differenceOf P (0 ∷ 1 ∷ []) R (0 ∷ 1 ∷ []) (0 ∷ 1 ∷ []) ≡ written ((top, (0, 1) ∷ []) ∷ leaf a ∷ [])
-unfolding canonical visit each member from linkCount outDegree rowOf linksOf indexOf target anyOf difference keptLink keeps keptItself lead leaders groupOf spread touch bare covers incoming select linksFrom leastOf meetOver meetWhere byNumber
+unfolding canonical visit each member from linkCount outDegree rowOf linksOf indexOf target anyOf difference keptLink keeps keptItself differ lead leaders groupOf spread touch bare covers incoming select linksFrom leastOf meetOver meetWhere byNumber
 case-7 = refl
 
 -- 8. Difference of g = Q, s = R: R.
 case-8 : differenceOf Q (0 ∷ 1 ∷ 2 ∷ []) R (0 ∷ 1 ∷ []) (0 ∷ 1 ∷ 1 ∷ []) ≡ written R
-unfolding canonical visit each member from linkCount outDegree rowOf linksOf indexOf target anyOf difference keptLink keeps keptItself lead leaders groupOf spread touch bare covers incoming select linksFrom leastOf meetOver meetWhere byNumber
+unfolding canonical visit each member from linkCount outDegree rowOf linksOf indexOf target anyOf difference keptLink keeps keptItself differ lead leaders groupOf spread touch bare covers incoming select linksFrom leastOf meetOver meetWhere byNumber
 case-8 = refl
 
 -- 9. Difference of a graph from itself: a lone top.
 case-9 : differenceOf R (0 ∷ 1 ∷ []) R (0 ∷ 1 ∷ []) (0 ∷ 1 ∷ []) ≡ written (leaf top ∷ [])
-unfolding canonical visit each member from linkCount outDegree rowOf linksOf indexOf target anyOf difference keptLink keeps keptItself lead leaders groupOf spread touch bare covers incoming select linksFrom leastOf meetOver meetWhere byNumber
+unfolding canonical visit each member from linkCount outDegree rowOf linksOf indexOf target anyOf difference keptLink keeps keptItself differ lead leaders groupOf spread touch bare covers incoming select linksFrom leastOf meetOver meetWhere byNumber
 case-9 = refl
 
 -- 10. Difference of g = P, s = Q: refused, since Q is not below P; R is.
@@ -91,5 +91,5 @@ case-11 :
     (0 ∷ 1 ∷ [])
     (0 ∷ 1 ∷ 1 ∷ [])
     ≡ written ((top, (0, 1) ∷ (2, 1) ∷ []) ∷ leaf top ∷ [])
-unfolding canonical visit each member from linkCount outDegree rowOf linksOf indexOf target anyOf difference keptLink keeps keptItself lead leaders groupOf spread touch bare covers incoming select linksFrom leastOf meetOver meetWhere byNumber
+unfolding canonical visit each member from linkCount outDegree rowOf linksOf indexOf target anyOf difference keptLink keeps keptItself differ lead leaders groupOf spread touch bare covers incoming select linksFrom leastOf meetOver meetWhere byNumber
 case-11 = refl

@@ -5,7 +5,7 @@ use mathlib.Core.Bool.{Bool, true}
 use mathlib.Core.List.{List}
 use mathlib.Core.Logic.{_↔_, _⊎_, inl, inr, ⊎-elim}
 use mathlib.Core.Option.{some}
-use Prim.Native.Nat.{ℕ, _<_}
+use Prim.Native.Nat.{ℕ, _<_, _≤_}
 use lib.ListN.{length}
 use Rattle.graphs.specs.Label.{Labels, Lattice}
 use Rattle.graphs.specs.Graph.{Graph, Tells, Reached, Below, SameMeaning, AnySize}
@@ -16,7 +16,8 @@ use Rattle.graphs.specs.Number.{canonical, written, manyNodes, manyLinks
 use Rattle.graphs.specs.Large.{ManyNodes, ManyLinks}
 use Rattle.graphs.specs.Order.{subsumes}
 use Rattle.graphs.specs.Generalize.{IsGeneralization, generalization}
-use Rattle.graphs.specs.Unify.{Cycle, Clash, IsUnification, Unified, cycle, clash, unified, unification}
+use Rattle.graphs.specs.Unify.{Cycle, Clash, IsUnification, Unified, cycle, clash, unified, unification, classGraph}
+use Rattle.graphs.specs.Difference.{Link, StrictOrder, IsResidual, IsWanted, meetOver, difference}
 use Rattle.graphs.proofs.Below as Below
 use Rattle.graphs.proofs.Finite as Finite
 use Rattle.graphs.proofs.Product as Product
@@ -27,6 +28,9 @@ use Rattle.graphs.proofs.Large as Large
 use Rattle.graphs.proofs.Unifier as Unifier
 use Rattle.graphs.proofs.Beside.{Operands, any-size-operands}
 use Rattle.graphs.proofs.Outcome as Outcome
+use Rattle.graphs.proofs.DifferenceComputed as Difference
+use Rattle.graphs.proofs.DifferenceComputed.{Setting}
+use Rattle.graphs.proofs.Wanted as Wanted
 
 -- features below 64, as in every graph of any size
 abbrev pub Narrow : {L A : Type 0} → Graph L A → Type 0
@@ -166,3 +170,71 @@ module _ (𝓛 : Labels) (lattice : Lattice 𝓛) where
       (w : Graph (𝓛 .L) (C ⊎ D)) × (unification 𝓛 sameC sameD k (c .nodes) m (d .nodes) ≡ unified w) × Below 𝓛 u w
   unification-monotone sameA sameB sameC sameD tA tB tC tD g h k m a b c d p q u e =
       Outcome.unification-monotone lattice (any-size-operands tA tB a b) (any-size-operands tC tD c d) p q u e
+
+  -- A lattice that admits differences has a wanted label at every node of s.
+  pub wanted-exists : ((q p : 𝓛 .L) → (c : 𝓛 .L) × IsResidual 𝓛 q p c) → {A B : Type 0} (sameA : A → A → Bool) (sameB : B → B → Bool) →
+      Tells sameA → Tells sameB → (s : Graph (𝓛 .L) A) (g : Graph (𝓛 .L) B) (a : AnySize 𝓛 s) (b : AnySize 𝓛 g) (over : B → A) →
+      NodeMap 𝓛 s g over → (v : A) → (c : 𝓛 .L) × IsWanted 𝓛 (meetOver 𝓛 sameA g (b .nodes) over v) (s .label v) c
+  wanted-exists admits sameA sameB tellsA tellsB s g a b over map v =
+      Wanted.wanted-exists lattice (any-size-operands tellsA tellsB a b) over admits map v
+
+  -- 7. The difference of g and s, for s below g by a node map, any strict total order of links, and a wanted label at each node of s.
+
+  module _ {A B : Type 0} (sameA : A → A → Bool) (sameB : B → B → Bool) (tellsA : Tells sameA) (tellsB : Tells sameB)
+      (s : Graph (𝓛 .L) A) (g : Graph (𝓛 .L) B) (a : AnySize 𝓛 s) (b : AnySize 𝓛 g) (over : B → A) (map : NodeMap 𝓛 s g over)
+      (earlier : Link A → Link A → Bool) (order : StrictOrder earlier) (wanted : A → 𝓛 .L)
+      (wants : (v : A) → Reached s v → IsWanted 𝓛 (meetOver 𝓛 sameA g (b .nodes) over v) (s .label v) (wanted v)) where
+    abbrev d : Graph (𝓛 .L) A
+    d = difference 𝓛 sameA sameB earlier s (a .nodes) g (b .nodes) over wanted
+
+    set : Setting 𝓛 sameA sameB earlier s (a .nodes) g (b .nodes) over wanted
+    set =
+        record {
+          lattice = lattice;
+          operands = any-size-operands tellsA tellsB a b;
+          order = order;
+          sound = a;
+          map = map;
+          wants = wants;
+        }
+
+    -- It is a graph of any size, and no larger than s.
+    pub difference-any-size : AnySize 𝓛 d
+    difference-any-size = Difference.difference-any-size 𝓛 sameA sameB earlier s (a .nodes) g (b .nodes) over wanted set
+
+    pub difference-nodes : length (difference-any-size .nodes) ≤ length (a .nodes)
+    unfolding difference-any-size
+    difference-nodes = Difference.difference-nodes 𝓛 sameA sameB earlier s (a .nodes) g (b .nodes) over wanted set
+
+    pub difference-links : (u v : A) (f : ℕ) → Reached d u → d .link u f ≡ some v → Reached s u × (s .link u f ≡ some v)
+    difference-links = Difference.difference-links 𝓛 sameA sameB earlier s (a .nodes) g (b .nodes) over wanted set
+
+    -- It restores: s is the greatest below the difference and g, so their unification exists and means what s means.
+    pub difference-restores : GreatestBelow 𝓛 d g s
+    difference-restores =
+        record {
+          left = Difference.difference-above 𝓛 sameA sameB earlier s (a .nodes) g (b .nodes) over wanted set;
+          right = Below.map-below map;
+          greatest = λ m x y. Difference.difference-greatest 𝓛 sameA sameB earlier s (a .nodes) g (b .nodes) over wanted set m x y;
+        }
+
+    pub difference-unified : (u : Graph (𝓛 .L) (A ⊎ B)) ×
+        (unification 𝓛 sameA sameB d (difference-any-size .nodes) g (b .nodes) ≡ unified u) × SameMeaning 𝓛 u s
+    difference-unified =
+        let given = any-size-operands tellsA tellsB difference-any-size b in
+        let u = classGraph 𝓛 sameA sameB d (difference-any-size .nodes) g (b .nodes) in
+        let found = Outcome.bounded-graph lattice given a (difference-restores .left) (difference-restores .right) in
+        let is = Outcome.graph-right lattice given u found .1 in
+        (u, found, Difference.difference-restores 𝓛 sameA sameB earlier s (a .nodes) g (b .nodes) over wanted set is)
+
+    -- It is most general: what lies strictly above it has a unification with g, which lies strictly above s.
+    pub difference-most-general : {E : Type 0} (sameE : E → E → Bool) → Tells sameE → (e : Graph (𝓛 .L) E) (c : AnySize 𝓛 e) → Below 𝓛 d e →
+        (Below 𝓛 e d → ⊥) → (u : Graph (𝓛 .L) (E ⊎ B)) × (unification 𝓛 sameE sameB e (c .nodes) g (b .nodes) ≡ unified u) × Below 𝓛 s u ×
+        (Below 𝓛 u s → ⊥)
+    difference-most-general sameE tellsE e c above strict =
+        let given = any-size-operands tellsE tellsB c b in
+        let u = classGraph 𝓛 sameE sameB e (c .nodes) g (b .nodes) in
+        let found = Outcome.bounded-graph lattice given a (Below.below-trans lattice (difference-restores .left) above) (difference-restores .right) in
+        let (x, y) = Difference.difference-nothing-more-general 𝓛 sameA sameB earlier s (a .nodes) g (b .nodes) over wanted set e u above strict
+        (Outcome.graph-right lattice given u found .1) in
+        (u, found, x, y)

@@ -40,16 +40,15 @@ pub record IsWanted (𝓛 : Labels) (q p c : 𝓛 .L) : Type 0 where
   pub restores : 𝓛 .meet c q ≡ p
   pub greatest : (d : 𝓛 .L) → 𝓛 .meet d q ≡ p → 𝓛 .le d c ≡ true
 
+-- c is the greatest label whose meet with q is below p. "A table admits differences when for all types p, q" there is one.
+pub record IsResidual (𝓛 : Labels) (q p c : 𝓛 .L) : Type 0 where
+  pub under : 𝓛 .le (𝓛 .meet c q) p ≡ true
+  pub greatest : (d : 𝓛 .L) → 𝓛 .le (𝓛 .meet d q) p ≡ true → 𝓛 .le d c ≡ true
+
 -- the elements that pass a test
 unfoldable pub select : {X : Type 0} → (X → Bool) → List X → List X
 select test [] = []
 select test (x ∷ xs) = cond (test x) (x ∷ select test xs) (select test xs)
-
--- two or more
-abbrev pub several : {X : Type 0} → List X → Bool
-several [] = false
-several (x ∷ []) = false
-several (x ∷ y ∷ xs) = true
 
 -- every feature of one node after another
 unfoldable pub linksFrom : {A : Type 0} → List A → List (Link A)
@@ -59,6 +58,10 @@ linksFrom (u ∷ us) = map (λ f. (u, f)) features ++ linksFrom us
 module _ {L A B : Type 0} (sameA : A → A → Bool) (sameB : B → B → Bool) (s : Graph L A) (ss : List A) (g : Graph L B) (gs : List B) (over : B → A) where
   abbrev pub sameLink : Link A → Link A → Bool
   sameLink l m = sameA (l .0) (m .0) && eqb (l .1) (m .1)
+
+  -- two links of a list differ
+  unfoldable pub differ : List (Link A) → Bool
+  differ ls = anyOf ls λ l. anyOf ls λ m. not (sameLink l m)
 
   -- the links of s that enter v
   unfoldable pub incoming : A → List (Link A)
@@ -97,7 +100,7 @@ module _ {L A B : Type 0} (sameA : A → A → Bool) (sameB : B → B → Bool) 
     module _ (isTop : A → Bool) where
       -- v is kept for itself: the root, two or more groups, a group that nothing of g lies over, or a wanted label that is not top
       unfoldable pub keptItself : A → Bool
-      keptItself v = sameA v (s .root) || several (leaders v) || anyOf (leaders v) bare || not (isTop v)
+      keptItself v = sameA v (s .root) || differ (leaders v) || anyOf (leaders v) bare || not (isTop v)
 
       -- v is kept, for itself or because "a link leaving this node is kept", which is looked for k links deep
       unfoldable pub keeps : ℕ → A → Bool
