@@ -1,12 +1,13 @@
 -- What opening a table returns, and the number that document 01 gives to each refusal ("Returned by a call").
 use Prim.Native.Nat.{ℕ}
+use mathlib.Core.Path.{_≡_}
 use mathlib.Core.Bool.{cond}
 use mathlib.Core.List.{List}
 use Rattle.lattice.specs.declared.TableFault.{TableFault}
 use Rattle.lattice.specs.declared.TableFault.the-variants.{Size, Order, Bounds}
 use Rattle.lattice.specs.declared.Opened.{Opened}
 use Rattle.lattice.specs.declared.Opened.the-variants.{Accepted, Refused}
-use Rattle.lattice.specs.Table.{sized, ordered, bounded}
+use Rattle.lattice.specs.Table.{sized, ordered, bounded, meet, join, filled}
 
 abbrev pub tableNumber : TableFault → ℕ
 tableNumber Size = 1
@@ -16,3 +17,9 @@ tableNumber Bounds = 3
 -- the checks in the order 1, 2, 3
 unfoldable pub opened : ℕ → List ℕ → Opened
 opened n t = cond (sized n t) (cond (ordered n t) (cond (bounded n t) Accepted (Refused Bounds)) (Refused Order)) (Refused Size)
+
+-- what opening ensures: the answer, and what the two lent tables hold ("Meets and joins stand in two tables")
+pub record Opening (n : ℕ) (t : List ℕ) (answer : Opened) (meets₀ meets joins₀ joins : List (List ℕ)) : Type 0 where
+  pub answers : answer ≡ opened n t
+  pub meets-hold : meets ≡ filled n t (meet n t) meets₀
+  pub joins-hold : joins ≡ filled n t (join n t) joins₀

@@ -1,0 +1,161 @@
+-- Tests as facts: a conjunction, an implication, `every` and `last` of `Table`, each as what it says where it is true.
+use Prim.Native.Nat.{ℕ, zero, suc, _+_, _-_, _<_, _≤_}
+use mathlib.Core.Path.{_≡_, refl, sym, ap, subst, _∙_}
+use mathlib.Core.Bool.{Bool, true, false, cond, not, _&&_}
+use mathlib.Core.Option.{Option, none, some}
+use mathlib.Core.Logic.{_⊎_, inl, inr, ⊎-elim}
+use native.Mathlib.Nat.{not-suc-le-zero, eq-or-lt-of-le, le-of-suc-le-suc}
+use native.Mathlib.Numerals.{add-one}
+use native.Mathlib.Omega.{arith}
+use lib.Dec.{ltb}
+use borrow.Author.Tests.{ltb-true, ltb-false, not-true, not-false}
+use Rattle.lattice.specs.Table.{every, last, implies, found}
+
+pub and-left : (a b : Bool) → a && b ≡ true → a ≡ true
+and-left true b h = refl
+and-left false b h = h
+
+pub and-right : (a b : Bool) → a && b ≡ true → b ≡ true
+and-right true b h = h
+and-right false b h = let z : _≡_ {A = ℕ} 0 1 = cc in absurd (omega arith)
+
+pub and-both : (a b : Bool) → a ≡ true → b ≡ true → a && b ≡ true
+and-both true b g h = h
+and-both false b g h = g
+
+-- a conjunction with a false part is false
+pub and-fails-left : (a b : Bool) → a ≡ false → a && b ≡ false
+and-fails-left true b h = let z : _≡_ {A = ℕ} 0 1 = cc in absurd (omega arith)
+and-fails-left false b h = refl
+
+pub and-fails-right : (a b : Bool) → b ≡ false → a && b ≡ false
+and-fails-right true b h = h
+and-fails-right false b h = refl
+
+pub implies-at : (a b : Bool) → implies a b ≡ true → a ≡ true → b ≡ true
+implies-at true b h g = h
+implies-at false b h g = let z : _≡_ {A = ℕ} 0 1 = cc in absurd (omega arith)
+
+pub implies-from : (a b : Bool) → (a ≡ true → b ≡ true) → implies a b ≡ true
+implies-from true b h = h refl
+implies-from false b h = refl
+
+-- two tests that are true together are equal
+pub same-test : (a b : Bool) → (a ≡ true → b ≡ true) → (b ≡ true → a ≡ true) → a ≡ b
+same-test true b f g = sym (f refl)
+same-test false true f g = g refl
+same-test false false f g = refl
+
+-- a test that is not true is false
+pub not-true-false : (a : Bool) → (a ≡ true → ⊥) → a ≡ false
+not-true-false true h = absurd (h refl)
+not-true-false false h = refl
+
+pub true-not-false : (a : Bool) → a ≡ true → a ≡ false → ⊥
+true-not-false a g h = let z : _≡_ {A = ℕ} 0 1 = cc in omega arith
+
+-- j is below n, or not
+pub below-or-not : (j n : ℕ) → (j < n) ⊎ (n ≤ j)
+below-or-not j n = go (ltb j n) refl where
+  go : (b : Bool) → ltb j n ≡ b → (j < n) ⊎ (n ≤ j)
+  go true e = inl (ltb-true j n e)
+  go false e = inr (ltb-false j n e)
+
+below-suc : {k n : ℕ} {P : Type 0} → k < suc n → (k ≡ n → P) → (k < n → P) → P
+below-suc l here before = ⊎-elim here before (eq-or-lt-of-le (le-of-suc-le-suc l))
+
+pub every-at : (p : ℕ → Bool) (n k : ℕ) → every n p ≡ true → k < n → p k ≡ true
+unfolding every
+every-at p zero k h l = absurd (not-suc-le-zero l)
+every-at p (suc n) k h l =
+    below-suc l (λ e. subst (λ (m : ℕ). p m ≡ true) (sym e) (and-right (every n p) (p n) h)) (λ s. every-at p n k (and-left (every n p) (p n) h) s)
+
+pub every-all : (p : ℕ → Bool) (n : ℕ) → ((k : ℕ) → k < n → p k ≡ true) → every n p ≡ true
+unfolding every
+every-all p zero h = refl
+every-all p (suc n) h = and-both (every n p) (p n) (every-all p n λ k l. h k (omega arith)) (h n (omega arith))
+
+pub every-none : (p : ℕ → Bool) → every 0 p ≡ true
+unfolding every
+every-none p = refl
+
+pub every-more : (p : ℕ → Bool) (k : ℕ) → every k p ≡ true → p k ≡ true → every (k + 1) p ≡ true
+unfolding every
+every-more p k h g = rw add-one (and-both (every k p) (p k) h g)
+
+pub every-fails : (p : ℕ → Bool) (n k : ℕ) → k < n → p k ≡ false → every n p ≡ false
+every-fails p n k l h = not-true-false (every n p) λ e. true-not-false (p k) (every-at p n k e l) h
+
+pub every-same : (p q : ℕ → Bool) (n : ℕ) → ((k : ℕ) → k < n → p k ≡ q k) → every n p ≡ every n q
+unfolding every
+every-same p q zero h = refl
+every-same p q (suc n) h =
+    let e : every n p ≡ every n q = every-same p q n λ k l. h k (omega arith) in
+    let f : p n ≡ q n = h n (omega arith) in
+    cc
+
+pub last-same : (p q : ℕ → Bool) (n : ℕ) → ((k : ℕ) → k < n → p k ≡ q k) → last n p ≡ last n q
+unfolding last
+last-same p q zero h = refl
+last-same p q (suc n) h =
+    let e : last n p ≡ last n q = last-same p q n λ k l. h k (omega arith) in
+    let f : p n ≡ q n = h n (omega arith) in
+    cc
+
+-- what `last` finds is below n and passes
+pub last-passes : (p : ℕ → Bool) (n c : ℕ) → last n p ≡ some c → (c < n) × (p c ≡ true)
+unfolding last
+last-passes p zero c h = let z : _≡_ {A = ℕ} 0 1 = cc in absurd (omega arith)
+last-passes p (suc n) c h = go (last-passes p n c) (p n) refl where
+  go : (last n p ≡ some c → (c < n) × (p c ≡ true)) → (b : Bool) → p n ≡ b → (c < suc n) × (p c ≡ true)
+  go before true e =
+      let f : some n ≡ some c = rw e at h in
+      let g : n ≡ c = cc in
+      (omega arith, ap p (sym g) ∙ e)
+  go before false e =
+      let r : (c < n) × (p c ≡ true) = before (rw e at h) in
+      (omega arith, r .1)
+
+-- where something passes, `last` finds something
+pub last-finds : (p : ℕ → Bool) (n k : ℕ) → k < n → p k ≡ true → found (last n p) ≡ true
+unfolding last
+last-finds p zero k l h = absurd (not-suc-le-zero l)
+last-finds p (suc n) k l h = go (λ s. last-finds p n k s h) (p n) refl where
+  go : (k < n → found (last n p) ≡ true) → (b : Bool) → p n ≡ b → found (cond (p n) (some n) (last n p)) ≡ true
+  go before true e = rw e
+  go before false e = rw e (below-suc l (λ f. absurd (true-not-false (p k) h (ap p f ∙ e))) before)
+
+pub found-some : (o : Option ℕ) → found o ≡ true → (c : ℕ) × (o ≡ some c)
+found-some none h = let z : _≡_ {A = ℕ} 0 1 = cc in absurd (omega arith)
+found-some (some c) h = (c, refl)
+
+-- one step down of a search for the last
+pub last-step : (p : ℕ → Bool) (c : ℕ) → 0 < c → last c p ≡ cond (p (c - 1)) (some (c - 1)) (last (c - 1) p)
+unfolding last
+last-step p zero l = absurd (not-suc-le-zero l)
+last-step p (suc c) l =
+    let e : suc c - 1 ≡ c = omega arith in
+    rw e
+
+-- at the end of a loop that passed every number
+pub every-done : (p : ℕ → Bool) (k n : ℕ) → k ≤ n → n ≤ k → every k p ≡ true → true ≡ every n p
+every-done p k n l s h = let e : k ≡ n = omega arith in sym (subst (λ (m : ℕ). every m p ≡ true) e h)
+
+-- at the end of a search down to 0
+pub last-none : (p : ℕ → Bool) (c : ℕ) → c ≤ 0 → last c p ≡ none
+unfolding last
+last-none p c l = let e : c ≡ 0 = omega arith in rw e
+
+-- a search down by one that does not find, and one that does
+pub last-passed : (p : ℕ → Bool) (c : ℕ) → 0 < c → p (c - 1) ≡ false → last c p ≡ last (c - 1) p
+last-passed p c l h = last-step p c l ∙ rw h
+
+pub last-here : (p : ℕ → Bool) (c : ℕ) → 0 < c → p (c - 1) ≡ true → last c p ≡ some (c - 1)
+last-here p c l h = last-step p c l ∙ rw h
+
+-- what a call answered, after a branch on its negation
+pub refuted : (b p : Bool) → b ≡ p → not b ≡ true → p ≡ false
+refuted b p e h = sym e ∙ not-true b h
+
+pub held : (b p : Bool) → b ≡ p → not b ≡ false → p ≡ true
+held b p e h = sym e ∙ not-false b h

@@ -1,0 +1,53 @@
+-- `admits_differences` meets its contract: a table that is not accepted is told by the answer of `open_table`, and the words
+-- decide the rest.
+use mathlib.Core.Path.{sym, _∙_}
+use borrow.Author.Needs.{needs}
+use Rattle.lattice.proofs.Residuals.{opened-accepted, opened-refused, all-admits}
+use Rattle.lattice.proofs.Laws.{accepted-size}
+use Rattle.lattice.proofs.admits_differences.Statement.{statement}
+use Rattle.lattice.proofs.admits_differences.Tie as tie
+
+open-table-requires : tie.Need-open-table-requires
+open-table-requires c κs = search needs
+
+enum-told : tie.Need-enum-told
+enum-told c = search needs
+
+enum-told-2 : tie.Need-enum-told-2
+enum-told-2 c = search needs
+
+returns : tie.Need-returns
+returns c =
+    let start = c .before .before .before .before .before .before in
+    sym (rw (opened-refused (start .args .n) (start .args .table .now) _ _ (c .before .before .open-table .ensures .answers) (c .enum-told2 .given .1)))
+
+read-words-requires : tie.Need-read-words-requires
+read-words-requires c κs =
+    let start = c .before .before .before .before .before .before in
+    accepted-size _ _
+    (opened-accepted (start .args .n) (start .args .table .now) _ (c .before .before .open-table .ensures .answers) (c .enum-told .given .1)) .1
+
+all-residuals-requires : tie.Need-all-residuals-requires
+all-residuals-requires c κs =
+    let start = c .before .before .before .before .before .before .before .before in
+    accepted-size _ _
+    (opened-accepted (start .args .n) (start .args .table .now) _ (c .before .before .before .before .open-table .ensures .answers) (c .before .before .enum-told .given .1)) .1
+
+returns-2 : tie.Need-returns-2
+returns-2 c =
+    let start = c .before .before .before .before .before .before .before .before .before in
+    let ok =
+    opened-accepted (start .args .n) (start .args .table .now) _ (c .before .before .before .before .before .open-table .ensures .answers) (c .before .before .before .enum-told .given .1) in
+    c .all-residuals .ensures ∙ all-admits (start .args .n) (start .args .table .now) _ ok (c .before .before .read-words .ensures) ∙ rw ok
+
+pub admits-differences-spec : {M : Type 1} → statement M
+admits-differences-spec =
+    tie.close
+    (tie.spec
+    open-table-requires
+    enum-told
+    enum-told-2
+    returns
+    read-words-requires
+    all-residuals-requires
+    returns-2)

@@ -1,0 +1,84 @@
+-- `bound_row` meets its contract: the cells before b hold their bounds, and the others 0.
+use Prim.Native.Nat.{ℕ, _≤_, _<_, _-_}
+use mathlib.Core.Path.{_≡_}
+use native.Mathlib.Omega.{arith}
+use lib.ListN.{getD-replicate, length, getD}
+use borrow.Author.Count.{below-none}
+use borrow.Author.Needs.{needs}
+use Rattle.lattice.specs.Table.{cell}
+use Rattle.lattice.specs.Words.{wordBound}
+use Rattle.lattice.proofs.Rows.{set-more, set-rest, row-made}
+use Rattle.lattice.proofs.bounds.bound_row.Statement.{statement}
+use Rattle.lattice.proofs.bounds.bound_row.Tie as tie
+
+abbrev Inv-loop : tie.InvT-loop
+Inv-loop n words a row₀ b₀ row b =
+    (b ≤ n)
+    × (length row ≡ 64)
+    × ((k : ℕ) → k < b → getD row k 0 ≡ cell (wordBound n words a k))
+    × ((k : ℕ) → b ≤ k → k < 64 → getD row k 0 ≡ 0)
+
+abbrev μ-loop : tie.MeasureT-loop
+μ-loop n words a row₀ b₀ row b = n - b
+
+loop-holds : tie.Need-loop-holds Inv-loop μ-loop
+loop-holds c = (search needs, search needs, below-none _, λ k l s. getD-replicate {A = ℕ} 64 k 0 0 s)
+
+mul-find-word : tie.Need-mul-find-word Inv-loop μ-loop
+mul-find-word c = search needs
+
+element-copy-out-find-word : tie.Need-element-copy-out-find-word Inv-loop μ-loop
+element-copy-out-find-word c = search needs
+
+mul-find-word-2 : tie.Need-mul-find-word-2 Inv-loop μ-loop
+mul-find-word-2 c = search needs
+
+element-copy-out-find-word-2 : tie.Need-element-copy-out-find-word-2 Inv-loop μ-loop
+element-copy-out-find-word-2 c = search needs
+
+find-word-requires : tie.Need-find-word-requires Inv-loop μ-loop
+find-word-requires c κs = search needs
+
+array-write-row : tie.Need-array-write-row Inv-loop μ-loop
+array-write-row c = search needs
+
+add-b : tie.Need-add-b Inv-loop μ-loop
+add-b c = search needs
+
+loop-less : tie.Need-loop-less Inv-loop μ-loop
+loop-less c = search needs
+
+loop-again : tie.Need-loop-again Inv-loop μ-loop
+loop-again c =
+    let turn = c .before .before .before .before .loop in (
+      search needs,
+      search needs,
+      set-more _ (turn .row) (turn .b) _ (search needs) (turn .inv .2) (c .find-word .ensures),
+      set-rest (turn .row) (turn .b) _ (turn .inv .3),
+    )
+
+returns : tie.Need-returns Inv-loop μ-loop
+returns c =
+    let start = c .before .before in
+    let turn = c .before .loop in
+    row-made (start .args .n) (wordBound (start .args .n) (start .args .words .now)) (start .args .a) (turn .row) (search needs)
+    (λ k l. turn .inv .2 k (omega arith))
+    (λ k l s. turn .inv .3 k (omega arith) s)
+
+pub bound-row-spec : {M : Type 1} → statement M
+bound-row-spec =
+    tie.close
+    (tie.spec
+    Inv-loop
+    μ-loop
+    loop-holds
+    mul-find-word
+    element-copy-out-find-word
+    mul-find-word-2
+    element-copy-out-find-word-2
+    find-word-requires
+    array-write-row
+    add-b
+    loop-less
+    loop-again
+    returns)

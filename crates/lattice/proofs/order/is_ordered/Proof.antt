@@ -1,0 +1,57 @@
+-- `is_ordered` meets its contract: the rows before i are ordered.
+use Prim.Native.Nat.{_≤_, _-_}
+use mathlib.Core.Path.{_≡_, sym}
+use mathlib.Core.Bool.{true}
+use borrow.Author.Needs.{needs}
+use Rattle.lattice.specs.Table.{every}
+use Rattle.lattice.specs.Words.{rowOrdered}
+use Rattle.lattice.proofs.Every.{refuted, held, every-none, every-more, every-fails, every-done}
+use Rattle.lattice.proofs.order.is_ordered.Statement.{statement}
+use Rattle.lattice.proofs.order.is_ordered.Tie as tie
+
+abbrev Inv-loop : tie.InvT-loop
+Inv-loop n table down i₀ i = (i ≤ n) × (every i (rowOrdered n table down) ≡ true)
+
+abbrev μ-loop : tie.MeasureT-loop
+μ-loop n table down i₀ i = n - i
+
+loop-holds : tie.Need-loop-holds Inv-loop μ-loop
+loop-holds c = (search needs, every-none _)
+
+is-row-ordered-requires : tie.Need-is-row-ordered-requires Inv-loop μ-loop
+is-row-ordered-requires c κs = search needs
+
+returns : tie.Need-returns Inv-loop μ-loop
+returns c =
+    let turn = c .before .before .before .loop in
+    sym (every-fails _ (c .before .before .before .before .before .args .n) (turn .i) (search needs) (refuted _ _ (c .before .is-row-ordered .ensures) (c .if1 .taken)))
+
+add-i : tie.Need-add-i Inv-loop μ-loop
+add-i c = search needs
+
+loop-less : tie.Need-loop-less Inv-loop μ-loop
+loop-less c = search needs
+
+loop-again : tie.Need-loop-again Inv-loop μ-loop
+loop-again c =
+    let turn = c .before .before .before .loop in
+    (search needs, every-more _ (turn .i) (turn .inv .1) (held _ _ (c .before .is-row-ordered .ensures) (c .if1 .left)))
+
+returns-2 : tie.Need-returns-2 Inv-loop μ-loop
+returns-2 c =
+    let turn = c .before .loop in
+    every-done _ (turn .i) (c .before .before .before .args .n) (search needs) (search needs) (turn .inv .1)
+
+pub is-ordered-spec : {M : Type 1} → statement M
+is-ordered-spec =
+    tie.close
+    (tie.spec
+    Inv-loop
+    μ-loop
+    loop-holds
+    is-row-ordered-requires
+    returns
+    add-i
+    loop-less
+    loop-again
+    returns-2)

@@ -1,0 +1,63 @@
+-- What the parts of `open_table` and `admits_differences` answer, in words. Nothing here is needed to read the contracts of
+-- those two: their proofs show that these tests on words decide what `Table` defines.
+use Prim.Native.Nat.{ℕ, zero, suc, _+_, _*_, _-_, _/_, _^_, _<_}
+use mathlib.Core.Path.{_≡_}
+use mathlib.Core.Bool.{Bool, true, false, _&&_}
+use mathlib.Core.List.{List}
+use mathlib.Core.Option.{Option}
+use lib.ListN.{getD}
+use lib.Dec.{leb, eqb}
+use lib.Bits.{bitAnd}
+use Rattle.lattice.specs.Table.{every, last, implies, below, found}
+
+-- a bit as a number
+abbrev pub digit : Bool → ℕ
+digit true = 1
+digit false = 0
+
+-- the word whose bits below k are p
+unfoldable pub word : ℕ → (ℕ → Bool) → ℕ
+word zero p = 0
+word (suc k) p = digit (p k) * 2 ^ k + word k p
+
+-- j is on one side of i: above it for true, below it for false
+abbrev pub related : List ℕ → Bool → ℕ → ℕ → Bool
+related t true i j = below t i j
+related t false i j = below t j i
+
+-- the words of one side of the types below n
+abbrev pub Words : ℕ → List ℕ → Bool → List ℕ → Type 0
+Words n t up ws = (i : ℕ) → i < n → getD ws i 0 ≡ word 64 (related t up i)
+
+-- all bits of a stand in b
+abbrev pub partOf : ℕ → ℕ → Bool
+partOf a b = eqb (bitAnd a b) a
+
+-- where j is below i, all that is below j is below i, and i is below j only where they are one type
+unfoldable pub pairOrdered : List ℕ → List ℕ → ℕ → ℕ → Bool
+pairOrdered t ws i j = implies (below t j i) (partOf (getD ws j 0) (getD ws i 0) && implies (below t i j) (eqb i j))
+
+-- row i passes the tests of refusal 2
+unfoldable pub rowOrdered : ℕ → List ℕ → List ℕ → ℕ → Bool
+rowOrdered n t ws i = leb (getD ws i 0 / 2 ^ (n - 1)) 1 && below t i i && below t 0 i && below t i (n - 1) && every n (pairOrdered t ws i)
+
+-- what is below both d and q is below p
+abbrev pub wordMeetBelow : List ℕ → ℕ → ℕ → ℕ → Bool
+wordMeetBelow ws p q d = partOf (bitAnd (getD ws d 0) (getD ws q 0)) (getD ws p 0)
+
+module _ (n : ℕ) (ws : List ℕ) where
+  -- the last type whose word is w
+  unfoldable pub holder : ℕ → Option ℕ
+  holder w = last n λ c. eqb (getD ws c 0) w
+
+  -- the type whose word is the common part of two words
+  abbrev pub wordBound : ℕ → ℕ → Option ℕ
+  wordBound a b = holder (bitAnd (getD ws a 0) (getD ws b 0))
+
+  -- the types whose meet with q is below p are those below one type
+  abbrev pub wordResidual : ℕ → ℕ → Option ℕ
+  wordResidual p q = holder (word n (wordMeetBelow ws p q))
+
+-- every two types have a bound
+unfoldable pub allFound : ℕ → (ℕ → ℕ → Option ℕ) → Bool
+allFound n bound = every n λ a. every n λ b. found (bound a b)
