@@ -1,0 +1,4 @@
+-- Laws of the walks over arrays.
+pub mod Colours
+pub mod Numbering
+pub mod VisitRows

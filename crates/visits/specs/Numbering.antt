@@ -1,0 +1,45 @@
+-- What the functions of the numbering keep: `numbers` and `visited` hold the nodes seen so far.
+use mathlib.Core.Path.{_≡_}
+use mathlib.Core.Bool.{cond}
+use mathlib.Core.List.{List, [], _∷_, reverse}
+use mathlib.Core.Option.{Option, none, some}
+use Prim.Native.Nat.{ℕ, _≤_, _<_}
+use lib.Dec.{eqb}
+use lib.ListN.{length, getD, take}
+use Rattle.visits.specs.Arrays.{Linked, eachTarget, targetsAt, visitTargets}
+
+-- the nodes seen, the last first: the first `count` visited
+abbrev pub seenOf : List ℕ → ℕ → List ℕ
+seenOf visited count = reverse (take count visited)
+
+-- the number of a node, where the nodes seen stand the last first; 0xFFFF where it has none
+unfoldable pub numberAmong : ℕ → List ℕ → ℕ
+numberAmong v [] = 65535
+numberAmong v (w ∷ ws) = cond (eqb v w) (length ws) (numberAmong v ws)
+
+-- `numbers` and `visited` hold the first `count` nodes seen
+pub record Marks (nodes : ℕ) (numbers visited : List ℕ) (count : ℕ) : Type 0 where
+  pub numbers-long : length numbers ≡ 510
+  pub visited-long : length visited ≡ 255
+  pub few : count ≤ 255
+  pub numbered : (v : ℕ) → v < nodes → getD numbers v 0 ≡ numberAmong v (seenOf visited count)
+  pub placed : (i : ℕ) → i < count → getD numbers (getD visited i 0) 0 ≡ i
+
+-- v is a node without a number, and there is room for one more
+pub record Ready (nodes : ℕ) (first targets numbers visited : List ℕ) (v given : ℕ) : Type 0 where
+  pub linked : Linked nodes first targets
+  pub marks : Marks nodes numbers visited given
+  pub inside : v < nodes
+  pub fresh : getD numbers v 0 ≡ 65535
+  pub room : given < 255
+
+-- what the visit of v finds that links down from it, once v has its number
+abbrev pub below : List ℕ → List ℕ → ℕ → ℕ → List ℕ → Option (List ℕ)
+below first targets depth v seen = eachTarget (visitTargets (targetsAt first targets) depth) (targetsAt first targets v) (v ∷ seen)
+
+-- `count` is 256 where a visit finds nothing, and else the arrays hold what it finds
+pub record Finds (nodes : ℕ) (found : Option (List ℕ)) (count : ℕ) (numbers visited : List ℕ) : Type 0 where
+  pub numbers-long : length numbers ≡ 510
+  pub visited-long : length visited ≡ 255
+  pub full : found ≡ none → count ≡ 256
+  pub marks : (seen : List ℕ) → found ≡ some seen → (seenOf visited count ≡ seen) × Marks nodes numbers visited count
