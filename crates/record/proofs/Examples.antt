@@ -9,7 +9,8 @@ use Rattle.graphs.specs.Unify.{anyOf, deep}
 use Rattle.record.specs.declared.GraphFault.the-variants.{Malformed, OutOfRange, Cyclic, Unreached}
 use Rattle.record.specs.Decode.{bitOf, takeLinks, takeRow, takeRows, decoded}
 use Rattle.record.specs.Encode.{bitsFrom, encodedRow, encodedRows, encoded}
-use Rattle.record.specs.Read.{allOf, inRange, cyclic, reachesAll, reading, accepted, refused}
+use Rattle.graphs.specs.Order.{allOf}
+use Rattle.record.specs.Read.{inRange, cyclic, reachesAll, reading, accepted, refused}
 
 rows : List (Row ℕ)
 rows = (3, (0, 1) ∷ []) ∷ (1, []) ∷ []

@@ -1,7 +1,6 @@
--- Definitions of records: reading, writing, and the arrays that hold a graph.
+-- Definitions of records: reading and writing.
 pub mod Decode
 pub mod Encode
 pub mod Read
-pub mod Arrays
 pub mod Promise
 pub mod Labels

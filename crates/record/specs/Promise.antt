@@ -1,15 +1,15 @@
 -- What the functions of this crate promise, by the definitions beside it.
 use mathlib.Core.Path.{_≡_}
 use mathlib.Core.Bool.{Bool, true, false}
-use mathlib.Core.List.{List, [], reverse}
+use mathlib.Core.List.{List}
 use mathlib.Core.Option.{Option, none, some}
 use Prim.Native.Nat.{ℕ, _≤_, _<_}
-use lib.ListN.{length, getD}
+use lib.ListN.{getD}
 use Rattle.graphs.specs.Rows.{Row}
 use Rattle.record.specs.declared.Graph as declared
 use Rattle.record.specs.declared.Verdict.{Verdict}
 use Rattle.record.specs.declared.Verdict.the-variants.{Accepted, Refused}
-use Rattle.record.specs.Arrays.{Shaped, Sound, Reaches, TargetsFirst, rowsOf, targetsAt, visitTargets}
+use Rattle.visits.specs.Arrays.{Shaped, Sound, rowsOf}
 use Rattle.record.specs.Decode.{decoded}
 use Rattle.record.specs.Read.{Reading, refused, accepted, reading}
 
@@ -42,17 +42,3 @@ pub record Ranged (n nodes : ℕ) (types first targets : List ℕ) : Type 0 wher
 pub record Ranges (n nodes : ℕ) (types first targets : List ℕ) (answer : Bool) : Type 0 where
   pub yes-stands : answer ≡ true → Ranged n nodes types first targets
   pub no-stands : answer ≡ false → Ranged n nodes types first targets → ⊥
-
--- acyclicity: some node reaches itself, or there is an order of the nodes with targets first
-pub record Sorts (nodes : ℕ) (first targets order : List ℕ) (found : Bool) : Type 0 where
-  pub looped : found ≡ true → (v : ℕ) × Reaches nodes first targets v v
-  pub sorted : found ≡ false → (place : ℕ → ℕ) × TargetsFirst nodes first targets order place
-
--- numbering: the nodes that the root reaches, as the visit finds them; 256 for more than 255
-pub record Numbers (first targets : List ℕ) (count : ℕ) (numbers visited : List ℕ) : Type 0 where
-  pub full : visitTargets (targetsAt first targets) 255 0 [] ≡ none → count ≡ 256
-  pub counted : (seen : List ℕ) → visitTargets (targetsAt first targets) 255 0 [] ≡ some seen → count ≡ length seen
-  pub by-number : (seen : List ℕ) → visitTargets (targetsAt first targets) 255 0 [] ≡ some seen → (i : ℕ) → i < length seen →
-      getD visited i 0 ≡ getD (reverse seen) i 0
-  pub by-node : (seen : List ℕ) → visitTargets (targetsAt first targets) 255 0 [] ≡ some seen → (i : ℕ) → i < length seen →
-      getD numbers (getD (reverse seen) i 0) 0 ≡ i

@@ -6,27 +6,20 @@ use mathlib.Core.Option.{Option, none, some}
 use Prim.Native.Nat.{ℕ, suc}
 use lib.Dec.{eqb, leb}
 use lib.ListN.{length}
-use Rattle.graphs.specs.Graph.{Graph}
-use Rattle.graphs.specs.Rows.{Row, from, graphOf}
+use Rattle.graphs.specs.Rows.{Row, from}
 use Rattle.graphs.specs.Number.{visit}
+use Rattle.graphs.specs.Order.{allOf}
 use Rattle.graphs.specs.Unify.{anyOf, deep, holds}
 use Rattle.record.specs.declared.GraphFault.{GraphFault}
 use Rattle.record.specs.declared.GraphFault.the-variants.{Malformed, OutOfRange, Cyclic, Unreached}
 use Rattle.record.specs.Decode.{decoded}
+pub use Rattle.visits.specs.Arrays.{graphOfRows}
 
 abbrev pub graphNumber : GraphFault → ℕ
 graphNumber Malformed = 4
 graphNumber OutOfRange = 5
 graphNumber Cyclic = 6
 graphNumber Unreached = 7
-
--- the graph that rows of type numbers state
-abbrev pub graphOfRows : List (Row ℕ) → Graph ℕ ℕ
-graphOfRows rows = graphOf 0 rows
-
-unfoldable pub allOf : {X : Type 0} → List X → (X → Bool) → Bool
-allOf [] test = true
-allOf (x ∷ xs) test = test x && allOf xs test
 
 -- not "a type that is 0 or at least n; a target at least N"
 unfoldable pub inRange : ℕ → List (Row ℕ) → Bool

@@ -2,15 +2,13 @@
 // written in canonical form. The graph is held in compressed rows; inner functions take its arrays lent, so that they also
 // serve the up to 510 nodes and 4,096 links of a unification.
 
-pub mod acyclic;
 pub mod encode;
-pub mod number;
 pub mod parse;
 pub mod range;
 
 ghost use mathlib.Core.Path.{_≡_};
 ghost use Rattle.graphs.specs.Number.{canonical};
-ghost use Rattle.record.specs.Arrays.{Sound, rowsOf};
+ghost use Rattle.visits.specs.Arrays.{Sound, rowsOf};
 ghost use Rattle.record.specs.Encode.{Outcome, writtenOut};
 ghost use Rattle.record.specs.Promise.{Reads};
 ghost use Rattle.record.specs.Read.{graphOfRows};
@@ -73,12 +71,12 @@ pub fn read(n: usize, bytes: &[u8]) -> Reading
         return refusal(GraphFault::OutOfRange, graph);
     }
     let mut order = [0u16; 510];
-    if acyclic::has_cycle(nodes, &graph.first, &graph.targets, &mut order) {
+    if visits::acyclic::has_cycle(nodes, &graph.first, &graph.targets, &mut order) {
         return refusal(GraphFault::Cyclic, graph);
     }
     let mut numbers = [0u16; 510];
     let mut visited = [0u16; 255];
-    let count = number::number(
+    let count = visits::number::number(
         nodes,
         &graph.first,
         &graph.targets,
@@ -109,7 +107,7 @@ pub fn write<'a>(
 {
     let mut numbers = [0u16; 510];
     let mut visited = [0u16; 255];
-    let count = number::number(nodes, first, targets, &mut numbers, &mut visited);
+    let count = visits::number::number(nodes, first, targets, &mut numbers, &mut visited);
     if 255 < count {
         return Written::TooLarge;
     }

@@ -1,7 +1,7 @@
 // Ranges: every type is one of the table's and not the contradiction, every target is a node (refusal 5 otherwise).
 
 ghost use Prim.Native.Nat.{_≤_};
-ghost use Rattle.record.specs.Arrays.{Laid};
+ghost use Rattle.visits.specs.Arrays.{Laid};
 ghost use Rattle.record.specs.Promise.{Ranges};
 
 // Whether the types of the nodes are among the n, and the targets of all links among the nodes.

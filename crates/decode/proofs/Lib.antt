@@ -1,0 +1,3 @@
+-- Laws of decoding.
+pub mod Parsing
+pub mod Filling

@@ -1,0 +1,54 @@
+-- A record's bytes as rows (document 01, "Graph record"): what they state, or nothing where refusal 4 is due.
+use mathlib.Core.Bool.{Bool, true, false, cond}
+use mathlib.Core.List.{List, [], _∷_}
+use mathlib.Core.Option.{Option, none, some}
+use Prim.Native.Nat.{ℕ, zero, suc, _/_, _%_, _^_}
+use lib.Dec.{eqb, leb}
+use lib.ListN.{length, getD, drop}
+use Rattle.graphs.specs.Graph.{onward, andThen}
+use Rattle.graphs.specs.Rows.{Row, features}
+
+-- "feature f, 0 to 63, is bit f mod 8 of byte f div 8"
+unfoldable pub bitOf : List ℕ → ℕ → Bool
+bitOf bytes f = eqb ((getD bytes (f / 8) 0 / 2 ^ (f % 8)) % 2) 1
+
+-- What was read, the bytes behind it, and how many links there may still be.
+pub record Taken (X : Type 0) : Type 0 where
+  pub value : X
+  pub room : ℕ
+  pub rest : List ℕ
+
+abbrev pub changed : {X Y : Type 0} → (X → Y) → Taken X → Taken Y
+changed make t = record { value = make (t .value); room = t .room; rest = t .rest }
+
+-- one target byte, and what follows it
+abbrev pub takeTarget : ℕ → (ℕ → List ℕ → Option (Taken (List (ℕ × ℕ)))) → ℕ → List ℕ → Option (Taken (List (ℕ × ℕ)))
+takeTarget f next zero rest = none
+takeTarget f next (suc room) [] = none
+takeTarget f next (suc room) (t ∷ rest) = onward (changed λ ls. (f, t) ∷ ls) (next room rest)
+
+-- "one target byte for each standing bit, lowest feature first"
+unfoldable pub takeLinks : (ℕ → Bool) → List ℕ → ℕ → List ℕ → Option (Taken (List (ℕ × ℕ)))
+takeLinks stands [] room rest = some (record { value = []; room = room; rest = rest })
+takeLinks stands (f ∷ fs) room rest = cond (stands f) (takeTarget f (takeLinks stands fs) room rest) (takeLinks stands fs room rest)
+
+-- "for each node in turn: one type byte, 8 bytes of feature map .., then one target byte for each standing bit"
+unfoldable pub takeRow : ℕ → List ℕ → Option (Taken (Row ℕ))
+takeRow room rest =
+    cond (leb 9 (length rest))
+    (onward (changed λ ls. (getD rest 0 0, ls)) (takeLinks (bitOf (drop 1 rest)) features room (drop 9 rest)))
+    none
+
+unfoldable pub takeRows : ℕ → ℕ → List ℕ → Option (Taken (List (Row ℕ)))
+takeRows zero room rest = some (record { value = []; room = room; rest = rest })
+takeRows (suc k) room rest = andThen (takeRow room rest) λ r. onward (changed λ rs. r .value ∷ rs) (takeRows k (r .room) (r .rest))
+
+-- "The record ends there."
+abbrev pub whole : Option (Taken (List (Row ℕ))) → Option (List (Row ℕ))
+whole none = none
+whole (some t) = cond (eqb (length (t .rest)) 0) (some (t .value)) none
+
+-- "Byte 0 is the node count N, 1 to 255 .. At most 2,048 links in all."
+unfoldable pub decoded : List ℕ → Option (List (Row ℕ))
+decoded [] = none
+decoded (n ∷ rest) = cond (eqb n 0) none (whole (takeRows n 2048 rest))

@@ -1,0 +1,4 @@
+-- Definitions of decoding.
+pub mod Decode
+pub mod Promise
+pub mod Parse

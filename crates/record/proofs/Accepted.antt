@@ -1,0 +1,83 @@
+-- Accepted records: the rules that their rows keep, stated without bytes; that rows which keep them state a graph of any size, and
+-- one that fits, so that an accepted record can always be written. Nothing here asks that the table's types are a lattice.
+use mathlib.Core.Path.{_≡_}
+use mathlib.Core.List.{List, [], List·Memᴰ}
+use Prim.Native.Nat.{ℕ, _≤_, _<_}
+use native.Mathlib.Omega.{arith}
+use borrow.Author.Tests.{ne-eqb}
+use lib.Dec.{eqb}
+use lib.ListN.{length, getD}
+use Rattle.graphs.specs.Graph.{AnySize}
+use Rattle.graphs.specs.Rows.{Row, from}
+use Rattle.graphs.specs.Number.{canonical, written}
+use Rattle.graphs.specs.Large.{linksIn}
+use Rattle.graphs.proofs.Lists.{from-range, tells-eqb}
+use Rattle.graphs.proofs.Search.{true-false}
+use Rattle.graphs.proofs.Large.{canonical-fits}
+use Rattle.record.specs.Labels.{typeLabels}
+use Rattle.record.specs.Read.{graphOfRows, reading, accepted}
+use Rattle.record.proofs.Readings.{Stands, InRange, reading-says, in-range}
+use Rattle.record.proofs.Decoded.{Ordered, decoded-says}
+use Rattle.record.proofs.Nodes.{Linked, decoded-linked, node-row, reached-inside, reached-listed, narrow, few-nodes, few-links}
+use Rattle.record.proofs.Reaching.{SelfReach, AllReached, cyclic-exact, reaches-exact}
+
+-- What 4 to 7 ask of rows over a table with n types.
+pub record Rules (n : ℕ) (rows : List (Row ℕ)) : Type 0 where
+  pub nonempty : 0 < length rows
+  pub short : length rows ≤ 255
+  pub links : linksIn rows ≤ 2048
+  pub ordered : (r : Row ℕ) → List·Memᴰ r rows → Ordered r
+  pub ranged : InRange n rows
+  pub acyclic : SelfReach rows → ⊥
+  pub reached : AllReached rows
+
+pub rules-linked : {n : ℕ} {rows : List (Row ℕ)} → Rules n rows → Linked rows
+rules-linked rules =
+    record {
+      nonempty = rules .nonempty;
+      features = λ r m. rules .ordered r m .1;
+      targets = λ r m. rules .ranged r m .2;
+    }
+
+-- an accepted record keeps the rules
+pub accepted-rules : (n : ℕ) (bytes : List ℕ) (rows : List (Row ℕ)) → reading n bytes ≡ accepted rows → Rules n rows
+accepted-rules n bytes rows ok = rules (reading-says n bytes (accepted rows) .0 ok)
+  where
+    rules : Stands n bytes (accepted rows) → Rules n rows
+    rules (parsed, ranges, acyclic, reaches) =
+        let says = decoded-says bytes rows parsed in
+        let ranged : InRange n rows = in-range n rows .0 ranges in
+        let linked : Linked rows = decoded-linked says ranged in
+        let (short, reached) = reaches-exact rows linked .0 reaches in
+        record {
+          nonempty = says .nonempty;
+          short = short;
+          links = says .few-links;
+          ordered = says .ordered;
+          ranged = ranged;
+          acyclic = λ s. true-false (cyclic-exact rows linked .1 s) acyclic;
+          reached = reached;
+        }
+
+module _ (n : ℕ) (rows : List (Row ℕ)) (rules : Rules n rows) where
+  -- "A graph of any size keeps every rule of an accepted record but the counts"
+  pub rules-any-size : (t : List ℕ) → AnySize (typeLabels n t) (graphOfRows rows)
+  rules-any-size t =
+      record {
+        nodes = from 0 (length rows);
+        listed = λ v. (
+          reached-listed rows (rules-linked rules) v,
+          λ m. rules .reached v (omega (arith, from-range 0 (length rows) v m)),
+        );
+        features = narrow rows (rules-linked rules);
+        consistent = λ v r.
+            let (nonzero, _, _) = rules .ranged (getD rows v (0, [])) (node-row rows v (reached-inside rows (rules-linked rules) v r)) in
+            ne-eqb (graphOfRows rows .label v) 0 (λ e. omega arith);
+        acyclic = λ v f p r e. rules .acyclic (v, reached-inside rows (rules-linked rules) v r, f, p, e);
+      }
+
+  -- neither count is passed, so there is a written form
+  pub rules-fit : (form : List (Row ℕ)) × (canonical eqb (graphOfRows rows) ≡ written form)
+  rules-fit =
+      canonical-fits eqb tells-eqb (graphOfRows rows) (narrow rows (rules-linked rules)) .0
+      (few-nodes rows (rules-linked rules) (rules .short), few-links rows (rules .links))

@@ -1,0 +1,166 @@
+-- The nodes and links of the graph that rows state, where each link has a feature below 64 and leads to a row: the nodes that are
+-- reached are among the numbers of the rows, so a list of those holds them, and there are no more; and there are no more links
+-- than the rows list. The tests for 6 and 7 and the counts for 11 rest on this.
+use mathlib.Core.Path.{_≡_, refl, sym, _∙_, ap, ap₂}
+use mathlib.Core.Bool.{Bool, true, false, cond}
+use mathlib.Core.List.{
+  List,
+  [],
+  _∷_,
+  _++_,
+  map,
+  List·Memᴰ,
+  List·Memᴰ·head,
+  List·Memᴰ·tail,
+  List·Memᴰ·cases-cons,
+  Memᴰ·cast,
+  Memᴰ·map,
+  Memᴰ·append-left,
+  Memᴰ·append-right,
+}
+use mathlib.Core.Logic.{⊎-elim}
+use mathlib.Core.Option.{some}
+use Prim.Native.Nat.{ℕ, zero, suc, _+_, _≤_, _<_}
+use native.Mathlib.Omega.{arith}
+use borrow.Author.Tests.{leb-true, leb-false, eqb-true}
+use lib.Dec.{eqb, leb}
+use lib.ListN.{length, length-append, length-map, getD, List·getD-eq-default}
+use Rattle.graphs.specs.Graph.{follow, Reached}
+use Rattle.graphs.specs.Rows.{Row, from, target}
+use Rattle.graphs.specs.Large.{Distinct, ManyNodes, ManyLinks, linksIn}
+use Rattle.graphs.proofs.Walk.{some-injective, none-some, follow-start}
+use Rattle.graphs.proofs.Lists.{from-member, distinct-bound, tells-eqb}
+use Rattle.graphs.proofs.Below.{member-decided}
+use Rattle.record.specs.Read.{graphOfRows}
+use Rattle.record.proofs.Decoded.{getD-member, Decoded}
+use Rattle.record.proofs.Readings.{InRange}
+
+pub record Linked (rows : List (Row ℕ)) : Type 0 where
+  pub nonempty : 0 < length rows
+  pub features : (r : Row ℕ) → List·Memᴰ r rows → (l : ℕ × ℕ) → List·Memᴰ l (r .1) → l .0 < 64
+  pub targets : (r : Row ℕ) → List·Memᴰ r rows → (l : ℕ × ℕ) → List·Memᴰ l (r .1) → l .1 < length rows
+
+-- a record that is well formed and in range
+pub decoded-linked : {n : ℕ} {bytes : List ℕ} {rows : List (Row ℕ)} → Decoded bytes rows → InRange n rows → Linked rows
+decoded-linked says ranged =
+    record {
+      nonempty = says .nonempty;
+      features = λ r m. says .ordered r m .1;
+      targets = λ r m. ranged r m .2;
+    }
+
+pub length-from : (f k : ℕ) → length (from f k) ≡ k
+unfolding from
+length-from f zero = refl
+length-from f (suc k) = ap suc (length-from (suc f) k)
+
+-- A list without repetition of as many numbers as there are below its length holds each.
+pub full-list : (count : ℕ) (xs : List ℕ) → Distinct xs → ((x : ℕ) → List·Memᴰ x xs → x < count) → length xs ≡ count →
+    (v : ℕ) → v < count → List·Memᴰ v xs
+full-list count xs d inside e v h = go (member-decided eqb tells-eqb v xs)
+  where
+    listed : (x : ℕ) → List·Memᴰ x (v ∷ xs) → List·Memᴰ x (from 0 count)
+    listed x m =
+        from-member 0 count x (omega arith)
+        (⊎-elim (λ (q : x ≡ v). omega arith) (λ n. omega (arith, inside x n)) (List·Memᴰ·cases-cons m))
+
+    go : Dec (List·Memᴰ v xs) → List·Memᴰ v xs
+    go (yes m) = m
+    go (no missing) =
+        let over = distinct-bound (v ∷ xs) (from 0 count) (missing, d) listed in
+        absurd (omega (arith, length-from 0 count))
+
+-- what a feature leads to stands among the links
+pub target-source : (ls : List (ℕ × ℕ)) (f w : ℕ) → target ls f ≡ some w → List·Memᴰ (f, w) ls
+unfolding target
+target-source [] f w e = none-some e
+target-source (l ∷ ls) f w e = go (eqb (l .0) f) refl e (target-source ls f w)
+  where
+    go : (b : Bool) → eqb (l .0) f ≡ b → cond b (some (l .1)) (target ls f) ≡ some w →
+        (target ls f ≡ some w → List·Memᴰ (f, w) ls) → List·Memᴰ (f, w) (l ∷ ls)
+    go true h q later =
+        List·Memᴰ·head (ap₂ {C = ℕ × ℕ} (λ a b. (a, b)) (sym (eqb-true (l .0) f h)) (sym (some-injective q)))
+    go false h q later = List·Memᴰ·tail (later q)
+
+-- only a row has links
+link-node : (rows : List (Row ℕ)) (v w f : ℕ) → graphOfRows rows .link v f ≡ some w → v < length rows
+unfolding target
+link-node rows v w f e = go (leb (suc v) (length rows)) refl
+  where
+    go : (b : Bool) → leb (suc v) (length rows) ≡ b → v < length rows
+    go true h = leb-true (suc v) (length rows) h
+    go false h =
+        let past : length rows ≤ v = omega (arith, leb-false (suc v) (length rows) h) in
+        none-some (sym (ap (λ (r : Row ℕ). target (r .1) f) (List·getD-eq-default rows (0, []) past)) ∙ e)
+
+-- the links of rows that are numbered from k up, each a node and a feature
+linksFrom : ℕ → List (Row ℕ) → List (ℕ × ℕ)
+linksFrom k [] = []
+linksFrom k (r ∷ rs) = map (λ l. (k, l .0)) (r .1) ++ linksFrom (suc k) rs
+
+linksFrom-length : (k : ℕ) (rows : List (Row ℕ)) → length (linksFrom k rows) ≡ linksIn rows
+unfolding linksFrom linksIn
+linksFrom-length k [] = refl
+linksFrom-length k (r ∷ rs) =
+    omega (
+      arith,
+      length-append (map (λ l. (k, l .0)) (r .1)) (linksFrom (suc k) rs),
+      length-map {B = ℕ × ℕ} (r .1) (λ l. (k, l .0)),
+      linksFrom-length (suc k) rs,
+    )
+
+linksFrom-member : (rows : List (Row ℕ)) (k v i f w : ℕ) → i ≡ k + v → target (getD rows v (0, []) .1) f ≡ some w →
+    List·Memᴰ (i, f) (linksFrom k rows)
+unfolding linksFrom target
+linksFrom-member [] k v i f w q e = none-some e
+linksFrom-member (r ∷ rs) k zero i f w q e =
+    Memᴰ·append-left (linksFrom (suc k) rs)
+    (Memᴰ·cast (ap {B = ℕ × ℕ} (λ a. (a, f)) (omega arith)) (Memᴰ·map {B = ℕ × ℕ} (λ l. (k, l .0)) (target-source (r .1) f w e)))
+linksFrom-member (r ∷ rs) k (suc v) i f w q e =
+    Memᴰ·append-right (map (λ l. (k, l .0)) (r .1)) (linksFrom-member rs (suc k) v i f w (omega arith) e)
+
+-- no more links than the rows list
+pub few-links : (rows : List (Row ℕ)) → linksIn rows ≤ 2048 → ManyLinks (graphOfRows rows) → ⊥
+few-links rows few (ls, d, all, h) =
+    let listed = distinct-bound ls (linksFrom 0 rows) d
+    (λ l m. let (w, e) = all l m .1 in linksFrom-member rows 0 (l .0) (l .0) (l .1) w (omega arith) e) in
+    omega (arith, linksFrom-length 0 rows)
+
+pub node-row : (rows : List (Row ℕ)) (v : ℕ) → v < length rows → List·Memᴰ (getD rows v (0, [])) rows
+node-row rows v h = getD-member rows v (0, []) h
+
+module _ (rows : List (Row ℕ)) (linked : Linked rows) where
+  pub link-small : (v w f : ℕ) → graphOfRows rows .link v f ≡ some w → f < 64
+  link-small v w f e =
+      linked .features (getD rows v (0, [])) (node-row rows v (link-node rows v w f e)) (f, w)
+      (target-source (getD rows v (0, []) .1) f w e)
+
+  link-inside : (v w f : ℕ) → graphOfRows rows .link v f ≡ some w → w < length rows
+  link-inside v w f e =
+      linked .targets (getD rows v (0, [])) (node-row rows v (link-node rows v w f e)) (f, w)
+      (target-source (getD rows v (0, []) .1) f w e)
+
+  -- a walk from a row ends at a row
+  pub follow-inside : (p : List ℕ) (v w : ℕ) → v < length rows → follow (graphOfRows rows .link) (some v) p ≡ some w →
+      w < length rows
+  unfolding follow
+  follow-inside [] v w h e = let q = some-injective e in omega arith
+  follow-inside (f ∷ p) v w h e =
+      let (u, d) = follow-start (graphOfRows rows .link) (graphOfRows rows .link v f) p w e in
+      follow-inside p u w (link-inside v u f d) (ap (λ o. follow (graphOfRows rows .link) o p) (sym d) ∙ e)
+
+  pub reached-inside : (v : ℕ) → Reached (graphOfRows rows) v → v < length rows
+  reached-inside v r = follow-inside (r .0) 0 v (linked .nonempty) (r .1)
+
+  pub reached-listed : (v : ℕ) → Reached (graphOfRows rows) v → List·Memᴰ v (from 0 (length rows))
+  reached-listed v r = from-member 0 (length rows) v (omega arith) (omega (arith, reached-inside v r))
+
+  -- features below 64, as the theory of graphs asks it
+  pub narrow : (v w f : ℕ) → Reached (graphOfRows rows) v → graphOfRows rows .link v f ≡ some w → f < 64
+  narrow v w f r e = link-small v w f e
+
+  -- no more nodes than rows
+  pub few-nodes : length rows ≤ 255 → ManyNodes (graphOfRows rows) → ⊥
+  few-nodes short (xs, d, all, h) =
+      let few = distinct-bound xs (from 0 (length rows)) d (λ x m. reached-listed x (all x m)) in
+      omega (arith, length-from 0 (length rows))
