@@ -5,7 +5,7 @@ use mathlib.Core.List.{List, [], _∷_, _++_, map, append-nil}
 use mathlib.Core.Option.{Option, none, some}
 use Prim.Native.Nat.{ℕ, zero, suc, _+_, _-_, _≤_, _<_}
 use native.Mathlib.Decide.{decLt}
-use native.Mathlib.Nat.{add-zero, eq-or-lt-of-le}
+use native.Mathlib.Nat.{add-zero}
 use native.Mathlib.Numerals.{add-one}
 use native.Mathlib.Omega.{arith}
 use borrow.Author.Tests.{eq-eqb, ne-eqb}
@@ -16,10 +16,10 @@ use Rattle.graphs.specs.Graph.{onward, andThen}
 use Rattle.graphs.specs.Rows.{Row, from}
 use Rattle.graphs.proofs.Walk.{some-injective, none-some}
 use Rattle.decode.specs.declared.Graph as declared
-use Rattle.visits.specs.Arrays.{Laid, Shaped, paired, linksAt, rowsFrom, rowsOf}
+use Rattle.visits.specs.Arrays.{Shaped, paired, linksAt, rowsFrom, rowsOf}
 use Rattle.decode.specs.Decode.{Taken, changed, takeTarget, takeLinks, takeRow, takeRows, whole, decoded, bitOf}
 use Rattle.decode.specs.Parse.{Stored}
-use Rattle.decode.specs.Promise.{Held, Parses}
+use Rattle.decode.specs.Promise.{Parses}
 use Rattle.decode.proofs.Parsing.{after, after-none, after-more, length-map, untaken}
 
 -- ---- stores from a place on
@@ -37,7 +37,8 @@ slice-sets : (vs l : List ℕ) (i : ℕ) → i + length vs ≤ length l → slic
 slice-sets vs l i h =
     let before : length (take i l) ≡ i = length-take-le i l (omega arith) in
     ap (λ (s : List ℕ). drop i (take (i + length vs) s)) (sets-eq vs l i h)
-    ∙ ap (drop i) (take-at (take i l ++ vs) (drop (i + length vs) l) (i + length vs) (length-append (take i l) vs ∙ ap (λ (k : ℕ). k + length vs) before))
+    ∙ ap (drop i) (take-at (take i l ++ vs) (drop (i + length vs) l) (i + length vs)
+    (length-append (take i l) vs ∙ ap (λ (k : ℕ). k + length vs) before))
     ∙ drop-at (take i l) vs i before
 
 getD-sets-in : (vs l : List ℕ) (i m : ℕ) → i + length vs ≤ length l → m < length vs → getD (sets l i vs) (i + m) 0 ≡ getD vs m 0
@@ -96,7 +97,8 @@ links-rising stands (suc k) f room rest t e = go (links-rising stands k (suc f))
     higher = omega arith
 
     go : ((room : ℕ) (rest : List ℕ) → RisingRead (suc f) (suc f + k) (takeLinks stands (from (suc f) k) room rest)) →
-        (b : Bool) → cond b (takeTarget f (takeLinks stands (from (suc f) k)) room rest) (takeLinks stands (from (suc f) k) room rest) ≡ some t →
+        (b : Bool) → cond b (takeTarget f (takeLinks stands (from (suc f) k)) room rest)
+        (takeLinks stands (from (suc f) k) room rest) ≡ some t →
         Rising f (f + suc k) (t .value)
     go ih true q =
         target-rising f (f + suc k) (takeLinks stands (from (suc f) k)) room rest (omega arith)
@@ -113,16 +115,19 @@ row-of-links type (some s) h t e =
     let same : record { value = (type, s .value); room = s .room; rest = s .rest } ≡ t = some-injective e in
     subst (λ (u : Taken (Row ℕ)). Rising 0 64 (u .value .1)) same (h s refl)
 
--- the features of a row ascend, and there were bytes for it
+-- the features of a row ascend
 row-rising : (room : ℕ) (rest : List ℕ) (t : Taken (Row ℕ)) → takeRow room rest ≡ some t → Rising 0 64 (t .value .1)
 unfolding takeRow
 row-rising room rest t e = go (leb 9 (length rest)) e
   where
-    go : (b : Bool) → cond b (onward (changed λ ls. (getD rest 0 0, ls)) (takeLinks (bitOf (drop 1 rest)) (from 0 64) room (drop 9 rest))) none ≡ some t →
+    go : (b : Bool) → cond b (onward (changed λ ls. (getD rest 0 0, ls))
+        (takeLinks (bitOf (drop 1 rest)) (from 0 64) room (drop 9 rest))) none ≡ some t →
         Rising 0 64 (t .value .1)
-    go true q = row-of-links (getD rest 0 0) (takeLinks (bitOf (drop 1 rest)) (from 0 64) room (drop 9 rest)) (links-rising (bitOf (drop 1 rest)) 64 0 room (drop 9 rest)) t q
+    go true q = row-of-links (getD rest 0 0) (takeLinks (bitOf (drop 1 rest)) (from 0 64) room (drop 9 rest))
+        (links-rising (bitOf (drop 1 rest)) 64 0 room (drop 9 rest)) t q
     go false q = none-some q
 
+-- there was a byte for its type
 row-started : (room : ℕ) (bytes : List ℕ) (at : ℕ) (t : Taken (Row ℕ)) → takeRow room (drop at bytes) ≡ some t → at < length bytes
 unfolding takeRow
 row-started room bytes at t e = go (decLt at (length bytes))
@@ -208,7 +213,8 @@ module _ {types first features targets : List ℕ} {links v : ℕ} (s : Filled t
       (take-sets (map (λ l. l .0) taken) features links (getD first (suc u) 0) (s .bounded (suc u) h))
       (take-sets (map (λ l. l .1) taken) targets links (getD first (suc u) 0) (s .bounded (suc u) h))
 
-  slice-next : (pick : ℕ × ℕ → ℕ) (l : List ℕ) → length l ≡ 2048 → slice links (links + length taken) (sets l links (map pick taken)) ≡ map pick taken
+  slice-next : (pick : ℕ × ℕ → ℕ) (l : List ℕ) → length l ≡ 2048 → slice links (links + length taken)
+      (sets l links (map pick taken)) ≡ map pick taken
   slice-next pick l e =
       ap (λ (n : ℕ). slice links (links + n) (sets l links (map pick taken))) (sym (length-map pick taken))
       ∙ slice-sets (map pick taken) l links (omega (arith, length-map pick taken))
@@ -220,11 +226,13 @@ module _ {types first features targets : List ℕ} {links v : ℕ} (s : Filled t
       ∙ ap₂ paired (slice-next (λ l. l .0) features (s .features-long)) (slice-next (λ l. l .1) targets (s .targets-long))
       ∙ paired-maps taken
 
-  rows-next : rowsOf (suc v) (set types v type) newFirst newFeatures newTargets ≡ rowsOf v types first features targets ++ ((type, taken) ∷ [])
+  rows-next : rowsOf (suc v) (set types v type) newFirst newFeatures newTargets ≡ rowsOf v types first features targets ++
+      ((type, taken) ∷ [])
   rows-next =
       let here : 0 + v ≡ v = omega arith in
       rows-snoc (set types v type) newFirst newFeatures newTargets v 0
-      ∙ ap (λ (w : ℕ). rowsOf v (set types v type) newFirst newFeatures newTargets ++ ((getD (set types v type) w 0, linksAt newFirst newFeatures newTargets w) ∷ [])) here
+      ∙ ap (λ (w : ℕ). rowsOf v (set types v type) newFirst newFeatures newTargets ++
+      ((getD (set types v type) w 0, linksAt newFirst newFeatures newTargets w) ∷ [])) here
       ∙ ap₂ (λ (t : ℕ) (ls : List (ℕ × ℕ)). rowsOf v (set types v type) newFirst newFeatures newTargets ++ ((t, ls) ∷ []))
       (getD-set-same types v type 0 (omega (arith, s .types-long))) links-next
       ∙ ap (λ (r : List (Row ℕ)). r ++ ((type, taken) ∷ []))
@@ -255,16 +263,19 @@ module _ {types first features targets : List ℕ} {links v : ℕ} (s : Filled t
       rising-go u (yes l) h = omega (arith, first-kept u (omega arith), first-kept (suc u) l, s .rising u l)
       rising-go u (no n) h =
           let e : u ≡ v = omega arith in
-          subst (λ (w : ℕ). getD newFirst w 0 ≤ getD newFirst (suc w) 0) (sym e) (omega (arith, first-kept v (omega arith), first-next, s .end))
+          subst (λ (w : ℕ). getD newFirst w 0 ≤ getD newFirst (suc w) 0) (sym e)
+          (omega (arith, first-kept v (omega arith), first-next, s .end))
 
       known-go : (k : ℕ) → Dec (k < links) → k < links + length taken → getD newFeatures k 0 < 64
       known-go k (yes l) h = omega (arith, feature-kept k l, s .known k l)
       known-go k (no n) h =
           let e : k ≡ links + (k - links) = omega arith in
           let i : k - links < length taken = omega arith in
-          subst (λ (w : ℕ). getD newFeatures w 0 < 64) (sym e) (omega (arith, feature-next (k - links) i, rising-below 0 64 taken rises (k - links) i))
+          subst (λ (w : ℕ). getD newFeatures w 0 < 64) (sym e)
+          (omega (arith, feature-next (k - links) i, rising-below 0 64 taken rises (k - links) i))
 
-      ascending-go : (u k : ℕ) → Dec (u < v) → u < suc v → getD newFirst u 0 ≤ k → suc k < getD newFirst (suc u) 0 → getD newFeatures k 0 < getD newFeatures (suc k) 0
+      ascending-go : (u k : ℕ) → Dec (u < v) → u < suc v → getD newFirst u 0 ≤ k → suc k < getD newFirst (suc u) 0 →
+          getD newFeatures k 0 < getD newFeatures (suc k) 0
       ascending-go u k (yes l) h a b =
           let low : getD first u 0 ≤ k = omega (arith, first-kept u (omega arith)) in
           let high : suc k < getD first (suc u) 0 = omega (arith, first-kept (suc u) l) in
@@ -363,25 +374,30 @@ module _ {bytes : List ℕ} {nodes : ℕ} {types first features targets : List �
   fill-stop h e =
       s .read-is
       ∙ ap (after (rowsOf v types first features targets)) (rows-one (s .todo) (2048 - links) (drop at bytes) (omega (arith, s .up-to))
-      ∙ ap (λ (o : Option (Taken (Row ℕ))). andThen o λ r. onward (changed λ rs. r .value ∷ rs) (takeRows (s .todo - 1) (r .room) (r .rest))) e)
+      ∙ ap (λ (o : Option (Taken (Row ℕ))). andThen o λ r. onward (changed λ rs. r .value ∷ rs)
+      (takeRows (s .todo - 1) (r .room) (r .rest))) e)
 
   pub fill-started : {next count : ℕ} {features′ targets′ : List ℕ} →
-      Stored (λ ls. (getD bytes at 0, ls)) (takeRow (2048 - links) (drop at bytes)) bytes links next count features targets features′ targets′ →
+      Stored (λ ls. (getD bytes at 0, ls)) (takeRow (2048 - links)
+      (drop at bytes)) bytes links next count features targets features′ targets′ →
       at < length bytes
   fill-started t = row-started (2048 - links) bytes at _ (t .read-is)
 
   pub fill-step : (next count : ℕ) (features′ targets′ : List ℕ) → v < nodes → nodes ≤ 255 →
-      Stored (λ ls. (getD bytes at 0, ls)) (takeRow (2048 - links) (drop at bytes)) bytes links next count features targets features′ targets′ →
+      Stored (λ ls. (getD bytes at 0, ls)) (takeRow (2048 - links)
+      (drop at bytes)) bytes links next count features targets features′ targets′ →
       Filling bytes nodes (set types v (getD bytes at 0)) (set first (v + 1) count) features′ targets′ next count (v + 1)
   fill-step next count features′ targets′ h small t =
-      subst (λ (w : ℕ). Filling bytes nodes (set types v (getD bytes at 0)) (set first w count) features′ targets′ next count w) (sym (add-one v))
+      subst (λ (w : ℕ). Filling bytes nodes (set types v (getD bytes at 0)) (set first w count) features′ targets′ next count w)
+      (sym (add-one v))
       record {
         todo = s .todo - 1;
         up-to = omega (arith, s .up-to);
         read-is =
             s .read-is
             ∙ ap (after rows) (rows-one (s .todo) (2048 - links) (drop at bytes) (omega (arith, s .up-to))
-            ∙ ap (λ (o : Option (Taken (Row ℕ))). andThen o λ r. onward (changed λ rs. r .value ∷ rs) (takeRows (s .todo - 1) (r .room) (r .rest))) (t .read-is))
+            ∙ ap (λ (o : Option (Taken (Row ℕ))). andThen o λ r. onward (changed λ rs. r .value ∷ rs)
+            (takeRows (s .todo - 1) (r .room) (r .rest))) (t .read-is))
             ∙ after-more rows (getD bytes at 0, t .taken) (takeRows (s .todo - 1) (2048 - count) (drop next bytes))
             ∙ ap (λ (l : List (Row ℕ)). after l (takeRows (s .todo - 1) (2048 - count) (drop next bytes))) (sym rows-are);
         inside = t .inside;
@@ -398,16 +414,22 @@ module _ {bytes : List ℕ} {nodes : ℕ} {types first features targets : List �
       enough : links + length (t .taken) ≤ 2048
       enough = omega (arith, t .counted, t .room)
 
-      rows-are : rowsOf (suc v) (set types v (getD bytes at 0)) (set first (suc v) count) features′ targets′ ≡ rows ++ ((getD bytes at 0, t .taken) ∷ [])
+      rows-are : rowsOf (suc v) (set types v (getD bytes at 0)) (set first (suc v) count) features′ targets′ ≡ rows ++
+          ((getD bytes at 0, t .taken) ∷ [])
       rows-are =
-          ap₂ (λ (e g : List ℕ). rowsOf (suc v) (set types v (getD bytes at 0)) (set first (suc v) count) e g) (t .features-are) (t .targets-are)
-          ∙ ap (λ (k : ℕ). rowsOf (suc v) (set types v (getD bytes at 0)) (set first (suc v) k) (sets features links (map (λ l. l .0) (t .taken))) (sets targets links (map (λ l. l .1) (t .taken)))) (t .counted)
+          ap₂ (λ (e g : List ℕ). rowsOf (suc v) (set types v (getD bytes at 0)) (set first (suc v) count) e g) (t .features-are)
+          (t .targets-are)
+          ∙ ap (λ (k : ℕ). rowsOf (suc v) (set types v (getD bytes at 0)) (set first (suc v) k)
+          (sets features links (map (λ l. l .0) (t .taken))) (sets targets links (map (λ l. l .1) (t .taken)))) (t .counted)
           ∙ rows-next (s .filled) (getD bytes at 0) (t .taken) rises (omega arith) enough
 
       filled′ : Filled (set types v (getD bytes at 0)) (set first (suc v) count) features′ targets′ count (suc v)
       filled′ =
-          subst₂ (λ (e g : List ℕ). Filled (set types v (getD bytes at 0)) (set first (suc v) count) e g count (suc v)) (sym (t .features-are)) (sym (t .targets-are))
-          (subst (λ (k : ℕ). Filled (set types v (getD bytes at 0)) (set first (suc v) k) (sets features links (map (λ l. l .0) (t .taken))) (sets targets links (map (λ l. l .1) (t .taken))) k (suc v)) (sym (t .counted))
+          subst₂ (λ (e g : List ℕ). Filled (set types v (getD bytes at 0)) (set first (suc v) count) e g count (suc v))
+          (sym (t .features-are)) (sym (t .targets-are))
+          (subst (λ (k : ℕ). Filled (set types v (getD bytes at 0)) (set first (suc v) k)
+          (sets features links (map (λ l. l .0) (t .taken))) (sets targets links (map (λ l. l .1) (t .taken))) k (suc v))
+          (sym (t .counted))
           (filled-next (s .filled) (getD bytes at 0) (t .taken) rises (omega arith) enough))
 
   -- all rows were read
@@ -418,7 +440,8 @@ module _ {bytes : List ℕ} {nodes : ℕ} {types first features targets : List �
       let none-left : s .todo ≡ 0 = omega (arith, s .up-to) in
       s .read-is
       ∙ ap (λ (k : ℕ). after (rowsOf v types first features targets) (takeRows k (2048 - links) (drop at bytes))) none-left
-      ∙ ap (λ (l : List (Row ℕ)). some (record { value = l; room = 2048 - links; rest = drop at bytes })) (append-nil (rowsOf v types first features targets))
+      ∙ ap (λ (l : List (Row ℕ)). some (record { value = l; room = 2048 - links; rest = drop at bytes }))
+      (append-nil (rowsOf v types first features targets))
       ∙ ap (λ (k : ℕ). some (record { value = rowsOf k types first features targets; room = 2048 - links; rest = drop at bytes })) e
 
   shaped-all : v ≡ nodes → (nodes ≡ 0 → ⊥) → nodes ≤ 255 → Shaped nodes types first features targets
@@ -444,23 +467,35 @@ module _ {bytes : List ℕ} {nodes : ℕ} {types first features targets : List �
       Parses bytes true (record { nodes = nodes; types = types; first = first; features = features; targets = targets })
   parse-all e some-nodes small full counted over = record {
     none-stands = λ q. none-some (sym q ∙ read);
-    some-stands = λ rows q. (refl, record { rows-are = some-injective (sym read ∙ q); shaped = shaped-all e some-nodes small; small = small });
+    some-stands = λ rows q. (
+      refl,
+      record {
+        rows-are = some-injective
+            (sym read ∙ q);
+        shaped = shaped-all e some-nodes small;
+        small = small;
+      },
+    );
   }
     where
       read : decoded bytes ≡ some (rowsOf nodes types first features targets)
       read =
           decoded-rows bytes nodes full counted some-nodes
           ∙ ap whole (rows-all e)
-          ∙ ap (λ (b : Bool). cond b (some (rowsOf nodes types first features targets)) none) (eq-eqb (length (drop at bytes)) 0 (omega (arith, length-drop at bytes)))
+          ∙ ap (λ (b : Bool). cond b (some (rowsOf nodes types first features targets)) none)
+          (eq-eqb (length (drop at bytes)) 0 (omega (arith, length-drop at bytes)))
 
   -- a row is missing
-  pub decoded-stop : (nodes ≡ 0 → ⊥) → (length bytes ≡ 0 → ⊥) → nodes ≡ getD bytes 0 0 → v < nodes → takeRow (2048 - links) (drop at bytes) ≡ none →
+  pub decoded-stop : (nodes ≡ 0 → ⊥) → (length bytes ≡ 0 → ⊥) → nodes ≡ getD bytes 0 0 → v < nodes → takeRow (2048 - links)
+      (drop at bytes) ≡ none →
       decoded bytes ≡ none
   decoded-stop some-nodes full counted h e = decoded-rows bytes nodes full counted some-nodes ∙ ap whole (fill-stop h e)
 
   -- bytes are left over
-  pub decoded-over : v ≡ nodes → (nodes ≡ 0 → ⊥) → (length bytes ≡ 0 → ⊥) → nodes ≡ getD bytes 0 0 → (at ≡ length bytes → ⊥) → decoded bytes ≡ none
+  pub decoded-over : v ≡ nodes → (nodes ≡ 0 → ⊥) → (length bytes ≡ 0 → ⊥) → nodes ≡ getD bytes 0 0 → (at ≡ length bytes → ⊥) →
+      decoded bytes ≡ none
   decoded-over e some-nodes full counted over =
       decoded-rows bytes nodes full counted some-nodes
       ∙ ap whole (rows-all e)
-      ∙ untaken (eqb (length (drop at bytes)) 0) (some (rowsOf nodes types first features targets)) none (ne-eqb (length (drop at bytes)) 0 (λ q. over (omega (arith, length-drop at bytes, s .inside))))
+      ∙ untaken (eqb (length (drop at bytes)) 0) (some (rowsOf nodes types first features targets)) none
+      (ne-eqb (length (drop at bytes)) 0 (λ q. over (omega (arith, length-drop at bytes, s .inside))))

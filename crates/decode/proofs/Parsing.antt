@@ -8,12 +8,12 @@ use native.Mathlib.Decide.{decLt}
 use native.Mathlib.Nat.{add-zero, mod-lt, lt-of-lt-of-le, zero-add}
 use native.Mathlib.Numerals.{add-one}
 use native.Mathlib.Omega.{arith}
-use borrow.Author.Tests.{eq-eqb, ne-eqb, le-leb, lt-leb}
+use borrow.Author.Tests.{eq-eqb, le-leb, lt-leb}
 use lib.Arith.{lt-one, digits-lt}
 use lib.Bits.{block-half, block-odd}
 use lib.Count.{trailingZeros, under}
 use lib.Dec.{eqb}
-use lib.ListN.{length, getD, set, take, drop, length-append, length-drop, drop-of-length-le}
+use lib.ListN.{length, getD, set, drop, length-append, length-drop, drop-of-length-le}
 use lib.Pow.{shr-shr, shr-lt, high, pow-add, pow-mono}
 use lib.Seq.{sets, drop-cons, getD-drop, drop-drop}
 use Rattle.graphs.specs.Graph.{onward}
@@ -103,7 +103,8 @@ module _ {bytes : List ℕ} {at map i : ℕ} (s : Joining bytes at map i) (n : i
         up-to = omega (arith, s .up-to);
         map-is =
             ap₂ (λ (x y : ℕ). x * 256 + y)
-            (s .map-is ∙ ap (λ (k : ℕ). wordOf (s .joined) (drop k bytes)) place ∙ ap (wordOf (s .joined)) (sym (drop-drop 1 (at + (i - 1)) bytes)))
+            (s .map-is ∙ ap (λ (k : ℕ). wordOf (s .joined) (drop k bytes)) place ∙ ap (wordOf (s .joined))
+            (sym (drop-drop 1 (at + (i - 1)) bytes)))
             (ap (λ (k : ℕ). getD bytes k 0) (sym (add-zero (at + (i - 1)))) ∙ sym (getD-drop (at + (i - 1)) bytes 0 0));
         small = join-small;
       }
@@ -253,11 +254,13 @@ link-begin bytes word start count features targets small inside room = record {
   targets-are = refl;
 }
 
-no-room : (f : ℕ) (next : ℕ → List ℕ → Option (Taken (List (ℕ × ℕ)))) (room : ℕ) (rest : List ℕ) → room ≡ 0 → takeTarget f next room rest ≡ none
+no-room : (f : ℕ) (next : ℕ → List ℕ → Option (Taken (List (ℕ × ℕ)))) (room : ℕ) (rest : List ℕ) → room ≡ 0 →
+    takeTarget f next room rest ≡ none
 no-room f next zero rest e = refl
 no-room f next (suc room) rest e = absurd (omega arith)
 
-no-bytes : (f : ℕ) (next : ℕ → List ℕ → Option (Taken (List (ℕ × ℕ)))) (room : ℕ) (rest : List ℕ) → rest ≡ [] → takeTarget f next room rest ≡ none
+no-bytes : (f : ℕ) (next : ℕ → List ℕ → Option (Taken (List (ℕ × ℕ)))) (room : ℕ) (rest : List ℕ) → rest ≡ [] →
+    takeTarget f next room rest ≡ none
 no-bytes f next zero rest e = refl
 no-bytes f next (suc room) rest e = ap (takeTarget f next (suc room)) e
 
@@ -275,7 +278,8 @@ module _ {read : Option (Taken (List (ℕ × ℕ)))} {bytes : List ℕ} {count :
 
   read-next : (n : left ≡ 0 → ⊥) →
       read ≡ after (s .taken) (takeTarget (feature + trailingZeros 64 left)
-      (takeWord (next-digit n .digits) (suc (feature + trailingZeros 64 left)) (left / 2 ^ trailingZeros 64 left / 2)) (2048 - links) (drop at bytes))
+      (takeWord (next-digit n .digits) (suc (feature + trailingZeros 64 left)) (left / 2 ^ trailingZeros 64 left / 2)) (2048 - links)
+      (drop at bytes))
   read-next n = s .read-is ∙ ap (after (s .taken)) (next-digit n .found (2048 - links) (drop at bytes))
 
   pub link-full : (left ≡ 0 → ⊥) → 2048 ≤ links → read ≡ none
@@ -289,7 +293,8 @@ module _ {read : Option (Taken (List (ℕ × ℕ)))} {bytes : List ℕ} {count :
       read-next n ∙ ap (after (s .taken)) (no-bytes _ _ (2048 - links) (drop at bytes) (drop-of-length-le bytes h))
 
   pub link-step : (left ≡ 0 → ⊥) → links < 2048 → at < length bytes →
-      Linking read bytes count features₀ targets₀ (set features links (feature + trailingZeros 64 left)) (set targets links (getD bytes at 0))
+      Linking read bytes count features₀ targets₀ (set features links (feature + trailingZeros 64 left))
+      (set targets links (getD bytes at 0))
       (left / 2 ^ trailingZeros 64 left / 2) (feature + trailingZeros 64 left + 1) (at + 1) (links + 1)
   link-step n h l =
       let z : ℕ = trailingZeros 64 left in
@@ -302,17 +307,24 @@ module _ {read : Option (Taken (List (ℕ × ℕ)))} {bytes : List ℕ} {count :
         small = d .small;
         read-is =
             read-next n
-            ∙ ap (λ (l : List ℕ). after (s .taken) (takeTarget (feature + z) (takeWord (d .digits) (suc (feature + z)) (left / 2 ^ z / 2)) (2048 - links) l)) (drop-cons bytes at 0 l)
-            ∙ ap (after (s .taken)) (one-target (feature + z) (takeWord (d .digits) (suc (feature + z)) (left / 2 ^ z / 2)) (2048 - links) (2048 - (links + 1)) (getD bytes at 0) (drop (suc at) bytes) (omega arith))
-            ∙ after-more (s .taken) link (takeWord (d .digits) (suc (feature + z)) (left / 2 ^ z / 2) (2048 - (links + 1)) (drop (suc at) bytes))
-            ∙ ap₂ (λ (f k : ℕ). after (s .taken ++ (link ∷ [])) (takeWord (d .digits) f (left / 2 ^ z / 2) (2048 - (links + 1)) (drop k bytes))) (sym (add-one (feature + z))) (sym (add-one at));
+            ∙ ap (λ (l : List ℕ). after (s .taken) (takeTarget (feature + z)
+            (takeWord (d .digits) (suc (feature + z)) (left / 2 ^ z / 2)) (2048 - links) l)) (drop-cons bytes at 0 l)
+            ∙ ap (after (s .taken)) (one-target (feature + z) (takeWord (d .digits) (suc (feature + z)) (left / 2 ^ z / 2))
+            (2048 - links) (2048 - (links + 1)) (getD bytes at 0) (drop (suc at) bytes) (omega arith))
+            ∙ after-more (s .taken) link (takeWord (d .digits) (suc (feature + z)) (left / 2 ^ z / 2) (2048 - (links + 1))
+            (drop (suc at) bytes))
+            ∙ ap₂ (λ (f k : ℕ). after (s .taken ++ (link ∷ []))
+            (takeWord (d .digits) f (left / 2 ^ z / 2) (2048 - (links + 1)) (drop k bytes))) (sym (add-one (feature + z)))
+            (sym (add-one at));
         counted = omega (arith, s .counted, length-append (s .taken) (link ∷ []));
         room = omega arith;
         inside = omega arith;
         features-are =
-            ap₂ (λ (l : List ℕ) (k : ℕ). set l k (feature + z)) (s .features-are) (s .counted) ∙ stored-more (λ l. l .0) (s .taken) link features₀ count;
+            ap₂ (λ (l : List ℕ) (k : ℕ). set l k (feature + z)) (s .features-are) (s .counted) ∙ stored-more (λ l. l .0)
+            (s .taken) link features₀ count;
         targets-are =
-            ap₂ (λ (l : List ℕ) (k : ℕ). set l k (getD bytes at 0)) (s .targets-are) (s .counted) ∙ stored-more (λ l. l .1) (s .taken) link targets₀ count;
+            ap₂ (λ (l : List ℕ) (k : ℕ). set l k (getD bytes at 0)) (s .targets-are) (s .counted) ∙ stored-more (λ l. l .1)
+            (s .taken) link targets₀ count;
       }
 
   pub link-end : left ≡ 0 → Stored (λ ls. ls) read bytes count at links features₀ targets₀ features targets
@@ -367,12 +379,17 @@ pub row-is : (bytes : List ℕ) (at room : ℕ) → ((i : ℕ) → getD bytes i 
     ≡ onward (changed λ ls. (getD bytes at 0, ls)) (takeWord 64 0 (wordOf 8 (drop (at + 1) bytes)) room (drop (at + 9) bytes))
 unfolding takeRow bitOf
 row-is bytes at room small h =
-    ap (λ (b : Bool). cond b (onward (changed λ ls. (getD (drop at bytes) 0 0, ls)) (takeLinks (bitOf (drop 1 (drop at bytes))) (from 0 64) room (drop 9 (drop at bytes)))) none)
+    ap (λ (b : Bool). cond b (onward (changed λ ls. (getD (drop at bytes) 0 0, ls))
+    (takeLinks (bitOf (drop 1 (drop at bytes))) (from 0 64) room (drop 9 (drop at bytes)))) none)
     (le-leb 9 (length (drop at bytes)) (omega (arith, length-drop at bytes)))
-    ∙ ap (λ (l : List ℕ). onward (changed λ ls. (getD (drop at bytes) 0 0, ls)) (takeLinks (bitOf l) (from 0 64) room (drop 9 (drop at bytes)))) (drop-drop 1 at bytes)
-    ∙ ap (λ (l : List ℕ). onward (changed λ ls. (getD (drop at bytes) 0 0, ls)) (takeLinks (bitOf (drop (at + 1) bytes)) (from 0 64) room l)) (drop-drop 9 at bytes)
-    ∙ ap (λ (t : ℕ). onward (changed λ ls. (t, ls)) (takeLinks (bitOf (drop (at + 1) bytes)) (from 0 64) room (drop (at + 9) bytes))) (getD-drop at bytes 0 0 ∙ ap (λ (k : ℕ). getD bytes k 0) (add-zero at))
-    ∙ ap (onward (changed λ ls. (getD bytes at 0, ls))) (sym (word-links (bitOf (drop (at + 1) bytes)) 64 0 (wordOf 8 (drop (at + 1) bytes)) digit room (drop (at + 9) bytes)))
+    ∙ ap (λ (l : List ℕ). onward (changed λ ls. (getD (drop at bytes) 0 0, ls))
+    (takeLinks (bitOf l) (from 0 64) room (drop 9 (drop at bytes)))) (drop-drop 1 at bytes)
+    ∙ ap (λ (l : List ℕ). onward (changed λ ls. (getD (drop at bytes) 0 0, ls))
+    (takeLinks (bitOf (drop (at + 1) bytes)) (from 0 64) room l)) (drop-drop 9 at bytes)
+    ∙ ap (λ (t : ℕ). onward (changed λ ls. (t, ls)) (takeLinks (bitOf (drop (at + 1) bytes)) (from 0 64) room (drop (at + 9) bytes)))
+    (getD-drop at bytes 0 0 ∙ ap (λ (k : ℕ). getD bytes k 0) (add-zero at))
+    ∙ ap (onward (changed λ ls. (getD bytes at 0, ls)))
+    (sym (word-links (bitOf (drop (at + 1) bytes)) 64 0 (wordOf 8 (drop (at + 1) bytes)) digit room (drop (at + 9) bytes)))
   where
     digit : (i : ℕ) → i < 64 → eqb (wordOf 8 (drop (at + 1) bytes) / 2 ^ i % 2) 1 ≡ bitOf (drop (at + 1) bytes) (0 + i)
     digit i l =

@@ -24,10 +24,6 @@ and-both true b g h = h
 and-both false b g h = g
 
 -- a conjunction with a false part is false
-pub and-fails-left : (a b : Bool) → a ≡ false → a && b ≡ false
-and-fails-left true b h = let z : _≡_ {A = ℕ} 0 1 = cc in absurd (omega arith)
-and-fails-left false b h = refl
-
 pub and-fails-right : (a b : Bool) → b ≡ false → a && b ≡ false
 and-fails-right true b h = h
 and-fails-right false b h = refl
@@ -116,15 +112,6 @@ last-passes p (suc n) c h = go (last-passes p n c) (p n) refl where
       let r : (c < n) × (p c ≡ true) = before (rw e at h) in
       (omega arith, r .1)
 
--- where something passes, `last` finds something
-pub last-finds : (p : ℕ → Bool) (n k : ℕ) → k < n → p k ≡ true → found (last n p) ≡ true
-unfolding last
-last-finds p zero k l h = absurd (not-suc-le-zero l)
-last-finds p (suc n) k l h = go (λ s. last-finds p n k s h) (p n) refl where
-  go : (k < n → found (last n p) ≡ true) → (b : Bool) → p n ≡ b → found (cond (p n) (some n) (last n p)) ≡ true
-  go before true e = rw e
-  go before false e = rw e (below-suc l (λ f. absurd (true-not-false (p k) h (ap p f ∙ e))) before)
-
 pub found-some : (o : Option ℕ) → found o ≡ true → (c : ℕ) × (o ≡ some c)
 found-some none h = let z : _≡_ {A = ℕ} 0 1 = cc in absurd (omega arith)
 found-some (some c) h = (c, refl)
@@ -154,8 +141,8 @@ pub last-here : (p : ℕ → Bool) (c : ℕ) → 0 < c → p (c - 1) ≡ true �
 last-here p c l h = last-step p c l ∙ rw h
 
 -- what a call answered, after a branch on its negation
-pub refuted : (b p : Bool) → b ≡ p → not b ≡ true → p ≡ false
-refuted b p e h = sym e ∙ not-true b h
+pub refuted : {b p : Bool} → b ≡ p → not b ≡ true → p ≡ false
+refuted {b} e h = sym e ∙ not-true b h
 
-pub held : (b p : Bool) → b ≡ p → not b ≡ false → p ≡ true
-held b p e h = sym e ∙ not-false b h
+pub held : {b p : Bool} → b ≡ p → not b ≡ false → p ≡ true
+held {b} e h = sym e ∙ not-false b h

@@ -16,7 +16,7 @@ use Rattle.graphs.specs.Rows.{Row, from, features}
 use Rattle.graphs.specs.Large.{linksIn, Ascending}
 use Rattle.graphs.proofs.Walk.{some-injective, none-some, onward-some}
 use Rattle.graphs.proofs.Search.{cond-some}
-use Rattle.record.specs.Decode.{Taken, changed, takeTarget, takeLinks, takeRow, takeRows, bitOf, whole, decoded}
+use Rattle.decode.specs.Decode.{Taken, changed, takeTarget, takeLinks, takeRow, takeRows, bitOf, whole, decoded}
 
 -- Lists.
 

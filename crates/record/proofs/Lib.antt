@@ -1,2 +1,7 @@
 -- Proofs about records.
-pub mod Examples
+pub mod Readings
+pub mod Decoded
+pub mod Nodes
+pub mod Reaching
+pub mod Accepted
+pub mod Held

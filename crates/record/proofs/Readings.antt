@@ -13,8 +13,9 @@ use lib.Dec.{eqb, leb}
 use lib.ListN.{length}
 use Rattle.graphs.specs.Rows.{Row}
 use Rattle.record.specs.declared.GraphFault.the-variants.{Malformed, OutOfRange, Cyclic, Unreached}
-use Rattle.record.specs.Decode.{decoded}
-use Rattle.record.specs.Read.{Reading, refused, accepted, judged, reading, allOf, inRange, cyclic, reachesAll}
+use Rattle.decode.specs.Decode.{decoded}
+use Rattle.graphs.specs.Order.{allOf}
+use Rattle.record.specs.Read.{Reading, refused, accepted, judged, reading, inRange, cyclic, reachesAll}
 
 -- the tests behind each reading
 abbrev pub Stands : ℕ → List ℕ → Reading → Type 0

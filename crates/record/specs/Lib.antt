@@ -1,6 +1,4 @@
--- Definitions of records: reading and writing.
-pub mod Decode
-pub mod Encode
+-- Definitions of reading records.
 pub mod Read
 pub mod Promise
 pub mod Labels

@@ -12,7 +12,7 @@ use Rattle.graphs.specs.Order.{allOf}
 use Rattle.graphs.specs.Unify.{anyOf, deep, holds}
 use Rattle.record.specs.declared.GraphFault.{GraphFault}
 use Rattle.record.specs.declared.GraphFault.the-variants.{Malformed, OutOfRange, Cyclic, Unreached}
-use Rattle.record.specs.Decode.{decoded}
+use Rattle.decode.specs.Decode.{decoded}
 pub use Rattle.visits.specs.Arrays.{graphOfRows}
 
 abbrev pub graphNumber : GraphFault → ℕ

@@ -33,7 +33,7 @@ returns-4 c =
     (size-right _ _ (search needs) (search needs) (c .before .before .before .before .if3 .left))
     (search needs)
     (c .before .before .before .read-words .ensures)
-    (refuted _ _ (c .before .is-ordered .ensures) (c .if4 .taken))
+    (refuted (c .before .is-ordered .ensures) (c .if4 .taken))
 
 read-words-requires-2 : tie.Need-read-words-requires-2
 read-words-requires-2 c κs = search needs
@@ -55,7 +55,7 @@ returns-5 c =
     (size-right _ _ (search needs) (search needs) (tested .before .before .before .if3 .left))
     (tested .before .before .read-words .ensures)
     (c .before .before .before .before .before .before .before .read-words2 .ensures)
-    (held _ _ (tested .is-ordered .ensures) (c .before .before .before .before .before .before .before .before .if4 .left))
+    (held (tested .is-ordered .ensures) (c .before .before .before .before .before .before .before .before .if4 .left))
     (filled .before .before .before .fill .ensures)
     (filled .fill2 .ensures)
     (c .if5 .taken)
@@ -71,7 +71,7 @@ returns-6 c =
     (size-right _ _ (search needs) (search needs) (tested .before .before .before .if3 .left))
     (tested .before .before .read-words .ensures)
     (c .before .before .before .before .before .before .before .before .read-words2 .ensures)
-    (held _ _ (tested .is-ordered .ensures) (c .before .before .before .before .before .before .before .before .before .if4 .left))
+    (held (tested .is-ordered .ensures) (c .before .before .before .before .before .before .before .before .before .if4 .left))
     (filled .before .before .before .fill .ensures)
     (filled .fill2 .ensures)
     (c .before .if5 .left)
@@ -88,7 +88,7 @@ returns-7 c =
     (size-right _ _ (search needs) (search needs) (tested .before .before .before .if3 .left))
     (tested .before .before .read-words .ensures)
     (c .before .before .before .before .before .before .before .before .read-words2 .ensures)
-    (held _ _ (tested .is-ordered .ensures) (c .before .before .before .before .before .before .before .before .before .if4 .left))
+    (held (tested .is-ordered .ensures) (c .before .before .before .before .before .before .before .before .before .if4 .left))
     (filled .before .before .before .fill .ensures)
     (filled .fill2 .ensures)
     (c .before .if5 .left)

@@ -19,7 +19,10 @@ sub-i : tie.Need-sub-i Inv-loop μ-loop
 sub-i c = search needs
 
 mul-map : tie.Need-mul-map Inv-loop μ-loop
-mul-map c = omega (arith, join-fits (c .before .loop .inv) (c .loop-test .taken) (omega (arith, c .before .before .shared-slice-known .given (c .before .before .before .args .at + (c .before .loop .i - 1)))))
+mul-map c =
+    let place = c .before .before .before .args .at + (c .before .loop .i - 1) in
+    let small = c .before .before .shared-slice-known .given place in
+    omega (arith, join-fits (c .before .loop .inv) (c .loop-test .taken) (omega (arith, small)))
 
 add-wide : tie.Need-add-wide Inv-loop μ-loop
 add-wide c = search needs
@@ -31,13 +34,19 @@ wide-requires : tie.Need-wide-requires Inv-loop μ-loop
 wide-requires c κs = search needs
 
 add-map : tie.Need-add-map Inv-loop μ-loop
-add-map c = let b = c .before .before .before .before .before .args .at + (c .before .before .before .loop .i - 1) in omega (arith, join-fits (c .before .before .before .loop .inv) (c .before .before .loop-test .taken) (omega (arith, c .before .before .before .before .shared-slice-known .given b)))
+add-map c =
+    let l = c .before .before .before in
+    let small = l .before .shared-slice-known .given (l .before .before .args .at + (l .loop .i - 1)) in
+    omega (arith, join-fits (l .loop .inv) (c .before .before .loop-test .taken) (omega (arith, small)))
 
 loop-less : tie.Need-loop-less Inv-loop μ-loop
 loop-less c = search needs
 
 loop-again : tie.Need-loop-again Inv-loop μ-loop
-loop-again c = let b = c .before .before .before .before .before .args .at + (c .before .before .before .loop .i - 1) in join-next (c .before .before .before .loop .inv) (c .before .before .loop-test .taken) (omega (arith, c .before .before .before .before .shared-slice-known .given b)) (c .wide .result) (c .wide .ensures)
+loop-again c =
+    let l = c .before .before .before in
+    let small = l .before .shared-slice-known .given (l .before .before .args .at + (l .loop .i - 1)) in
+    join-next (l .loop .inv) (c .before .before .loop-test .taken) (omega (arith, small)) (c .wide .result) (c .wide .ensures)
 
 returns : tie.Need-returns Inv-loop μ-loop
 returns c = join-end (c .before .loop .inv) (c .loop-test .left)

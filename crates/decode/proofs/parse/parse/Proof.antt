@@ -35,7 +35,9 @@ returns-2 : tie.Need-returns-2 Inv-loop μ-loop
 returns-2 c = parse-none _ _ _ (c .refused2 .ensures) (decoded-zero _ (c .before .if2 .taken))
 
 loop-holds : tie.Need-loop-holds Inv-loop μ-loop
-loop-holds c = fill-begin _ _ _ _ _ _ (c .before .before .if1 .left) (length-replicate {A = ℕ} 255 0) (length-replicate {A = ℕ} 256 0) (length-replicate {A = ℕ} 2048 0) (length-replicate {A = ℕ} 2048 0) (getD-replicate {A = ℕ} 256 0 0 0 (omega arith))
+loop-holds c =
+    fill-begin _ _ _ _ _ _ (c .before .before .if1 .left) (length-replicate {A = ℕ} 255 0) (length-replicate {A = ℕ} 256 0)
+    (length-replicate {A = ℕ} 2048 0) (length-replicate {A = ℕ} 2048 0) (getD-replicate {A = ℕ} 256 0 0 0 (omega arith))
 
 take-row-requires : tie.Need-take-row-requires Inv-loop μ-loop
 take-row-requires c κs = (c .before .before .before .loop .inv .inside, c .before .before .before .loop .inv .room)
@@ -50,10 +52,17 @@ refused-requires-3 : tie.Need-refused-requires-3 Inv-loop μ-loop
 refused-requires-3 c κs = search needs
 
 returns-3 : tie.Need-returns-3 Inv-loop μ-loop
-returns-3 c = parse-none _ _ _ (c .refused3 .ensures) (decoded-stop (c .before .before .before .before .before .before .before .loop .inv) (c .before .before .before .before .before .before .before .before .if2 .left) (c .before .before .before .before .before .before .before .before .before .before .if1 .left) refl (c .before .before .before .before .before .before .loop-test .taken) (c .before .before .before .take-row .ensures .short-stands (c .before .enum-told .given .1)))
+returns-3 c =
+    let r = c .before .before .before in
+    let l = r .before .before .before .before in
+    parse-none _ _ _ (c .refused3 .ensures)
+    (decoded-stop (l .loop .inv) (l .before .if2 .left) (l .before .before .before .if1 .left) refl (r .before .before .before .loop-test .taken)
+    (r .take-row .ensures .short-stands (c .before .enum-told .given .1)))
 
 shared-slice-read-types : tie.Need-shared-slice-read-types Inv-loop μ-loop
-shared-slice-read-types c = fill-started (c .before .before .before .before .before .before .before .before .loop .inv) (c .before .before .before .before .take-row .ensures .at-stands _ _ (c .before .before .end .given .1))
+shared-slice-read-types c =
+    let r = c .before .before .before .before in
+    fill-started (r .before .before .before .before .loop .inv) (r .take-row .ensures .at-stands _ _ (c .before .before .end .given .1))
 
 array-write-types : tie.Need-array-write-types Inv-loop μ-loop
 array-write-types c = omega (arith, c .before .before .before .before .before .before .before .before .before .before .shared-slice-known2 .given 0)
@@ -62,7 +71,9 @@ add-v : tie.Need-add-v Inv-loop μ-loop
 add-v c = omega (arith, c .before .before .before .before .before .before .before .before .before .before .shared-slice-known2 .given 0)
 
 cast-first : tie.Need-cast-first Inv-loop μ-loop
-cast-first c = omega (arith, (c .before .before .before .before .take-row .ensures .at-stands _ _ (c .before .before .end .given .1)) .room)
+cast-first c =
+    let r = c .before .before .before .before in
+    omega (arith, r .take-row .ensures .at-stands _ _ (c .before .before .end .given .1) .room)
 
 mul-first : tie.Need-mul-first Inv-loop μ-loop
 mul-first c = omega (arith, c .before .before .before .before .before .before .before .before .before .before .shared-slice-known2 .given 0)
@@ -74,16 +85,27 @@ loop-less : tie.Need-loop-less Inv-loop μ-loop
 loop-less c = search needs
 
 loop-again : tie.Need-loop-again Inv-loop μ-loop
-loop-again c = fill-step (c .before .before .before .before .before .before .before .before .loop .inv) _ _ _ _ (c .before .before .before .before .before .before .before .loop-test .taken) (omega (arith, c .before .before .before .before .before .before .before .before .before .before .shared-slice-known2 .given 0)) (c .before .before .before .before .take-row .ensures .at-stands _ _ (c .before .before .end .given .1))
+loop-again c =
+    let r = c .before .before .before .before in
+    let l = r .before .before .before .before in
+    fill-step (l .loop .inv) _ _ _ _ (r .before .before .before .loop-test .taken)
+    (omega (arith, l .before .before .shared-slice-known2 .given 0)) (r .take-row .ensures .at-stands _ _ (c .before .before .end .given .1))
 
 refused-requires-4 : tie.Need-refused-requires-4 Inv-loop μ-loop
 refused-requires-4 c κs = search needs
 
 returns-4 : tie.Need-returns-4 Inv-loop μ-loop
-returns-4 c = parse-none _ _ _ (c .refused4 .ensures) (decoded-over (c .before .before .before .loop .inv) (omega (arith, c .before .before .before .loop .inv .up-to)) (c .before .before .before .before .if2 .left) (c .before .before .before .before .before .before .if1 .left) refl (c .before .if3 .taken))
+returns-4 c =
+    let l = c .before .before .before in
+    parse-none _ _ _ (c .refused4 .ensures)
+    (decoded-over (l .loop .inv) (omega (arith, l .loop .inv .up-to)) (l .before .if2 .left) (l .before .before .before .if1 .left) refl
+    (c .before .if3 .taken))
 
 returns-5 : tie.Need-returns-5 Inv-loop μ-loop
-returns-5 c = parse-all (c .before .before .loop .inv) (omega (arith, c .before .before .loop .inv .up-to)) (c .before .before .before .if2 .left) (omega (arith, c .before .before .before .before .shared-slice-known2 .given 0)) (c .before .before .before .before .before .if1 .left) refl (c .if3 .left)
+returns-5 c =
+    let l = c .before .before in
+    parse-all (l .loop .inv) (omega (arith, l .loop .inv .up-to)) (l .before .if2 .left)
+    (omega (arith, l .before .before .shared-slice-known2 .given 0)) (l .before .before .before .if1 .left) refl (c .if3 .left)
 
 pub parse-spec : {M : Type 1} → statement M
 parse-spec =

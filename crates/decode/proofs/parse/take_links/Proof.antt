@@ -68,7 +68,9 @@ loop-less : tie.Need-loop-less Inv-loop μ-loop
 loop-less c = omega (arith, link-feature (c .before .before .before .before .loop .inv) (c .before .before .before .loop-test .taken))
 
 loop-again : tie.Need-loop-again Inv-loop μ-loop
-loop-again c = link-step (c .before .before .before .before .loop .inv) (c .before .before .before .loop-test .taken) (c .before .before .if1 .left) (c .before .if2 .left)
+loop-again c =
+    let l = c .before .before .before in
+    link-step (l .before .loop .inv) (l .loop-test .taken) (c .before .before .if1 .left) (c .before .if2 .left)
 
 returns-3 : tie.Need-returns-3 Inv-loop μ-loop
 returns-3 c = took-all (link-end (c .before .loop .inv) (c .loop-test .left))

@@ -10,7 +10,9 @@ sub-if1 : tie.Need-sub-if1
 sub-if1 c = search needs
 
 returns : tie.Need-returns
-returns c = let a = c .before .before .args in took-none (row-short (now (a .bytes)) (a .at) _ (c .if1 .taken))
+returns c =
+    let a = c .before .before .args in
+    took-none (row-short (now (a .bytes)) (a .at) _ (c .if1 .taken))
 
 add-map-at : tie.Need-add-map-at
 add-map-at c = search needs
@@ -25,7 +27,10 @@ take-links-requires : tie.Need-take-links-requires
 take-links-requires c κs = search needs
 
 returns-2 : tie.Need-returns-2
-returns-2 c = row-took _ _ _ _ _ _ _ _ _ (λ i. omega (arith, c .before .before .before .before .before .shared-slice-known .given i)) (c .before .before .before .before .if1 .left) (c .before .before .before .map-at .ensures) (c .take-links .ensures)
+returns-2 c =
+    let m = c .before .before .before in
+    row-took _ _ _ _ _ _ _ _ _ (λ i. omega (arith, m .before .before .shared-slice-known .given i)) (m .before .if1 .left)
+    (m .map-at .ensures) (c .take-links .ensures)
 
 pub take-row-spec : {M : Type 1} → statement M
 take-row-spec =

@@ -9,7 +9,11 @@ types-within-requires : tie.Need-types-within-requires
 types-within-requires c κs = search needs
 
 returns : tie.Need-returns
-returns c = record { yes-stands = λ e. never e; no-stands = λ e all. c .before .types-within .ensures .no-stands (not-true _ (c .if1 .taken)) (all .types-in) }
+returns c =
+    record {
+      yes-stands = λ e. never e;
+      no-stands = λ e all. c .before .types-within .ensures .no-stands (not-true _ (c .if1 .taken)) (all .types-in);
+    }
 
 mul-links : tie.Need-mul-links
 mul-links c = search needs
@@ -24,7 +28,15 @@ targets-within-requires : tie.Need-targets-within-requires
 targets-within-requires c κs = search needs
 
 returns-2 : tie.Need-returns-2
-returns-2 c = record { yes-stands = λ e. record { types-in = c .before .before .before .before .types-within .ensures .yes-stands (not-false _ (c .before .before .before .if1 .left)); targets-in = c .targets-within .ensures .yes-stands e }; no-stands = λ e all. c .targets-within .ensures .no-stands e (all .targets-in) }
+returns-2 c =
+    let t = c .before .before .before in
+    record {
+      yes-stands = λ e. record {
+        types-in = t .before .types-within .ensures .yes-stands (not-false _ (t .if1 .left));
+        targets-in = c .targets-within .ensures .yes-stands e;
+      };
+      no-stands = λ e all. c .targets-within .ensures .no-stands e (all .targets-in);
+    }
 
 pub in-range-spec : {M : Type 1} → statement M
 in-range-spec =

@@ -28,7 +28,9 @@ cast-if1 : tie.Need-cast-if1 Inv-loop μ-loop
 cast-if1 c = omega (arith, c .shared-slice-known .given (c .before .before .loop .k))
 
 returns : tie.Need-returns Inv-loop μ-loop
-returns c = record { yes-stands = λ e. never e; no-stands = λ e all. omega (arith, all (c .before .before .before .loop .k) (c .before .before .loop-test .taken)) }
+returns c =
+    let l = c .before .before .before in
+    record { yes-stands = λ e. never e; no-stands = λ e all. omega (arith, all (l .loop .k) (c .before .before .loop-test .taken)) }
 
 add-k : tie.Need-add-k Inv-loop μ-loop
 add-k c = search needs

@@ -25,10 +25,14 @@ cast-t : tie.Need-cast-t Inv-loop μ-loop
 cast-t c = omega (arith, c .shared-slice-known .given (c .before .before .loop .v))
 
 returns : tie.Need-returns Inv-loop μ-loop
-returns c = record { yes-stands = λ e. never e; no-stands = λ e all. omega (arith, all (c .before .before .before .loop .v) (c .before .before .loop-test .taken)) }
+returns c =
+    let l = c .before .before .before in
+    record { yes-stands = λ e. never e; no-stands = λ e all. omega (arith, all (l .loop .v) (c .before .before .loop-test .taken)) }
 
 returns-2 : tie.Need-returns-2 Inv-loop μ-loop
-returns-2 c = record { yes-stands = λ e. never e; no-stands = λ e all. omega (arith, all (c .before .before .before .before .loop .v) (c .before .before .before .loop-test .taken)) }
+returns-2 c =
+    let t = c .before .before .before in
+    record { yes-stands = λ e. never e; no-stands = λ e all. omega (arith, all (t .before .loop .v) (t .loop-test .taken)) }
 
 add-v : tie.Need-add-v Inv-loop μ-loop
 add-v c = search needs

@@ -49,8 +49,8 @@ loop-again c =
     row-answer (start .args .n) (start .args .words .now) (turn .a) (c .before .before .before .bound-row .result)
     (c .before .is-row-found .result) (search needs) (c .before .before .before .bound-row .ensures) (c .before .is-row-found .ensures) in (
       search needs,
-      ⊎-elim (λ w. w .1 ∙ sym (every-fails _ (turn .a + 1) (turn .a) (omega arith) (refuted _ _ answered (w .0 .taken))))
-          (λ w. w .1 ∙ all-kept _ (turn .a) _ (turn .inv .1) (held _ _ answered (w .0 .left)))
+      ⊎-elim (λ w. w .1 ∙ sym (every-fails _ (turn .a + 1) (turn .a) (omega arith) (refuted answered (w .0 .taken))))
+          (λ w. w .1 ∙ all-kept _ (turn .a) _ (turn .inv .1) (held answered (w .0 .left)))
           (c .if1 .came),
       next-row (turn .a) _ _ _ _ (turn .inv .2) (c .before .before .before .bound-row .ensures),
     )

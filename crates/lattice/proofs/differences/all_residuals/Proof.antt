@@ -25,7 +25,7 @@ returns : tie.Need-returns Inv-loop μ-loop
 unfolding allFound
 returns c =
     let turn = c .before .before .before .loop in
-    sym (every-fails _ (c .before .before .before .before .args .n) (turn .p) (search needs) (refuted _ _ (c .before .has-residuals .ensures) (c .if1 .taken)))
+    sym (every-fails _ (c .before .before .before .before .args .n) (turn .p) (search needs) (refuted (c .before .has-residuals .ensures) (c .if1 .taken)))
 
 add-p : tie.Need-add-p Inv-loop μ-loop
 add-p c = search needs
@@ -36,7 +36,7 @@ loop-less c = search needs
 loop-again : tie.Need-loop-again Inv-loop μ-loop
 loop-again c =
     let turn = c .before .before .before .loop in
-    (search needs, every-more _ (turn .p) (turn .inv .1) (held _ _ (c .before .has-residuals .ensures) (c .if1 .left)))
+    (search needs, every-more _ (turn .p) (turn .inv .1) (held (c .before .has-residuals .ensures) (c .if1 .left)))
 
 returns-2 : tie.Need-returns-2 Inv-loop μ-loop
 unfolding allFound

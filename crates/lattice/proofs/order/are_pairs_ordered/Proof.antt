@@ -24,7 +24,11 @@ is-pair-ordered-requires c κs = search needs
 returns : tie.Need-returns Inv-loop μ-loop
 returns c =
     let turn = c .before .before .before .loop in
-    sym (every-fails _ (c .before .before .before .before .before .args .n) (turn .j) (search needs) (refuted _ _ (c .before .is-pair-ordered .ensures) (c .if1 .taken)))
+    let start = c .before .before .before .before .before in
+    let row = pairOrdered (start .args .table .now) (start .args .down .now) (start .args .i) in
+    sym
+    (every-fails row (start .args .n) (turn .j) (search needs)
+    (refuted {p = row (turn .j)} (c .before .is-pair-ordered .ensures) (c .if1 .taken)))
 
 add-j : tie.Need-add-j Inv-loop μ-loop
 add-j c = search needs
@@ -35,7 +39,11 @@ loop-less c = search needs
 loop-again : tie.Need-loop-again Inv-loop μ-loop
 loop-again c =
     let turn = c .before .before .before .loop in
-    (search needs, every-more _ (turn .j) (turn .inv .1) (held _ _ (c .before .is-pair-ordered .ensures) (c .if1 .left)))
+    let start = c .before .before .before .before .before in
+    let row = pairOrdered (start .args .table .now) (start .args .down .now) (start .args .i) in (
+      search needs,
+      every-more row (turn .j) (turn .inv .1) (held {p = row (turn .j)} (c .before .is-pair-ordered .ensures) (c .if1 .left)),
+    )
 
 returns-2 : tie.Need-returns-2 Inv-loop μ-loop
 returns-2 c =

@@ -24,7 +24,11 @@ is-row-ordered-requires c κs = search needs
 returns : tie.Need-returns Inv-loop μ-loop
 returns c =
     let turn = c .before .before .before .loop in
-    sym (every-fails _ (c .before .before .before .before .before .args .n) (turn .i) (search needs) (refuted _ _ (c .before .is-row-ordered .ensures) (c .if1 .taken)))
+    let start = c .before .before .before .before .before in
+    let row = rowOrdered (start .args .n) (start .args .table .now) (start .args .down .now) in
+    sym
+    (every-fails row (start .args .n) (turn .i) (search needs)
+    (refuted {p = row (turn .i)} (c .before .is-row-ordered .ensures) (c .if1 .taken)))
 
 add-i : tie.Need-add-i Inv-loop μ-loop
 add-i c = search needs
@@ -35,7 +39,11 @@ loop-less c = search needs
 loop-again : tie.Need-loop-again Inv-loop μ-loop
 loop-again c =
     let turn = c .before .before .before .loop in
-    (search needs, every-more _ (turn .i) (turn .inv .1) (held _ _ (c .before .is-row-ordered .ensures) (c .if1 .left)))
+    let start = c .before .before .before .before .before in
+    let row = rowOrdered (start .args .n) (start .args .table .now) (start .args .down .now) in (
+      search needs,
+      every-more row (turn .i) (turn .inv .1) (held {p = row (turn .i)} (c .before .is-row-ordered .ensures) (c .if1 .left)),
+    )
 
 returns-2 : tie.Need-returns-2 Inv-loop μ-loop
 returns-2 c =

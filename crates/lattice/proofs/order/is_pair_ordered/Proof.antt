@@ -12,7 +12,7 @@ is-below-requires c κs = search needs
 
 returns : tie.Need-returns
 unfolding pairOrdered
-returns c = simp (refuted _ _ (c .before .is-below .ensures) (c .if1 .taken))
+returns c = simp (refuted (c .before .is-below .ensures) (c .if1 .taken))
 
 mul-if2 : tie.Need-mul-if2
 mul-if2 c = search needs
@@ -35,7 +35,7 @@ element-copy-out-if2-3 c = search needs
 returns-2 : tie.Need-returns-2
 unfolding pairOrdered
 returns-2 c =
-    simp (held _ _ (c .before .before .before .before .before .is-below .ensures) (c .before .before .before .before .if1 .left), ne-eqb _ _ (c .if2 .taken))
+    simp (held (c .before .before .before .before .before .is-below .ensures) (c .before .before .before .before .if1 .left), ne-eqb _ _ (c .if2 .taken))
 
 is-below-requires-2 : tie.Need-is-below-requires-2
 is-below-requires-2 c κs = search needs
@@ -44,7 +44,7 @@ returns-3 : tie.Need-returns-3
 unfolding pairOrdered
 returns-3 c =
     simp (
-      held _ _ (c .before .before .before .before .before .before .before .is-below .ensures) (c .before .before .before .before .before .before .if1 .left),
+      held (c .before .before .before .before .before .before .before .is-below .ensures) (c .before .before .before .before .before .before .if1 .left),
       eq-eqb _ _ (c .before .before .if2 .left),
       sym (c .before .is-below2 .ensures) ∙ c .if3 .taken,
     )
@@ -53,7 +53,7 @@ returns-4 : tie.Need-returns-4
 unfolding pairOrdered
 returns-4 c =
     simp (
-      held _ _ (c .before .before .before .before .before .before .before .is-below .ensures) (c .before .before .before .before .before .before .if1 .left),
+      held (c .before .before .before .before .before .before .before .is-below .ensures) (c .before .before .before .before .before .before .if1 .left),
       eq-eqb _ _ (c .before .before .if2 .left),
       sym (c .before .is-below2 .ensures) ∙ c .if3 .left,
     )

@@ -28,7 +28,7 @@ is-below-requires c κs = search needs
 
 returns-2 : tie.Need-returns-2
 unfolding rowOrdered
-returns-2 c = simp (le-leb _ _ (c .before .before .if1 .left), refuted _ _ (c .before .is-below .ensures) (c .if2 .taken))
+returns-2 c = simp (le-leb _ _ (c .before .before .if1 .left), refuted (c .before .is-below .ensures) (c .if2 .taken))
 
 is-below-requires-2 : tie.Need-is-below-requires-2
 is-below-requires-2 c κs = search needs
@@ -38,8 +38,8 @@ unfolding rowOrdered
 returns-3 c =
     simp (
       le-leb _ _ (c .before .before .before .before .if1 .left),
-      held _ _ (c .before .before .before .is-below .ensures) (c .before .before .if2 .left),
-      refuted _ _ (c .before .is-below2 .ensures) (c .if3 .taken),
+      held (c .before .before .before .is-below .ensures) (c .before .before .if2 .left),
+      refuted (c .before .is-below2 .ensures) (c .if3 .taken),
     )
 
 sub-is-below : tie.Need-sub-is-below
@@ -53,9 +53,9 @@ unfolding rowOrdered
 returns-4 c =
     simp (
       le-leb _ _ (c .before .before .before .before .before .before .if1 .left),
-      held _ _ (c .before .before .before .before .before .is-below .ensures) (c .before .before .before .before .if2 .left),
-      held _ _ (c .before .before .before .is-below2 .ensures) (c .before .before .if3 .left),
-      refuted _ _ (c .before .is-below3 .ensures) (c .if4 .taken),
+      held (c .before .before .before .before .before .is-below .ensures) (c .before .before .before .before .if2 .left),
+      held (c .before .before .before .is-below2 .ensures) (c .before .before .if3 .left),
+      refuted (c .before .is-below3 .ensures) (c .if4 .taken),
     )
 
 are-pairs-ordered-requires : tie.Need-are-pairs-ordered-requires
@@ -67,9 +67,9 @@ returns-5 c =
     c .are-pairs-ordered .ensures ∙
     simp (
       le-leb _ _ (c .before .before .before .before .before .before .before .if1 .left),
-      held _ _ (c .before .before .before .before .before .before .is-below .ensures) (c .before .before .before .before .before .if2 .left),
-      held _ _ (c .before .before .before .before .is-below2 .ensures) (c .before .before .before .if3 .left),
-      held _ _ (c .before .before .is-below3 .ensures) (c .before .if4 .left),
+      held (c .before .before .before .before .before .before .is-below .ensures) (c .before .before .before .before .before .if2 .left),
+      held (c .before .before .before .before .is-below2 .ensures) (c .before .before .before .if3 .left),
+      held (c .before .before .is-below3 .ensures) (c .before .if4 .left),
     )
 
 pub is-row-ordered-spec : {M : Type 1} → statement M

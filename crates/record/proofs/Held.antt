@@ -1,0 +1,75 @@
+-- Rows that arrays hold, link by link: a link of a row is a place of the arrays, so the range test, the cycles and the visit of
+-- the arrays are those of the rows.
+use mathlib.Core.Path.{_≡_, refl, sym, _∙_, ap, ap₂, subst}
+use mathlib.Core.Bool.{Bool, true, false, cond}
+use mathlib.Core.List.{List, [], _∷_, List·Memᴰ, List·Memᴰ·head, List·Memᴰ·tail, List·Memᴰ·not-nil, List·Memᴰ·cases-cons}
+use mathlib.Core.Logic.{_↔_, _⊎_, inl, inr, ⊎-elim}
+use mathlib.Core.Option.{Option, none, some}
+use Prim.Native.Nat.{ℕ, zero, suc, _+_, _≤_, _<_}
+use native.Mathlib.Decide.{decLe, decLt}
+use native.Mathlib.Omega.{arith}
+use borrow.Author.Tests.{eq-eqb, ne-eqb}
+use lib.Dec.{eqb}
+use lib.ListN.{length, getD}
+use lib.Seq.{slice, slice-cons, slice-empty}
+use Rattle.graphs.specs.Graph.{follow}
+use Rattle.graphs.specs.Rows.{Row, target}
+use Rattle.graphs.specs.Large.{Ascending}
+use Rattle.graphs.proofs.Search.{true-false}
+use Rattle.graphs.proofs.Walk.{some-injective, none-some}
+use Rattle.visits.specs.Arrays.{Laid, Shaped, Sound, Leads, Reaches, one, more, TargetsFirst, paired, linksAt, rowsFrom, rowsOf, graphOfRows}
+use Rattle.visits.proofs.VisitRows.{row-at, length-rows}
+use Rattle.visits.proofs.Colours.{ends}
+use Rattle.decode.specs.Promise.{Ranged}
+use Rattle.record.proofs.Readings.{InRange}
+use Rattle.record.proofs.Nodes.{target-source}
+use Rattle.record.proofs.Reaching.{SelfReach}
+
+-- A row's links are the places of its part.
+
+module _ (fs ts : List ℕ) (e : ℕ) (few : e ≤ length fs) (many : e ≤ length ts) where
+  paired-cons : (k : ℕ) → k < e → paired (slice k e fs) (slice k e ts) ≡ (getD fs k 0, getD ts k 0) ∷ paired (slice (suc k) e fs) (slice (suc k) e ts)
+  unfolding paired
+  paired-cons k h = ap₂ paired (slice-cons k e fs 0 h few) (slice-cons k e ts 0 h many)
+
+  paired-source : (n k : ℕ) → k + n ≡ e → (l : ℕ × ℕ) → List·Memᴰ l (paired (slice k e fs) (slice k e ts)) →
+      (j : ℕ) × (k ≤ j) × (j < e) × (l ≡ (getD fs j 0, getD ts j 0))
+  unfolding paired
+  paired-source zero k q l m =
+      absurd (List·Memᴰ·not-nil (subst (λ (x : List (ℕ × ℕ)). List·Memᴰ l x) (gone ∙ refl) m))
+    where
+      at : k ≡ e
+      at = omega arith
+
+      gone : paired (slice k e fs) (slice k e ts) ≡ []
+      gone = ap (λ (i : ℕ). paired (slice i e fs) (slice i e ts)) at ∙ ap (λ (x : List ℕ). paired x (slice e e ts)) (slice-empty e fs)
+  paired-source (suc n) k q l m =
+      ⊎-elim (λ (h : l ≡ (getD fs k 0, getD ts k 0)). (k, omega arith, omega arith, h))
+      (λ (i : List·Memᴰ l (paired (slice (suc k) e fs) (slice (suc k) e ts))).
+      let (j, low, high, h) = paired-source n (suc k) (omega arith) l i in
+      (j, omega arith, high, h))
+      (List·Memᴰ·cases-cons (subst (λ (x : List (ℕ × ℕ)). List·Memᴰ l x) (paired-cons k (omega arith)) m))
+
+  paired-member : (n k j : ℕ) → k + n ≡ e → k ≤ j → j < e → List·Memᴰ (getD fs j 0, getD ts j 0) (paired (slice k e fs) (slice k e ts))
+  paired-member zero k j q low high = absurd (omega arith)
+  paired-member (suc n) k j q low high =
+      subst (λ (x : List (ℕ × ℕ)). List·Memᴰ (getD fs j 0, getD ts j 0) x) (sym (paired-cons k (omega arith)))
+      (go (decLe j k) (λ h. paired-member n (suc k) j (omega arith) h high))
+    where
+      go : Dec (j ≤ k) → (suc k ≤ j → List·Memᴰ (getD fs j 0, getD ts j 0) (paired (slice (suc k) e fs) (slice (suc k) e ts))) →
+          List·Memᴰ (getD fs j 0, getD ts j 0) ((getD fs k 0, getD ts k 0) ∷ paired (slice (suc k) e fs) (slice (suc k) e ts))
+      go (yes h) later = let q : j ≡ k = omega arith in List·Memᴰ·head (ap (λ (i : ℕ). (getD fs i 0, getD ts i 0)) q)
+      go (no h) later = List·Memᴰ·tail (later (omega arith))
+
+-- a feature stands once in an ascending row
+target-member : (ls : List (ℕ × ℕ)) → Ascending ls → (f w : ℕ) → List·Memᴰ (f, w) ls → target ls f ≡ some w
+unfolding target
+target-member [] up f w m = absurd (List·Memᴰ·not-nil m)
+target-member (l ∷ ls) up f w (List·Memᴰ·head e) =
+    ap (λ (t : Bool). cond t (some (l .1)) (target ls f)) (eq-eqb (l .0) f (ap (λ (x : ℕ × ℕ). x .0) (sym e)))
+    ∙ ap (λ (x : ℕ × ℕ). some (x .1)) (sym e)
+target-member (l ∷ ls) up f w (List·Memᴰ·tail m) =
+    ap (λ (t : Bool). cond t (some (l .1)) (target ls f)) (ne-eqb (l .0) f (λ q. apart (up .0 (f, w) m) q)) ∙ target-member ls (up .1) f w m
+  where
+    apart : l .0 < f → l .0 ≡ f → ⊥
+    apart h q = omega arith
