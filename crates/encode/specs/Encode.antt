@@ -7,8 +7,8 @@ use lib.Dec.{leb}
 use lib.ListN.{length, drop}
 use Rattle.graphs.specs.Rows.{Row, from, target}
 use Rattle.graphs.specs.Number.{Canonical, manyNodes, manyLinks, written, countSome}
-use Rattle.record.specs.declared.Written.{Written}
-use Rattle.record.specs.declared.Written.the-variants as outcome
+use Rattle.encode.specs.declared.Written.{Written}
+use Rattle.encode.specs.declared.Written.the-variants as outcome
 
 -- the number whose k lowest bits say which of the features from f on stand among the links
 unfoldable pub bitsFrom : List (ℕ × ℕ) → ℕ → ℕ → ℕ

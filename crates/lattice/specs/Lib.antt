@@ -2,3 +2,4 @@
 pub mod Table
 pub mod Reply
 pub mod Words
+pub mod Labels

@@ -9,7 +9,7 @@ ghost use Rattle.lattice.specs.Reply.{Opening};
 mod bounds;
 mod differences;
 mod order;
-mod words;
+pub mod words;
 
 pub enum TableFault {
     Size,

@@ -5,7 +5,7 @@ use mathlib.Core.Bool.{Bool, true, false, cond}
 use mathlib.Core.List.{List, [], _∷_, List·Memᴰ, List·Memᴰ·head, List·Memᴰ·tail, List·Memᴰ·not-nil, List·Memᴰ·cases-cons}
 use mathlib.Core.Logic.{_↔_, _⊎_, inl, inr, ⊎-elim}
 use mathlib.Core.Option.{Option, none, some}
-use Prim.Native.Nat.{ℕ, zero, suc, _+_, _≤_, _<_}
+use Prim.Native.Nat.{ℕ, zero, suc, _+_, _-_, _≤_, _<_}
 use native.Mathlib.Decide.{decLe, decLt}
 use native.Mathlib.Omega.{arith}
 use borrow.Author.Tests.{eq-eqb, ne-eqb}
@@ -22,6 +22,7 @@ use Rattle.visits.proofs.VisitRows.{row-at, length-rows}
 use Rattle.visits.proofs.Colours.{ends}
 use Rattle.decode.specs.Promise.{Ranged}
 use Rattle.record.proofs.Readings.{InRange}
+use Rattle.record.proofs.Decoded.{getD-member}
 use Rattle.record.proofs.Nodes.{target-source}
 use Rattle.record.proofs.Reaching.{SelfReach}
 
@@ -73,3 +74,82 @@ target-member (l ∷ ls) up f w (List·Memᴰ·tail m) =
   where
     apart : l .0 < f → l .0 ≡ f → ⊥
     apart h q = omega arith
+
+-- A place of all the links is one of some node's.
+place-owner : {nodes : ℕ} {first targets : List ℕ} → Laid nodes first targets → (k : ℕ) → k < getD first nodes 0 →
+    (v : ℕ) × (v < nodes) × (getD first v 0 ≤ k) × (k < getD first (suc v) 0)
+place-owner {nodes} {first} laid k h = go nodes (omega arith) h
+  where
+    go : (m : ℕ) → m ≤ nodes → k < getD first m 0 → (v : ℕ) × (v < nodes) × (getD first v 0 ≤ k) × (k < getD first (suc v) 0)
+    go zero below q = absurd (omega (arith, laid .start))
+    go (suc m) below q = at (decLe (getD first m 0) k) (λ r. go m (omega arith) r)
+      where
+        at : Dec (getD first m 0 ≤ k) → (k < getD first m 0 → (v : ℕ) × (v < nodes) × (getD first v 0 ≤ k) × (k < getD first (suc v) 0)) →
+            (v : ℕ) × (v < nodes) × (getD first v 0 ≤ k) × (k < getD first (suc v) 0)
+        at (yes r) later = (m, omega arith, r, q)
+        at (no r) later = later (omega arith)
+
+module _ {nodes : ℕ} {types first fs ts : List ℕ} (shaped : Shaped nodes types first fs ts) where
+  abbrev held : List (Row ℕ)
+  held = rowsOf nodes types first fs ts
+
+  laid : Laid nodes first ts
+  laid = shaped .laid
+
+  held-length : length held ≡ nodes
+  held-length = length-rows types first fs ts 0 nodes
+
+  held-row : (v : ℕ) → v < nodes → getD held v (0, []) ≡ (getD types v 0, linksAt first fs ts v)
+  held-row v h = row-at types first fs ts nodes 0 v v (omega arith) h
+
+  row-end : (v : ℕ) → v < nodes → getD first (suc v) 0 ≤ getD first nodes 0
+  row-end v h = ends laid v h
+
+  link-source : (v : ℕ) → v < nodes → (l : ℕ × ℕ) → List·Memᴰ l (linksAt first fs ts v) →
+      (j : ℕ) × (getD first v 0 ≤ j) × (j < getD first (suc v) 0) × (l ≡ (getD fs j 0, getD ts j 0))
+  unfolding linksAt
+  link-source v h l m =
+      paired-source fs ts (getD first (suc v) 0) (omega (arith, row-end v h, shaped .featured)) (omega (arith, row-end v h, laid .aimed))
+      (getD first (suc v) 0 - getD first v 0) (getD first v 0) (omega (arith, laid .rising v h)) l m
+
+  link-member : (v : ℕ) → v < nodes → (j : ℕ) → getD first v 0 ≤ j → j < getD first (suc v) 0 →
+      List·Memᴰ (getD fs j 0, getD ts j 0) (linksAt first fs ts v)
+  unfolding linksAt
+  link-member v h j low high =
+      paired-member fs ts (getD first (suc v) 0) (omega (arith, row-end v h, shaped .featured)) (omega (arith, row-end v h, laid .aimed))
+      (getD first (suc v) 0 - getD first v 0) (getD first v 0) j (omega (arith, laid .rising v h)) low high
+
+  row-source : (r : Row ℕ) → List·Memᴰ r held → (v : ℕ) × (v < nodes) × (r ≡ (getD types v 0, linksAt first fs ts v))
+  row-source r m = go nodes 0 refl m
+    where
+      go : (k u : ℕ) → u + k ≡ nodes → List·Memᴰ r (rowsFrom types first fs ts u k) →
+          (v : ℕ) × (v < nodes) × (r ≡ (getD types v 0, linksAt first fs ts v))
+      go k u q i = ?go
+
+  -- 5: the range test of the arrays is that of the rows.
+
+  ranged-rows : (n : ℕ) → Ranged n nodes types first ts → InRange n held
+  ranged-rows n ranged r m =
+      let (v, h, e) = row-source r m in
+      let (a, b) = ranged .types-in v h in
+      let q : r .0 ≡ getD types v 0 = ap (λ (x : Row ℕ). x .0) e in (
+        omega arith,
+        omega arith,
+        λ l i.
+            let (j, low, high, d) = link-source v h l (subst (λ (ls : List (ℕ × ℕ)). List·Memᴰ l ls) (ap (λ (x : Row ℕ). x .1) e) i) in
+            let t : l .1 ≡ getD ts j 0 = ap (λ (x : ℕ × ℕ). x .1) d in
+            omega (arith, ranged .targets-in j (omega (arith, row-end v h)), held-length),
+      )
+
+  rows-ranged : (n : ℕ) → InRange n held → Ranged n nodes types first ts
+  rows-ranged n all =
+      record {
+        types-in = λ v h. let (a, b, c) = all (getD types v 0, linksAt first fs ts v) (row-listed v h) in (a, b);
+        targets-in = λ k h.
+            let (v, i, low, high) = place-owner laid k h in
+            let (a, b, c) = all (getD types v 0, linksAt first fs ts v) (row-listed v i) in
+            omega (arith, c (getD fs k 0, getD ts k 0) (link-member v i k low high), held-length);
+      }
+    where
+      row-listed : (v : ℕ) → v < nodes → List·Memᴰ (getD types v 0, linksAt first fs ts v) held
+      row-listed v h = subst (λ (r : Row ℕ). List·Memᴰ r held) (held-row v h) (getD-member held v (0, []) (omega (arith, held-length)))

@@ -1,4 +1,3 @@
 -- Definitions of reading records.
 pub mod Read
 pub mod Promise
-pub mod Labels

@@ -1,0 +1,6 @@
+-- Laws of encoding.
+pub mod Stores
+pub mod FeatureMap
+pub mod Spans
+pub mod Encoding
+pub mod Writing

@@ -1,0 +1,3 @@
+-- Definitions of encoding.
+pub mod Encode
+pub mod Encoding

@@ -1,0 +1,2 @@
+-- What the order answers.
+pub mod Promise

@@ -1,0 +1,17 @@
+-- The order's promise: below exactly where the graphs are, and then the map of g's nodes to those of s.
+use mathlib.Core.Path.{_≡_}
+use mathlib.Core.List.{List}
+use Prim.Native.Nat.{ℕ}
+use lib.ListN.{getD}
+use Rattle.graphs.specs.Graph.{Below}
+use Rattle.graphs.specs.Map.{NodeMap}
+use Rattle.graphs.specs.Rows.{Row}
+use Rattle.visits.specs.Arrays.{graphOfRows}
+use Rattle.lattice.specs.Labels.{typeLabels}
+use Rattle.subsume.specs.declared.Order.{Order}
+use Rattle.subsume.specs.declared.Order.the-variants as order
+
+-- s and g are given by their rows, t is the type table; the number of types says nothing about the order
+pub record Orders (n : ℕ) (t : List ℕ) (s g : List (Row ℕ)) (answer : Order) (map : List ℕ) : Type 0 where
+  pub yes-stands : answer ≡ order.Below → NodeMap (typeLabels n t) (graphOfRows s) (graphOfRows g) (λ v. getD map v 0)
+  pub no-stands : answer ≡ order.NotBelow → Below (typeLabels n t) (graphOfRows s) (graphOfRows g) → ⊥

@@ -1,0 +1,131 @@
+// The order: whether the graph s lies below the graph g (document 01, "Order and results"). A queue over g's nodes; each is
+// mapped to the node of s that the same path leads to.
+
+use decode::Graph;
+ghost use Prim.Native.Nat.{ℕ, _≤_, _<_};
+ghost use lib.ListN.{getD};
+ghost use Rattle.visits.specs.Arrays.{Sound, rowsOf};
+ghost use Rattle.subsume.specs.Promise.{Orders};
+
+pub enum Order {
+    Below,
+    NotBelow,
+}
+
+// The answer, and beside a yes the node of s that each node of g leads to.
+pub struct Comparison {
+    pub order: Order,
+    pub map: [u16; 255],
+}
+
+// The node that no node is mapped to yet.
+pub const NONE: u16 = 0xFFFF;
+
+// The first place from `at` on, before `end`, whose feature is at least f.
+pub fn seek(features: &[u8], at: usize, end: usize, f: u8) -> usize {
+    let mut k = at;
+    while k < end {
+        if f <= features[k] {
+            return k;
+        }
+        k += 1;
+    }
+    k
+}
+
+// Maps the targets of v's links, v being mapped to u; answers the new end of the queue, 256 where s lacks a link or would have
+// two nodes for one.
+pub fn follow<'a>(
+    s_first: &'a [u16],
+    s_features: &'a [u8],
+    s_targets: &'a [u16],
+    g_first: &'a [u16],
+    g_features: &'a [u8],
+    g_targets: &'a [u16],
+    v: usize,
+    u: usize,
+    map: &mut [u16; 255],
+    queue: &mut [u16; 255],
+    count: usize,
+) -> usize {
+    let g_end = g_first[v + 1] as usize;
+    let s_end = s_first[u + 1] as usize;
+    let mut k = g_first[v] as usize;
+    let mut j = s_first[u] as usize;
+    let mut end = count;
+    while k < g_end {
+        let f = g_features[k];
+        j = seek(s_features, j, s_end, f);
+        if s_end <= j {
+            return 256;
+        }
+        if s_features[j] != f {
+            return 256;
+        }
+        let w = g_targets[k] as usize;
+        let x = s_targets[j];
+        if map[w] == NONE {
+            map[w] = x;
+            queue[end] = w as u16;
+            end += 1;
+        } else {
+            if map[w] != x {
+                return 256;
+            }
+        }
+        k += 1;
+    }
+    end
+}
+
+// Whether s lies below g.
+pub fn subsume(n: usize, table: &[u8], s: Graph, g: Graph) -> Comparison
+    requires { ⌜ Sound (s .nodes) (s .types) (s .first) (s .features) (s .targets) ⌝ }
+    requires { ⌜ Sound (g .nodes) (g .types) (g .first) (g .features) (g .targets) ⌝ }
+    requires { ⌜ (s .nodes ≤ 255) × (g .nodes ≤ 255) ⌝ }
+    requires { ⌜ ((v : ℕ) → v < s .nodes → getD (s .types) v 0 < 64) ⌝ }
+    requires { ⌜ ((v : ℕ) → v < g .nodes → getD (g .types) v 0 < 64) ⌝ }
+    ensures { λ r. ⌜ Orders n (now (table .entry)) (rowsOf (s .nodes) (s .types) (s .first) (s .features) (s .targets)) (rowsOf (g .nodes) (g .types) (g .first) (g .features) (g .targets)) (r .order) (r .map) ⌝ }
+{
+    let mut map = [NONE; 255];
+    let mut queue = [0u16; 255];
+    map[0] = 0;
+    let mut count: usize = 1;
+    let mut head: usize = 0;
+    while head < count {
+        let v = queue[head] as usize;
+        let u = map[v] as usize;
+        let a = s.types[u] as usize;
+        let b = g.types[v] as usize;
+        if !lattice::words::is_below(table, a, b) {
+            return Comparison {
+                order: Order::NotBelow,
+                map,
+            };
+        }
+        count = follow(
+            &s.first,
+            &s.features,
+            &s.targets,
+            &g.first,
+            &g.features,
+            &g.targets,
+            v,
+            u,
+            &mut map,
+            &mut queue,
+            count,
+        );
+        if 255 < count {
+            return Comparison {
+                order: Order::NotBelow,
+                map,
+            };
+        }
+        head += 1;
+    }
+    Comparison {
+        order: Order::Below,
+        map,
+    }
+}
