@@ -16,7 +16,7 @@ use Rattle.graphs.specs.Graph.{follow}
 use Rattle.graphs.specs.Rows.{Row, target}
 use Rattle.graphs.specs.Large.{Ascending}
 use Rattle.graphs.proofs.Search.{true-false}
-use Rattle.graphs.proofs.Walk.{some-injective, none-some}
+use Rattle.graphs.proofs.Walk.{some-injective, none-some, follow-none}
 use Rattle.visits.specs.Arrays.{Laid, Shaped, Sound, Leads, Reaches, one, more, TargetsFirst, paired, linksAt, rowsFrom, rowsOf, graphOfRows}
 use Rattle.visits.proofs.VisitRows.{row-at, length-rows}
 use Rattle.visits.proofs.Colours.{ends}
@@ -90,17 +90,20 @@ place-owner {nodes} {first} laid k h = go nodes (omega arith) h
         at (no r) later = later (omega arith)
 
 module _ {nodes : ℕ} {types first fs ts : List ℕ} (shaped : Shaped nodes types first fs ts) where
-  abbrev held : List (Row ℕ)
+  abbrev pub held : List (Row ℕ)
   held = rowsOf nodes types first fs ts
 
   laid : Laid nodes first ts
   laid = shaped .laid
 
-  held-length : length held ≡ nodes
+  pub held-length : length held ≡ nodes
   held-length = length-rows types first fs ts 0 nodes
 
   held-row : (v : ℕ) → v < nodes → getD held v (0, []) ≡ (getD types v 0, linksAt first fs ts v)
   held-row v h = row-at types first fs ts nodes 0 v v (omega arith) h
+
+  row-listed : (v : ℕ) → v < nodes → List·Memᴰ (getD types v 0, linksAt first fs ts v) held
+  row-listed v h = subst (λ (r : Row ℕ). List·Memᴰ r held) (held-row v h) (getD-member held v (0, []) (omega (arith, held-length)))
 
   row-end : (v : ℕ) → v < nodes → getD first (suc v) 0 ≤ getD first nodes 0
   row-end v h = ends laid v h
@@ -120,15 +123,18 @@ module _ {nodes : ℕ} {types first fs ts : List ℕ} (shaped : Shaped nodes typ
       (getD first (suc v) 0 - getD first v 0) (getD first v 0) j (omega (arith, laid .rising v h)) low high
 
   row-source : (r : Row ℕ) → List·Memᴰ r held → (v : ℕ) × (v < nodes) × (r ≡ (getD types v 0, linksAt first fs ts v))
-  row-source r m = go nodes 0 refl m
+  unfolding rowsFrom
+  row-source r m = go nodes 0 (omega arith) m
     where
       go : (k u : ℕ) → u + k ≡ nodes → List·Memᴰ r (rowsFrom types first fs ts u k) →
           (v : ℕ) × (v < nodes) × (r ≡ (getD types v 0, linksAt first fs ts v))
-      go k u q i = ?go
+      go zero u q i = absurd (List·Memᴰ·not-nil i)
+      go (suc k) u q (List·Memᴰ·head e) = (u, omega arith, e)
+      go (suc k) u q (List·Memᴰ·tail i) = go k (suc u) (omega arith) i
 
   -- 5: the range test of the arrays is that of the rows.
 
-  ranged-rows : (n : ℕ) → Ranged n nodes types first ts → InRange n held
+  pub ranged-rows : (n : ℕ) → Ranged n nodes types first ts → InRange n held
   ranged-rows n ranged r m =
       let (v, h, e) = row-source r m in
       let (a, b) = ranged .types-in v h in
@@ -141,7 +147,7 @@ module _ {nodes : ℕ} {types first fs ts : List ℕ} (shaped : Shaped nodes typ
             omega (arith, ranged .targets-in j (omega (arith, row-end v h)), held-length),
       )
 
-  rows-ranged : (n : ℕ) → InRange n held → Ranged n nodes types first ts
+  pub rows-ranged : (n : ℕ) → InRange n held → Ranged n nodes types first ts
   rows-ranged n all =
       record {
         types-in = λ v h. let (a, b, c) = all (getD types v 0, linksAt first fs ts v) (row-listed v h) in (a, b);
@@ -150,6 +156,74 @@ module _ {nodes : ℕ} {types first fs ts : List ℕ} (shaped : Shaped nodes typ
             let (a, b, c) = all (getD types v 0, linksAt first fs ts v) (row-listed v i) in
             omega (arith, c (getD fs k 0, getD ts k 0) (link-member v i k low high), held-length);
       }
-    where
-      row-listed : (v : ℕ) → v < nodes → List·Memᴰ (getD types v 0, linksAt first fs ts v) held
-      row-listed v h = subst (λ (r : Row ℕ). List·Memᴰ r held) (held-row v h) (getD-member held v (0, []) (omega (arith, held-length)))
+
+  -- 6: a link of the arrays is a link of the rows.
+
+  module _ (ascending : (r : Row ℕ) → List·Memᴰ r held → Ascending (r .1)) where
+    link-of : (v f : ℕ) → v < nodes → graphOfRows held .link v f ≡ target (linksAt first fs ts v) f
+    link-of v f h = ap (λ (r : Row ℕ). target (r .1) f) (held-row v h)
+
+    leads-link : (v w : ℕ) → Leads nodes first ts v w → (f : ℕ) × (graphOfRows held .link v f ≡ some w)
+    leads-link v w l = (
+      getD fs (l .place) 0,
+      link-of v (getD fs (l .place) 0) (l .inside)
+          ∙ target-member (linksAt first fs ts v) (ascending (getD types v 0, linksAt first fs ts v) (row-listed v (l .inside)))
+          (getD fs (l .place) 0) (getD ts (l .place) 0) (link-member v (l .inside) (l .place) (l .from-first) (l .before-next))
+          ∙ ap some (l .target-is),
+    )
+
+    link-leads : (v w f : ℕ) → v < nodes → graphOfRows held .link v f ≡ some w → Leads nodes first ts v w
+    link-leads v w f h e =
+        let (j, low, high, d) = link-source v h (f, w) (target-source (linksAt first fs ts v) f w (sym (link-of v f h) ∙ e)) in
+        record { inside = h; place = j; from-first = low; before-next = high; target-is = ap (λ (x : ℕ × ℕ). x .1) (sym d) }
+
+    reaches-walk : {v w : ℕ} → Reaches nodes first ts v w →
+        (f : ℕ) × (p : List ℕ) × (follow (graphOfRows held .link) (some v) (f ∷ p) ≡ some w)
+    unfolding follow
+    reaches-walk {v} {w} (one l) = let (f, e) = leads-link v w l in (f, [], e)
+    reaches-walk {v} {w} (more {w = u} l r) =
+        let (f, e) = leads-link v u l in
+        let (g, p, q) = reaches-walk r in
+        (f, g ∷ p, ap (λ o. follow (graphOfRows held .link) o (g ∷ p)) e ∙ q)
+
+    reaches-inside : {v w : ℕ} → Reaches nodes first ts v w → v < nodes
+    reaches-inside (one l) = l .inside
+    reaches-inside (more l r) = l .inside
+
+    pub looped-rows : (v : ℕ) → Reaches nodes first ts v v → SelfReach held
+    looped-rows v r =
+        let (f, p, e) = reaches-walk r in
+        (v, omega (arith, reaches-inside r, held-length), f, p, e)
+
+    -- a walk goes to earlier places
+    module _ (within : (k : ℕ) → k < getD first nodes 0 → getD ts k 0 < nodes) {order : List ℕ} {place : ℕ → ℕ}
+        (sorted : TargetsFirst nodes first ts order place) where
+      leads-inside : (v w : ℕ) → Leads nodes first ts v w → w < nodes
+      leads-inside v w l =
+          let h = within (l .place) (omega (arith, l .before-next, row-end v (l .inside))) in
+          omega (arith, l .target-is)
+
+      walk-earlier : (p : List ℕ) (v w : ℕ) → v < nodes → follow (graphOfRows held .link) (some v) p ≡ some w → place w ≤ place v
+      unfolding follow
+      walk-earlier [] v w h e = let q : v ≡ w = some-injective e in omega (arith, ap place q)
+      walk-earlier (f ∷ p) v w h e = go (graphOfRows held .link v f) refl e (walk-earlier p)
+        where
+          go : (o : Option ℕ) → graphOfRows held .link v f ≡ o → follow (graphOfRows held .link) o p ≡ some w →
+              ((v w : ℕ) → v < nodes → follow (graphOfRows held .link) (some v) p ≡ some w → place w ≤ place v) → place w ≤ place v
+          go none l q later = none-some (sym (follow-none (graphOfRows held .link) p) ∙ q)
+          go (some u) l q later =
+              let d = link-leads v u f h l in
+              omega (arith, sorted .earlier v u d, later u w (leads-inside v u d) q)
+
+      pub sorted-rows : SelfReach held → ⊥
+      unfolding follow
+      sorted-rows (v, h, f, p, e) = go (graphOfRows held .link v f) refl e
+        where
+          inside : v < nodes
+          inside = omega (arith, held-length)
+
+          go : (o : Option ℕ) → graphOfRows held .link v f ≡ o → follow (graphOfRows held .link) o p ≡ some v → ⊥
+          go none l q = none-some (sym (follow-none (graphOfRows held .link) p) ∙ q)
+          go (some u) l q =
+              let d = link-leads v u f inside l in
+              omega (arith, sorted .earlier v u d, walk-earlier p u v (leads-inside v u d) q)

@@ -5,3 +5,4 @@ pub mod Nodes
 pub mod Reaching
 pub mod Accepted
 pub mod Held
+pub mod Steps

@@ -22,13 +22,6 @@ pub struct Reading {
     pub graph: Graph,
 }
 
-fn refusal(fault: GraphFault, graph: Graph) -> Reading {
-    Reading {
-        verdict: Verdict::Refused(fault),
-        graph,
-    }
-}
-
 // Reads a record over a table with n types.
 pub fn read(n: usize, bytes: &[u8]) -> Reading
     ensures { λ r. ⌜ Reads n (now (bytes .entry)) (r .verdict) (r .graph) ⌝ }
@@ -38,14 +31,23 @@ pub fn read(n: usize, bytes: &[u8]) -> Reading
     let nodes = graph.nodes;
     let ok = parsed.ok;
     if !ok {
-        return refusal(GraphFault::Malformed, graph);
+        return Reading {
+            verdict: Verdict::Refused(GraphFault::Malformed),
+            graph,
+        };
     }
     if !decode::range::in_range(n, nodes, &graph.types, &graph.first, &graph.targets) {
-        return refusal(GraphFault::OutOfRange, graph);
+        return Reading {
+            verdict: Verdict::Refused(GraphFault::OutOfRange),
+            graph,
+        };
     }
     let mut order = [0u16; 510];
     if visits::acyclic::has_cycle(nodes, &graph.first, &graph.targets, &mut order) {
-        return refusal(GraphFault::Cyclic, graph);
+        return Reading {
+            verdict: Verdict::Refused(GraphFault::Cyclic),
+            graph,
+        };
     }
     let mut numbers = [0u16; 510];
     let mut visited = [0u16; 255];
@@ -57,7 +59,10 @@ pub fn read(n: usize, bytes: &[u8]) -> Reading
         &mut visited,
     );
     if count != nodes {
-        return refusal(GraphFault::Unreached, graph);
+        return Reading {
+            verdict: Verdict::Refused(GraphFault::Unreached),
+            graph,
+        };
     }
     Reading {
         verdict: Verdict::Accepted,
