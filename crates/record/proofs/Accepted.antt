@@ -17,7 +17,8 @@ use Rattle.graphs.proofs.Large.{canonical-fits}
 use Rattle.lattice.specs.Labels.{typeLabels}
 use Rattle.record.specs.Read.{graphOfRows, reading, accepted}
 use Rattle.record.proofs.Readings.{Stands, InRange, reading-says, in-range}
-use Rattle.record.proofs.Decoded.{Ordered, decoded-says}
+use Rattle.record.proofs.Decoded.{decoded-says}
+use Rattle.record.proofs.RoundTrip.{Proper}
 use Rattle.record.proofs.Nodes.{Linked, decoded-linked, node-row, reached-inside, reached-listed, narrow, few-nodes, few-links}
 use Rattle.record.proofs.Reaching.{SelfReach, AllReached, cyclic-exact, reaches-exact}
 
@@ -26,7 +27,7 @@ pub record Rules (n : ℕ) (rows : List (Row ℕ)) : Type 0 where
   pub nonempty : 0 < length rows
   pub short : length rows ≤ 255
   pub links : linksIn rows ≤ 2048
-  pub ordered : (r : Row ℕ) → List·Memᴰ r rows → Ordered r
+  pub ordered : (r : Row ℕ) → List·Memᴰ r rows → Proper r
   pub ranged : InRange n rows
   pub acyclic : SelfReach rows → ⊥
   pub reached : AllReached rows

@@ -17,6 +17,7 @@ use Rattle.graphs.specs.Large.{linksIn, Ascending}
 use Rattle.graphs.proofs.Walk.{some-injective, none-some, onward-some}
 use Rattle.graphs.proofs.Search.{cond-some}
 use Rattle.decode.specs.Decode.{Taken, changed, takeTarget, takeLinks, takeRow, takeRows, bitOf, whole, decoded}
+use Rattle.record.proofs.RoundTrip.{Proper}
 
 -- Lists.
 
@@ -103,17 +104,13 @@ links-taken stands k (suc n) room rest t e = go (stands k) e (links-taken stands
 
 -- Rows.
 
--- "feature f, 0 to 63 .. lowest feature first"
-abbrev pub Ordered : Row ℕ → Type 0
-Ordered r = Ascending (r .1) × ((l : ℕ × ℕ) → List·Memᴰ l (r .1) → l .0 < 64)
-
 -- the numbers of a row are bytes
 abbrev pub FromBytes : List ℕ → Row ℕ → Type 0
 FromBytes bytes r = List·Memᴰ (r .0) bytes × ((l : ℕ × ℕ) → List·Memᴰ l (r .1) → List·Memᴰ (l .1) bytes)
 
 record RowTaken (room : ℕ) (rest : List ℕ) (t : Taken (Row ℕ)) : Type 0 where
   counted : length (t .value .1) + t .room ≡ room
-  ordered : Ordered (t .value)
+  ordered : Proper (t .value)
   given : FromBytes rest (t .value)
   left : (b : ℕ) → List·Memᴰ b (t .rest) → List·Memᴰ b rest
 
@@ -137,7 +134,7 @@ row-taken room rest t e =
 record RowsTaken (k room : ℕ) (rest : List ℕ) (t : Taken (List (Row ℕ))) : Type 0 where
   many : length (t .value) ≡ k
   counted : linksIn (t .value) + t .room ≡ room
-  each : (r : Row ℕ) → List·Memᴰ r (t .value) → Ordered r × FromBytes rest r
+  each : (r : Row ℕ) → List·Memᴰ r (t .value) → Proper r × FromBytes rest r
 
 no-rows : (room : ℕ) (rest : List ℕ) → RowsTaken 0 room rest (record { value = []; room = room; rest = rest })
 unfolding linksIn
@@ -151,7 +148,7 @@ one-more k room rest r t taken later =
       many = ap suc (later .many);
       counted = let h = taken .counted in let i = later .counted in omega arith;
       each = λ s m.
-          ⊎-elim (λ e. subst (λ (x : Row ℕ). Ordered x × FromBytes rest x) (sym e) (taken .ordered, taken .given))
+          ⊎-elim (λ e. subst (λ (x : Row ℕ). Proper x × FromBytes rest x) (sym e) (taken .ordered, taken .given))
           (λ i.
           let (ordered, (label, targets)) = later .each s i in
           (ordered, (taken .left (s .0) label, λ l j. taken .left (l .1) (targets l j))))
@@ -179,7 +176,7 @@ pub record Decoded (bytes : List ℕ) (rows : List (Row ℕ)) : Type 0 where
   pub nonempty : 0 < length rows
   pub count : length rows ≡ getD bytes 0 0
   pub few-links : linksIn rows ≤ 2048
-  pub ordered : (r : Row ℕ) → List·Memᴰ r rows → Ordered r
+  pub ordered : (r : Row ℕ) → List·Memᴰ r rows → Proper r
   pub given : (r : Row ℕ) → List·Memᴰ r rows → FromBytes bytes r
 
 pub decoded-says : (bytes : List ℕ) (rows : List (Row ℕ)) → decoded bytes ≡ some rows → Decoded bytes rows

@@ -1,0 +1,194 @@
+-- A record that was encoded is decoded to the rows that it was made of, if there is one at least, and at most 2,048 links, and
+-- features below 64 that ascend in each row.
+use mathlib.Core.Path.{_≡_, refl, sym, _∙_, ap, ap₂}
+use mathlib.Core.Bool.{Bool, cond}
+use mathlib.Core.List.{List, [], _∷_, _++_, map, append-assoc, append-nil, List·Memᴰ, List·Memᴰ·head, List·Memᴰ·tail, List·Memᴰ·not-nil, List·Memᴰ·cases-cons}
+use mathlib.Core.Logic.{⊎-elim}
+use mathlib.Core.Option.{Option, none, some}
+use Prim.Native.Nat.{ℕ, zero, suc, _+_, _*_, _-_, _/_, _%_, _^_, _≤_, _<_}
+use native.Mathlib.Decide.{ℕ-discrete}
+use native.Mathlib.Nat.{add-zero, zero-add}
+use native.Mathlib.Omega.{arith}
+use borrow.Author.Tests.{ne-eqb, le-leb}
+use lib.Dec.{eqb}
+use lib.ListN.{length, getD, List·getD-append}
+use lib.Pow.{shr-shr}
+use Rattle.graphs.specs.Graph.{Graph, Reached, Tells, onward, andThen}
+use Rattle.graphs.specs.Rows.{Row, from, target}
+use Rattle.graphs.specs.Number.{countSome, canonical, written}
+use Rattle.graphs.specs.Large.{Ascending, linksIn}
+use Rattle.graphs.proofs.Form.{form-nonempty, form-links, form-ascending, form-features}
+use Rattle.decode.specs.Decode.{Taken, changed, takeTarget, takeLinks, takeRow, takeRows, bitOf, whole, decoded}
+use Rattle.encode.specs.Encode.{bitsFrom, encodedRow, encodedRows, encoded}
+use Rattle.encode.proofs.FeatureMap.{Within, bit-small, target-absent, target-first, target-later}
+
+-- the bit at i of the number that says which features stand
+bits-at : (links : List (ℕ × ℕ)) (f k i : ℕ) → i < k → (bitsFrom links f k / 2 ^ i) % 2 ≡ countSome (target links (f + i))
+unfolding bitsFrom
+bits-at links f zero i h = absurd (omega arith)
+bits-at links f (suc k) zero h =
+    let small : countSome (target links f) ≤ 1 = bit-small (target links f) in
+    let e : (countSome (target links f) + 2 * bitsFrom links (suc f) k) / 1 % 2 ≡ countSome (target links f) = omega arith in
+    e ∙ ap (λ (n : ℕ). countSome (target links n)) (sym (add-zero f))
+bits-at links f (suc k) (suc i) h =
+    let small : countSome (target links f) ≤ 1 = bit-small (target links f) in
+    let all : ℕ = countSome (target links f) + 2 * bitsFrom links (suc f) k in
+    let half : all / 2 ≡ bitsFrom links (suc f) k = omega arith in
+    let p : suc i ≡ 1 + i = omega arith in
+    let q : suc f + i ≡ f + suc i = omega arith in
+    ap (λ (n : ℕ). all / 2 ^ n % 2) p
+    ∙ ap (λ (n : ℕ). n % 2) (sym (shr-shr all 1 i) ∙ ap (λ (n : ℕ). n / 2 ^ i) half)
+    ∙ bits-at links (suc f) k i (omega arith)
+    ∙ ap (λ (n : ℕ). countSome (target links n)) q
+
+-- whether a feature stands
+abbrev stood : List (ℕ × ℕ) → ℕ → Bool
+stood links f = eqb (countSome (target links f)) 1
+
+getD-from : (make : ℕ → ℕ) (j n i : ℕ) → i < n → getD (map make (from j n)) i 0 ≡ make (j + i)
+unfolding from
+getD-from make j zero i h = absurd (omega arith)
+getD-from make j (suc n) zero h = ap make (sym (add-zero j))
+getD-from make j (suc n) (suc i) h =
+    let e : suc j + i ≡ j + suc i = omega arith in
+    getD-from make (suc j) n i (omega arith) ∙ ap make e
+
+-- the eight bytes of a row's map
+abbrev mapBytes : List (ℕ × ℕ) → List ℕ
+mapBytes links = map (λ k. bitsFrom links (8 * k) 8) (from 0 8)
+
+length-mapBytes : (links : List (ℕ × ℕ)) → length (mapBytes links) ≡ 8
+unfolding from
+length-mapBytes links = refl
+
+bit-stood : (links : List (ℕ × ℕ)) (rest : List ℕ) (f : ℕ) → f < 64 → bitOf (mapBytes links ++ rest) f ≡ stood links f
+unfolding bitOf
+bit-stood links rest f h =
+    let low : f / 8 < 8 = omega arith in
+    let place : 8 * (f / 8) + f % 8 ≡ f = omega arith in
+    let byte : getD (mapBytes links ++ rest) (f / 8) 0 ≡ bitsFrom links (8 * (f / 8)) 8 =
+    List·getD-append (mapBytes links) rest 0 (f / 8) (omega (arith, length-mapBytes links))
+    ∙ getD-from (λ k. bitsFrom links (8 * k) 8) 0 8 (f / 8) low
+    ∙ ap (λ (n : ℕ). bitsFrom links (8 * n) 8) (zero-add (f / 8)) in
+    ap (λ (n : ℕ). eqb n 1)
+    (ap (λ (n : ℕ). n / 2 ^ (f % 8) % 2) byte
+    ∙ bits-at links (8 * (f / 8)) 8 (f % 8) (omega arith)
+    ∙ ap (λ (n : ℕ). countSome (target links n)) place)
+
+-- The links are taken again.
+
+abbrev took : {X : Type 0} → X → ℕ → List ℕ → Option (Taken X)
+took x room rest = some (record { value = x; room = room; rest = rest })
+
+module _ (stands : ℕ → Bool) (room : ℕ) (rest : List ℕ) where
+  abbrev Agree : ℕ → ℕ → List (ℕ × ℕ) → Type 0
+  Agree f k links = (g : ℕ) → f ≤ g → g < f + k → stands g ≡ stood links g
+
+  links-taken : (links : List (ℕ × ℕ)) (f k total : ℕ) → Ascending links → Within f k links → Agree f k links →
+      total ≡ length links + room → takeLinks stands (from f k) total (map (λ l. l .1) links ++ rest) ≡ took links room rest
+  unfolding takeLinks from target
+  links-taken [] f zero total up inside agree e =
+      let q : total ≡ room = omega arith in
+      ap (λ (n : ℕ). took {X = List (ℕ × ℕ)} [] n rest) q
+  links-taken (l ∷ ls) f zero total up inside agree e = absurd (omega (arith, inside l (List·Memᴰ·head refl)))
+  links-taken [] f (suc k) total up inside agree e =
+      ap (λ (t : Bool). cond t (takeTarget f (takeLinks stands (from (suc f) k)) total rest) (takeLinks stands (from (suc f) k) total rest))
+      (agree f (omega arith) (omega arith))
+      ∙ links-taken [] (suc f) k total tt (λ l m. absurd (List·Memᴰ·not-nil m)) (λ g low high. agree g (omega arith) (omega arith)) e
+  links-taken (l ∷ ls) f (suc k) total up inside agree e =
+      go (ℕ-discrete (l .0) f) (links-taken ls (suc f) k (length ls + room) (up .1))
+      (λ w a. links-taken (l ∷ ls) (suc f) k total up w a e)
+    where
+      After : List (ℕ × ℕ) → ℕ → Type 0
+      After ms n = takeLinks stands (from (suc f) k) n (map (λ l. l .1) ms ++ rest) ≡ took ms room rest
+
+      go : Dec (l .0 ≡ f) →
+          (Within (suc f) k ls → Agree (suc f) k ls → length ls + room ≡ length ls + room → After ls (length ls + room)) →
+          (Within (suc f) k (l ∷ ls) → Agree (suc f) k (l ∷ ls) → After (l ∷ ls) total) →
+          cond (stands f) (takeTarget f (takeLinks stands (from (suc f) k)) total (l .1 ∷ (map (λ l. l .1) ls ++ rest)))
+          (takeLinks stands (from (suc f) k) total (l .1 ∷ (map (λ l. l .1) ls ++ rest)))
+          ≡ took (l ∷ ls) room rest
+      go (yes q) later whole =
+          let n : total ≡ suc (length ls + room) = omega arith in
+          ap₂
+          (λ (t : Bool) (m : ℕ).
+          cond t (takeTarget f (takeLinks stands (from (suc f) k)) m (l .1 ∷ (map (λ l. l .1) ls ++ rest)))
+          (takeLinks stands (from (suc f) k) m (l .1 ∷ (map (λ l. l .1) ls ++ rest))))
+          (agree f (omega arith) (omega arith) ∙ ap (λ (o : Option ℕ). eqb (countSome o) 1) (target-first f l ls q))
+          n
+          ∙ ap (onward (changed λ ms. (f, l .1) ∷ ms))
+          (later (λ m i. omega (arith, up .0 m i, inside m (List·Memᴰ·tail i)))
+          (λ g low high.
+          agree g (omega arith) (omega arith) ∙ ap (λ (o : Option ℕ). eqb (countSome o) 1) (target-later g l ls (λ (d : l .0 ≡ g). omega arith)))
+          refl)
+          ∙ ap (λ (h : ℕ). took {X = List (ℕ × ℕ)} ((h, l .1) ∷ ls) room rest) (sym q)
+      go (no d) later whole =
+          let low : f < l .0 = omega (arith, inside l (List·Memᴰ·head refl)) in
+          let above : (m : ℕ × ℕ) → List·Memᴰ m (l ∷ ls) → f < m .0 =
+          λ m i. ⊎-elim (λ (e : m ≡ l). omega (arith, ap (λ (x : ℕ × ℕ). x .0) e)) (λ n. omega (arith, up .0 m n)) (List·Memᴰ·cases-cons i) in
+          ap
+          (λ (t : Bool).
+          cond t (takeTarget f (takeLinks stands (from (suc f) k)) total (l .1 ∷ (map (λ l. l .1) ls ++ rest)))
+          (takeLinks stands (from (suc f) k) total (l .1 ∷ (map (λ l. l .1) ls ++ rest))))
+          (agree f (omega arith) (omega arith)
+          ∙ ap (λ (o : Option ℕ). eqb (countSome o) 1) (target-absent f (l ∷ ls) (λ m i (e : m .0 ≡ f). omega (arith, above m i))))
+          ∙ whole (λ m i. omega (arith, above m i, inside m i)) (λ g low high. agree g (omega arith) (omega arith))
+
+-- a row whose features ascend and are below 64
+abbrev pub Proper : Row ℕ → Type 0
+Proper r = Ascending (r .1) × ((l : ℕ × ℕ) → List·Memᴰ l (r .1) → l .0 < 64)
+
+row-taken : (r : Row ℕ) (room : ℕ) (rest : List ℕ) → Proper r →
+    takeRow (length (r .1) + room) (encodedRow r ++ rest) ≡ took r room rest
+unfolding takeRow encodedRow from
+row-taken r room rest (up, low) =
+    let numbers : List ℕ = map (λ l. l .1) (r .1) in
+    let bytes : List ℕ = (mapBytes (r .1) ++ numbers) ++ rest in
+    ap
+    (λ (t : Bool).
+    cond t
+    (onward (changed λ ls. (r .0, ls)) (takeLinks (bitOf bytes) (from 0 64) (length (r .1) + room) (numbers ++ rest)))
+    none)
+    (le-leb 9 (length (encodedRow r ++ rest)) (omega arith))
+    ∙ ap (onward (changed λ ls. (r .0, ls)))
+    (links-taken (bitOf bytes) room rest (r .1) 0 64 (length (r .1) + room) up (λ l m. omega (arith, low l m))
+    (λ g _ high.
+    ap (λ (bs : List ℕ). bitOf bs g) (append-assoc (mapBytes (r .1)) numbers rest) ∙ bit-stood (r .1) (numbers ++ rest) g high)
+    refl)
+
+rows-taken : (rows : List (Row ℕ)) (room total : ℕ) (rest : List ℕ) → ((r : Row ℕ) → List·Memᴰ r rows → Proper r) →
+    total ≡ linksIn rows + room → takeRows (length rows) total (encodedRows rows ++ rest) ≡ took rows room rest
+unfolding takeRows encodedRows linksIn
+rows-taken [] room total rest proper e =
+    let q : total ≡ room = omega arith in
+    ap (λ (n : ℕ). took {X = List (Row ℕ)} [] n rest) q
+rows-taken (r ∷ rs) room total rest proper e =
+    let q : total ≡ length (r .1) + (linksIn rs + room) = omega arith in
+    ap₂
+    (λ (n : ℕ) (bytes : List ℕ).
+    andThen (takeRow n bytes) λ t. onward (changed λ rs. t .value ∷ rs) (takeRows (length rs) (t .room) (t .rest)))
+    q
+    (append-assoc (encodedRow r) (encodedRows rs) rest)
+    ∙ ap
+    (λ (o : Option (Taken (Row ℕ))).
+    andThen o λ t. onward (changed λ rs. t .value ∷ rs) (takeRows (length rs) (t .room) (t .rest)))
+    (row-taken r (linksIn rs + room) (encodedRows rs ++ rest) (proper r (List·Memᴰ·head refl)))
+    ∙ ap (onward (changed λ rs. r ∷ rs)) (rows-taken rs room (linksIn rs + room) rest (λ x m. proper x (List·Memᴰ·tail m)) refl)
+
+-- The round trip.
+pub decode-encode : (rows : List (Row ℕ)) → 0 < length rows → linksIn rows ≤ 2048 → ((r : Row ℕ) → List·Memᴰ r rows → Proper r) →
+    decoded (encoded rows) ≡ some rows
+unfolding decoded encoded
+decode-encode rows some-row few proper =
+    ap (λ (t : Bool). cond t none (whole (takeRows (length rows) 2048 (encodedRows rows))))
+    (ne-eqb (length rows) 0 (λ (e : length rows ≡ 0). omega arith))
+    ∙ ap (λ (bytes : List ℕ). whole (takeRows (length rows) 2048 bytes)) (sym (append-nil (encodedRows rows)))
+    ∙ ap whole (rows-taken rows (2048 - linksIn rows) 2048 [] proper (omega arith))
+
+-- So what is written of a graph is read again.
+pub written-decodes : {A : Type 0} (same : A → A → Bool) (tells : Tells same) (g : Graph ℕ A) →
+    ((v w : A) (f : ℕ) → Reached g v → g .link v f ≡ some w → f < 64) → (form : List (Row ℕ)) → canonical same g ≡ written form →
+    decoded (encoded form) ≡ some form
+written-decodes same tells g narrow form e =
+    decode-encode form (form-nonempty same tells g narrow form e) (form-links same tells g narrow form e)
+    (λ r m. (form-ascending same tells g narrow form e r m, form-features same tells g narrow form e r m))
