@@ -8,9 +8,9 @@ use Rattle.graphs.specs.Number.{canonical}
 use Rattle.lattice.specs.declared.Opened.{Opened}
 use Rattle.lattice.specs.declared.Opened.the-variants as opened
 use Rattle.lattice.specs.Reply as table
-use Rattle.record.specs.declared.Written.{Written}
-use Rattle.record.specs.declared.Written.the-variants as written
-use Rattle.record.specs.Encode.{Outcome, writtenOut}
+use Rattle.encode.specs.declared.Written.{Written}
+use Rattle.encode.specs.declared.Written.the-variants as written
+use Rattle.encode.specs.Encode.{Outcome, writtenOut}
 use Rattle.record.specs.Read as graph
 use Rattle.engine.specs.declared.Side.{Side}
 use Rattle.engine.specs.declared.Side.the-variants.{First, Second}

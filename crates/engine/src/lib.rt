@@ -1,13 +1,14 @@
 // The public calls on bytes: a table, one or two records, and an output that the caller lends. Every call answers a `Reply`; on a
 // refusal no byte of the output is written.
 
+use encode::Written;
 use lattice::Opened;
 use lattice::TableFault;
 use record::GraphFault;
 use record::Verdict;
-use record::Written;
 ghost use mathlib.Core.Path.{_≡_};
-ghost use Rattle.engine.specs.Reply.{rewriting};
+ghost use Rattle.record.specs.Read.{reading};
+ghost use Rattle.engine.specs.Reply.{replyOf, rewriting, rewritten};
 
 // Which of two graphs is refused; a lone graph counts as the first.
 pub enum Side {
@@ -39,7 +40,10 @@ pub fn rewrite(n: usize, table: &[u8], bytes: &[u8], out: &mut [u8]) -> Reply
 }
 
 // The same over an accepted table with n types.
-fn rewrite_over(n: usize, bytes: &[u8], out: &mut [u8]) -> Reply {
+fn rewrite_over(n: usize, bytes: &[u8], out: &mut [u8]) -> Reply
+    ensures { λ r. ⌜ r ≡ rewritten (reading n (now (bytes .entry))) (now (out .entry)) .reply ⌝ }
+    ensures { λ r. ⌜ now (out .exit) ≡ rewritten (reading n (now (bytes .entry))) (now (out .entry)) .output ⌝ }
+{
     let reading = record::read(n, bytes);
     let graph = reading.graph;
     let verdict = reading.verdict;
@@ -47,19 +51,25 @@ fn rewrite_over(n: usize, bytes: &[u8], out: &mut [u8]) -> Reply {
         Verdict::Refused(fault) => Reply::Graph(fault, Side::First),
         Verdict::Accepted => {
             let nodes = graph.nodes;
-            let written = record::write(
+            reply_of(encode::write(
                 nodes,
                 &graph.types,
                 &graph.first,
                 &graph.features,
                 &graph.targets,
                 out,
-            );
-            match written {
-                Written::Length(length) => Reply::Length(length),
-                Written::TooLarge => Reply::TooLarge,
-                Written::NoRoom => Reply::NoRoom,
-            }
+            ))
         }
+    }
+}
+
+// What writing a result answers, as a reply.
+fn reply_of(written: Written) -> Reply
+    ensures { λ r. ⌜ r ≡ replyOf written ⌝ }
+{
+    match written {
+        Written::Length(length) => Reply::Length(length),
+        Written::TooLarge => Reply::TooLarge,
+        Written::NoRoom => Reply::NoRoom,
     }
 }
