@@ -18,7 +18,7 @@ use Rattle.graphs.specs.Rows.{Row, from, target, linksOf}
 use Rattle.graphs.specs.Number.{canonical, counted, indexOf, linkCount, outDegree, manyLinks, rowOf, visit, written}
 use Rattle.graphs.proofs.Lists.{mem-reverse, mem-unreverse, getD-index, index-within, tells-eqb}
 use Rattle.graphs.proofs.Rows.{linksOf-length}
-use Rattle.graphs.proofs.Visited.{Grown, visit-all}
+use Rattle.graphs.proofs.Form.Visited.{Grown, visit-all}
 use Rattle.encode.specs.declared.Written.{Written}
 use Rattle.encode.specs.declared.Written.the-variants as outcome
 use Rattle.visits.specs.Arrays.{Sound, linksAt, rowsOf, targetsAt, visitTargets}

@@ -22,15 +22,15 @@ use Rattle.graphs.proofs.Below as Below
 use Rattle.graphs.proofs.Finite as Finite
 use Rattle.graphs.proofs.Product as Product
 use Rattle.graphs.proofs.Order as Order
-use Rattle.graphs.proofs.Invariant as Invariant
-use Rattle.graphs.proofs.Canonical as Canonical
-use Rattle.graphs.proofs.Large as Large
-use Rattle.graphs.proofs.Unifier as Unifier
-use Rattle.graphs.proofs.Beside.{Operands, any-size-operands}
-use Rattle.graphs.proofs.Outcome as Outcome
-use Rattle.graphs.proofs.DifferenceComputed as Difference
-use Rattle.graphs.proofs.DifferenceComputed.{Setting}
-use Rattle.graphs.proofs.Wanted as Wanted
+use Rattle.graphs.proofs.Form.Invariant as Invariant
+use Rattle.graphs.proofs.Form.Canonical as Canonical
+use Rattle.graphs.proofs.Form.Large as Large
+use Rattle.graphs.proofs.Unification.Unifier as Unifier
+use Rattle.graphs.proofs.Unification.Beside.{Operands, any-size-operands}
+use Rattle.graphs.proofs.Unification.Outcome as Outcome
+use Rattle.graphs.proofs.Difference.Computed as Difference
+use Rattle.graphs.proofs.Difference.Computed.{Setting}
+use Rattle.graphs.proofs.Difference.Wanted as Wanted
 
 -- features below 64, as in every graph of any size
 abbrev pub Narrow : {L A : Type 0} → Graph L A → Type 0

@@ -13,7 +13,7 @@ use Rattle.graphs.specs.Number.{canonical, written}
 use Rattle.graphs.specs.Large.{linksIn}
 use Rattle.graphs.proofs.Lists.{from-range, tells-eqb}
 use Rattle.graphs.proofs.Search.{true-false}
-use Rattle.graphs.proofs.Large.{canonical-fits}
+use Rattle.graphs.proofs.Form.Large.{canonical-fits}
 use Rattle.lattice.specs.Labels.{typeLabels}
 use Rattle.record.specs.Read.{graphOfRows, reading, accepted}
 use Rattle.record.proofs.Readings.{Stands, InRange, reading-says, in-range}

@@ -15,8 +15,8 @@ use Rattle.graphs.specs.Number.{Canonical, canonical, written}
 use Rattle.graphs.proofs.Walk.{some-injective, walk-append}
 use Rattle.graphs.proofs.Lists.{tells-eqb}
 use Rattle.graphs.proofs.Search.{not-true}
-use Rattle.graphs.proofs.Canonical.{canonical-idempotent, canonical-exact}
-use Rattle.graphs.proofs.Form.{
+use Rattle.graphs.proofs.Form.Canonical.{canonical-idempotent, canonical-exact}
+use Rattle.graphs.proofs.Form.Rules.{
   form-nodes,
   form-short,
   form-links,

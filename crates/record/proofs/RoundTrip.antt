@@ -17,7 +17,7 @@ use Rattle.graphs.specs.Graph.{Graph, Reached, Tells, onward, andThen}
 use Rattle.graphs.specs.Rows.{Row, from, target}
 use Rattle.graphs.specs.Number.{countSome, canonical, written}
 use Rattle.graphs.specs.Large.{Ascending, linksIn}
-use Rattle.graphs.proofs.Form.{form-nonempty, form-links, form-ascending, form-features}
+use Rattle.graphs.proofs.Form.Rules.{form-nonempty, form-links, form-ascending, form-features}
 use Rattle.decode.specs.Decode.{Taken, changed, takeTarget, takeLinks, takeRow, takeRows, bitOf, whole, decoded}
 use Rattle.encode.specs.Encode.{bitsFrom, encodedRow, encodedRows, encoded}
 use Rattle.encode.proofs.FeatureMap.{Within, bit-small, target-absent, target-first, target-later}

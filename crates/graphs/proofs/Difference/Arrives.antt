@@ -11,8 +11,8 @@ use Rattle.graphs.specs.Label.{Labels}
 use Rattle.graphs.specs.Graph.{Graph, Below, follow, walk, Reached, Corefer}
 use Rattle.graphs.specs.Unify.{Joined, left, right, flip, chain, down}
 use Rattle.graphs.proofs.Walk.{some-injective, some-unique, onward-some, snoc-induction, follow-last, walk-snoc}
-use Rattle.graphs.proofs.Related.{Related, roots, back, next, feat}
-use Rattle.graphs.proofs.Beside.{Leads, linkBeside, RelatedBeside, leads-nil, leads-step, leads-last, related-reached}
+use Rattle.graphs.proofs.Unification.Related.{Related, roots, back, next, feat}
+use Rattle.graphs.proofs.Unification.Beside.{Leads, linkBeside, RelatedBeside, leads-nil, leads-step, leads-last, related-reached}
 
 module _ {N : Type 0} (link : N → ℕ → Option N) (r s : N) where
   -- the path leads from the class of x to that of z

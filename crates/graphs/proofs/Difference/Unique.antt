@@ -11,8 +11,8 @@ use Rattle.graphs.specs.Difference.{Link}
 use Rattle.graphs.proofs.Walk.{reached-link}
 use Rattle.graphs.proofs.Below.{map-below, below-antisym}
 use Rattle.graphs.proofs.Search.{true-false}
-use Rattle.graphs.proofs.Induct.{children-first}
-use Rattle.graphs.proofs.DifferenceLaws.{
+use Rattle.graphs.proofs.Difference.Induct.{children-first}
+use Rattle.graphs.proofs.Difference.Laws.{
   Into,
   Leader,
   DifferenceLaws,
@@ -25,7 +25,7 @@ use Rattle.graphs.proofs.DifferenceLaws.{
   Idle,
   withLinks,
 }
-use Rattle.graphs.proofs.Kept.{kept-reached}
+use Rattle.graphs.proofs.Difference.Kept.{kept-reached}
 
 -- the leads agree on the links of s
 abbrev pub Agree : {L A : Type 0} → Graph L A → (A → Link A → Link A) → (A → Link A → Link A) → Type 0

@@ -14,8 +14,8 @@ use Rattle.graphs.specs.Map.{NodeMap}
 use Rattle.graphs.specs.Difference.{Link}
 use Rattle.graphs.proofs.Walk.{some-injective, some-unique, snoc-induction, follow-last, reached-link, walk-snoc}
 use Rattle.graphs.proofs.Below.{walk-map}
-use Rattle.graphs.proofs.Induct.{parents-first}
-use Rattle.graphs.proofs.DifferenceLaws.{
+use Rattle.graphs.proofs.Difference.Induct.{parents-first}
+use Rattle.graphs.proofs.Difference.Laws.{
   Into,
   Leader,
   Enters,
@@ -28,7 +28,7 @@ use Rattle.graphs.proofs.DifferenceLaws.{
   UnderOver,
   withLinks,
 }
-use Rattle.graphs.proofs.Kept.{
+use Rattle.graphs.proofs.Difference.Kept.{
   last-link,
   entered,
   root-path,

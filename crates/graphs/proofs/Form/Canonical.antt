@@ -29,9 +29,9 @@ use Rattle.graphs.proofs.Walk.{some-injective, onward-some, reached-roo
 use Rattle.graphs.proofs.Lists.{mem-reverse, mem-unreverse, reverse-snoc, getD-index, index-injective, index-first, tells-eqb}
 use Rattle.graphs.proofs.Rows.{target-linksOf}
 use Rattle.graphs.proofs.Below.{same-sym, same-trans}
-use Rattle.graphs.proofs.Bisimilar.{Alike, absent, present, Bisimilar, bisimilar-same}
-use Rattle.graphs.proofs.Invariant.{bisimilar-canonical, same-canonical}
-use Rattle.graphs.proofs.Visited.{Grown, visit-all, visit-first}
+use Rattle.graphs.proofs.Form.Bisimilar.{Alike, absent, present, Bisimilar, bisimilar-same}
+use Rattle.graphs.proofs.Form.Invariant.{bisimilar-canonical, same-canonical}
+use Rattle.graphs.proofs.Form.Visited.{Grown, visit-all, visit-first}
 
 module _ {L A : Type 0} (same : A → A → Bool) (g : Graph L A) where
   -- What a written form was made of.

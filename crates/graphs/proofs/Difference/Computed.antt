@@ -11,14 +11,14 @@ use Rattle.graphs.specs.Graph.{Graph, AnySize, Below, SameMeaning, Reach
 use Rattle.graphs.specs.Map.{NodeMap}
 use Rattle.graphs.specs.Unify.{IsUnification}
 use Rattle.graphs.specs.Difference.{IsResidual, Link, StrictOrder, IsWanted, meetOver, lead, keeps, keptLink, difference}
-use Rattle.graphs.proofs.Beside.{Operands}
-use Rattle.graphs.proofs.DifferenceLaws.{DifferenceLaws}
-use Rattle.graphs.proofs.Kept.{below-difference}
-use Rattle.graphs.proofs.Restores.{restores-greatest}
-use Rattle.graphs.proofs.Lead.{lead-one, lead-grouped, lead-leads}
-use Rattle.graphs.proofs.Keeps.{root-kept, keep-reason, keep-idle, kept-links}
-use Rattle.graphs.proofs.Wanted.{residual-wanted, label-under, wanted-above, wanted-restores, wanted-greatest}
-use Rattle.graphs.proofs.DifferenceTheorems.{
+use Rattle.graphs.proofs.Unification.Beside.{Operands}
+use Rattle.graphs.proofs.Difference.Laws.{DifferenceLaws}
+use Rattle.graphs.proofs.Difference.Kept.{below-difference}
+use Rattle.graphs.proofs.Difference.Restores.{restores-greatest}
+use Rattle.graphs.proofs.Difference.Lead.{lead-one, lead-grouped, lead-leads}
+use Rattle.graphs.proofs.Difference.Keeps.{root-kept, keep-reason, keep-idle, kept-links}
+use Rattle.graphs.proofs.Difference.Wanted.{residual-wanted, label-under, wanted-above, wanted-restores, wanted-greatest}
+use Rattle.graphs.proofs.Difference.Consequences.{
   laws-restore,
   laws-most-general,
   laws-nothing-more-general,

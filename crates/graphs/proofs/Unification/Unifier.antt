@@ -12,7 +12,7 @@ use Rattle.graphs.specs.Graph.{Graph, walk, Reached, Corefer, Below, Sam
 use Rattle.graphs.specs.Unify.{Joined, left, right, flip, chain, down, UnderClass, ClassMeet, Cycle, Clash, IsUnification}
 use Rattle.graphs.proofs.Walk.{some-unique, walk-append, walk-snoc}
 use Rattle.graphs.proofs.Search.{true-false}
-use Rattle.graphs.proofs.Deep.{Loop}
+use Rattle.graphs.proofs.Unification.Deep.{Loop}
 
 -- coreference passes down a feature
 pub corefer-down : {L C : Type 0} (k : Graph L C) (p q : List ℕ) (f : ℕ) → Corefer k p q →

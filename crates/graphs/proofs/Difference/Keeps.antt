@@ -37,10 +37,10 @@ use Rattle.graphs.specs.Difference.{
   keptLink,
 }
 use Rattle.graphs.proofs.Walk.{none-some, some-injective, reached-link}
-use Rattle.graphs.proofs.Induct.{short-walks}
+use Rattle.graphs.proofs.Difference.Induct.{short-walks}
 use Rattle.graphs.proofs.Lists.{mem-features}
 use Rattle.graphs.proofs.Search.{true-false, cond-some, anyOf-true, anyOf-finds}
-use Rattle.graphs.proofs.Select.{
+use Rattle.graphs.proofs.Difference.Select.{
   both-true,
   true-both,
   either-true,
@@ -51,9 +51,9 @@ use Rattle.graphs.proofs.Select.{
   some-holds,
   select-listed,
 }
-use Rattle.graphs.proofs.Beside.{Operands}
-use Rattle.graphs.proofs.DifferenceLaws.{Leader, Reason, atRoot, twoGroups, bareGroup, ownLabel, keptBelow, Idle}
-use Rattle.graphs.proofs.Groups.{same-link, incoming-into, bare-enters, not-bare-enters}
+use Rattle.graphs.proofs.Unification.Beside.{Operands}
+use Rattle.graphs.proofs.Difference.Laws.{Leader, Reason, atRoot, twoGroups, bareGroup, ownLabel, keptBelow, Idle}
+use Rattle.graphs.proofs.Difference.Groups.{same-link, incoming-into, bare-enters, not-bare-enters}
 
 module _ {𝓛 : Labels} {A B : Type 0} {sameA : A → A → Bool} {sameB : B → B → Bool} {s : Graph (𝓛 .L) A} {ss : List A}
     {g : Graph (𝓛 .L) B} {gs : List B} (operands : Operands sameA sameB s ss g gs) (over : B → A)

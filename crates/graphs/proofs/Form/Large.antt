@@ -27,8 +27,8 @@ use Rattle.graphs.specs.Large.{Distinct, ManyNodes, ManyLinks, Ascending
 use Rattle.graphs.proofs.Walk.{onward-some, reached-root, reached-link}
 use Rattle.graphs.proofs.Lists.{mem-features, flatMap-member, flatMap-source, distinct-bound, distinct-flatMap}
 use Rattle.graphs.proofs.Rows.{linksOf-length, linksOf-source, linksOf-member, linksOf-ascending}
-use Rattle.graphs.proofs.Visited.{visit-many}
-use Rattle.graphs.proofs.Canonical.{seen-reached, reached-seen, seen-distinct, seen-short}
+use Rattle.graphs.proofs.Form.Visited.{visit-many}
+use Rattle.graphs.proofs.Form.Canonical.{seen-reached, reached-seen, seen-distinct, seen-short}
 
 -- Links of nodes that are listed.
 

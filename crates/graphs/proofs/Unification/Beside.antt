@@ -25,7 +25,7 @@ use Rattle.graphs.specs.Graph.{Graph, Tells, onward, follow, walk, Reach
 use Rattle.graphs.specs.Unify.{Joined, left, right, flip, chain, down, beside, sameBeside, nodesBeside}
 use Rattle.graphs.proofs.Walk.{some-injective, onward-some, snoc-induction, follow-last, walk-snoc}
 use Rattle.graphs.proofs.Search.{true-false}
-use Rattle.graphs.proofs.Related.{Related, roots, back, next, feat, Listing}
+use Rattle.graphs.proofs.Unification.Related.{Related, roots, back, next, feat, Listing}
 
 pub same-beside : {A B : Type 0} (s : A → A → Bool) (t : B → B → Bool) → Tells s → Tells t → Tells (sameBeside s t)
 same-beside s t hs ht (inl v) (inl w) = (λ e. ap inl (hs v w .0 e), λ e. hs v w .1 (inl-injective v w e))

@@ -13,12 +13,12 @@ use Rattle.graphs.specs.Unify.{UnderClass, IsUnification}
 use Rattle.graphs.specs.Difference.{Link, select}
 use Rattle.graphs.proofs.Below.{map-below, below-trans, below-antisym}
 use Rattle.graphs.proofs.Finite.{features-up, acyclic-up, consistent-up}
-use Rattle.graphs.proofs.Unifier.{unification-left, unification-right, unification-greatest}
-use Rattle.graphs.proofs.Select.{select-listed, select-length}
-use Rattle.graphs.proofs.DifferenceLaws.{DifferenceLaws, withLinks}
-use Rattle.graphs.proofs.Kept.{kept-walk, kept-reached, reached-kept, below-difference}
-use Rattle.graphs.proofs.Restores.{restores-greatest}
-use Rattle.graphs.proofs.MostGeneral.{most-general}
+use Rattle.graphs.proofs.Unification.Unifier.{unification-left, unification-right, unification-greatest}
+use Rattle.graphs.proofs.Difference.Select.{select-listed, select-length}
+use Rattle.graphs.proofs.Difference.Laws.{DifferenceLaws, withLinks}
+use Rattle.graphs.proofs.Difference.Kept.{kept-walk, kept-reached, reached-kept, below-difference}
+use Rattle.graphs.proofs.Difference.Restores.{restores-greatest}
+use Rattle.graphs.proofs.Difference.MostGeneral.{most-general}
 
 module _ {𝓛 : Labels} {A B : Type 0} {s : Graph (𝓛 .L) A} {g : Graph (𝓛 .L) B} {over : B → A}
     {lead : A → Link A → Link A} {keep : A → Bool} {wanted : A → 𝓛 .L} {kept : A → ℕ → Option A}

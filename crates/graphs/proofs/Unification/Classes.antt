@@ -28,7 +28,7 @@ use Rattle.graphs.proofs.Search.{
   those-length,
   those-fewer-strict,
 }
-use Rattle.graphs.proofs.Related.{Related, roots, back, next, feat, Listing, Classes, related-constant, related-listed}
+use Rattle.graphs.proofs.Unification.Related.{Related, roots, back, next, feat, Listing, Classes, related-constant, related-listed}
 
 both-some : {A B : Type 0} (o : Option A) (p : Option B) (v : A) (w : B) → both o p ≡ some (v, w) → (o ≡ some v) × (p ≡ some w)
 both-some none p v w e = none-some e

@@ -25,12 +25,12 @@ use Rattle.graphs.proofs.Walk.{
 }
 use Rattle.graphs.proofs.Below.{walk-map, map-below, below-trans}
 use Rattle.graphs.proofs.Finite.{above-any-size}
-use Rattle.graphs.proofs.Beside.{linkBeside}
-use Rattle.graphs.proofs.Arrives.{Lies, lies-path, lies-link, related-cases, link-covered}
-use Rattle.graphs.proofs.Unifier.{joined-least}
-use Rattle.graphs.proofs.Select.{search-list}
-use Rattle.graphs.proofs.Induct.{parents-first, children-first}
-use Rattle.graphs.proofs.DifferenceLaws.{
+use Rattle.graphs.proofs.Unification.Beside.{linkBeside}
+use Rattle.graphs.proofs.Difference.Arrives.{Lies, lies-path, lies-link, related-cases, link-covered}
+use Rattle.graphs.proofs.Unification.Unifier.{joined-least}
+use Rattle.graphs.proofs.Difference.Select.{search-list}
+use Rattle.graphs.proofs.Difference.Induct.{parents-first, children-first}
+use Rattle.graphs.proofs.Difference.Laws.{
   Into,
   Leader,
   Enters,
@@ -44,7 +44,7 @@ use Rattle.graphs.proofs.DifferenceLaws.{
   UnderOver,
   withLinks,
 }
-use Rattle.graphs.proofs.Kept.{entered, root-path, no-link-to-root, enters-into, kept-walk, below-difference}
+use Rattle.graphs.proofs.Difference.Kept.{entered, root-path, no-link-to-root, enters-into, kept-walk, below-difference}
 
 module _ {𝓛 : Labels} {A B E : Type 0} {s : Graph (𝓛 .L) A} {g : Graph (𝓛 .L) B} {over : B → A}
     {lead : A → Link A → Link A} {keep : A → Bool} {wanted : A → 𝓛 .L} {kept : A → ℕ → Option A}

@@ -22,11 +22,11 @@ use Rattle.graphs.specs.Graph.{Graph}
 use Rattle.graphs.specs.Map.{NodeMap}
 use Rattle.graphs.specs.Difference.{Link, StrictOrder, incoming, touch, groupOf, lead}
 use Rattle.graphs.proofs.Walk.{some-unique}
-use Rattle.graphs.proofs.Beside.{Operands}
-use Rattle.graphs.proofs.DifferenceLaws.{Into, Leader, Enters, Grouped, touching, alike, flip, chain}
-use Rattle.graphs.proofs.Kept.{enters-into}
-use Rattle.graphs.proofs.Least.{earlier-one, leastOf-listed, leastOf-least, leastOf-one}
-use Rattle.graphs.proofs.Groups.{Closed, spread-closed, spread-keeps, spread-within, touch-enters, incoming-into}
+use Rattle.graphs.proofs.Unification.Beside.{Operands}
+use Rattle.graphs.proofs.Difference.Laws.{Into, Leader, Enters, Grouped, touching, alike, flip, chain}
+use Rattle.graphs.proofs.Difference.Kept.{enters-into}
+use Rattle.graphs.proofs.Difference.Least.{earlier-one, leastOf-listed, leastOf-least, leastOf-one}
+use Rattle.graphs.proofs.Difference.Groups.{Closed, spread-closed, spread-keeps, spread-within, touch-enters, incoming-into}
 
 module _ {𝓛 : Labels} {A B : Type 0} {sameA : A → A → Bool} {sameB : B → B → Bool} {s : Graph (𝓛 .L) A} {ss : List A}
     {g : Graph (𝓛 .L) B} {gs : List B} {over : B → A} (operands : Operands sameA sameB s ss g gs) (map : NodeMap 𝓛 s g over) where

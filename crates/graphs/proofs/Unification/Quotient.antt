@@ -12,9 +12,9 @@ use Rattle.graphs.specs.Label.{Labels}
 use Rattle.graphs.specs.Graph.{Graph, follow, walk, Reached, Corefer}
 use Rattle.graphs.specs.Unify.{Joined, left, flip, chain, down, UnderClass, ClassMeet, IsUnification, labelBeside}
 use Rattle.graphs.proofs.Walk.{some-injective, some-unique, snoc-induction, follow-last, walk-snoc}
-use Rattle.graphs.proofs.Related.{roots}
-use Rattle.graphs.proofs.Unifier.{joined-least}
-use Rattle.graphs.proofs.Beside.{
+use Rattle.graphs.proofs.Unification.Related.{roots}
+use Rattle.graphs.proofs.Unification.Unifier.{joined-least}
+use Rattle.graphs.proofs.Unification.Beside.{
   Leads,
   ReachedBeside,
   RelatedBeside,

@@ -29,7 +29,7 @@ use Rattle.graphs.specs.Number.{
   manyNodes,
   manyLinks,
 }
-use Rattle.graphs.proofs.Bisimilar.{Alike, absent, present, Bisimilar, Together, same-bisimilar}
+use Rattle.graphs.proofs.Form.Bisimilar.{Alike, absent, present, Bisimilar, Together, same-bisimilar}
 
 -- lists of related elements
 pub data Pointwise {A B : Type 0} (R : A → B → Type 0) : List A → List B → Type 0 where

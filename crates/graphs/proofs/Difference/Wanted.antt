@@ -9,8 +9,8 @@ use Rattle.graphs.specs.Graph.{Graph}
 use Rattle.graphs.specs.Map.{NodeMap}
 use Rattle.graphs.specs.Difference.{IsResidual, IsWanted, meetWhere, meetOver}
 use Rattle.graphs.proofs.Search.{true-false}
-use Rattle.graphs.proofs.Beside.{Operands}
-use Rattle.graphs.proofs.DifferenceLaws.{UnderOver}
+use Rattle.graphs.proofs.Unification.Beside.{Operands}
+use Rattle.graphs.proofs.Difference.Laws.{UnderOver}
 
 module _ {𝓛 : Labels} (lattice : Lattice 𝓛) where
   -- The meet of the labels that a test picks is the greatest label below them.

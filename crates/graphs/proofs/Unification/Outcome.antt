@@ -32,7 +32,7 @@ use Rattle.graphs.specs.Unify.{
 use Rattle.graphs.proofs.Below.{below-trans}
 use Rattle.graphs.proofs.Finite.{same-any-size}
 use Rattle.graphs.proofs.Search.{true-false, not-true, anyOf-true, anyOf-finds, those, those-sound, those-finds}
-use Rattle.graphs.proofs.Unifier.{
+use Rattle.graphs.proofs.Unification.Unifier.{
   below-no-cycle,
   below-no-clash,
   unification-left,
@@ -42,10 +42,10 @@ use Rattle.graphs.proofs.Unifier.{
   unification-cycle,
   unification-clash,
 }
-use Rattle.graphs.proofs.Quotient.{quotient-reached}
-use Rattle.graphs.proofs.Beside.{Operands, tells-beside, listed-reached}
-use Rattle.graphs.proofs.Deep.{deep-walk, walk-deep, long-loop, loop-walk}
-use Rattle.graphs.proofs.ClassGraph.{class-quotient, class-unification, class-reached, class-features}
+use Rattle.graphs.proofs.Unification.Quotient.{quotient-reached}
+use Rattle.graphs.proofs.Unification.Beside.{Operands, tells-beside, listed-reached}
+use Rattle.graphs.proofs.Unification.Deep.{deep-walk, walk-deep, long-loop, loop-walk}
+use Rattle.graphs.proofs.Unification.ClassGraph.{class-quotient, class-unification, class-reached, class-features}
 
 -- what is answered, by two tests
 abbrev answer : {L N : Type 0} → Bool → Bool → Graph L N → Unified L N

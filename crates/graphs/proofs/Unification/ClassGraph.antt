@@ -31,9 +31,9 @@ use Rattle.graphs.specs.Unify.{
 }
 use Rattle.graphs.proofs.Walk.{onward-some}
 use Rattle.graphs.proofs.Search.{true-false, cond-some, firstOf-some, firstOf-finds}
-use Rattle.graphs.proofs.Related.{feat, Classes, related-listed, named}
-use Rattle.graphs.proofs.Classes.{close-classes}
-use Rattle.graphs.proofs.Beside.{
+use Rattle.graphs.proofs.Unification.Related.{feat, Classes, related-listed, named}
+use Rattle.graphs.proofs.Unification.Classes.{close-classes}
+use Rattle.graphs.proofs.Unification.Beside.{
   linkBeside,
   ReachedBeside,
   RelatedBeside,
@@ -44,7 +44,7 @@ use Rattle.graphs.proofs.Beside.{
   feature-beside,
   beside-listing,
 }
-use Rattle.graphs.proofs.Quotient.{Quotient, quotient-reached, quotient-unification}
+use Rattle.graphs.proofs.Unification.Quotient.{Quotient, quotient-reached, quotient-unification}
 
 -- The meet of the labels along a list where a test holds.
 module _ {𝓛 : Labels} (lattice : Lattice 𝓛) {N : Type 0} (test : N → Bool) (label : N → 𝓛 .L) where

@@ -12,8 +12,8 @@ use Rattle.graphs.specs.Map.{NodeMap}
 use Rattle.graphs.specs.Difference.{Link}
 use Rattle.graphs.proofs.Walk.{some-injective, snoc-induction, follow-last, reached-root, reached-link, walk-snoc}
 use Rattle.graphs.proofs.Below.{walk-map, map-below}
-use Rattle.graphs.proofs.Induct.{parents-first}
-use Rattle.graphs.proofs.DifferenceLaws.{Into, Leader, Enters, DifferenceLaws, withLinks}
+use Rattle.graphs.proofs.Difference.Induct.{parents-first}
+use Rattle.graphs.proofs.Difference.Laws.{Into, Leader, Enters, DifferenceLaws, withLinks}
 
 module _ {L A : Type 0} (s : Graph L A) where
   -- a path is empty, or its last link enters where it leads

@@ -16,7 +16,7 @@ use Rattle.graphs.specs.Unify.{anyOf, holds}
 use Rattle.graphs.specs.Difference.{Link, select, linksFrom, sameLink, incoming, covers, bare, touch, spread}
 use Rattle.graphs.proofs.Walk.{reached-link}
 use Rattle.graphs.proofs.Search.{true-false, anyOf-true, anyOf-finds, those, those-length, those-fewer-strict}
-use Rattle.graphs.proofs.Select.{
+use Rattle.graphs.proofs.Difference.Select.{
   both-true,
   true-both,
   either-true,
@@ -28,8 +28,8 @@ use Rattle.graphs.proofs.Select.{
   linksFrom-source,
   linksFrom-listed,
 }
-use Rattle.graphs.proofs.Beside.{Operands}
-use Rattle.graphs.proofs.DifferenceLaws.{Into, Enters}
+use Rattle.graphs.proofs.Unification.Beside.{Operands}
+use Rattle.graphs.proofs.Difference.Laws.{Into, Enters}
 
 module _ {L A B : Type 0} {sameA : A → A → Bool} {sameB : B → B → Bool} {s : Graph L A} {ss : List A} {g : Graph L B}
     {gs : List B} (operands : Operands sameA sameB s ss g gs) (over : B → A) where

@@ -1,0 +1,9 @@
+-- Unification over paths and over nodes.
+pub mod Deep
+pub mod Related
+pub mod Classes
+pub mod Beside
+pub mod Quotient
+pub mod ClassGraph
+pub mod Unifier
+pub mod Outcome
