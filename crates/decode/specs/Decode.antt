@@ -1,5 +1,5 @@
 -- A record's bytes as rows (document 01, "Graph record"): what they state, or nothing where refusal 4 is due.
-use mathlib.Core.Bool.{Bool, true, false, cond}
+use mathlib.Core.Bool.{Bool, cond}
 use mathlib.Core.List.{List, [], _∷_}
 use mathlib.Core.Option.{Option, none, some}
 use Prim.Native.Nat.{ℕ, zero, suc, _/_, _%_, _^_}

@@ -1,5 +1,4 @@
 -- Replies: the number that document 01 gives to each ("Returned by a call"), and what each call answers and leaves in the output.
-use mathlib.Core.Bool.{cond}
 use mathlib.Core.List.{List}
 use mathlib.Core.Option.{Option, none, some}
 use Prim.Native.Nat.{ℕ}
@@ -13,7 +12,7 @@ use Rattle.encode.specs.declared.Written.the-variants as written
 use Rattle.encode.specs.Encode.{Outcome, writtenOut}
 use Rattle.record.specs.Read as graph
 use Rattle.engine.specs.declared.Side.{Side}
-use Rattle.engine.specs.declared.Side.the-variants.{First, Second}
+use Rattle.engine.specs.declared.Side.the-variants.{First}
 use Rattle.engine.specs.declared.Reply.{Reply}
 use Rattle.engine.specs.declared.Reply.the-variants.{Length, Table, Graph, NoRoom, TooLarge}
 

@@ -1,5 +1,5 @@
 -- The labels of a generalization: type numbers with their joins as a table of 64 rows gives them. Nothing else of the labels is used.
-use mathlib.Core.Bool.{Bool, true, _&&_}
+use mathlib.Core.Bool.{Bool, _&&_}
 use mathlib.Core.List.{List, []}
 use Prim.Native.Nat.{ℕ}
 use lib.Dec.{eqb}

@@ -2,7 +2,6 @@
 use mathlib.Core.Path.{_≡_, refl}
 use mathlib.Core.Bool.{true, false}
 use mathlib.Core.List.{List, [], _∷_}
-use Prim.Native.Nat.{ℕ}
 use lib.Dec.{eqb}
 use Rattle.graphs.specs.Rows.{graphOf, from, target, linksOf}
 use Rattle.graphs.specs.Order.{allOf, within, fitsAt, subsumes}
@@ -25,7 +24,7 @@ use Rattle.graphs.specs.Unify.{
   classLabel,
 }
 use Rattle.graphs.specs.Difference.{differ, difference, keptLink, keeps, keptItself, lead, leaders, groupOf, spread, touch, bare, covers, incoming, select, linksFrom, leastOf, meetOver, meetWhere, byNumber}
-use Rattle.graphs.specs.Small.{Diamond, a, b, top, leaf, P, Q, R, commonPart, combination, differenceOf, loops, clashes, gives, diamond}
+use Rattle.graphs.specs.Small.{a, b, top, leaf, P, Q, R, commonPart, combination, differenceOf, loops, clashes, gives, diamond}
 
 -- 1. Common part of a[0: b] and b: a lone top.
 case-1 : commonPart ((a, (0, 1) ∷ []) ∷ leaf b ∷ []) (leaf b ∷ []) ≡ written (leaf top ∷ [])

@@ -1,19 +1,19 @@
 -- The computed order is the order over paths: the pairs of nodes that one path leads to are listed, each fits exactly where the
 -- paths of g through it are paths of s with labels below, and one node of g meets one node of s exactly where coreference passes.
-use mathlib.Core.Path.{_≡_, refl, sym, _∙_, ap, subst}
+use mathlib.Core.Path.{_≡_, refl, sym, _∙_, ap}
 use mathlib.Core.Bool.{Bool, true, false, not, _&&_, _||_}
-use mathlib.Core.List.{List, [], _∷_, _++_, List·Memᴰ, List·Memᴰ·head, List·Memᴰ·tail, List·Memᴰ·not-nil, List·Memᴰ·cases-cons}
-use mathlib.Core.Logic.{_↔_, _⊎_, inl, inr, ⊎-elim}
+use mathlib.Core.List.{List, [], _∷_, _++_, List·Memᴰ, List·Memᴰ·head, List·Memᴰ·tail, List·Memᴰ·not-nil}
+use mathlib.Core.Logic.{_↔_}
 use mathlib.Core.Option.{Option, none, some}
 use Prim.Native.Nat.{ℕ, _<_}
 use native.Mathlib.Omega.{arith}
 use lib.ListN.{length}
 use Rattle.graphs.specs.Label.{Labels}
-use Rattle.graphs.specs.Graph.{Graph, Tells, step, follow, walk, Reached, Corefer, Below}
+use Rattle.graphs.specs.Graph.{Graph, Tells, follow, walk, Reached, Below}
 use Rattle.graphs.specs.Rows.{features}
 use Rattle.graphs.specs.Generalize.{both, generalization}
-use Rattle.graphs.specs.Order.{allOf, within, meetings, there, fitsAt, sharesAt, subsumes}
-use Rattle.graphs.proofs.Walk.{some-injective, none-some, some-unique, snoc-induction, follow-nil, follow-last, walk-snoc}
+use Rattle.graphs.specs.Order.{allOf, meetings, there, fitsAt, sharesAt, subsumes}
+use Rattle.graphs.proofs.Walk.{none-some, some-unique, snoc-induction, follow-nil, follow-last, walk-snoc}
 use Rattle.graphs.proofs.Lists.{mem-features}
 use Rattle.graphs.proofs.Finite.{within-reached, reached-within}
 use Rattle.graphs.proofs.Product.{both-some, product-walk}

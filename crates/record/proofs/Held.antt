@@ -1,23 +1,21 @@
 -- Rows that arrays hold, link by link: a link of a row is a place of the arrays, so the range test, the cycles and the visit of
 -- the arrays are those of the rows.
 use mathlib.Core.Path.{_≡_, refl, sym, _∙_, ap, ap₂, subst}
-use mathlib.Core.Bool.{Bool, true, false, cond}
+use mathlib.Core.Bool.{Bool, cond}
 use mathlib.Core.List.{List, [], _∷_, List·Memᴰ, List·Memᴰ·head, List·Memᴰ·tail, List·Memᴰ·not-nil, List·Memᴰ·cases-cons}
-use mathlib.Core.Logic.{_↔_, _⊎_, inl, inr, ⊎-elim}
+use mathlib.Core.Logic.{⊎-elim}
 use mathlib.Core.Option.{Option, none, some}
 use Prim.Native.Nat.{ℕ, zero, suc, _+_, _-_, _≤_, _<_}
-use native.Mathlib.Decide.{decLe, decLt}
+use native.Mathlib.Decide.{decLe}
 use native.Mathlib.Omega.{arith}
 use borrow.Author.Tests.{eq-eqb, ne-eqb}
-use lib.Dec.{eqb}
 use lib.ListN.{length, getD}
 use lib.Seq.{slice, slice-cons, slice-empty}
 use Rattle.graphs.specs.Graph.{follow}
 use Rattle.graphs.specs.Rows.{Row, target}
 use Rattle.graphs.specs.Large.{Ascending}
-use Rattle.graphs.proofs.Search.{true-false}
 use Rattle.graphs.proofs.Walk.{some-injective, none-some, follow-none}
-use Rattle.visits.specs.Arrays.{Laid, Shaped, Sound, Leads, Reaches, one, more, TargetsFirst, paired, linksAt, rowsFrom, rowsOf, graphOfRows}
+use Rattle.visits.specs.Arrays.{Laid, Shaped, Leads, Reaches, one, more, TargetsFirst, paired, linksAt, rowsFrom, rowsOf, graphOfRows}
 use Rattle.visits.proofs.VisitRows.{row-at, length-rows}
 use Rattle.visits.proofs.Colours.{ends}
 use Rattle.decode.specs.Promise.{Ranged}

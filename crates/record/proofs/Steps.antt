@@ -3,7 +3,7 @@ use mathlib.Core.Path.{_≡_, refl, sym, _∙_, ap, subst}
 use mathlib.Core.Bool.{Bool, true, false}
 use mathlib.Core.List.{List, []}
 use mathlib.Core.Option.{Option, none, some}
-use Prim.Native.Nat.{ℕ, _≤_}
+use Prim.Native.Nat.{ℕ}
 use native.Mathlib.Omega.{arith}
 use borrow.Author.Tests.{eq-eqb, ne-eqb}
 use lib.Dec.{eqb}
@@ -22,9 +22,9 @@ use Rattle.decode.specs.Promise.{Held, Parses, Ranged, Ranges}
 use Rattle.record.specs.declared.GraphFault.{GraphFault}
 use Rattle.record.specs.declared.GraphFault.the-variants.{Malformed, OutOfRange, Cyclic, Unreached}
 use Rattle.record.specs.declared.Verdict.the-variants.{Accepted, Refused}
-use Rattle.record.specs.Read.{Reading, refused, accepted, reading, inRange, cyclic, reachesAll}
+use Rattle.record.specs.Read.{refused, accepted, reading, inRange, cyclic, reachesAll}
 use Rattle.record.specs.Promise.{Reads, verdictOf}
-use Rattle.record.proofs.Readings.{reading-says, in-range, InRange}
+use Rattle.record.proofs.Readings.{reading-says, in-range}
 use Rattle.record.proofs.Decoded.{Decoded, decoded-says}
 use Rattle.record.proofs.Nodes.{decoded-linked}
 use Rattle.record.proofs.Reaching.{cyclic-exact}

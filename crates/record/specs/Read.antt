@@ -1,7 +1,7 @@
 -- Reading a record over a table with n types: the graph's rows, or the first of refusals 4 to 7 that applies, each over the whole
 -- record before the next (document 01, "Returned by a call").
-use mathlib.Core.Bool.{Bool, true, false, cond, not, _&&_}
-use mathlib.Core.List.{List, [], _∷_}
+use mathlib.Core.Bool.{Bool, cond, not, _&&_}
+use mathlib.Core.List.{List, []}
 use mathlib.Core.Option.{Option, none, some}
 use Prim.Native.Nat.{ℕ, suc}
 use lib.Dec.{eqb, leb}

@@ -9,11 +9,11 @@ use native.Mathlib.Decide.{ℕ-discrete}
 use native.Mathlib.Numerals.{add-one}
 use native.Mathlib.Omega.{arith}
 use borrow.Author.Tests.{eqb-true, eqb-false, le-leb, lt-leb}
-use lib.Dec.{eqb, leb}
+use lib.Dec.{eqb}
 use lib.ListN.{length, getD, set, take, length-set, length-reverse}
 use lib.Seq.{slice, slice-cons, slice-empty, length-take-le, take-suc-set, take-set-le, getD-set-same, getD-set-other, getD-take}
 use Rattle.graphs.specs.Graph.{andThen}
-use Rattle.graphs.specs.Number.{member, otherwise}
+use Rattle.graphs.specs.Number.{member}
 use Rattle.graphs.proofs.Lists.{reverse-snoc}
 use Rattle.visits.specs.Arrays.{Laid, Linked, eachTarget, targetsAt, visitTargets}
 use Rattle.visits.specs.Numbering.{seenOf, numberAmong, Marks, Ready, below, Finds}

@@ -1,6 +1,6 @@
 -- The visit of `graphs` over the rows that arrays hold is the visit over the targets of each node in their order: in a row the
 -- features ascend and are below 64, so going through the features in turn meets its targets in turn.
-use mathlib.Core.Path.{_≡_, refl, sym, _∙_, ap, subst}
+use mathlib.Core.Path.{_≡_, refl, sym, _∙_, ap}
 use mathlib.Core.Bool.{Bool, true, false, cond}
 use mathlib.Core.List.{List, [], _∷_, map}
 use mathlib.Core.Option.{Option, none, some}
@@ -13,22 +13,10 @@ use lib.Dec.{eqb, leb}
 use lib.ListN.{length, getD}
 use lib.Seq.{slice, slice-cons, slice-empty, length-slice}
 use Rattle.graphs.specs.Graph.{andThen}
-use Rattle.graphs.specs.Rows.{Row, from, features, target}
+use Rattle.graphs.specs.Rows.{Row, from, target}
 use Rattle.graphs.specs.Number.{member, otherwise, enter, each, visit}
-use Rattle.visits.specs.Arrays.{
-  Laid,
-  Shaped,
-  Sound,
-  paired,
-  linksAt,
-  rowsFrom,
-  rowsOf,
-  graphOfRows,
-  eachTarget,
-  visitTargets,
-  targetsAt,
-}
-use Rattle.visits.proofs.Numbering.{row-end, row-rises}
+use Rattle.visits.specs.Arrays.{Sound, paired, linksAt, rowsFrom, rowsOf, graphOfRows, eachTarget, visitTargets, targetsAt}
+use Rattle.visits.proofs.Numbering.{row-end}
 
 abbrev targetsOf : List (ℕ × ℕ) → List ℕ
 targetsOf ls = map (λ (l : ℕ × ℕ). l .1) ls

@@ -3,8 +3,6 @@ use Rattle.engine.specs.Reply.{replyOf}
 use borrow.Author.Needs.{needs}
 use Rattle.engine.proofs.reply_of.Statement.{statement}
 use Rattle.engine.proofs.reply_of.Tie as tie
-use Rattle.engine.proofs.reply_of.Reads as reads
-use Rattle.engine.proofs.reply_of.Lts as lts
 
 -- src/lib.rt:71:25
 enum-known-written : tie.Need-enum-known-written

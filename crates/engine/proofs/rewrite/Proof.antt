@@ -3,10 +3,6 @@ use mathlib.Core.Path.{sym, _∙_}
 use borrow.Author.Needs.{needs}
 use Rattle.engine.proofs.rewrite.Statement.{statement}
 use Rattle.engine.proofs.rewrite.Tie as tie
-use Rattle.engine.proofs.rewrite.Reads as reads
-use Rattle.engine.proofs.rewrite.Lts as lts
-use Rattle.engine.proofs.rewrite_over.Reads as rewrite-over-reads
-use Rattle.lattice.proofs.open_table.Reads as open-table-reads
 
 -- src/lib.rt:35:9
 open-table-requires : tie.Need-open-table-requires

@@ -2,11 +2,6 @@ use Rattle.engine.proofs.Replies.{accepts, refused-as, rewritten-as}
 use borrow.Author.Needs.{needs}
 use Rattle.engine.proofs.rewrite_over.Statement.{statement}
 use Rattle.engine.proofs.rewrite_over.Tie as tie
-use Rattle.engine.proofs.rewrite_over.Reads as reads
-use Rattle.engine.proofs.rewrite_over.Lts as lts
-use Rattle.encode.proofs.write.Reads as write-reads
-use Rattle.engine.proofs.reply_of.Reads as reply-of-reads
-use Rattle.record.proofs.read.Reads as read-reads
 
 -- src/lib.rt:47:9
 read-requires : tie.Need-read-requires

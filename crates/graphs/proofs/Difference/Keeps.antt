@@ -1,18 +1,9 @@
 -- The nodes that the difference is computed to keep. A node is kept exactly where there is a reason: what is kept for itself
 -- is told by the leaders into it, and looking as many links deep as there are nodes finds every kept node below. The list of
 -- the nodes of s must not repeat a node: `several` counts leaders by their places in a list.
-use mathlib.Core.Path.{_≡_, refl, sym, _∙_, ap, subst}
+use mathlib.Core.Path.{_≡_, refl, _∙_, ap, subst}
 use mathlib.Core.Bool.{Bool, true, false, cond, not, _&&_, _||_}
-use mathlib.Core.List.{
-  List,
-  [],
-  _∷_,
-  List·Memᴰ,
-  List·Memᴰ·head,
-  List·Memᴰ·tail,
-  List·Memᴰ·not-nil,
-  List·Memᴰ·eq-of-singleton,
-}
+use mathlib.Core.List.{List, [], _∷_, List·Memᴰ}
 use mathlib.Core.Logic.{_↔_, _⊎_, inl, inr, ⊎-elim}
 use mathlib.Core.Option.{Option, none, some}
 use Prim.Native.Nat.{ℕ, zero, suc, _≤_, _<_}
@@ -23,19 +14,7 @@ use Rattle.graphs.specs.Label.{Labels}
 use Rattle.graphs.specs.Graph.{Graph, AnySize, Reached, follow, andThen}
 use Rattle.graphs.specs.Rows.{features}
 use Rattle.graphs.specs.Unify.{anyOf, holds}
-use Rattle.graphs.specs.Difference.{
-  Link,
-  differ,
-  linksFrom,
-  sameLink,
-  incoming,
-  bare,
-  lead,
-  leaders,
-  keptItself,
-  keeps,
-  keptLink,
-}
+use Rattle.graphs.specs.Difference.{Link, differ, sameLink, incoming, bare, lead, leaders, keptItself, keeps, keptLink}
 use Rattle.graphs.proofs.Walk.{none-some, some-injective, reached-link}
 use Rattle.graphs.proofs.Difference.Induct.{short-walks}
 use Rattle.graphs.proofs.Lists.{mem-features}

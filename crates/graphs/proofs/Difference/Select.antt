@@ -1,31 +1,14 @@
 -- Lists that the difference is computed with: the elements that pass a test, lists without repetition, and the links that leave
 -- the nodes of a list. Each is described by membership.
-use mathlib.Core.Path.{_≡_, refl, sym, _∙_, ap, subst, fst-path, snd-path}
+use mathlib.Core.Path.{_≡_, refl, sym, _∙_, ap, subst, fst-path}
 use mathlib.Core.Bool.{Bool, true, false, cond, _&&_, _||_}
-use mathlib.Core.List.{
-  List,
-  [],
-  _∷_,
-  _++_,
-  map,
-  List·Memᴰ,
-  List·Memᴰ·head,
-  List·Memᴰ·tail,
-  List·Memᴰ·not-nil,
-  List·Memᴰ·cases-cons,
-  List·Memᴰ·append-cases,
-  Memᴰ·append-left,
-  Memᴰ·append-right,
-  Memᴰ·cast,
-  Memᴰ·map,
-  Memᴰ·of-map,
-}
+use mathlib.Core.List.{List, [], _∷_, map, List·Memᴰ, List·Memᴰ·head, List·Memᴰ·tail, List·Memᴰ·not-nil, List·Memᴰ·cases-cons, List·Memᴰ·append-cases, Memᴰ·append-left, Memᴰ·append-right, Memᴰ·cast, Memᴰ·map, Memᴰ·of-map}
 use mathlib.Core.Logic.{_↔_, _⊎_, inl, inr, ⊎-elim}
 use mathlib.Core.Option.{Option, none, some}
-use Prim.Native.Nat.{ℕ, zero, suc, _≤_, _<_}
+use Prim.Native.Nat.{suc, _≤_, _<_}
 use native.Mathlib.Omega.{arith}
 use lib.ListN.{length}
-use Rattle.graphs.specs.Rows.{from, features}
+use Rattle.graphs.specs.Rows.{features}
 use Rattle.graphs.specs.Difference.{Link, select, linksFrom}
 use Rattle.graphs.specs.Unify.{holds}
 use Rattle.graphs.proofs.Lists.{mem-features}

@@ -2,13 +2,12 @@
 -- nodes or to none. Such graphs have the same meaning, and graphs of the same meaning are related so, by the nodes that one path
 -- leads to. A relation serves where no map can be had: it asks nothing of nodes that no path reaches.
 use mathlib.Core.Path.{_≡_, refl, sym, _∙_, ap, subst}
-use mathlib.Core.Bool.{Bool, true, false}
 use mathlib.Core.List.{List, [], _∷_, _++_}
 use mathlib.Core.Option.{Option, none, some}
 use Prim.Native.Nat.{ℕ}
 use Rattle.graphs.specs.Label.{Labels}
-use Rattle.graphs.specs.Graph.{Graph, step, follow, walk, Reached, Corefer, SameMeaning}
-use Rattle.graphs.proofs.Walk.{some-injective, none-some, snoc-induction, follow-snoc, follow-last, follow-nil}
+use Rattle.graphs.specs.Graph.{Graph, step, follow, walk, Corefer, SameMeaning}
+use Rattle.graphs.proofs.Walk.{some-injective, none-some, follow-snoc, follow-nil}
 
 -- both missing, or both there and related
 pub data Alike {A B : Type 0} (R : A → B → Type 0) : Option A → Option B → Type 0 where

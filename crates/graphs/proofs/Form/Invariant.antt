@@ -1,8 +1,8 @@
 -- The written form depends on meaning alone: graphs that are alike are visited alike, so they have equal rows, and are too large
 -- together.
-use mathlib.Core.Path.{_≡_, refl, sym, _∙_, ap, ap₂}
+use mathlib.Core.Path.{_≡_, refl, sym, ap, ap₂}
 use mathlib.Core.Bool.{Bool, true, false, cond, _||_}
-use mathlib.Core.List.{List, [], _∷_, _++_, map, reverse, reverseAux}
+use mathlib.Core.List.{List, [], _∷_, map, reverse, reverseAux}
 use mathlib.Core.Option.{Option, none, some}
 use Prim.Native.Nat.{ℕ, zero, suc, _+_}
 use native.Mathlib.Omega.{arith}
@@ -11,24 +11,7 @@ use lib.ListN.{length}
 use Rattle.graphs.specs.Label.{Labels}
 use Rattle.graphs.specs.Graph.{Graph, Tells, onward, andThen, SameMeaning}
 use Rattle.graphs.specs.Rows.{Row, features, linksOf, addLink}
-use Rattle.graphs.specs.Number.{
-  Canonical,
-  canonical,
-  counted,
-  countSome,
-  each,
-  enter,
-  indexOf,
-  linkCount,
-  member,
-  otherwise,
-  outDegree,
-  rowOf,
-  visit,
-  written,
-  manyNodes,
-  manyLinks,
-}
+use Rattle.graphs.specs.Number.{canonical, counted, countSome, each, enter, indexOf, linkCount, member, otherwise, outDegree, rowOf, visit, written, manyLinks}
 use Rattle.graphs.proofs.Form.Bisimilar.{Alike, absent, present, Bisimilar, Together, same-bisimilar}
 
 -- lists of related elements

@@ -1,6 +1,6 @@
 -- `record::encode::encode` meets its contract: in a turn one row is stored behind those before it.
 use mathlib.Core.Path.{_∙_}
-use Prim.Native.Nat.{_-_, _≤_, _%_}
+use Prim.Native.Nat.{_-_, _≤_}
 use native.Mathlib.Omega.{arith}
 use borrow.Author.Needs.{needs}
 use lib.ListN.{length-set}
