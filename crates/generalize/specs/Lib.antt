@@ -1,2 +1,3 @@
--- Pairs of nodes, and joins looked up in a table.
+-- Pairs of nodes, joins looked up in a table, and the queue of pairs.
 pub mod Pairs
+pub mod Queue

@@ -11,12 +11,33 @@ ghost use Rattle.graphs.specs.Generalize.{generalization};
 ghost use Rattle.visits.specs.Arrays.{Sound, graphOfRows, rowsOf};
 ghost use Rattle.encode.specs.Encode.{writtenOut};
 ghost use Rattle.generalize.specs.Pairs.{joinsOf, samePair};
+ghost use Rattle.generalize.specs.Queue.{Adds, Enlisted, Marked, RowAt, common};
 
 // The mark of a pair that has no number yet.
 pub const CLEAR: u16 = 0xFFFF;
 
-// Adds the links of the pair (u, v): those by features of both. Answers the number of pairs then known, 256 for more than 255
-// pairs or more than 2,048 links.
+// Gives a pair that has no number yet the next one. Answers how many pairs then have one.
+fn enlist(marks: &mut [u16; 65025], queue: &mut [u16; 319], pair: usize, count: usize) -> usize
+    requires { ⌜ Marked (now marks) (now queue) count ⌝ }
+    requires { ⌜ (pair < 65025) × (count < 319) ⌝ }
+    ensures { λ r. ⌜ Enlisted (now (queue .entry)) pair count (now (marks .exit)) (now (queue .exit)) r ⌝ }
+{
+    let mark = marks[pair];
+    if mark != CLEAR {
+        return count;
+    }
+    marks[pair] = count as u16;
+    queue[count] = pair as u16;
+    count + 1
+}
+
+// How many links and pairs are known.
+pub struct Spread {
+    pub links: usize,
+    pub count: usize,
+}
+
+// Adds the links of the pair (u, v): those by features of both. A pair has at most 64, so that at most 64 pairs come anew.
 pub fn pair_links<'a>(
     a_first: &'a [u16],
     a_features: &'a [u8],
@@ -27,19 +48,29 @@ pub fn pair_links<'a>(
     u: usize,
     v: usize,
     marks: &mut [u16; 65025],
-    queue: &mut [u16; 255],
-    features: &mut [u8; 2048],
-    targets: &mut [u16; 2048],
+    queue: &mut [u16; 319],
+    features: &mut [u8; 2112],
+    targets: &mut [u16; 2112],
     start: usize,
     known: usize,
-) -> Spread {
+) -> Spread
+    requires { ⌜ RowAt (now «a_first») (now «a_features») (now «a_targets») u ⌝ }
+    requires { ⌜ RowAt (now «b_first») (now «b_features») (now «b_targets») v ⌝ }
+    requires { ⌜ Marked (now marks) (now queue) known ⌝ }
+    requires { ⌜ (length (now features) ≡ 2112) × (length (now targets) ≡ 2112) ⌝ }
+    requires { ⌜ (start ≤ 2048) × (known ≤ 255) ⌝ }
+    ensures { λ r. ⌜ Adds (common (now («a_first» .entry)) (now («a_features» .entry)) (now («a_targets» .entry)) (now («b_first» .entry)) (now («b_features» .entry)) (now («b_targets» .entry)) u v) (now (queue .entry)) (now (features .entry)) (now (targets .entry)) start known 64 (now (marks .exit)) (now (queue .exit)) (now (features .exit)) (now (targets .exit)) (r .links) (r .count) ⌝ }
+{
     let a_end = a_first[u + 1] as usize;
     let b_end = b_first[v + 1] as usize;
     let mut i = a_first[u] as usize;
     let mut j = b_first[v] as usize;
     let mut links = start;
     let mut count = known;
-    while i < a_end && j < b_end {
+    while i < a_end {
+        if b_end <= j {
+            return Spread { links, count };
+        }
         let f = a_features[i];
         let h = b_features[j];
         if f < h {
@@ -48,17 +79,7 @@ pub fn pair_links<'a>(
             j += 1;
         } else {
             let pair = (a_targets[i] as usize) * 255 + (b_targets[j] as usize);
-            if 2048 <= links {
-                return Spread { links, count: 256 };
-            }
-            if marks[pair] == CLEAR {
-                if 255 <= count {
-                    return Spread { links, count: 256 };
-                }
-                marks[pair] = count as u16;
-                queue[count] = pair as u16;
-                count += 1;
-            }
+            count = enlist(marks, queue, pair, count);
             features[links] = f;
             targets[links] = marks[pair];
             links += 1;
@@ -67,12 +88,6 @@ pub fn pair_links<'a>(
         }
     }
     Spread { links, count }
-}
-
-// How many links and pairs are known.
-pub struct Spread {
-    pub links: usize,
-    pub count: usize,
 }
 
 // Writes the generalization of two graphs.
@@ -85,12 +100,13 @@ pub fn generalize(joins: &[[u8; 64]; 64], a: Graph, b: Graph, out: &mut [u8]) ->
     ensures { λ r. ⌜ r ≡ writtenOut (canonical samePair (generalization (joinsOf (now (joins .entry))) (graphOfRows (rowsOf (a .nodes) (a .types) (a .first) (a .features) (a .targets))) (graphOfRows (rowsOf (b .nodes) (b .types) (b .first) (b .features) (b .targets))))) (now (out .entry)) .answer ⌝ }
     ensures { λ r. ⌜ now (out .exit) ≡ writtenOut (canonical samePair (generalization (joinsOf (now (joins .entry))) (graphOfRows (rowsOf (a .nodes) (a .types) (a .first) (a .features) (a .targets))) (graphOfRows (rowsOf (b .nodes) (b .types) (b .first) (b .features) (b .targets))))) (now (out .entry)) .output ⌝ }
 {
+    // the queue and the links have room for the most that one pair can add
     let mut marks = [CLEAR; 65025];
-    let mut queue = [0u16; 255];
+    let mut queue = [0u16; 319];
     let mut types = [0u8; 255];
     let mut first = [0u16; 256];
-    let mut features = [0u8; 2048];
-    let mut targets = [0u16; 2048];
+    let mut features = [0u8; 2112];
+    let mut targets = [0u16; 2112];
     marks[0] = 0;
     let mut count: usize = 1;
     let mut links: usize = 0;
@@ -121,6 +137,9 @@ pub fn generalize(joins: &[[u8; 64]; 64], a: Graph, b: Graph, out: &mut [u8]) ->
         links = spread.links;
         count = spread.count;
         if 255 < count {
+            return Written::TooLarge;
+        }
+        if 2048 < links {
             return Written::TooLarge;
         }
         head += 1;

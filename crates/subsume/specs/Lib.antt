@@ -1,2 +1,3 @@
--- What the order answers.
+-- What the order answers, and what the search for it keeps.
 pub mod Promise
+pub mod Following

@@ -2,9 +2,10 @@
 // mapped to the node of s that the same path leads to.
 
 use decode::Graph;
-ghost use Prim.Native.Nat.{ℕ, _≤_, _<_};
-ghost use lib.ListN.{getD};
+ghost use Prim.Native.Nat.{ℕ, _+_, _≤_, _<_};
+ghost use lib.ListN.{length, getD};
 ghost use Rattle.visits.specs.Arrays.{Sound, rowsOf};
+ghost use Rattle.subsume.specs.Following.{Follows, Queued, Sought, Span};
 ghost use Rattle.subsume.specs.Promise.{Orders};
 
 pub enum Order {
@@ -22,7 +23,10 @@ pub struct Comparison {
 pub const NONE: u16 = 0xFFFF;
 
 // The first place from `at` on, before `end`, whose feature is at least f.
-pub fn seek(features: &[u8], at: usize, end: usize, f: u8) -> usize {
+pub fn seek(features: &[u8], at: usize, end: usize, f: u8) -> usize
+    requires { ⌜ (at ≤ end) × (end ≤ length (now features)) ⌝ }
+    ensures { λ r. ⌜ Sought (now (features .entry)) at end f r ⌝ }
+{
     let mut k = at;
     while k < end {
         if f <= features[k] {
@@ -47,7 +51,13 @@ pub fn follow<'a>(
     map: &mut [u16; 255],
     queue: &mut [u16; 255],
     count: usize,
-) -> usize {
+) -> usize
+    requires { ⌜ (u + 1 < length (now «s_first»)) × (v + 1 < length (now «g_first»)) ⌝ }
+    requires { ⌜ Span (now «s_features») (now «s_targets») (getD (now «s_first») u 0) (getD (now «s_first») (u + 1) 0) ⌝ }
+    requires { ⌜ Span (now «g_features») (now «g_targets») (getD (now «g_first») v 0) (getD (now «g_first») (v + 1) 0) ⌝ }
+    requires { ⌜ Queued (now map) (now queue) count ⌝ }
+    ensures { λ r. ⌜ Follows (now («s_features» .entry)) (now («s_targets» .entry)) (now («g_features» .entry)) (now («g_targets» .entry)) (getD (now («s_first» .entry)) u 0) (getD (now («s_first» .entry)) (u + 1) 0) (getD (now («g_first» .entry)) v 0) (getD (now («g_first» .entry)) (v + 1) 0) (now (map .entry)) (now (queue .entry)) count (now (map .exit)) (now (queue .exit)) r ⌝ }
+{
     let g_end = g_first[v + 1] as usize;
     let s_end = s_first[u + 1] as usize;
     let mut k = g_first[v] as usize;
@@ -64,12 +74,13 @@ pub fn follow<'a>(
         }
         let w = g_targets[k] as usize;
         let x = s_targets[j];
-        if map[w] == NONE {
+        let image = map[w];
+        if image == NONE {
             map[w] = x;
             queue[end] = w as u16;
             end += 1;
         } else {
-            if map[w] != x {
+            if image != x {
                 return 256;
             }
         }

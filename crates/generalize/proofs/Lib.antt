@@ -1,0 +1,6 @@
+-- Laws of the common part of two graphs.
+pub mod Marking
+pub mod Merging
+pub mod Sides
+pub mod Building
+pub mod Result

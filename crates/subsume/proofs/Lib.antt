@@ -1,0 +1,4 @@
+-- Laws of the order's search.
+pub mod Following
+pub mod Places
+pub mod Searching

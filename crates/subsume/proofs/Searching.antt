@@ -1,0 +1,335 @@
+-- The search over g's nodes: every node mapped and its image are led to by one path, so each failure refutes that s is below g;
+-- and once every node in the queue is passed, the map is a node map.
+use mathlib.Core.Path.{_≡_, refl, sym, _∙_, ap, ap₂}
+use mathlib.Core.Bool.{true, false, true≢false}
+use mathlib.Core.List.{List, [], _∷_, _++_}
+use mathlib.Core.Option.{some}
+use Prim.Native.Nat.{ℕ, zero, suc, _+_, _≤_, _<_}
+use native.Mathlib.Decide.{ℕ-discrete}
+use native.Mathlib.Numerals.{add-one}
+use native.Mathlib.Omega.{arith}
+use lib.ListN.{length, getD, set, replicate, length-set, length-replicate, getD-replicate}
+use lib.Seq.{getD-set-same, getD-set-other}
+use Rattle.graphs.specs.Graph.{Graph, Below, walk, follow}
+use Rattle.graphs.specs.Map.{NodeMap}
+use Rattle.graphs.proofs.Walk.{some-injective, some-unique, snoc-induction, follow-last, walk-snoc}
+use Rattle.graphs.proofs.Below.{below-labels}
+use Rattle.lattice.specs.Table.{below}
+use Rattle.lattice.specs.Labels.{typeLabels}
+use Rattle.visits.specs.Arrays.{Sound, rowsOf, graphOfRows}
+use Rattle.subsume.specs.declared.Order.the-variants as order
+use Rattle.subsume.specs.Promise.{Orders}
+use Rattle.subsume.specs.Following.{Span, Queued, Meets, Comes, Clash, Followed, unmapped}
+use Rattle.subsume.specs.Following.Comes.{kept, led}
+use Rattle.subsume.specs.Following.Clash.{lacks, splits}
+use Rattle.subsume.proofs.Following.{unmapped-fall}
+use Rattle.subsume.proofs.Places.{label-at, link-at, link-place, target-inside, spans}
+
+-- the graph that arrays hold
+abbrev held : ℕ → List ℕ → List ℕ → List ℕ → List ℕ → Graph ℕ ℕ
+held nodes types first features targets = graphOfRows (rowsOf nodes types first features targets)
+
+-- One path leads to w in g and to x in s.
+abbrev pub Together : Graph ℕ ℕ → Graph ℕ ℕ → ℕ → ℕ → Type 0
+Together s g w x = (p : List ℕ) × (walk g p ≡ some w) × (walk s p ≡ some x)
+
+module _ (s g : Graph ℕ ℕ) where
+  together-root : Together s g (g .root) (s .root)
+  unfolding follow
+  together-root = ([], refl, refl)
+
+  together-link : {v u w x : ℕ} (f : ℕ) → Together s g v u → g .link v f ≡ some w → s .link u f ≡ some x → Together s g w x
+  together-link f t a b = (t .0 ++ (f ∷ []), walk-snoc g (t .0) f (t .1) ∙ a, walk-snoc s (t .0) f (t .2) ∙ b)
+
+  module _ (n : ℕ) (t : List ℕ) (b : Below (typeLabels n t) s g) where
+    label-refutes : {v u : ℕ} → Together s g v u → below t (s .label u) (g .label v) ≡ false → ⊥
+    label-refutes {v} {u} c e = true≢false (sym (below-labels b (c .0) u v (c .2) (c .1)) ∙ e)
+
+    lack-refutes : {v u w : ℕ} (f : ℕ) → Together s g v u → g .link v f ≡ some w → ((x : ℕ) → s .link u f ≡ some x → ⊥) → ⊥
+    lack-refutes {v} {u} {w} f c l never =
+        let found = b .paths (c .0 ++ (f ∷ [])) w (walk-snoc g (c .0) f (c .1) ∙ l) in
+        never (found .0) (sym (walk-snoc s (c .0) f (c .2)) ∙ found .1)
+
+    split-refutes : {w x y : ℕ} → Together s g w x → Together s g w y → (x ≡ y → ⊥) → ⊥
+    split-refutes {w} c d never =
+        let one = b .corefers (c .0) (d .0) (w, c .1, d .1) in
+        never (some-unique (c .2) (one .1) ∙ some-unique (one .2) (d .2))
+
+-- The queue holds the root.
+
+unmapped-all : (n : ℕ) → unmapped (replicate n 65535) ≡ n
+unfolding unmapped
+unmapped-all zero = refl
+unmapped-all (suc n) = ap suc (unmapped-all n)
+
+module _ (map queue : List ℕ) (bare : map ≡ replicate 255 65535) (clear : queue ≡ replicate 255 0) where
+  none-mapped : (w : ℕ) → w < 255 → getD map w 0 ≡ 65535
+  none-mapped w h = ap (λ (l : List ℕ). getD l w 0) bare ∙ getD-replicate {A = ℕ} 255 w 65535 0 h
+
+  map-long : length map ≡ 255
+  map-long = ap length bare ∙ length-replicate {A = ℕ} 255 65535
+
+  queue-long : length queue ≡ 255
+  queue-long = ap length clear ∙ length-replicate {A = ℕ} 255 0
+
+  only-root : (w : ℕ) → w < 255 → (getD (set map 0 0) w 0 ≡ 65535 → ⊥) → w ≡ 0
+  only-root w h d = go (ℕ-discrete w 0)
+    where
+      go : Dec (w ≡ 0) → w ≡ 0
+      go (yes e) = e
+      go (no e) = absurd (d (getD-set-other map 0 w 0 0 e ∙ none-mapped w h))
+
+  root-mapped : getD (set map 0 0) 0 0 ≡ 0
+  root-mapped = getD-set-same map 0 0 0 (omega (arith, map-long))
+
+  root-queued : getD queue 0 0 ≡ 0
+  root-queued = ap (λ (l : List ℕ). getD l 0 0) clear ∙ getD-replicate {A = ℕ} 255 0 0 0 (omega arith)
+
+  queue-start : Queued (set map 0 0) queue 1
+  queue-start =
+      record {
+        map-long = length-set map 0 0 ∙ map-long;
+        queue-long = queue-long;
+        counted = omega (
+          arith,
+          unmapped-fall map 0 0 (omega (arith, map-long)) (none-mapped 0 (omega arith)) (λ z. omega arith),
+          ap unmapped bare ∙ unmapped-all 255,
+        );
+        listed = λ i h. let z : i ≡ 0 = omega arith in rw (z, root-queued) (omega arith);
+        mapped = λ i h e.
+            let z : i ≡ 0 = omega arith in
+            let at : getD queue i 0 ≡ 0 = ap (λ (j : ℕ). getD queue j 0) z ∙ root-queued in
+            omega (arith, sym root-mapped ∙ ap (λ (w : ℕ). getD (set map 0 0) w 0) (sym at) ∙ e);
+        placed = λ w h d. (0, omega arith, root-queued ∙ sym (only-root w h d));
+      }
+
+-- s is given by its nodes ns, types sy, first places s1, features sf and targets st, and g likewise; t is the type table.
+module _ (t : List ℕ) (ns : ℕ) (sy s1 sf st : List ℕ) (ng : ℕ) (gy g1 gf gt : List ℕ) where
+  -- Node v is passed: its type and links are those of its image.
+  pub record Passed (map : List ℕ) (v : ℕ) : Type 0 where
+    pub ordered : below t (getD sy (getD map v 0) 0) (getD gy v 0) ≡ true
+    pub leads : (k : ℕ) → getD g1 v 0 ≤ k → k < getD g1 (suc v) 0 →
+        (j : ℕ) × Meets sf gf (getD s1 (getD map v 0) 0) (getD s1 (suc (getD map v 0)) 0) (getD g1 v 0) (getD g1 (suc v) 0) k j ×
+        (getD map (getD gt k 0) 0 ≡ getD st j 0)
+
+  -- The next node of the queue and its image: what the code asks of them.
+  pub record Next (map queue : List ℕ) (head : ℕ) : Type 0 where
+    pub small : getD queue head 0 < 255
+    pub inside : getD queue head 0 < ng
+    pub image : getD map (getD queue head 0) 0 < ns
+    pub image-small : getD map (getD queue head 0) 0 < 255
+    pub typed : getD gy (getD queue head 0) 0 < 64
+    pub image-typed : getD sy (getD map (getD queue head 0) 0) 0 < 64
+    pub bounded : getD queue head 0 + 1 < length g1
+    pub image-bounded : getD map (getD queue head 0) 0 + 1 < length s1
+    pub spanned : Span gf gt (getD g1 (getD queue head 0) 0) (getD g1 (getD queue head 0 + 1) 0)
+    pub image-spanned : Span sf st (getD s1 (getD map (getD queue head 0) 0) 0) (getD s1 (getD map (getD queue head 0) 0 + 1) 0)
+
+  -- The nodes in the queue before `head` are passed.
+  pub record Searched (map queue : List ℕ) (count head : ℕ) : Type 0 where
+    pub queued : Queued map queue count
+    pub ahead : head ≤ count
+    pub inside : (w : ℕ) → w < 255 → (getD map w 0 ≡ 65535 → ⊥) → w < ng
+    pub image : (w : ℕ) → w < 255 → (getD map w 0 ≡ 65535 → ⊥) → getD map w 0 < ns
+    pub together : (w : ℕ) → w < 255 → (getD map w 0 ≡ 65535 → ⊥) →
+        Together (held ns sy s1 sf st) (held ng gy g1 gf gt) w (getD map w 0)
+    pub rooted : getD map 0 0 ≡ 0
+    pub passed : (i : ℕ) → i < head → Passed map (getD queue i 0)
+
+module _ {t : List ℕ} {ns : ℕ} {sy s1 sf st : List ℕ} {ng : ℕ} {gy g1 gf gt : List ℕ}
+    (sound : Sound ns sy s1 sf st) (sane : Sound ng gy g1 gf gt) (small : (ns ≤ 255) × (ng ≤ 255)) where
+  -- at the root
+  pub searched-start : (map queue : List ℕ) → map ≡ replicate 255 65535 → queue ≡ replicate 255 0 →
+      Searched t ns sy s1 sf st ng gy g1 gf gt (set map 0 0) queue 1 0
+  searched-start map queue bare clear =
+      record {
+        queued = queue-start map queue bare clear;
+        ahead = omega arith;
+        inside = λ w h d. omega (arith, only-root map queue bare clear w h d, sane .shaped .laid .nonempty);
+        image = λ w h d. rw (at w h d) (sound .shaped .laid .nonempty);
+        together = λ w h d.
+            let e : w ≡ 0 = only-root map queue bare clear w h d in
+            rw (at w h d, e) (together-root (held ns sy s1 sf st) (held ng gy g1 gf gt));
+        rooted = root-mapped map queue bare clear;
+        passed = λ i h. absurd (omega arith);
+      }
+    where
+      at : (w : ℕ) → w < 255 → (getD (set map 0 0) w 0 ≡ 65535 → ⊥) → getD (set map 0 0) w 0 ≡ 0
+      at w h d = ap (λ (i : ℕ). getD (set map 0 0) i 0) (only-root map queue bare clear w h d) ∙ root-mapped map queue bare clear
+
+  module _ {map queue : List ℕ} {count head : ℕ} (f : Searched t ns sy s1 sf st ng gy g1 gf gt map queue count head) where
+    -- once all are passed
+    module _ (all : count ≤ head) where
+      mapped-passed : (v : ℕ) → v < 255 → (getD map v 0 ≡ 65535 → ⊥) → Passed t ns sy s1 sf st ng gy g1 gf gt map v
+      mapped-passed v h d =
+          let (i, low, e) = f .queued .placed v h d in
+          rw e at (f .passed i (omega arith))
+
+      -- along a link of g
+      link-mapped : (v w a : ℕ) → v < 255 → (getD map v 0 ≡ 65535 → ⊥) → held ng gy g1 gf gt .link v a ≡ some w →
+          (w < 255) × (getD map w 0 < 255) × (held ns sy s1 sf st .link (getD map v 0) a ≡ some (getD map w 0))
+      link-mapped v w a h d e =
+          let (k, low, high, fk, tk) = link-place sane v a w (f .inside v h d) e in
+          let (j, m, same) = mapped-passed v h d .leads k low high in
+          let at : getD map w 0 ≡ getD st j 0 = ap (λ (i : ℕ). getD map i 0) (sym tk) ∙ same in (
+            omega (arith, target-inside sane v k (f .inside v h d) high),
+            omega (arith, target-inside sound (getD map v 0) j (f .image v h d) (m .s-high)),
+            ap (λ (i : ℕ). held ns sy s1 sf st .link (getD map v 0) i) (sym (m .feature ∙ fk)) ∙
+                link-at sound (getD map v 0) j (f .image v h d) (m .s-low) (m .s-high) ∙ ap some (sym at),
+          )
+
+      -- every node that the root reaches is mapped
+      reached-mapped : (p : List ℕ) (v : ℕ) → walk (held ng gy g1 gf gt) p ≡ some v → (v < 255) × (getD map v 0 ≡ 65535 → ⊥)
+      unfolding follow
+      reached-mapped =
+          snoc-induction (λ p. (v : ℕ) → walk (held ng gy g1 gf gt) p ≡ some v → (v < 255) × (getD map v 0 ≡ 65535 → ⊥)) base more
+        where
+          base : (v : ℕ) → walk (held ng gy g1 gf gt) [] ≡ some v → (v < 255) × (getD map v 0 ≡ 65535 → ⊥)
+          base v e =
+              let z : v ≡ 0 = sym (some-injective e) in
+              (omega arith, λ q. omega (arith, sym (f .rooted) ∙ ap (λ (i : ℕ). getD map i 0) (sym z) ∙ q))
+
+          more : (p : List ℕ) (a : ℕ) → ((v : ℕ) → walk (held ng gy g1 gf gt) p ≡ some v → (v < 255) × (getD map v 0 ≡ 65535 → ⊥)) →
+              (w : ℕ) → walk (held ng gy g1 gf gt) (p ++ (a ∷ [])) ≡ some w → (w < 255) × (getD map w 0 ≡ 65535 → ⊥)
+          more p a ih w e =
+              let (v, q, l) = follow-last (held ng gy g1 gf gt .link) (some (held ng gy g1 gf gt .root)) p a w e in
+              let (h, d) = ih v q in
+              let (low, few, x) = link-mapped v w a h d l in
+              (low, λ z. omega arith)
+
+      node-map : (n : ℕ) → NodeMap (typeLabels n t) (held ns sy s1 sf st) (held ng gy g1 gf gt) (λ v. getD map v 0)
+      node-map n =
+          record {
+            root = f .rooted;
+            links = λ v w a r l. let (h, d) = reached-mapped (r .0) v (r .1) in link-mapped v w a h d l .2;
+            labels = λ v r.
+                let (h, d) = reached-mapped (r .0) v (r .1) in
+                ap₂ (below t) (label-at sound (getD map v 0) (f .image v h d)) (label-at sane v (f .inside v h d)) ∙
+                mapped-passed v h d .ordered;
+          }
+
+      pub order-yes : {n : ℕ} → Orders n t (rowsOf ns sy s1 sf st) (rowsOf ng gy g1 gf gt) order.Below map
+      order-yes {n} =
+          record { yes-stands = λ _. node-map n; no-stands = λ e b. let z : _≡_ {A = ℕ} 0 1 = cc in omega arith }
+
+    order-no : {n : ℕ} {answer : List ℕ} → (Below (typeLabels n t) (held ns sy s1 sf st) (held ng gy g1 gf gt) → ⊥) →
+        Orders n t (rowsOf ns sy s1 sf st) (rowsOf ng gy g1 gf gt) order.NotBelow answer
+    order-no never =
+        record { yes-stands = λ e. let z : _≡_ {A = ℕ} 0 1 = cc in absurd (omega arith); no-stands = λ _. never }
+
+    -- at the next node
+    module _ (next : head < count) where
+      abbrev v : ℕ
+      v = getD queue head 0
+
+      abbrev u : ℕ
+      u = getD map (getD queue head 0) 0
+
+      node-small : v < 255
+      node-small = f .queued .listed head next
+
+      node-in : v < ng
+      node-in = f .inside v node-small (f .queued .mapped head next)
+
+      image-in : u < ns
+      image-in = f .image v node-small (f .queued .mapped head next)
+
+      both : Together (held ns sy s1 sf st) (held ng gy g1 gf gt) v u
+      both = f .together v node-small (f .queued .mapped head next)
+
+      pub next-node : ((w : ℕ) → w < ns → getD sy w 0 < 64) → ((w : ℕ) → w < ng → getD gy w 0 < 64) →
+          Next t ns sy s1 sf st ng gy g1 gf gt map queue head
+      next-node few many =
+          record {
+            small = node-small;
+            inside = node-in;
+            image = image-in;
+            image-small = omega (arith, image-in, small .0);
+            typed = many v node-in;
+            image-typed = few u image-in;
+            bounded = omega (arith, node-in, sane .shaped .laid .bounded);
+            image-bounded = omega (arith, image-in, sound .shaped .laid .bounded);
+            spanned = spans sane (small .1) v node-in;
+            image-spanned = spans sound (small .0) u image-in;
+          }
+
+      -- its type is not below
+      pub order-label : {n : ℕ} {answer : List ℕ} → below t (getD sy u 0) (getD gy v 0) ≡ false →
+          Orders n t (rowsOf ns sy s1 sf st) (rowsOf ng gy g1 gf gt) order.NotBelow answer
+      order-label {n} e =
+          order-no λ b. label-refutes (held ns sy s1 sf st) (held ng gy g1 gf gt) n t b both (ap₂ (below t) (label-at sound u image-in) (label-at sane v node-in) ∙ e)
+
+      come-together : {w x : ℕ} → w < 255 → Comes sf st gf gt (getD s1 u 0) (getD s1 (u + 1) 0) (getD g1 v 0) (getD g1 (v + 1) 0) map w x →
+          Together (held ns sy s1 sf st) (held ng gy g1 gf gt) w x
+      come-together {w} {x} h (kept d e) = rw e at (f .together w h d)
+      come-together {w} {x} h (led k j m a b) =
+          together-link (held ns sy s1 sf st) (held ng gy g1 gf gt) (getD gf k 0) both
+          (link-at sane v k node-in (m .g-low) (rw add-one at (m .g-high)) ∙ ap some a)
+          (ap (λ (i : ℕ). held ns sy s1 sf st .link u i) (sym (m .feature)) ∙ link-at sound u j image-in (m .s-low) (rw add-one at (m .s-high)) ∙ ap some b)
+
+      -- its links clash
+      pub order-clash : {n : ℕ} {answer : List ℕ} → Clash sf st gf gt (getD s1 u 0) (getD s1 (u + 1) 0) (getD g1 v 0) (getD g1 (v + 1) 0) map →
+          Orders n t (rowsOf ns sy s1 sf st) (rowsOf ng gy g1 gf gt) order.NotBelow answer
+      order-clash {n} (lacks k low high never) =
+          order-no λ b.
+          lack-refutes (held ns sy s1 sf st) (held ng gy g1 gf gt) n t b (getD gf k 0) both (link-at sane v k node-in low (rw add-one at high))
+          λ x e.
+          let (j, a, c, same, to) = link-place sound u (getD gf k 0) x image-in e in
+          never j a (rw add-one c) same
+      order-clash {n} (splits w x y h c d never) = order-no λ b. split-refutes (held ns sy s1 sf st) (held ng gy g1 gf gt) n t b (come-together h c) (come-together h d) never
+
+      -- it is passed
+      pub searched-on : {later longer : List ℕ} {more : ℕ} → below t (getD sy u 0) (getD gy v 0) ≡ true →
+          Followed sf st gf gt (getD s1 u 0) (getD s1 (u + 1) 0) (getD g1 v 0) (getD g1 (v + 1) 0) map queue count later longer more
+          (getD g1 (v + 1) 0) →
+          Searched t ns sy s1 sf st ng gy g1 gf gt later longer more (head + 1)
+      searched-on {later} {longer} {more} e d =
+          record {
+            queued = d .queued;
+            ahead = omega (arith, d .grows);
+            inside = λ w h m. come-inside h (d .comes w h m);
+            image = λ w h m. come-image h (d .comes w h m);
+            together = λ w h m. come-together h (d .comes w h m);
+            rooted = d .keeps 0 (omega arith) (λ z. omega (arith, sym (f .rooted) ∙ z)) ∙ f .rooted;
+            passed = λ i h. passed i h (ℕ-discrete i head);
+          }
+        where
+          come-inside : {w x : ℕ} → w < 255 →
+              Comes sf st gf gt (getD s1 u 0) (getD s1 (u + 1) 0) (getD g1 v 0) (getD g1 (v + 1) 0) map w x → w < ng
+          come-inside {w} h (kept a b) = f .inside w h a
+          come-inside {w} h (led k j m a b) = rw a at (target-inside sane v k node-in (rw add-one at (m .g-high)))
+
+          come-image : {w x : ℕ} → w < 255 →
+              Comes sf st gf gt (getD s1 u 0) (getD s1 (u + 1) 0) (getD g1 v 0) (getD g1 (v + 1) 0) map w x → x < ns
+          come-image {w} h (kept a b) = rw b at (f .image w h a)
+          come-image {w} h (led k j m a b) = rw b at (target-inside sound u j image-in (rw add-one at (m .s-high)))
+
+          -- what was passed stays so
+          stays : (w : ℕ) → w < ng → getD map w 0 < ns → Passed t ns sy s1 sf st ng gy g1 gf gt map w →
+              getD later w 0 ≡ getD map w 0 → Passed t ns sy s1 sf st ng gy g1 gf gt later w
+          stays w inside image p same =
+              record {
+                ordered = rw same (p .ordered);
+                leads = rw same λ k low high.
+                    let (j, m, to) = p .leads k low high in (
+                      j,
+                      m,
+                      d .keeps (getD gt k 0) (omega (arith, target-inside sane w k inside high))
+                          (λ z. omega (arith, sym to ∙ z, target-inside sound (getD map w 0) j image (m .s-high))) ∙ to,
+                    );
+              }
+
+          passed : (i : ℕ) → i < head + 1 → Dec (i ≡ head) → Passed t ns sy s1 sf st ng gy g1 gf gt later (getD longer i 0)
+          passed i h (no x) =
+              rw (d .stays i (omega arith))
+              (stays (getD queue i 0)
+              (f .inside (getD queue i 0) (f .queued .listed i (omega arith)) (f .queued .mapped i (omega arith)))
+              (f .image (getD queue i 0) (f .queued .listed i (omega arith)) (f .queued .mapped i (omega arith)))
+              (f .passed i (omega arith))
+              (d .keeps (getD queue i 0) (f .queued .listed i (omega arith)) (f .queued .mapped i (omega arith))))
+          passed i h (yes x) =
+              rw (x, d .stays head next)
+              (record { ordered = rw same e; leads = rw same (rw (add-one u, add-one v) at (d .leads)) })
+            where
+              same : getD later v 0 ≡ getD map v 0
+              same = d .keeps v node-small (f .queued .mapped head next)
