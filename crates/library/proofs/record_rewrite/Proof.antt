@@ -1,0 +1,29 @@
+-- The exported call answers the code of what the engine replies, and leaves the output that the engine leaves.
+use Rattle.library.specs.Code.{codeOf}
+use mathlib.Core.Path.{ap, _∙_}
+use borrow.Author.Needs.{needs}
+use Rattle.library.proofs.record_rewrite.Statement.{statement}
+use Rattle.library.proofs.record_rewrite.Tie as tie
+use Rattle.library.proofs.record_rewrite.Reads as reads
+use Rattle.library.proofs.record_rewrite.Lts as lts
+use Rattle.engine.proofs.rewrite.Reads as rewrite-reads
+use Rattle.library.proofs.code.Reads as code-reads
+
+-- src/lib.rt:21:10
+rewrite-requires : tie.Need-rewrite-requires
+rewrite-requires c κs = search needs
+
+-- src/lib.rt:21:5
+code-requires : tie.Need-code-requires
+code-requires c κs = search needs
+
+-- src/lib.rt:16:1
+same-length : tie.Need-same-length
+same-length c = search needs
+
+-- src/lib.rt:16:1
+returns : tie.Need-returns
+returns c = (c .code .ensures ∙ ap codeOf (c .before .before .before .rewrite .ensures .0), c .before .before .before .rewrite .ensures .1)
+
+pub record-rewrite-spec : {M : Type 1} → statement M
+record-rewrite-spec = tie.close (tie.spec rewrite-requires code-requires same-length returns)

@@ -1,0 +1,77 @@
+// The engine's calls for programs in other languages: a static library whose functions take a number of types, a table, a record
+// and an output, each slice as a pointer and a length, and answer one number.
+
+use engine::Reply;
+use engine::Side;
+use lattice::TableFault;
+use record::GraphFault;
+ghost use mathlib.Core.Path.{_≡_};
+ghost use Prim.Native.Nat.{_<_};
+ghost use Rattle.engine.specs.Reply.{rewriting};
+ghost use Rattle.lattice.specs.Reply.{tableNumber};
+ghost use Rattle.record.specs.Read.{graphNumber};
+ghost use Rattle.library.specs.Code.{codeOf, refusalCode, sideNumber};
+
+// A record in written form: the code of the reply, and the output that the engine leaves.
+#[no_mangle]
+pub extern "C" fn record_rewrite(n: usize, table: &[u8], bytes: &[u8], out: &mut [u8]) -> u64
+    ensures { λ r. ⌜ r ≡ codeOf (rewriting n (now (table .entry)) (now (bytes .entry)) (now (out .entry)) .reply) ⌝ }
+    ensures { λ r. ⌜ now (out .exit) ≡ rewriting n (now (table .entry)) (now (bytes .entry)) (now (out .entry)) .output ⌝ }
+{
+    code(engine::rewrite(n, table, bytes, out))
+}
+
+// The number that stands for a reply.
+fn code(reply: Reply) -> u64
+    ensures { λ r. ⌜ r ≡ codeOf reply ⌝ }
+{
+    match reply {
+        Reply::Length(length) => length as u64,
+        Reply::Table(fault) => refusal(table_number(fault), 0),
+        Reply::Graph(fault, side) => refusal(graph_number(fault), side_number(side)),
+        Reply::NoRoom => refusal(8, 0),
+        Reply::TooLarge => refusal(11, 0),
+    }
+}
+
+// The code of a refusal: its number in document 01, and which graph it tells of.
+fn refusal(number: u64, side: u64) -> u64
+    requires { ⌜ number < 256 ⌝ }
+    requires { ⌜ side < 256 ⌝ }
+    ensures { λ r. ⌜ r ≡ refusalCode number side ⌝ }
+{
+    4294967296 + 256 * side + number
+}
+
+fn table_number(fault: TableFault) -> u64
+    ensures is { λ r. ⌜ r ≡ tableNumber fault ⌝ }
+    ensures small { λ r. ⌜ r < 256 ⌝ }
+{
+    match fault {
+        TableFault::Size => 1,
+        TableFault::Order => 2,
+        TableFault::Bounds => 3,
+    }
+}
+
+fn graph_number(fault: GraphFault) -> u64
+    ensures is { λ r. ⌜ r ≡ graphNumber fault ⌝ }
+    ensures small { λ r. ⌜ r < 256 ⌝ }
+{
+    match fault {
+        GraphFault::Malformed => 4,
+        GraphFault::OutOfRange => 5,
+        GraphFault::Cyclic => 6,
+        GraphFault::Unreached => 7,
+    }
+}
+
+fn side_number(side: Side) -> u64
+    ensures is { λ r. ⌜ r ≡ sideNumber side ⌝ }
+    ensures small { λ r. ⌜ r < 256 ⌝ }
+{
+    match side {
+        Side::First => 1,
+        Side::Second => 2,
+    }
+}

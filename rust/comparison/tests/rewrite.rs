@@ -1,0 +1,347 @@
+//! Rewriting by the proved engine and by the reference: the same reply and the
+//! same bytes, also beside the output, on random and damaged tables and records,
+//! with outputs that are empty, one byte short, exact and larger.
+
+use reference::calls;
+use reference::graph::{Graph, Node};
+use reference::random::{self, Shape, TableBytes, Xorshift};
+use reference::record::{self, LONGEST_RECORD, MOST_NODES};
+use reference::reply::Reply;
+use std::collections::BTreeMap;
+
+/// Bytes on each side of an output, which no call may change.
+const MARGIN: usize = 16;
+
+/// Both engines side by side, and how often each reply came.
+struct Comparison {
+    random: Xorshift,
+    inputs: usize,
+    /// The number of replies by document 01's number, lengths at 0.
+    replies: [usize; 14],
+}
+
+impl Comparison {
+    fn new(seed: u64) -> Comparison {
+        Comparison {
+            random: Xorshift::new(seed),
+            inputs: 0,
+            replies: [0; 14],
+        }
+    }
+
+    /// The reply to an input where there is room for any record. The same input is
+    /// also called with an output of the result's length, one byte less, and another.
+    fn check(&mut self, table: &TableBytes, record: &[u8]) -> Reply {
+        self.inputs += 1;
+        let reply = self.call(table, record, LONGEST_RECORD);
+        let any = self.random.pick(LONGEST_RECORD);
+        match reply {
+            Reply::Length(length) => {
+                let other = *self.random.choose(&[0, length + 1, any]);
+                for room in [length, length - 1, other] {
+                    let expected = (room < length).then_some(8);
+                    assert_eq!(self.call(table, record, room).number(), expected);
+                }
+            }
+            _ => {
+                for room in [0, any] {
+                    assert_eq!(self.call(table, record, room), reply);
+                }
+            }
+        }
+        reply
+    }
+
+    /// One call of each engine with an output of a given length in the midst of
+    /// bytes that tell a stray write.
+    fn call(&mut self, table: &TableBytes, record: &[u8], room: usize) -> Reply {
+        let start = self.random.pick(256);
+        let before: Vec<u8> = (0..MARGIN + room + MARGIN)
+            .map(|place| (start + 167 * place) as u8)
+            .collect();
+        let (mut by_engine, mut by_reference) = (before.clone(), before);
+        let output = MARGIN..MARGIN + room;
+        let engine = comparison::rewrite(
+            table.n,
+            &table.bytes,
+            record,
+            &mut by_engine[output.clone()],
+        );
+        let reference = calls::rewrite(table.n, &table.bytes, record, &mut by_reference[output]);
+        assert_eq!(
+            engine, reference,
+            "an output of {room} bytes, {table:?}, the record {record:?}"
+        );
+        assert!(
+            by_engine == by_reference,
+            "outputs of {room} bytes differ: {table:?}, the record {record:?}"
+        );
+        self.replies[usize::from(reference.number().unwrap_or(0))] += 1;
+        reference
+    }
+
+    /// Each of these replies came at least so often, and no other at all.
+    fn assert_replies(&self, numbers: &[usize], least: usize) {
+        for (number, &count) in self.replies.iter().enumerate() {
+            let enough = match numbers.contains(&number) {
+                true => count >= least,
+                false => count == 0,
+            };
+            assert!(enough, "reply {number}: {:?}", self.replies);
+        }
+    }
+}
+
+/// Tables of every kind, all accepted.
+fn tables(random: &mut Xorshift) -> Vec<TableBytes> {
+    let mut tables = vec![
+        random::chain(2),
+        random::chain(5),
+        random::chain(64),
+        random::diamond(),
+        random::boolean(4),
+        random::middles(3),
+        random::pentagon(),
+    ];
+    for _ in 0..4 {
+        tables.push(random::closure_system(random));
+        tables.push(random::distributive(random));
+    }
+    tables
+}
+
+/// An acyclic graph with so many nodes, each below the one before it, and so many
+/// links, in any numbering with the root at 0.
+fn with_links(random: &mut Xorshift, n: usize, nodes: usize, links: usize) -> Graph {
+    let shape = Shape {
+        nodes,
+        extra_links: 0,
+        features: vec![random.pick(64) as u8],
+        spread: 1,
+        tops: 2,
+    };
+    let mut graph = random::graph(random, n, &shape);
+    // From a parent to one that is listed before it, so that none reaches itself.
+    let bottom_up = graph.bottom_up().expect("a chain");
+    while graph.link_count() < links {
+        let parent = random.between(1, nodes - 1);
+        let target = bottom_up[random.pick(parent)];
+        let feature = random.pick(64) as u8;
+        let links = &mut graph.nodes[bottom_up[parent]].links;
+        links.entry(feature).or_insert(target);
+    }
+    graph
+}
+
+/// A record that is accepted, of a few nodes.
+fn small_record(random: &mut Xorshift, n: usize, most_nodes: usize) -> Vec<u8> {
+    let shape = Shape::small(random, most_nodes, 3);
+    record::write(&random::graph(random, n, &shape))
+}
+
+/// Random bytes in the form of a record: few nodes, few bits in the maps.
+fn random_rows(random: &mut Xorshift) -> Vec<u8> {
+    let nodes = random.between(0, 4);
+    let mut record = vec![nodes as u8];
+    for _ in 0..nodes {
+        record.push(random.pick(6) as u8);
+        let mut map = [0; 8];
+        for _ in 0..random.pick(3) {
+            map[random.pick(8)] |= 1 << random.pick(8);
+        }
+        record.extend(map);
+        let links: u32 = map.iter().map(|byte| byte.count_ones()).sum();
+        record.extend((0..links).map(|_| random.pick(5) as u8));
+    }
+    record
+}
+
+/// Any bytes, up to a few dozen.
+fn random_bytes(random: &mut Xorshift) -> Vec<u8> {
+    let length = random.pick(40);
+    (0..length).map(|_| random.byte()).collect()
+}
+
+#[test]
+fn random_and_damaged_records_over_random_and_damaged_tables() {
+    let mut compared = Comparison::new(1);
+    let random = &mut Xorshift::new(2);
+    while compared.inputs < 20_000 {
+        let table = match random.chance(1, 8) {
+            true => random::damaged_table(random),
+            false => random::valid_table(random),
+        };
+        // A table that is refused may state any n.
+        let n = table.n.clamp(2, 64);
+        for _ in 0..4 {
+            let record = match random.pick(12) {
+                0 => random::valid_record(random, n),
+                1..=3 => small_record(random, n, 8),
+                4..=8 => random::damaged_record(random, n),
+                9 | 10 => random_rows(random),
+                _ => random_bytes(random),
+            };
+            compared.check(&table, &record);
+        }
+    }
+    compared.assert_replies(&[0, 1, 2, 3, 4, 5, 6, 7, 8], 100);
+}
+
+#[test]
+fn every_bit_of_a_record_and_every_length() {
+    let mut compared = Comparison::new(3);
+    let random = &mut Xorshift::new(4);
+    for table in tables(random) {
+        for most_nodes in [2, 4] {
+            let record = small_record(random, table.n, most_nodes);
+            assert!(matches!(compared.check(&table, &record), Reply::Length(_)));
+            for bit in 0..8 * record.len() {
+                let mut damaged = record.clone();
+                damaged[bit / 8] ^= 1 << (bit % 8);
+                compared.check(&table, &damaged);
+            }
+            for length in 0..record.len() {
+                let reply = compared.check(&table, &record[..length]);
+                assert_eq!(reply.number(), Some(4), "cut to {length} bytes");
+            }
+            for more in 1..=20 {
+                let mut extended = record.clone();
+                extended.extend((0..more).map(|_| random.byte()));
+                let reply = compared.check(&table, &extended);
+                assert_eq!(reply.number(), Some(4), "{more} bytes more");
+            }
+        }
+    }
+    compared.assert_replies(&[0, 4, 5, 6, 7, 8], 20);
+}
+
+#[test]
+fn every_bit_of_a_table_and_every_number_of_types() {
+    let mut compared = Comparison::new(5);
+    let random = &mut Xorshift::new(6);
+    for table in tables(random) {
+        let record = small_record(random, table.n, 4);
+        for row in 0..table.n {
+            // Of a large table one bit in eight.
+            for bit in 0..64 {
+                if table.n <= 16 || row % 8 == bit % 8 {
+                    let mut damaged = table.clone();
+                    damaged.bytes[8 * row + bit / 8] ^= 1 << (bit % 8);
+                    compared.check(&damaged, &record);
+                }
+            }
+        }
+        for n in (0..70).chain([255, 256, 1 << 32, 1 << 61, (1 << 61) + table.n, usize::MAX]) {
+            let stated = TableBytes { n, ..table.clone() };
+            let expected = if n == table.n { None } else { Some(1) };
+            assert_eq!(compared.check(&stated, &record).number(), expected);
+        }
+        for length in [0, 8 * table.n - 1, 8 * table.n + 1, 8 * table.n + 8] {
+            let mut resized = table.clone();
+            resized.bytes.resize(length, 0);
+            assert_eq!(compared.check(&resized, &record).number(), Some(1));
+        }
+    }
+    for _ in 0..500 {
+        let order = random::bounded_order(random);
+        compared.check(&order, &record::write(&Graph::lone(1)));
+    }
+    compared.assert_replies(&[0, 1, 2, 3, 8], 20);
+}
+
+#[test]
+fn links_up_to_and_past_2048() {
+    let mut compared = Comparison::new(7);
+    let random = &mut Xorshift::new(8);
+    for table in [random::diamond(), random::middles(3), random::chain(64)] {
+        for nodes in [40, 100, 254, MOST_NODES] {
+            for (links, number) in [(2047, None), (2048, None), (2049, Some(4)), (2300, Some(4))] {
+                let graph = with_links(random, table.n, nodes, links);
+                let record = record::write(&graph);
+                assert_eq!(record.len(), 1 + 9 * nodes + links);
+                let reply = compared.check(&table, &record);
+                assert_eq!(reply.number(), number, "{nodes} nodes, {links} links");
+                // With faults that would be told later.
+                let mut broken = record.clone();
+                broken[1] = 0;
+                let reply = compared.check(&table, &broken);
+                assert_eq!(reply.number(), Some(number.unwrap_or(5)));
+            }
+        }
+    }
+    compared.assert_replies(&[0, 4, 5, 8], 20);
+}
+
+#[test]
+fn chains_of_255_nodes() {
+    let mut compared = Comparison::new(9);
+    let random = &mut Xorshift::new(10);
+    let table = random::diamond();
+    let features: Vec<u8> = (20..28).collect();
+    for nodes in [1, 2, 128, 253, 254, MOST_NODES] {
+        for _ in 0..5 {
+            let chain = random::chain_graph(nodes, random.pick(64) as u8, 3);
+            let ladder = random::ladder(nodes, &features, 2);
+            for graph in [chain, ladder] {
+                let written = record::write(&graph);
+                // The chain is numbered as written; other numberings give the same record.
+                let shuffled = random::renumbered(random, &graph);
+                let mut output = vec![0; LONGEST_RECORD];
+                let record = record::write(&shuffled);
+                let reply = comparison::rewrite(table.n, &table.bytes, &record, &mut output);
+                assert_eq!(reply, Reply::Length(written.len()));
+                assert_eq!(output[..written.len()], written);
+                assert_eq!(compared.check(&table, &record), reply);
+                // A link from the last node to any node closes a loop.
+                let last = graph.nodes.len() - 1;
+                let mut looping = graph.clone();
+                let back = random.pick(nodes);
+                looping.nodes[last]
+                    .links
+                    .insert(random.pick(64) as u8, back);
+                let looping = record::write(&random::renumbered(random, &looping));
+                assert_eq!(compared.check(&table, &looping).number(), Some(6));
+                // Without the links of one node the ones below it are not reached.
+                if nodes > 1 {
+                    let mut cut = graph.clone();
+                    cut.nodes[random.pick(nodes - 1)].links.clear();
+                    let cut = record::write(&random::renumbered(random, &cut));
+                    assert_eq!(compared.check(&table, &cut).number(), Some(7));
+                }
+            }
+        }
+    }
+    compared.assert_replies(&[0, 6, 7, 8], 20);
+}
+
+#[test]
+fn loops_in_parts_that_the_root_does_not_reach() {
+    let mut compared = Comparison::new(11);
+    let random = &mut Xorshift::new(12);
+    for table in tables(random) {
+        for _ in 0..20 {
+            let shape = Shape::small(random, 6, 3);
+            let reached = random::graph(random, table.n, &shape);
+            let first = reached.nodes.len();
+            // So many nodes more in a row, the last one with a link back or without.
+            let more = random.between(1, 4);
+            let back = first + random.pick(more);
+            for (target, number) in [(Some(back), 6), (Some(random.pick(first)), 7), (None, 7)] {
+                let mut graph = reached.clone();
+                for node in first..first + more {
+                    let next = (node + 1 < first + more).then_some(node + 1);
+                    graph.nodes.push(Node {
+                        node_type: (table.n - 1) as u8,
+                        links: BTreeMap::from_iter(
+                            next.or(target)
+                                .map(|target| (random.pick(64) as u8, target)),
+                        ),
+                    });
+                }
+                let record = record::write(&random::renumbered(random, &graph));
+                assert_eq!(compared.check(&table, &record).number(), Some(number));
+            }
+        }
+    }
+    compared.assert_replies(&[6, 7], 100);
+}
