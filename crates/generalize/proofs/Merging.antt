@@ -460,8 +460,9 @@ module _ {af afs ats bf bfs bts : List ℕ} {u v : ℕ} {queue₀ features₀ ta
           let k = left .known i (s .left-low) left-in in
           (omega (arith, s .added .near), omega (arith, s .added .short))
 
-      pub merge-pair : getD ats i 0 * 255 + getD bts j 0 < 65025
-      merge-pair = omega (arith, left .within i (s .left-low) left-in, right .within j (s .right-low) right-in)
+      -- the targets are nodes
+      pub merge-pair : (getD ats i 0 < 255) × (getD bts j 0 < 255)
+      merge-pair = (left .within i (s .left-low) left-in, right .within j (s .right-low) right-in)
 
       -- A feature of both.
       pub merge-both : getD afs i 0 ≡ getD bfs j 0 → links < length features → links < length targets →

@@ -4,47 +4,36 @@ use borrow.Author.Needs.{needs}
 use Rattle.generalize.proofs.enlist.Statement.{statement}
 use Rattle.generalize.proofs.enlist.Tie as tie
 
--- src/lib.rt:25:16
 mul-mark : tie.Need-mul-mark
 mul-mark c = search needs
 
--- src/lib.rt:25:16
 element-copy-out-mark : tie.Need-element-copy-out-mark
 element-copy-out-mark c = search needs
 
--- src/lib.rt:27:9
 returns : tie.Need-returns
 returns c = enlist-old _ _ _ _ (c .before .before .pre .0) (c .before .before .pre .1 .0) (c .before .before .pre .1 .1) (c .if1 .taken)
 
--- src/lib.rt:29:19
 cast-marks : tie.Need-cast-marks
 cast-marks c = search needs
 
--- src/lib.rt:29:5
 mul-marks : tie.Need-mul-marks
 mul-marks c = search needs
 
--- src/lib.rt:29:5
 element-write-marks : tie.Need-element-write-marks
 element-write-marks c = search needs
 
--- src/lib.rt:30:20
 cast-queue : tie.Need-cast-queue
 cast-queue c = search needs
 
--- src/lib.rt:30:5
 mul-queue : tie.Need-mul-queue
 mul-queue c = search needs
 
--- src/lib.rt:30:5
 element-write-queue : tie.Need-element-write-queue
 element-write-queue c = search needs
 
--- src/lib.rt:31:5
 add-result : tie.Need-add-result
 add-result c = search needs
 
--- src/lib.rt:20:1
 returns-2 : tie.Need-returns-2
 returns-2 c = enlist-new _ _ _ _ (c .before .before .pre .0) (c .before .before .pre .1 .0) (c .before .before .pre .1 .1) (c .if1 .left)
 

@@ -22,119 +22,90 @@ abbrev μ-loop : tie.MeasureT-loop
 μ-loop joins out a b marks₀ queue₀ types₀ first₀ features₀ targets₀ count₀ links₀ head₀ marks queue types first features targets count links head =
     255 - head
 
--- src/lib.rt:110:5
 array-write-marks : tie.Need-array-write-marks Inv-loop μ-loop
 array-write-marks c = search needs
 
--- src/lib.rt:114:5
 loop-holds : tie.Need-loop-holds Inv-loop μ-loop
 loop-holds c = let st = c .before in let left : Held (st .args .t2) = record { sound = st .pre .0; small = st .pre .1 .1 .0 .0 } in let right : Held (st .args .t3) = record { sound = st .pre .1 .0; small = st .pre .1 .1 .0 .1 } in (build-start (st .args .joins .now) (st .args .t2) (st .args .t3) left right (replicate 65025 65535) (replicate 319 0) (replicate 255 0) (replicate 256 0) (replicate 2112 0) (replicate 2112 0) (length-replicate {A = ℕ} 65025 65535) (λ p h. getD-replicate {A = ℕ} 65025 p 65535 0 h) (length-replicate {A = ℕ} 319 0) (getD-replicate {A = ℕ} 319 0 0 0 (omega arith)) (length-replicate {A = ℕ} 255 0) (length-replicate {A = ℕ} 256 0) (getD-replicate {A = ℕ} 256 0 0 0 (omega arith)) (length-replicate {A = ℕ} 2112 0) (length-replicate {A = ℕ} 2112 0), omega arith, omega arith)
 
--- src/lib.rt:115:20
 mul-pair : tie.Need-mul-pair Inv-loop μ-loop
 mul-pair c = search needs
 
--- src/lib.rt:115:20
 array-read-pair : tie.Need-array-read-pair Inv-loop μ-loop
 array-read-pair c = search needs
 
--- src/lib.rt:115:20
 cast-pair : tie.Need-cast-pair Inv-loop μ-loop
 cast-pair c = let l = c .before in let st = l .before .before in omega (arith, l .loop .inv .0 .marked .inside (l .loop .head) (c .loop-test .taken))
 
--- src/lib.rt:118:17
 element-copy-out-i : tie.Need-element-copy-out-i Inv-loop μ-loop
 element-copy-out-i c = let l = c .before in let st = l .before .before in omega (arith, l .loop .inv .0 .inside (l .loop .head) (c .loop-test .taken) .0, st .pre .1 .1 .0 .0)
 
--- src/lib.rt:118:17
 cast-i : tie.Need-cast-i Inv-loop μ-loop
 cast-i c = let l = c .before .before in let st = l .before .before in omega (arith, st .pre .1 .1 .1 .0 (getD (l .loop .queue) (l .loop .head) 0 / 255) (l .loop .inv .0 .inside (l .loop .head) (c .before .loop-test .taken) .0))
 
--- src/lib.rt:119:17
 element-copy-out-j : tie.Need-element-copy-out-j Inv-loop μ-loop
 element-copy-out-j c = search needs
 
--- src/lib.rt:119:17
 cast-j : tie.Need-cast-j Inv-loop μ-loop
 cast-j c = let l = c .before .before .before in let st = l .before .before in omega (arith, st .pre .1 .1 .1 .1 (getD (l .loop .queue) (l .loop .head) 0 % 255) (l .loop .inv .0 .inside (l .loop .head) (c .before .before .loop-test .taken) .1))
 
--- src/lib.rt:120:23
 mul-types : tie.Need-mul-types Inv-loop μ-loop
 mul-types c = let l = c .before .before .before in let st = l .before .before in omega (arith, st .pre .1 .1 .1 .0 (getD (l .loop .queue) (l .loop .head) 0 / 255) (l .loop .inv .0 .inside (l .loop .head) (c .before .before .loop-test .taken) .0))
 
--- src/lib.rt:120:23
 index-1-types : tie.Need-index-1-types Inv-loop μ-loop
 index-1-types c = let l = c .before .before .before in let st = l .before .before in st .pre .1 .1 .1 .0 (getD (l .loop .queue) (l .loop .head) 0 / 255) (l .loop .inv .0 .inside (l .loop .head) (c .before .before .loop-test .taken) .0)
 
--- src/lib.rt:120:23
 index-2-types : tie.Need-index-2-types Inv-loop μ-loop
-index-2-types c = let l = c .before .before .before in let st = l .before .before in st .pre .1 .1 .1 .1 (getD (l .loop .queue) (l .loop .head) 0 % 255) (l .loop .inv .0 .inside (l .loop .head) (c .before .before .loop-test .taken) .1)
+index-2-types c = let l = c .before .before .before in let st = l .before .before in omega (arith, st .pre .1 .1 .1 .0 (getD (l .loop .queue) (l .loop .head) 0 / 255) (l .loop .inv .0 .inside (l .loop .head) (c .before .before .loop-test .taken) .0), st .pre .1 .1 .1 .1 (getD (l .loop .queue) (l .loop .head) 0 % 255) (l .loop .inv .0 .inside (l .loop .head) (c .before .before .loop-test .taken) .1))
 
--- src/lib.rt:120:9
 array-write-types : tie.Need-array-write-types Inv-loop μ-loop
 array-write-types c = search needs
 
--- src/lib.rt:121:13
 pair-links-requires : tie.Need-pair-links-requires Inv-loop μ-loop
 pair-links-requires c κs = let l = c .before .before .before .before .before .before .before .before .before .before .before .before .before .before .before .before .before .before .before .before .before .before in let st = l .before .before in let left : Held (st .args .t2) = record { sound = st .pre .0; small = st .pre .1 .1 .0 .0 } in let right : Held (st .args .t3) = record { sound = st .pre .1 .0; small = st .pre .1 .1 .0 .1 } in let i = l .loop .inv .0 .inside (l .loop .head) (c .before .before .before .before .before .before .before .before .before .before .before .before .before .before .before .before .before .before .before .before .before .loop-test .taken) in (held-row-at left (getD (l .loop .queue) (l .loop .head) 0 / 255) (i .0), (held-row-at right (getD (l .loop .queue) (l .loop .head) 0 % 255) (i .1), (l .loop .inv .0 .marked, ((l .loop .inv .0 .features-long, l .loop .inv .0 .targets-long), (l .loop .inv .2, l .loop .inv .1)))))
 
--- src/lib.rt:140:13
 returns : tie.Need-returns Inv-loop μ-loop
-returns c = let l = c .before .before .before .before .before .before .before .before .before .before .before .before .before .before .before .before .before .before .before .before .before .before .before .before in let st = l .before .before in let left : Held (st .args .t2) = record { sound = st .pre .0; small = st .pre .1 .1 .0 .0 } in let right : Held (st .args .t3) = record { sound = st .pre .1 .0; small = st .pre .1 .1 .0 .1 } in answers (too-large (st .args .joins .now) left right (st .args .out .now) (inl (many-pairs left right (build-step left right (l .loop .inv .0) (c .before .before .before .before .before .before .before .before .before .before .before .before .before .before .before .before .before .before .before .before .before .before .before .loop-test .taken) (l .loop .inv .1) (l .loop .inv .2) _ _ _ _ _ _ (c .before .pair-links .ensures)) (c .if1 .taken))))
+returns c = let l = c .before .before .before .before .before .before .before .before .before .before .before .before .before .before .before .before .before .before .before .before .before .before .before .before in let st = l .before .before in let left : Held (st .args .t2) = record { sound = st .pre .0; small = st .pre .1 .1 .0 .0 } in let right : Held (st .args .t3) = record { sound = st .pre .1 .0; small = st .pre .1 .1 .0 .1 } in answers (too-large (st .args .joins .now) left right (st .args .out .now) (inl (many-pairs left right (build-step left right (l .loop .inv .0) (c .before .before .before .before .before .before .before .before .before .before .before .before .before .before .before .before .before .before .before .before .before .before .before .loop-test .taken) (l .loop .inv .1) (l .loop .inv .2) _ _ _ _ _ _ (c .before .pair-links .ensures)) (omega (arith, c .if1 .taken)))))
 
--- src/lib.rt:143:13
 returns-2 : tie.Need-returns-2 Inv-loop μ-loop
-returns-2 c = let l = c .before .before .before .before .before .before .before .before .before .before .before .before .before .before .before .before .before .before .before .before .before .before .before .before .before in let st = l .before .before in let left : Held (st .args .t2) = record { sound = st .pre .0; small = st .pre .1 .1 .0 .0 } in let right : Held (st .args .t3) = record { sound = st .pre .1 .0; small = st .pre .1 .1 .0 .1 } in answers (too-large (st .args .joins .now) left right (st .args .out .now) (inr (many-places left right (build-step left right (l .loop .inv .0) (c .before .before .before .before .before .before .before .before .before .before .before .before .before .before .before .before .before .before .before .before .before .before .before .before .loop-test .taken) (l .loop .inv .1) (l .loop .inv .2) _ _ _ _ _ _ (c .before .before .pair-links .ensures)) (c .before .if1 .left) (c .if2 .taken))))
+returns-2 c = let l = c .before .before .before .before .before .before .before .before .before .before .before .before .before .before .before .before .before .before .before .before .before .before .before .before .before in let st = l .before .before in let left : Held (st .args .t2) = record { sound = st .pre .0; small = st .pre .1 .1 .0 .0 } in let right : Held (st .args .t3) = record { sound = st .pre .1 .0; small = st .pre .1 .1 .0 .1 } in answers (too-large (st .args .joins .now) left right (st .args .out .now) (inr (many-places left right (build-step left right (l .loop .inv .0) (c .before .before .before .before .before .before .before .before .before .before .before .before .before .before .before .before .before .before .before .before .before .before .before .before .loop-test .taken) (l .loop .inv .1) (l .loop .inv .2) _ _ _ _ _ _ (c .before .before .pair-links .ensures)) (omega (arith, c .before .if1 .left)) (omega (arith, c .if2 .taken)))))
 
--- src/lib.rt:145:9
 add-head : tie.Need-add-head Inv-loop μ-loop
 add-head c = search needs
 
--- src/lib.rt:146:23
 cast-first : tie.Need-cast-first Inv-loop μ-loop
 cast-first c = search needs
 
--- src/lib.rt:146:9
 mul-first : tie.Need-mul-first Inv-loop μ-loop
 mul-first c = search needs
 
--- src/lib.rt:146:9
 array-write-first : tie.Need-array-write-first Inv-loop μ-loop
 array-write-first c = search needs
 
--- src/lib.rt:114:5
 loop-less : tie.Need-loop-less Inv-loop μ-loop
 loop-less c = search needs
 
--- src/lib.rt:114:5
 loop-again : tie.Need-loop-again Inv-loop μ-loop
-loop-again c = let l = c .before .before .before .before .before .before .before .before .before .before .before .before .before .before .before .before .before .before .before .before .before .before .before .before .before in let st = l .before .before in let left : Held (st .args .t2) = record { sound = st .pre .0; small = st .pre .1 .1 .0 .0 } in let right : Held (st .args .t3) = record { sound = st .pre .1 .0; small = st .pre .1 .1 .0 .1 } in (build-step left right (l .loop .inv .0) (c .before .before .before .before .before .before .before .before .before .before .before .before .before .before .before .before .before .before .before .before .before .before .before .before .loop-test .taken) (l .loop .inv .1) (l .loop .inv .2) _ _ _ _ _ _ (c .before .before .pair-links .ensures), c .before .if1 .left, c .if2 .left)
+loop-again c = let l = c .before .before .before .before .before .before .before .before .before .before .before .before .before .before .before .before .before .before .before .before .before .before .before .before .before in let st = l .before .before in let left : Held (st .args .t2) = record { sound = st .pre .0; small = st .pre .1 .1 .0 .0 } in let right : Held (st .args .t3) = record { sound = st .pre .1 .0; small = st .pre .1 .1 .0 .1 } in (build-step left right (l .loop .inv .0) (c .before .before .before .before .before .before .before .before .before .before .before .before .before .before .before .before .before .before .before .before .before .before .before .before .loop-test .taken) (l .loop .inv .1) (l .loop .inv .2) _ _ _ _ _ _ (c .before .before .pair-links .ensures), omega (arith, c .before .if1 .left), omega (arith, c .if2 .left))
 
--- src/lib.rt:148:26
 slice-aggregate-write : tie.Need-slice-aggregate-write Inv-loop μ-loop
 slice-aggregate-write c = search needs
 
--- src/lib.rt:148:34
 slice-aggregate-write-2 : tie.Need-slice-aggregate-write-2 Inv-loop μ-loop
 slice-aggregate-write-2 c = search needs
 
--- src/lib.rt:148:42
 slice-aggregate-write-3 : tie.Need-slice-aggregate-write-3 Inv-loop μ-loop
 slice-aggregate-write-3 c = search needs
 
--- src/lib.rt:148:53
 slice-aggregate-write-4 : tie.Need-slice-aggregate-write-4 Inv-loop μ-loop
 slice-aggregate-write-4 c = search needs
 
--- src/lib.rt:148:5
 write-requires : tie.Need-write-requires Inv-loop μ-loop
 write-requires c κs = let l = c .before .before .before .before .before .before in let st = l .before .before in let left : Held (st .args .t2) = record { sound = st .pre .0; small = st .pre .1 .1 .0 .0 } in let right : Held (st .args .t3) = record { sound = st .pre .1 .0; small = st .pre .1 .1 .0 .1 } in build-sound left right (l .loop .inv .0) (c .before .before .before .before .before .loop-test .left) (l .loop .inv .1) (l .loop .inv .2)
 
--- src/lib.rt:94:1
 same-length : tie.Need-same-length Inv-loop μ-loop
 same-length c = search needs
 
--- src/lib.rt:94:1
 returns-3 : tie.Need-returns-3 Inv-loop μ-loop
 returns-3 c = let l = c .before .before .before .before .before .before .before .before .before in let st = l .before .before in let left : Held (st .args .t2) = record { sound = st .pre .0; small = st .pre .1 .1 .0 .0 } in let right : Held (st .args .t3) = record { sound = st .pre .1 .0; small = st .pre .1 .1 .0 .1 } in let e = sym (build-canonical left right (l .loop .inv .0) (c .before .before .before .before .before .before .before .before .loop-test .left) (l .loop .inv .1) (l .loop .inv .2)) in (c .before .before .write .ensures .0 ∙ ap (λ (k : Canonical ℕ). writtenOut k (st .args .out .now) .answer) e, c .before .before .write .ensures .1 ∙ ap (λ (k : Canonical ℕ). writtenOut k (st .args .out .now) .output) e)
 

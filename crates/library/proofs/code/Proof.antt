@@ -5,12 +5,6 @@ use native.Mathlib.Omega.{arith}
 use borrow.Author.Needs.{needs}
 use Rattle.library.proofs.code.Statement.{statement}
 use Rattle.library.proofs.code.Tie as tie
-use Rattle.library.proofs.code.Reads as reads
-use Rattle.library.proofs.code.Lts as lts
-use Rattle.library.proofs.graph_number.Reads as graph-number-reads
-use Rattle.library.proofs.refusal.Reads as refusal-reads
-use Rattle.library.proofs.side_number.Reads as side-number-reads
-use Rattle.library.proofs.table_number.Reads as table-number-reads
 
 -- src/lib.rt:29:23
 enum-known-reply : tie.Need-enum-known-reply

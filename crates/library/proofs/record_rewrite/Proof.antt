@@ -4,10 +4,6 @@ use mathlib.Core.Path.{ap, _∙_}
 use borrow.Author.Needs.{needs}
 use Rattle.library.proofs.record_rewrite.Statement.{statement}
 use Rattle.library.proofs.record_rewrite.Tie as tie
-use Rattle.library.proofs.record_rewrite.Reads as reads
-use Rattle.library.proofs.record_rewrite.Lts as lts
-use Rattle.engine.proofs.rewrite.Reads as rewrite-reads
-use Rattle.library.proofs.code.Reads as code-reads
 
 -- src/lib.rt:21:10
 rewrite-requires : tie.Need-rewrite-requires
