@@ -22,7 +22,7 @@ use Rattle.record.specs.Promise.{Reads, verdictOf}
 use Rattle.engine.specs.declared.Side.the-variants.{First}
 use Rattle.engine.specs.declared.Reply.{Reply}
 use Rattle.engine.specs.declared.Reply.the-variants.{Table, Graph}
-use Rattle.engine.specs.Reply.{Result, checked, replyOf, rewriting, rewritten}
+use Rattle.engine.specs.Reply.{Result, checked, refusing, replyOf, rewriting, rewritten}
 
 -- a reply and an output are those of a result
 abbrev pub Gives : Result → Reply → List ℕ → Type 0
@@ -74,10 +74,10 @@ module _ (n : ℕ) (t bytes : List ℕ) where
       Gives (rewriting n t bytes out) (Table fault) out
   unfolding rewriting
   table-refused fault out e =
-      subst (λ o. Gives (checked o (rewritten (reading n bytes) out) out) (Table fault) out) (sym e) (refl, refl)
+      subst (λ o. Gives (checked (λ r. refusing r out) o (rewritten (reading n bytes) out)) (Table fault) out) (sym e) (refl, refl)
 
   pub table-accepted : (out : List ℕ) {r : Reply} {new : List ℕ} → table.opened n t ≡ opened.Accepted → Gives (rewritten (reading n bytes) out) r new →
       Gives (rewriting n t bytes out) r new
   unfolding rewriting
   table-accepted out {r} {new} e h =
-      subst (λ o. Gives (checked o (rewritten (reading n bytes) out) out) r new) (sym e) h
+      subst (λ o. Gives (checked (λ r. refusing r out) o (rewritten (reading n bytes) out)) r new) (sym e) h

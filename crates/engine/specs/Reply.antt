@@ -1,24 +1,33 @@
 -- Replies: the number that document 01 gives to each ("Returned by a call"), and what each call answers and leaves in the output.
+use mathlib.Core.Bool.{cond}
 use mathlib.Core.List.{List}
 use mathlib.Core.Option.{Option, none, some}
 use Prim.Native.Nat.{ℕ}
 use lib.Dec.{eqb}
+use lib.ListN.{length}
+use Rattle.graphs.specs.Rows.{Row}
 use Rattle.graphs.specs.Number.{canonical}
+use Rattle.graphs.specs.Order.{subsumes}
+use Rattle.graphs.specs.Generalize.{generalization}
 use Rattle.lattice.specs.declared.Opened.{Opened}
 use Rattle.lattice.specs.declared.Opened.the-variants as opened
 use Rattle.lattice.specs.Reply as table
+use Rattle.lattice.specs.Labels.{typeLabels}
 use Rattle.encode.specs.declared.Written.{Written}
 use Rattle.encode.specs.declared.Written.the-variants as written
 use Rattle.encode.specs.Encode.{Outcome, writtenOut}
 use Rattle.record.specs.Read as graph
+use Rattle.generalize.specs.Pairs.{samePair}
 use Rattle.engine.specs.declared.Side.{Side}
-use Rattle.engine.specs.declared.Side.the-variants.{First}
+use Rattle.engine.specs.declared.Side.the-variants.{First, Second}
 use Rattle.engine.specs.declared.Reply.{Reply}
-use Rattle.engine.specs.declared.Reply.the-variants.{Length, Table, Graph, NoRoom, TooLarge}
+use Rattle.engine.specs.declared.Reply.the-variants.{Length, Yes, No, Table, Graph, NoRoom, TooLarge}
 
 -- the number of a refusal
 abbrev pub refusal : Reply → Option ℕ
 refusal (Length l) = none
+refusal Yes = none
+refusal No = none
 refusal (Table fault) = some (table.tableNumber fault)
 refusal (Graph fault side) = some (graph.graphNumber fault)
 refusal NoRoom = some 8
@@ -27,6 +36,8 @@ refusal TooLarge = some 11
 -- which graph a refusal tells of
 abbrev pub side : Reply → Option Side
 side (Length l) = none
+side Yes = none
+side No = none
 side (Table fault) = none
 side (Graph fault which) = some which
 side NoRoom = none
@@ -50,15 +61,41 @@ resultOf o = record { reply = replyOf (o .answer); output = o .output }
 abbrev pub refusing : Reply → List ℕ → Result
 refusing r out = record { reply = r; output = out }
 
+-- the table's 1 to 3, before what a call does; `refuse` makes what it gives of a refusal
+abbrev pub checked : {X : Type 0} → (Reply → X) → Opened → X → X
+checked refuse (opened.Refused fault) next = refuse (Table fault)
+checked refuse opened.Accepted next = next
+
+-- the first graph's 4 to 7, then the second's
+abbrev pub readBoth : {X : Type 0} → (Reply → X) → graph.Reading → graph.Reading → (List (Row ℕ) → List (Row ℕ) → X) → X
+readBoth refuse (graph.refused fault) second next = refuse (Graph fault First)
+readBoth refuse (graph.accepted rows) (graph.refused fault) next = refuse (Graph fault Second)
+readBoth refuse (graph.accepted rows) (graph.accepted others) next = next rows others
+
 -- over an accepted table: the graph's 4 to 7, then the record in written form
 abbrev pub rewritten : graph.Reading → List ℕ → Result
 rewritten (graph.refused fault) out = refusing (Graph fault First) out
 rewritten (graph.accepted rows) out = resultOf (writtenOut (canonical eqb (graph.graphOfRows rows)) out)
 
-abbrev pub checked : Opened → Result → List ℕ → Result
-checked (opened.Refused fault) next out = refusing (Table fault) out
-checked opened.Accepted next out = next
-
 -- "Rewriting one record in written form is a call too": the table's 1 to 3, the graph's 4 to 7, then 8
 unfoldable pub rewriting : ℕ → List ℕ → List ℕ → List ℕ → Result
-rewriting n t bytes out = checked (table.opened n t) (rewritten (graph.reading n bytes) out) out
+rewriting n t bytes out = checked (λ r. refusing r out) (table.opened n t) (rewritten (graph.reading n bytes) out)
+
+-- whether the first of two graphs is below the second
+unfoldable pub ordered : ℕ → List ℕ → List (Row ℕ) → List (Row ℕ) → Reply
+ordered n t s g = cond (subsumes (typeLabels n t) eqb eqb (graph.graphOfRows s) (graph.graphOfRows g) (length g)) Yes No
+
+-- the order: "is the first below the second"
+unfoldable pub ordering : ℕ → List ℕ → List ℕ → List ℕ → Reply
+ordering n t a b = checked (λ r. r) (table.opened n t) (readBoth (λ r. r) (graph.reading n a) (graph.reading n b) (ordered n t))
+
+-- the common part of two graphs in written form
+unfoldable pub generalized : ℕ → List ℕ → List ℕ → List (Row ℕ) → List (Row ℕ) → Result
+generalized n t out g h =
+    resultOf (writtenOut (canonical samePair (generalization (typeLabels n t) (graph.graphOfRows g) (graph.graphOfRows h))) out)
+
+-- the common part: then 11, 8
+unfoldable pub generalizing : ℕ → List ℕ → List ℕ → List ℕ → List ℕ → Result
+generalizing n t a b out =
+    checked (λ r. refusing r out) (table.opened n t)
+    (readBoth (λ r. refusing r out) (graph.reading n a) (graph.reading n b) (generalized n t out))

@@ -16,9 +16,11 @@ pub enum Side {
     Second,
 }
 
-// What a call answers: the record's length, or a refusal.
+// What a call answers: the record's length, a yes or a no of the order, or a refusal.
 pub enum Reply {
     Length(usize),
+    Yes,
+    No,
     Table(TableFault),
     Graph(GraphFault, Side),
     NoRoom,
