@@ -1,2 +1,6 @@
--- Laws of replies.
+-- Laws of the calls.
+pub mod Readings
 pub mod Replies
+pub mod Tables
+pub mod Orders
+pub mod CommonParts

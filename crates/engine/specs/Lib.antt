@@ -1,2 +1,3 @@
--- What the public calls answer.
+-- What the public calls answer, and what their parts promise.
 pub mod Reply
+pub mod Pair

@@ -1,14 +1,20 @@
 // The public calls on bytes: a table, one or two records, and an output that the caller lends. Every call answers a `Reply`; on a
 // refusal no byte of the output is written.
 
+use decode::Graph;
 use encode::Written;
 use lattice::Opened;
 use lattice::TableFault;
 use record::GraphFault;
 use record::Verdict;
+use subsume::Order;
 ghost use mathlib.Core.Path.{_≡_};
+ghost use Prim.Native.Nat.{_≤_};
 ghost use Rattle.record.specs.Read.{reading};
-ghost use Rattle.engine.specs.Reply.{replyOf, rewriting, rewritten};
+ghost use Rattle.engine.specs.Reply.{replyOf, readBoth, rewriting, rewritten, ordering, ordered, generalizing};
+ghost use Rattle.engine.specs.Pair.{joining};
+
+mod both;
 
 // Which of two graphs is refused; a lone graph counts as the first.
 pub enum Side {
@@ -25,6 +31,19 @@ pub enum Reply {
     Graph(GraphFault, Side),
     NoRoom,
     TooLarge,
+}
+
+// Whether two records are accepted, else the first refusal and which graph it tells of.
+pub enum PairVerdict {
+    Both,
+    Refused(GraphFault, Side),
+}
+
+// Two records read; a graph is of no meaning beside its refusal.
+pub struct Pair {
+    pub verdict: PairVerdict,
+    pub first: Graph,
+    pub second: Graph,
 }
 
 // A record in written form.
@@ -73,5 +92,76 @@ fn reply_of(written: Written) -> Reply
         Written::Length(length) => Reply::Length(length),
         Written::TooLarge => Reply::TooLarge,
         Written::NoRoom => Reply::NoRoom,
+    }
+}
+
+// Whether the first graph is below the second.
+pub fn order(n: usize, table: &[u8], first: &[u8], second: &[u8]) -> Reply
+    ensures { λ r. ⌜ r ≡ ordering n (now (table .entry)) (now (first .entry)) (now (second .entry)) ⌝ }
+{
+    let mut meets = [[0u8; 64]; 64];
+    let mut joins = [[0u8; 64]; 64];
+    let opened = lattice::open_table(n, table, &mut meets, &mut joins);
+    match opened {
+        Opened::Refused(fault) => Reply::Table(fault),
+        Opened::Accepted => order_over(n, table, first, second),
+    }
+}
+
+// The same over an accepted table with n types.
+fn order_over(n: usize, table: &[u8], first: &[u8], second: &[u8]) -> Reply
+    requires { ⌜ n ≤ 64 ⌝ }
+    ensures { λ r. ⌜ r ≡ readBoth (λ q. q) (reading n (now (first .entry))) (reading n (now (second .entry))) (ordered n (now (table .entry))) ⌝ }
+{
+    let pair = both::read_both(n, first, second);
+    let s = pair.first;
+    let g = pair.second;
+    let verdict = pair.verdict;
+    match verdict {
+        PairVerdict::Refused(fault, side) => Reply::Graph(fault, side),
+        PairVerdict::Both => {
+            let comparison = subsume::subsume(n, table, s, g);
+            let order = comparison.order;
+            match order {
+                Order::Below => Reply::Yes,
+                Order::NotBelow => Reply::No,
+            }
+        }
+    }
+}
+
+// The common part of two graphs in written form.
+pub fn generalize(n: usize, table: &[u8], first: &[u8], second: &[u8], out: &mut [u8]) -> Reply
+    ensures { λ r. ⌜ r ≡ generalizing n (now (table .entry)) (now (first .entry)) (now (second .entry)) (now (out .entry)) .reply ⌝ }
+    ensures { λ r. ⌜ now (out .exit) ≡ generalizing n (now (table .entry)) (now (first .entry)) (now (second .entry)) (now (out .entry)) .output ⌝ }
+{
+    let mut meets = [[0u8; 64]; 64];
+    let mut joins = [[0u8; 64]; 64];
+    let opened = lattice::open_table(n, table, &mut meets, &mut joins);
+    match opened {
+        Opened::Refused(fault) => Reply::Table(fault),
+        Opened::Accepted => generalize_over(n, &joins, first, second, out),
+    }
+}
+
+// The same with the joins of an accepted table with n types.
+fn generalize_over(
+    n: usize,
+    joins: &[[u8; 64]; 64],
+    first: &[u8],
+    second: &[u8],
+    out: &mut [u8],
+) -> Reply
+    requires { ⌜ n ≤ 64 ⌝ }
+    ensures { λ r. ⌜ r ≡ joining n (now (joins .entry)) (now (first .entry)) (now (second .entry)) (now (out .entry)) .reply ⌝ }
+    ensures { λ r. ⌜ now (out .exit) ≡ joining n (now (joins .entry)) (now (first .entry)) (now (second .entry)) (now (out .entry)) .output ⌝ }
+{
+    let pair = both::read_both(n, first, second);
+    let a = pair.first;
+    let b = pair.second;
+    let verdict = pair.verdict;
+    match verdict {
+        PairVerdict::Refused(fault, side) => Reply::Graph(fault, side),
+        PairVerdict::Both => reply_of(generalize::generalize(joins, a, b, out)),
     }
 }

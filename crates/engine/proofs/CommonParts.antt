@@ -1,0 +1,74 @@
+-- From the common part by a table of joins to what the call replies: an accepted table's filled joins are its joins.
+use mathlib.Core.Path.{_≡_, refl, sym, _∙_, ap}
+use mathlib.Core.Bool.{true}
+use mathlib.Core.List.{List}
+use Prim.Native.Nat.{ℕ}
+use lib.ListN.{length}
+use Rattle.graphs.specs.Rows.{Row}
+use Rattle.graphs.specs.Number.{Canonical, canonical}
+use Rattle.graphs.specs.Generalize.{generalization}
+use Rattle.visits.specs.Arrays.{graphOfRows}
+use Rattle.lattice.specs.declared.TableFault.{TableFault}
+use Rattle.lattice.specs.declared.Opened.the-variants as opened
+use Rattle.lattice.specs.Table.{accepted, join, filled}
+use Rattle.lattice.specs.Reply as table
+use Rattle.lattice.specs.Labels.{typeLabels}
+use Rattle.lattice.proofs.Laws.{zero-type}
+use Rattle.lattice.proofs.Residuals.{opened-accepted}
+use Rattle.decode.specs.declared.Graph as declared
+use Rattle.encode.specs.declared.Written.{Written}
+use Rattle.encode.specs.Encode.{writtenOut}
+use Rattle.record.specs.Read.{reading}
+use Rattle.record.proofs.Accepted.{Rules}
+use Rattle.generalize.specs.Pairs.{joinsOf, samePair}
+use Rattle.generalize.proofs.Sides.{graphIn, tells-pair}
+use Rattle.engine.specs.declared.Reply.{Reply}
+use Rattle.engine.specs.declared.Reply.the-variants.{Table}
+use Rattle.engine.specs.Reply.{resultOf, replyOf, refusing, readBoth, generalized, generalizing}
+use Rattle.engine.specs.Pair.{joined, joining}
+use Rattle.engine.proofs.Replies.{Gives, gives-as, table-refused, table-accepted}
+use Rattle.engine.proofs.Readings.{Accepts, both-next, both-same}
+use Rattle.engine.proofs.Tables.{label-known, joins-known, canonical-same}
+
+-- the common part by a table of joins, written
+pub joined-as : (n : ℕ) (a b out : List ℕ) (joins : List (List ℕ)) {g h : declared.Graph} → Accepts n a g × Accepts n b h →
+    {w : Written} {r : Reply} {new : List ℕ} →
+    w ≡ writtenOut (canonical samePair (generalization (joinsOf joins) (graphIn g) (graphIn h))) out .answer →
+    new ≡ writtenOut (canonical samePair (generalization (joinsOf joins) (graphIn g) (graphIn h))) out .output →
+    r ≡ replyOf w → Gives (joining n joins a b out) r new
+unfolding joined
+joined-as n a b out joins given answers leaves said =
+    gives-as (both-next n a b (λ q. refusing q out) (joined joins out) given) (said ∙ ap replyOf answers, leaves)
+
+module _ (n : ℕ) (t : List ℕ) (rows : List (List ℕ)) {joins : List (List ℕ)} (ok : accepted n t ≡ true) (long : length rows ≡ 64)
+    (filling : joins ≡ filled n t (join n t) rows) where
+  -- the common part by the filled joins is that by the table's types
+  joined-generalized : (out : List ℕ) (g h : List (Row ℕ)) → Rules n g → Rules n h → joined joins out g h ≡ generalized n t out g h
+  unfolding joined generalized generalization
+  joined-generalized out g h left right =
+      ap (λ (c : Canonical ℕ). resultOf (writtenOut c out))
+      (canonical-same tells-pair (generalization (joinsOf joins) (graphOfRows g) (graphOfRows h))
+      (generalization (typeLabels n t) (graphOfRows g) (graphOfRows h)) refl
+      (λ x. joins-known n t rows ok long filling _ _ (label-known (zero-type n t ok) left (x .0)) (label-known (zero-type n t ok) right (x .1)))
+      (λ x f. refl))
+
+module _ (n : ℕ) (t a b out : List ℕ) where
+  pub generalizing-refused : (fault : TableFault) → table.opened n t ≡ opened.Refused fault →
+      Gives (generalizing n t a b out) (Table fault) out
+  unfolding generalizing
+  generalizing-refused fault e =
+      gives-as
+      (table-refused (λ r. refusing r out) (readBoth (λ r. refusing r out) (reading n a) (reading n b) (generalized n t out)) fault e)
+      (refl, refl)
+
+  pub generalizing-accepted : (rows : List (List ℕ)) {joins : List (List ℕ)} {r : Reply} {new : List ℕ} →
+      table.opened n t ≡ opened.Accepted → length rows ≡ 64 → joins ≡ filled n t (join n t) rows →
+      Gives (joining n joins a b out) r new → Gives (generalizing n t a b out) r new
+  unfolding generalizing
+  generalizing-accepted rows {joins} e long filling h =
+      gives-as
+      (table-accepted (λ r. refusing r out) (readBoth (λ r. refusing r out) (reading n a) (reading n b) (generalized n t out)) e ∙
+      sym
+      (both-same n a b (λ r. refusing r out) (joined joins out) (generalized n t out)
+      (joined-generalized n t rows (opened-accepted n t opened.Accepted (sym e) refl) long filling out)))
+      h

@@ -1,0 +1,87 @@
+-- From the order's promise to what the call replies: a node map shows that the first graph is below the second, and the computed
+-- order is the order over paths.
+use mathlib.Core.Path.{_≡_, refl, sym, _∙_, ap}
+use mathlib.Core.Bool.{Bool, true, false, cond}
+use mathlib.Core.List.{List}
+use mathlib.Core.Logic.{_↔_}
+use mathlib.Core.Option.{some}
+use Prim.Native.Nat.{ℕ, _<_}
+use native.Mathlib.Omega.{arith}
+use lib.Dec.{eqb}
+use lib.ListN.{length}
+use Rattle.graphs.specs.Graph.{Below, walk}
+use Rattle.graphs.specs.Rows.{Row, from}
+use Rattle.graphs.specs.Order.{subsumes}
+use Rattle.graphs.proofs.Lists.{tells-eqb}
+use Rattle.graphs.proofs.Below.{map-below}
+use Rattle.graphs.proofs.Finite.{short-paths}
+use Rattle.graphs.proofs.Order.{subsumes-exact}
+use Rattle.visits.specs.Arrays.{graphOfRows}
+use Rattle.lattice.specs.declared.TableFault.{TableFault}
+use Rattle.lattice.specs.declared.Opened.the-variants as opened
+use Rattle.lattice.specs.Reply as table
+use Rattle.lattice.specs.Labels.{typeLabels}
+use Rattle.decode.specs.declared.Graph as declared
+use Rattle.record.specs.Read.{reading}
+use Rattle.record.proofs.Nodes.{length-from, reached-listed}
+use Rattle.record.proofs.Accepted.{Rules, rules-linked, rules-any-size}
+use Rattle.subsume.specs.declared.Order.{Order}
+use Rattle.subsume.specs.declared.Order.the-variants as order
+use Rattle.subsume.specs.Promise.{Orders}
+use Rattle.generalize.proofs.Sides.{rowsIn}
+use Rattle.engine.specs.declared.Reply.{Reply}
+use Rattle.engine.specs.declared.Reply.the-variants.{Yes, No, Table}
+use Rattle.engine.specs.Reply.{readBoth, ordered, ordering}
+use Rattle.engine.proofs.Readings.{Accepts, accepts-rules, both-next}
+use Rattle.engine.proofs.Replies.{table-refused, table-accepted}
+
+module _ (n : ℕ) (t : List ℕ) (s g : List (Row ℕ)) (rules : Rules n g) where
+  short : (p : List ℕ) (v : ℕ) → walk (graphOfRows g) p ≡ some v → length p < length g
+  short p v e =
+      omega (
+        arith,
+        length-from 0 (length g),
+        short-paths (graphOfRows g) (from 0 (length g)) (reached-listed g (rules-linked rules)) (rules-any-size n g rules t .acyclic) p v e,
+      )
+
+  exact : (subsumes (typeLabels n t) eqb eqb (graphOfRows s) (graphOfRows g) (length g) ≡ true) ↔
+      Below (typeLabels n t) (graphOfRows s) (graphOfRows g)
+  exact =
+      subsumes-exact (typeLabels n t) eqb eqb tells-eqb tells-eqb (graphOfRows s) (graphOfRows g)
+      (rules-any-size n g rules t .features) (length g) short
+
+  module _ {answer : Order} {map : List ℕ} (orders : Orders n t s g answer map) where
+    ordered-yes : answer ≡ order.Below → Yes ≡ ordered n t s g
+    unfolding ordered
+    ordered-yes e = ap (λ (b : Bool). cond b Yes No) (sym (exact .1 (map-below (orders .yes-stands e))))
+
+    ordered-no : answer ≡ order.NotBelow → No ≡ ordered n t s g
+    unfolding ordered
+    ordered-no e = go (subsumes (typeLabels n t) eqb eqb (graphOfRows s) (graphOfRows g) (length g)) refl
+      where
+        go : (b : Bool) → subsumes (typeLabels n t) eqb eqb (graphOfRows s) (graphOfRows g) (length g) ≡ b → No ≡ cond b Yes No
+        go false q = refl
+        go true q = absurd (orders .no-stands e (exact .0 q))
+
+-- over an accepted table: yes and no
+module _ (n : ℕ) (t a b : List ℕ) {s g : declared.Graph} (given : Accepts n a s × Accepts n b g) {answer : Order} {map : List ℕ}
+    (orders : Orders n t (rowsIn s) (rowsIn g) answer map) where
+  pub replies-yes : answer ≡ order.Below → Yes ≡ readBoth (λ r. r) (reading n a) (reading n b) (ordered n t)
+  replies-yes e =
+      ordered-yes n t (rowsIn s) (rowsIn g) (accepts-rules (given .1)) orders e ∙ sym (both-next n a b (λ r. r) (ordered n t) given)
+
+  pub replies-no : answer ≡ order.NotBelow → No ≡ readBoth (λ r. r) (reading n a) (reading n b) (ordered n t)
+  replies-no e =
+      ordered-no n t (rowsIn s) (rowsIn g) (accepts-rules (given .1)) orders e ∙ sym (both-next n a b (λ r. r) (ordered n t) given)
+
+module _ (n : ℕ) (t a b : List ℕ) where
+  pub ordering-refused : (fault : TableFault) → table.opened n t ≡ opened.Refused fault → Table fault ≡ ordering n t a b
+  unfolding ordering
+  ordering-refused fault e =
+      sym (table-refused (λ r. r) (readBoth (λ r. r) (reading n a) (reading n b) (ordered n t)) fault e)
+
+  pub ordering-accepted : {r : Reply} → table.opened n t ≡ opened.Accepted →
+      r ≡ readBoth (λ r. r) (reading n a) (reading n b) (ordered n t) → r ≡ ordering n t a b
+  unfolding ordering
+  ordering-accepted e h =
+      h ∙ sym (table-accepted (λ r. r) (readBoth (λ r. r) (reading n a) (reading n b) (ordered n t)) e)

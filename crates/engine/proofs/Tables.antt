@@ -1,0 +1,61 @@
+-- What an accepted table lets graphs go by: labels are types below n, and the filled table of joins gives the joins of the types.
+-- Graphs that differ in nothing have one written form, whichever labels they were computed with.
+use mathlib.Core.Path.{_≡_, refl, sym, _∙_, ap, subst}
+use mathlib.Core.Bool.{Bool, true}
+use mathlib.Core.List.{List, []}
+use mathlib.Core.Option.{Option, none, some}
+use Prim.Native.Nat.{ℕ, _≤_, _<_}
+use native.Mathlib.Decide.{decLe}
+use native.Mathlib.Omega.{arith}
+use lib.ListN.{length, getD, List·getD-eq-default}
+use Rattle.graphs.specs.Graph.{Graph, Tells}
+use Rattle.graphs.specs.Rows.{Row}
+use Rattle.graphs.specs.Number.{canonical}
+use Rattle.graphs.proofs.Form.Bisimilar.{Alike, absent, present}
+use Rattle.graphs.proofs.Form.Invariant.{bisimilar-canonical}
+use Rattle.visits.specs.Arrays.{graphOfRows}
+use Rattle.lattice.specs.Table.{accepted, join, cell, filled}
+use Rattle.lattice.specs.declared.Opened.{Opened}
+use Rattle.lattice.specs.declared.Opened.the-variants.{Accepted}
+use Rattle.lattice.specs.Reply.{opened}
+use Rattle.lattice.proofs.Laws.{accepted-size, joins-cell}
+use Rattle.lattice.proofs.Residuals.{opened-accepted}
+use Rattle.record.proofs.Nodes.{node-row}
+use Rattle.record.proofs.Accepted.{Rules}
+
+-- an accepted table has at most 64 types
+pub few-types : (n : ℕ) (t : List ℕ) (answer : Opened) → answer ≡ opened n t → answer ≡ Accepted → n ≤ 64
+few-types n t answer e told = accepted-size n t (opened-accepted n t answer e told) .1
+
+-- every label of accepted rows is a type, also the one past their end
+pub label-known : {n : ℕ} {rows : List (Row ℕ)} → 0 < n → Rules n rows → (v : ℕ) → graphOfRows rows .label v < n
+label-known {n} {rows} types rules v = go (decLe (length rows) v)
+  where
+    go : Dec (length rows ≤ v) → graphOfRows rows .label v < n
+    go (yes past) =
+        let e : graphOfRows rows .label v ≡ 0 = ap (λ (r : Row ℕ). r .0) (List·getD-eq-default rows (0, []) past) in
+        omega arith
+    go (no inside) = rules .ranged (getD rows v (0, [])) (node-row rows v (omega arith)) .1
+
+-- a cell of the filled joins is the join of its types
+pub joins-known : (n : ℕ) (t : List ℕ) (rows : List (List ℕ)) {joins : List (List ℕ)} → accepted n t ≡ true → length rows ≡ 64 →
+    joins ≡ filled n t (join n t) rows → (a b : ℕ) → a < n → b < n → getD (getD joins a []) b 0 ≡ cell (join n t a b)
+joins-known n t rows ok long filling a b known other =
+    ap (λ (table : List (List ℕ)). getD (getD table a []) b 0) filling ∙ sym (ap cell (joins-cell n t ok rows long a b known other .is))
+
+alike-self : {A : Type 0} (x : Option A) → Alike (λ v w. v ≡ w) x x
+alike-self none = absent
+alike-self (some v) = present refl
+
+-- graphs with the same root, labels and links have one written form
+pub canonical-same : {L A : Type 0} {same : A → A → Bool} → Tells same → (g h : Graph L A) → g .root ≡ h .root →
+    ((v : A) → g .label v ≡ h .label v) → ((v : A) (f : ℕ) → g .link v f ≡ h .link v f) → canonical same g ≡ canonical same h
+canonical-same {same = same} tells g h root labels links =
+    bisimilar-canonical same same tells tells (λ v w. v ≡ w) g h
+    (record {
+      root = root;
+      labels = λ v w e. labels v ∙ ap (h .label) e;
+      links = λ v w f e. subst (Alike (λ v w. v ≡ w) (g .link v f)) (links v f ∙ ap (λ u. h .link u f) e) (alike-self (g .link v f));
+      forth = λ v v′ w w′ p q e. sym p ∙ e ∙ q;
+      back = λ v v′ w w′ p q e. p ∙ e ∙ sym q;
+    })

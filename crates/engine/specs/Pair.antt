@@ -1,0 +1,43 @@
+-- What the parts of the calls with two records promise: reading both, and the common part by a table of joins.
+use mathlib.Core.Path.{_≡_}
+use mathlib.Core.List.{List}
+use Prim.Native.Nat.{ℕ}
+use Rattle.graphs.specs.Rows.{Row}
+use Rattle.graphs.specs.Number.{canonical}
+use Rattle.graphs.specs.Generalize.{generalization}
+use Rattle.visits.specs.Arrays.{Sound, graphOfRows}
+use Rattle.decode.specs.declared.Graph as declared
+use Rattle.decode.specs.Promise.{Held}
+use Rattle.encode.specs.Encode.{writtenOut}
+use Rattle.record.specs.declared.Verdict.{Verdict}
+use Rattle.record.specs.declared.Verdict.the-variants.{Accepted, Refused}
+use Rattle.record.specs.Read.{accepted, reading}
+use Rattle.record.specs.Promise.{verdictOf}
+use Rattle.generalize.specs.Pairs.{joinsOf, samePair}
+use Rattle.engine.specs.declared.Side.the-variants.{First, Second}
+use Rattle.engine.specs.declared.PairVerdict.{PairVerdict}
+use Rattle.engine.specs.declared.PairVerdict.the-variants as pair
+use Rattle.engine.specs.Reply.{Result, resultOf, refusing, readBoth}
+
+-- "first graph 4 to 7; second graph 4 to 7"
+abbrev pub jointVerdict : Verdict → Verdict → PairVerdict
+jointVerdict (Refused fault) second = pair.Refused fault First
+jointVerdict Accepted (Refused fault) = pair.Refused fault Second
+jointVerdict Accepted Accepted = pair.Both
+
+-- the verdict on two records, and beside the acceptance of each its rows
+pub record ReadsBoth (n : ℕ) (a b : List ℕ) (v : PairVerdict) (g h : declared.Graph) : Type 0 where
+  pub verdict : v ≡ jointVerdict (verdictOf (reading n a)) (verdictOf (reading n b))
+  pub first : (rows : List (Row ℕ)) → reading n a ≡ accepted rows →
+      Held rows g × Sound (g .nodes) (g .types) (g .first) (g .features) (g .targets)
+  pub second : (rows : List (Row ℕ)) → reading n b ≡ accepted rows →
+      Held rows h × Sound (h .nodes) (h .types) (h .first) (h .features) (h .targets)
+
+-- the common part of two graphs in written form, by a table of joins
+unfoldable pub joined : List (List ℕ) → List ℕ → List (Row ℕ) → List (Row ℕ) → Result
+joined joins out g h =
+    resultOf (writtenOut (canonical samePair (generalization (joinsOf joins) (graphOfRows g) (graphOfRows h))) out)
+
+-- both graphs' 4 to 7, then their common part
+abbrev pub joining : ℕ → List (List ℕ) → List ℕ → List ℕ → List ℕ → Result
+joining n joins a b out = readBoth (λ r. refusing r out) (reading n a) (reading n b) (joined joins out)
