@@ -1,5 +1,5 @@
-// The engine's calls for programs in other languages: a static library whose functions take a number of types, a table, a record
-// and an output, each slice as a pointer and a length, and answer one number.
+// The engine's calls for programs in other languages: a static library whose functions take a number of types, a table, one or two
+// records and an output, each slice as a pointer and a length, and answer one number.
 
 use engine::Reply;
 use engine::Side;
@@ -7,7 +7,7 @@ use lattice::TableFault;
 use record::GraphFault;
 ghost use mathlib.Core.Path.{_≡_};
 ghost use Prim.Native.Nat.{_<_};
-ghost use Rattle.engine.specs.Reply.{rewriting};
+ghost use Rattle.engine.specs.Reply.{rewriting, ordering, generalizing};
 ghost use Rattle.lattice.specs.Reply.{tableNumber};
 ghost use Rattle.record.specs.Read.{graphNumber};
 ghost use Rattle.library.specs.Code.{codeOf, refusalCode, sideNumber};
@@ -21,12 +21,37 @@ pub extern "C" fn record_rewrite(n: usize, table: &[u8], bytes: &[u8], out: &mut
     code(engine::rewrite(n, table, bytes, out))
 }
 
+// The order, is the first below the second: the code of the reply.
+#[no_mangle]
+pub extern "C" fn record_order(n: usize, table: &[u8], first: &[u8], second: &[u8]) -> u64
+    ensures { λ r. ⌜ r ≡ codeOf (ordering n (now (table .entry)) (now (first .entry)) (now (second .entry))) ⌝ }
+{
+    code(engine::order(n, table, first, second))
+}
+
+// The common part in written form: the code of the reply, and the output that the engine leaves.
+#[no_mangle]
+pub extern "C" fn record_generalize(
+    n: usize,
+    table: &[u8],
+    first: &[u8],
+    second: &[u8],
+    out: &mut [u8],
+) -> u64
+    ensures { λ r. ⌜ r ≡ codeOf (generalizing n (now (table .entry)) (now (first .entry)) (now (second .entry)) (now (out .entry)) .reply) ⌝ }
+    ensures { λ r. ⌜ now (out .exit) ≡ generalizing n (now (table .entry)) (now (first .entry)) (now (second .entry)) (now (out .entry)) .output ⌝ }
+{
+    code(engine::generalize(n, table, first, second, out))
+}
+
 // The number that stands for a reply.
 fn code(reply: Reply) -> u64
     ensures { λ r. ⌜ r ≡ codeOf reply ⌝ }
 {
     match reply {
         Reply::Length(length) => length as u64,
+        Reply::Yes => 8589934593,
+        Reply::No => 8589934592,
         Reply::Table(fault) => refusal(table_number(fault), 0),
         Reply::Graph(fault, side) => refusal(graph_number(fault), side_number(side)),
         Reply::NoRoom => refusal(8, 0),

@@ -6,81 +6,78 @@ use borrow.Author.Needs.{needs}
 use Rattle.library.proofs.code.Statement.{statement}
 use Rattle.library.proofs.code.Tie as tie
 
--- src/lib.rt:29:23
 enum-known-reply : tie.Need-enum-known-reply
 enum-known-reply c = search needs
 
--- src/lib.rt:30:22
-enum-known-reply-2 : tie.Need-enum-known-reply-2
-enum-known-reply-2 c = search needs
-
--- src/lib.rt:30:40
-table-number-requires : tie.Need-table-number-requires
-table-number-requires c κs = search needs
-
--- src/lib.rt:30:32
-refusal-requires : tie.Need-refusal-requires
-refusal-requires c κs = search needs
-
--- src/lib.rt:31:22
-enum-known-reply-3 : tie.Need-enum-known-reply-3
-enum-known-reply-3 c = search needs
-
--- src/lib.rt:31:46
-graph-number-requires : tie.Need-graph-number-requires
-graph-number-requires c κs = search needs
-
--- src/lib.rt:31:67
-side-number-requires : tie.Need-side-number-requires
-side-number-requires c κs = search needs
-
--- src/lib.rt:31:38
-refusal-requires-2 : tie.Need-refusal-requires-2
-refusal-requires-2 c κs = search needs
-
--- src/lib.rt:32:26
 enum-told : tie.Need-enum-told
 enum-told c = search needs
 
--- src/lib.rt:32:26
-refusal-requires-3 : tie.Need-refusal-requires-3
-refusal-requires-3 c κs = search needs
-
--- src/lib.rt:33:28
 enum-told-2 : tie.Need-enum-told-2
 enum-told-2 c = search needs
 
--- src/lib.rt:33:28
+enum-known-reply-2 : tie.Need-enum-known-reply-2
+enum-known-reply-2 c = search needs
+
+table-number-requires : tie.Need-table-number-requires
+table-number-requires c κs = search needs
+
+refusal-requires : tie.Need-refusal-requires
+refusal-requires c κs = search needs
+
+enum-known-reply-3 : tie.Need-enum-known-reply-3
+enum-known-reply-3 c = search needs
+
+graph-number-requires : tie.Need-graph-number-requires
+graph-number-requires c κs = search needs
+
+side-number-requires : tie.Need-side-number-requires
+side-number-requires c κs = search needs
+
+refusal-requires-2 : tie.Need-refusal-requires-2
+refusal-requires-2 c κs = search needs
+
+enum-told-3 : tie.Need-enum-told-3
+enum-told-3 c = search needs
+
+refusal-requires-3 : tie.Need-refusal-requires-3
+refusal-requires-3 c κs = search needs
+
+enum-told-4 : tie.Need-enum-told-4
+enum-told-4 c = search needs
+
 refusal-requires-4 : tie.Need-refusal-requires-4
 refusal-requires-4 c κs = search needs
 
--- src/lib.rt:25:1
 returns : tie.Need-returns
 returns c = search needs
 
--- src/lib.rt:25:1
 returns-2 : tie.Need-returns-2
-returns-2 c =
+returns-2 c = search needs
+
+returns-3 : tie.Need-returns-3
+returns-3 c = search needs
+
+returns-4 : tie.Need-returns-4
+returns-4 c =
     omega (arith, c .refusal .ensures, c .before .table-number .ensures .0, ap codeOf (c .before .before .before .reply2 .given .1))
 
--- src/lib.rt:25:1
-returns-3 : tie.Need-returns-3
-returns-3 c =
+returns-5 : tie.Need-returns-5
+returns-5 c =
     omega (arith, c .refusal2 .ensures, c .before .before .graph-number .ensures .0, c .before .side-number .ensures .0, ap codeOf (c .before .before .before .before .reply3 .given .1))
 
--- src/lib.rt:25:1
-returns-4 : tie.Need-returns-4
-returns-4 c = search needs
+returns-6 : tie.Need-returns-6
+returns-6 c = search needs
 
--- src/lib.rt:25:1
-returns-5 : tie.Need-returns-5
-returns-5 c = search needs
+returns-7 : tie.Need-returns-7
+returns-7 c = search needs
 
 pub code-spec : {M : Type 1} → statement M
 code-spec =
     tie.close
     (tie.spec
     enum-known-reply
+    enum-told
+    enum-told-2
     enum-known-reply-2
     table-number-requires
     refusal-requires
@@ -88,12 +85,14 @@ code-spec =
     graph-number-requires
     side-number-requires
     refusal-requires-2
-    enum-told
+    enum-told-3
     refusal-requires-3
-    enum-told-2
+    enum-told-4
     refusal-requires-4
     returns
     returns-2
     returns-3
     returns-4
-    returns-5)
+    returns-5
+    returns-6
+    returns-7)

@@ -5,19 +5,15 @@ use borrow.Author.Needs.{needs}
 use Rattle.library.proofs.record_rewrite.Statement.{statement}
 use Rattle.library.proofs.record_rewrite.Tie as tie
 
--- src/lib.rt:21:10
 rewrite-requires : tie.Need-rewrite-requires
 rewrite-requires c κs = search needs
 
--- src/lib.rt:21:5
 code-requires : tie.Need-code-requires
 code-requires c κs = search needs
 
--- src/lib.rt:16:1
 same-length : tie.Need-same-length
 same-length c = search needs
 
--- src/lib.rt:16:1
 returns : tie.Need-returns
 returns c = (c .code .ensures ∙ ap codeOf (c .before .before .before .rewrite .ensures .0), c .before .before .before .rewrite .ensures .1)
 

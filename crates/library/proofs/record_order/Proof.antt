@@ -1,0 +1,18 @@
+-- The exported call answers the code of what the engine replies.
+use Rattle.library.specs.Code.{codeOf}
+use mathlib.Core.Path.{ap, _∙_}
+use borrow.Author.Needs.{needs}
+use Rattle.library.proofs.record_order.Statement.{statement}
+use Rattle.library.proofs.record_order.Tie as tie
+
+order-requires : tie.Need-order-requires
+order-requires c κs = search needs
+
+code-requires : tie.Need-code-requires
+code-requires c κs = search needs
+
+returns : tie.Need-returns
+returns c = c .code .ensures ∙ ap codeOf (c .before .order .ensures)
+
+pub record-order-spec : {M : Type 1} → statement M
+record-order-spec = tie.close (tie.spec order-requires code-requires returns)
