@@ -137,10 +137,10 @@ pub fn generalize(joins: &[[u8; 64]; 64], a: Graph, b: Graph, out: &mut [u8]) ->
         links = spread.links;
         count = spread.count;
         if 255 < count {
-            return Written::TooLarge;
+            return Written::TooLarge; // more than 255 nodes
         }
         if 2048 < links {
-            return Written::TooLarge;
+            return Written::TooLarge; // more than 2,048 links
         }
         head += 1;
         first[head] = links as u16;
