@@ -1,107 +1,113 @@
-//! The proved engine as Rust calls it: a safe function over the static library,
-//! whose answer is one number (`crates/library/specs/Code.antt`), read here as
-//! a reply of the reference, so that the two can be compared.
+//! The proved engine and the reference side by side: the same call on the same
+//! bytes, the same reply, the same output, also beside it.
 
 #![warn(missing_docs)]
 
-use reference::record::GraphFault;
-use reference::reply::{Refusal, Reply, Which};
-use reference::table::TableFault;
+mod calls;
 
-unsafe extern "C" {
-    /// Each slice is a pointer to its first byte and a length.
-    fn record_rewrite(
-        n: usize,
-        table: *const u8,
-        table_length: usize,
-        record: *const u8,
-        record_length: usize,
-        output: *mut u8,
-        output_length: usize,
-    ) -> u64;
+pub use calls::{Call, GENERALIZE, ORDER, REWRITE};
+
+use reference::random::{TableBytes, Xorshift};
+use reference::record::LONGEST_RECORD;
+use reference::reply::Reply;
+
+/// Bytes on each side of an output, which no call may change.
+const MARGIN: usize = 16;
+
+/// Both engines at one call, and how often each reply came.
+pub struct Comparison {
+    call: Call,
+    random: Xorshift,
+    inputs: usize,
+    /// The number of replies by document 01's number, lengths at 0.
+    replies: [usize; 14],
+    yes: usize,
+    no: usize,
 }
 
-/// The refusals that the engine's calls have.
-const REFUSALS: [Refusal; 13] = [
-    Refusal::Table(TableFault::Size),
-    Refusal::Table(TableFault::Order),
-    Refusal::Table(TableFault::Lattice),
-    Refusal::Graph(GraphFault::Shape, Which::First),
-    Refusal::Graph(GraphFault::Shape, Which::Second),
-    Refusal::Graph(GraphFault::Value, Which::First),
-    Refusal::Graph(GraphFault::Value, Which::Second),
-    Refusal::Graph(GraphFault::Cycle, Which::First),
-    Refusal::Graph(GraphFault::Cycle, Which::Second),
-    Refusal::Graph(GraphFault::Unreached, Which::First),
-    Refusal::Graph(GraphFault::Unreached, Which::Second),
-    Refusal::ShortOutput,
-    Refusal::TooLarge,
-];
-
-/// A code below this is a length; a refusal's is this or more.
-const FIRST_REFUSAL: u64 = 1 << 32;
-
-/// Rewrites one record in written form, by the proved engine.
-pub fn rewrite(n: usize, table: &[u8], record: &[u8], output: &mut [u8]) -> Reply {
-    // SAFETY: the pointers and lengths are those of slices that live through the
-    // call, and the function is proved to stay inside them and to keep none.
-    let code = unsafe {
-        record_rewrite(
-            n,
-            table.as_ptr(),
-            table.len(),
-            record.as_ptr(),
-            record.len(),
-            output.as_mut_ptr(),
-            output.len(),
-        )
-    };
-    reply_of(code)
-}
-
-/// The reply that a code stands for; stops the program where there is none.
-fn reply_of(code: u64) -> Reply {
-    if code < FIRST_REFUSAL {
-        return Reply::Length(code as usize);
+impl Comparison {
+    /// A comparison of one call; the seed decides the outputs lent.
+    pub fn new(call: Call, seed: u64) -> Comparison {
+        Comparison {
+            call,
+            random: Xorshift::new(seed),
+            inputs: 0,
+            replies: [0; 14],
+            yes: 0,
+            no: 0,
+        }
     }
-    let refusal = REFUSALS.into_iter().find(|&known| code_of(known) == code);
-    Reply::Refused(refusal.unwrap_or_else(|| panic!("{code} is the code of no reply")))
-}
 
-fn code_of(refusal: Refusal) -> u64 {
-    let side = match refusal {
-        Refusal::Graph(_, Which::First) => 1,
-        Refusal::Graph(_, Which::Second) => 2,
-        _ => 0,
-    };
-    FIRST_REFUSAL + 256 * side + u64::from(refusal.number())
-}
+    /// How many inputs were compared.
+    pub fn inputs(&self) -> usize {
+        self.inputs
+    }
 
-#[cfg(test)]
-mod tests {
-    use super::*;
-
-    #[test]
-    fn codes_are_read_as_the_library_states_them() {
-        let codes = [
-            ((1 << 32) + 1, Refusal::Table(TableFault::Size)),
-            (
-                (1 << 32) + 256 + 4,
-                Refusal::Graph(GraphFault::Shape, Which::First),
-            ),
-            (
-                (1 << 32) + 512 + 7,
-                Refusal::Graph(GraphFault::Unreached, Which::Second),
-            ),
-            ((1 << 32) + 8, Refusal::ShortOutput),
-            ((1 << 32) + 11, Refusal::TooLarge),
-        ];
-        for (code, refusal) in codes {
-            assert_eq!(reply_of(code), Reply::Refused(refusal));
+    /// The reply to an input where there is room for any record. The same input is
+    /// also called with an output of the result's length, one byte less, and another.
+    pub fn check(&mut self, table: &TableBytes, records: &[&[u8]]) -> Reply {
+        self.inputs += 1;
+        let reply = self.call(table, records, LONGEST_RECORD);
+        let any = self.random.pick(LONGEST_RECORD);
+        match reply {
+            Reply::Length(length) => {
+                let other = *self.random.choose(&[0, length + 1, any]);
+                for room in [length, length - 1, other] {
+                    let expected = (room < length).then_some(8);
+                    assert_eq!(self.call(table, records, room).number(), expected);
+                }
+            }
+            Reply::Yes | Reply::No => {}
+            Reply::Refused(_) => {
+                for room in [0, any] {
+                    assert_eq!(self.call(table, records, room), reply);
+                }
+            }
         }
-        assert_eq!(reply_of(4344), Reply::Length(4344));
-        for refusal in REFUSALS {
-            assert_eq!(reply_of(code_of(refusal)), Reply::Refused(refusal));
+        reply
+    }
+
+    /// One call of each engine with an output of a given length in the midst of
+    /// bytes that tell a stray write.
+    fn call(&mut self, table: &TableBytes, records: &[&[u8]], room: usize) -> Reply {
+        let start = self.random.pick(256);
+        let before: Vec<u8> = (0..MARGIN + room + MARGIN)
+            .map(|place| (start + 167 * place) as u8)
+            .collect();
+        let (mut by_engine, mut by_reference) = (before.clone(), before);
+        let output = MARGIN..MARGIN + room;
+        let engine = (self.call.engine)(table, records, &mut by_engine[output.clone()]);
+        let reference = (self.call.reference)(table, records, &mut by_reference[output]);
+        assert_eq!(
+            engine, reference,
+            "an output of {room} bytes, {table:?}, the records {records:?}"
+        );
+        assert!(
+            by_engine == by_reference,
+            "outputs of {room} bytes differ: {table:?}, the records {records:?}"
+        );
+        match reference {
+            Reply::Yes => self.yes += 1,
+            Reply::No => self.no += 1,
+            _ => self.replies[usize::from(reference.number().unwrap_or(0))] += 1,
         }
+        reference
+    }
+
+    /// Each of these replies came at least so often, and no other at all; 0 is a length.
+    pub fn assert_replies(&self, numbers: &[usize], least: usize) {
+        for (number, &count) in self.replies.iter().enumerate() {
+            let enough = match numbers.contains(&number) {
+                true => count >= least,
+                false => count == 0,
+            };
+            assert!(enough, "reply {number}: {:?}", self.replies);
+        }
+    }
+
+    /// Yes and no came at least so often.
+    pub fn assert_answers(&self, least: usize) {
+        let answers = (self.yes, self.no);
+        assert!(answers.0.min(answers.1) >= least, "yes and no: {answers:?}");
     }
 }

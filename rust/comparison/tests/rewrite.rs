@@ -2,95 +2,12 @@
 //! same bytes, also beside the output, on random and damaged tables and records,
 //! with outputs that are empty, one byte short, exact and larger.
 
-use reference::calls;
+use comparison::{Comparison, REWRITE};
 use reference::graph::{Graph, Node};
 use reference::random::{self, Shape, TableBytes, Xorshift};
 use reference::record::{self, LONGEST_RECORD, MOST_NODES};
 use reference::reply::Reply;
 use std::collections::BTreeMap;
-
-/// Bytes on each side of an output, which no call may change.
-const MARGIN: usize = 16;
-
-/// Both engines side by side, and how often each reply came.
-struct Comparison {
-    random: Xorshift,
-    inputs: usize,
-    /// The number of replies by document 01's number, lengths at 0.
-    replies: [usize; 14],
-}
-
-impl Comparison {
-    fn new(seed: u64) -> Comparison {
-        Comparison {
-            random: Xorshift::new(seed),
-            inputs: 0,
-            replies: [0; 14],
-        }
-    }
-
-    /// The reply to an input where there is room for any record. The same input is
-    /// also called with an output of the result's length, one byte less, and another.
-    fn check(&mut self, table: &TableBytes, record: &[u8]) -> Reply {
-        self.inputs += 1;
-        let reply = self.call(table, record, LONGEST_RECORD);
-        let any = self.random.pick(LONGEST_RECORD);
-        match reply {
-            Reply::Length(length) => {
-                let other = *self.random.choose(&[0, length + 1, any]);
-                for room in [length, length - 1, other] {
-                    let expected = (room < length).then_some(8);
-                    assert_eq!(self.call(table, record, room).number(), expected);
-                }
-            }
-            _ => {
-                for room in [0, any] {
-                    assert_eq!(self.call(table, record, room), reply);
-                }
-            }
-        }
-        reply
-    }
-
-    /// One call of each engine with an output of a given length in the midst of
-    /// bytes that tell a stray write.
-    fn call(&mut self, table: &TableBytes, record: &[u8], room: usize) -> Reply {
-        let start = self.random.pick(256);
-        let before: Vec<u8> = (0..MARGIN + room + MARGIN)
-            .map(|place| (start + 167 * place) as u8)
-            .collect();
-        let (mut by_engine, mut by_reference) = (before.clone(), before);
-        let output = MARGIN..MARGIN + room;
-        let engine = comparison::rewrite(
-            table.n,
-            &table.bytes,
-            record,
-            &mut by_engine[output.clone()],
-        );
-        let reference = calls::rewrite(table.n, &table.bytes, record, &mut by_reference[output]);
-        assert_eq!(
-            engine, reference,
-            "an output of {room} bytes, {table:?}, the record {record:?}"
-        );
-        assert!(
-            by_engine == by_reference,
-            "outputs of {room} bytes differ: {table:?}, the record {record:?}"
-        );
-        self.replies[usize::from(reference.number().unwrap_or(0))] += 1;
-        reference
-    }
-
-    /// Each of these replies came at least so often, and no other at all.
-    fn assert_replies(&self, numbers: &[usize], least: usize) {
-        for (number, &count) in self.replies.iter().enumerate() {
-            let enough = match numbers.contains(&number) {
-                true => count >= least,
-                false => count == 0,
-            };
-            assert!(enough, "reply {number}: {:?}", self.replies);
-        }
-    }
-}
 
 /// Tables of every kind, all accepted.
 fn tables(random: &mut Xorshift) -> Vec<TableBytes> {
@@ -164,9 +81,9 @@ fn random_bytes(random: &mut Xorshift) -> Vec<u8> {
 
 #[test]
 fn random_and_damaged_records_over_random_and_damaged_tables() {
-    let mut compared = Comparison::new(1);
+    let mut compared = Comparison::new(REWRITE, 1);
     let random = &mut Xorshift::new(2);
-    while compared.inputs < 20_000 {
+    while compared.inputs() < 20_000 {
         let table = match random.chance(1, 8) {
             true => random::damaged_table(random),
             false => random::valid_table(random),
@@ -181,7 +98,7 @@ fn random_and_damaged_records_over_random_and_damaged_tables() {
                 9 | 10 => random_rows(random),
                 _ => random_bytes(random),
             };
-            compared.check(&table, &record);
+            compared.check(&table, &[&record]);
         }
     }
     compared.assert_replies(&[0, 1, 2, 3, 4, 5, 6, 7, 8], 100);
@@ -189,25 +106,28 @@ fn random_and_damaged_records_over_random_and_damaged_tables() {
 
 #[test]
 fn every_bit_of_a_record_and_every_length() {
-    let mut compared = Comparison::new(3);
+    let mut compared = Comparison::new(REWRITE, 3);
     let random = &mut Xorshift::new(4);
     for table in tables(random) {
         for most_nodes in [2, 4] {
             let record = small_record(random, table.n, most_nodes);
-            assert!(matches!(compared.check(&table, &record), Reply::Length(_)));
+            assert!(matches!(
+                compared.check(&table, &[&record]),
+                Reply::Length(_)
+            ));
             for bit in 0..8 * record.len() {
                 let mut damaged = record.clone();
                 damaged[bit / 8] ^= 1 << (bit % 8);
-                compared.check(&table, &damaged);
+                compared.check(&table, &[&damaged]);
             }
             for length in 0..record.len() {
-                let reply = compared.check(&table, &record[..length]);
+                let reply = compared.check(&table, &[&record[..length]]);
                 assert_eq!(reply.number(), Some(4), "cut to {length} bytes");
             }
             for more in 1..=20 {
                 let mut extended = record.clone();
                 extended.extend((0..more).map(|_| random.byte()));
-                let reply = compared.check(&table, &extended);
+                let reply = compared.check(&table, &[&extended]);
                 assert_eq!(reply.number(), Some(4), "{more} bytes more");
             }
         }
@@ -217,7 +137,7 @@ fn every_bit_of_a_record_and_every_length() {
 
 #[test]
 fn every_bit_of_a_table_and_every_number_of_types() {
-    let mut compared = Comparison::new(5);
+    let mut compared = Comparison::new(REWRITE, 5);
     let random = &mut Xorshift::new(6);
     for table in tables(random) {
         let record = small_record(random, table.n, 4);
@@ -227,31 +147,31 @@ fn every_bit_of_a_table_and_every_number_of_types() {
                 if table.n <= 16 || row % 8 == bit % 8 {
                     let mut damaged = table.clone();
                     damaged.bytes[8 * row + bit / 8] ^= 1 << (bit % 8);
-                    compared.check(&damaged, &record);
+                    compared.check(&damaged, &[&record]);
                 }
             }
         }
         for n in (0..70).chain([255, 256, 1 << 32, 1 << 61, (1 << 61) + table.n, usize::MAX]) {
             let stated = TableBytes { n, ..table.clone() };
             let expected = if n == table.n { None } else { Some(1) };
-            assert_eq!(compared.check(&stated, &record).number(), expected);
+            assert_eq!(compared.check(&stated, &[&record]).number(), expected);
         }
         for length in [0, 8 * table.n - 1, 8 * table.n + 1, 8 * table.n + 8] {
             let mut resized = table.clone();
             resized.bytes.resize(length, 0);
-            assert_eq!(compared.check(&resized, &record).number(), Some(1));
+            assert_eq!(compared.check(&resized, &[&record]).number(), Some(1));
         }
     }
     for _ in 0..500 {
         let order = random::bounded_order(random);
-        compared.check(&order, &record::write(&Graph::lone(1)));
+        compared.check(&order, &[&record::write(&Graph::lone(1))]);
     }
     compared.assert_replies(&[0, 1, 2, 3, 8], 20);
 }
 
 #[test]
 fn links_up_to_and_past_2048() {
-    let mut compared = Comparison::new(7);
+    let mut compared = Comparison::new(REWRITE, 7);
     let random = &mut Xorshift::new(8);
     for table in [random::diamond(), random::middles(3), random::chain(64)] {
         for nodes in [40, 100, 254, MOST_NODES] {
@@ -259,12 +179,12 @@ fn links_up_to_and_past_2048() {
                 let graph = with_links(random, table.n, nodes, links);
                 let record = record::write(&graph);
                 assert_eq!(record.len(), 1 + 9 * nodes + links);
-                let reply = compared.check(&table, &record);
+                let reply = compared.check(&table, &[&record]);
                 assert_eq!(reply.number(), number, "{nodes} nodes, {links} links");
                 // With faults that would be told later.
                 let mut broken = record.clone();
                 broken[1] = 0;
-                let reply = compared.check(&table, &broken);
+                let reply = compared.check(&table, &[&broken]);
                 assert_eq!(reply.number(), Some(number.unwrap_or(5)));
             }
         }
@@ -274,7 +194,7 @@ fn links_up_to_and_past_2048() {
 
 #[test]
 fn chains_of_255_nodes() {
-    let mut compared = Comparison::new(9);
+    let mut compared = Comparison::new(REWRITE, 9);
     let random = &mut Xorshift::new(10);
     let table = random::diamond();
     let features: Vec<u8> = (20..28).collect();
@@ -288,10 +208,13 @@ fn chains_of_255_nodes() {
                 let shuffled = random::renumbered(random, &graph);
                 let mut output = vec![0; LONGEST_RECORD];
                 let record = record::write(&shuffled);
-                let reply = comparison::rewrite(table.n, &table.bytes, &record, &mut output);
-                assert_eq!(reply, Reply::Length(written.len()));
+                let reply = record_engine::rewrite(table.n, &table.bytes, &record, &mut output);
+                assert_eq!(reply, Ok(written.len()));
                 assert_eq!(output[..written.len()], written);
-                assert_eq!(compared.check(&table, &record), reply);
+                assert_eq!(
+                    compared.check(&table, &[&record]),
+                    Reply::Length(written.len())
+                );
                 // A link from the last node to any node closes a loop.
                 let last = graph.nodes.len() - 1;
                 let mut looping = graph.clone();
@@ -300,13 +223,13 @@ fn chains_of_255_nodes() {
                     .links
                     .insert(random.pick(64) as u8, back);
                 let looping = record::write(&random::renumbered(random, &looping));
-                assert_eq!(compared.check(&table, &looping).number(), Some(6));
+                assert_eq!(compared.check(&table, &[&looping]).number(), Some(6));
                 // Without the links of one node the ones below it are not reached.
                 if nodes > 1 {
                     let mut cut = graph.clone();
                     cut.nodes[random.pick(nodes - 1)].links.clear();
                     let cut = record::write(&random::renumbered(random, &cut));
-                    assert_eq!(compared.check(&table, &cut).number(), Some(7));
+                    assert_eq!(compared.check(&table, &[&cut]).number(), Some(7));
                 }
             }
         }
@@ -316,7 +239,7 @@ fn chains_of_255_nodes() {
 
 #[test]
 fn loops_in_parts_that_the_root_does_not_reach() {
-    let mut compared = Comparison::new(11);
+    let mut compared = Comparison::new(REWRITE, 11);
     let random = &mut Xorshift::new(12);
     for table in tables(random) {
         for _ in 0..20 {
@@ -339,7 +262,7 @@ fn loops_in_parts_that_the_root_does_not_reach() {
                     });
                 }
                 let record = record::write(&random::renumbered(random, &graph));
-                assert_eq!(compared.check(&table, &record).number(), Some(number));
+                assert_eq!(compared.check(&table, &[&record]).number(), Some(number));
             }
         }
     }

@@ -1,8 +1,7 @@
 //! A call's stack stays far under a mebibyte: the deepest record, a chain of 255
 //! nodes, is rewritten on a thread with a stack of 128 KiB.
 
-use comparison::rewrite;
-use reference::reply::Reply;
+use record_engine::rewrite;
 
 /// The diamond of document 01.
 fn diamond() -> Vec<u8> {
@@ -44,5 +43,5 @@ fn the_deepest_record_needs_little_stack() {
         .expect("a thread")
         .join()
         .expect("no panic");
-    assert_eq!(reply, Reply::Length(1 + 9 * 255 + 254));
+    assert_eq!(reply, Ok(1 + 9 * 255 + 254));
 }

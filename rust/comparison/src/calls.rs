@@ -1,0 +1,95 @@
+//! The calls of both engines in one form, with the replies of the reference.
+
+use record_engine::{GraphFault, Refusal, Side, TableFault};
+use reference::calls;
+use reference::random::TableBytes;
+use reference::record;
+use reference::reply::{self, Reply};
+use reference::table;
+
+/// A table, one or two records, an output.
+type Engine = fn(&TableBytes, &[&[u8]], &mut [u8]) -> Reply;
+
+/// One call, by the proved engine and by the reference.
+#[derive(Clone, Copy)]
+pub struct Call {
+    /// The proved engine's.
+    pub engine: Engine,
+    /// The reference's.
+    pub reference: Engine,
+}
+
+/// A record in written form.
+pub const REWRITE: Call = Call {
+    engine: |table, records, output| {
+        written(record_engine::rewrite(
+            table.n,
+            &table.bytes,
+            records[0],
+            output,
+        ))
+    },
+    reference: |table, records, output| calls::rewrite(table.n, &table.bytes, records[0], output),
+};
+
+/// Whether the first is below the second; nothing is written.
+pub const ORDER: Call = Call {
+    engine: |table, records, _| match record_engine::is_below(
+        table.n,
+        &table.bytes,
+        records[0],
+        records[1],
+    ) {
+        Ok(true) => Reply::Yes,
+        Ok(false) => Reply::No,
+        Err(refusal) => refused(refusal),
+    },
+    reference: |table, records, _| calls::order(table.n, &table.bytes, records[0], records[1]),
+};
+
+/// The common part.
+pub const GENERALIZE: Call = Call {
+    engine: |table, records, output| {
+        let [first, second] = [records[0], records[1]];
+        written(record_engine::generalize(
+            table.n,
+            &table.bytes,
+            first,
+            second,
+            output,
+        ))
+    },
+    reference: |table, records, output| {
+        calls::common_part(table.n, &table.bytes, records[0], records[1], output)
+    },
+};
+
+/// The reply of a call of the proved engine that writes a record.
+fn written(result: Result<usize, Refusal>) -> Reply {
+    result.map_or_else(refused, Reply::Length)
+}
+
+fn refused(refusal: Refusal) -> Reply {
+    Reply::Refused(match refusal {
+        Refusal::Table(fault) => reply::Refusal::Table(match fault {
+            TableFault::Size => table::TableFault::Size,
+            TableFault::Order => table::TableFault::Order,
+            TableFault::Bounds => table::TableFault::Lattice,
+        }),
+        Refusal::Graph(fault, side) => {
+            let fault = match fault {
+                GraphFault::Malformed => record::GraphFault::Shape,
+                GraphFault::OutOfRange => record::GraphFault::Value,
+                GraphFault::Cyclic => record::GraphFault::Cycle,
+                GraphFault::Unreached => record::GraphFault::Unreached,
+            };
+            let which = match side {
+                Side::First => reply::Which::First,
+                Side::Second => reply::Which::Second,
+            };
+            reply::Refusal::Graph(fault, which)
+        }
+        Refusal::NoRoom => reply::Refusal::ShortOutput,
+        Refusal::TooLarge => reply::Refusal::TooLarge,
+    })
+}

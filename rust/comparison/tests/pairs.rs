@@ -1,0 +1,183 @@
+//! The calls on two records by the proved engine and by the reference: random
+//! pairs, unrelated or made from each other by dropping links, raising types and
+//! parting shared nodes; small, large, and damaged, over random and damaged tables.
+
+use comparison::{Call, Comparison, GENERALIZE, ORDER};
+use reference::graph::{Graph, Node};
+use reference::random::{self, Shape, TableBytes, Xorshift};
+use reference::record::{self, MOST_LINKS, MOST_NODES};
+use reference::reply::Reply;
+use reference::table::Table;
+
+/// Two records over a table: mostly those of a pair of graphs, sometimes one or
+/// both of them damaged.
+fn records(random: &mut Xorshift, table: &TableBytes, shape: &Shape) -> [Vec<u8>; 2] {
+    // A table that is refused may state any n.
+    let n = table.n.clamp(2, 64);
+    let mut records = match Table::accept(table.n, &table.bytes) {
+        Ok(accepted) => {
+            let (first, second) = random::pair(random, &accepted, shape);
+            [record::write(&first), record::write(&second)]
+        }
+        Err(_) => [0, 1].map(|_| random::valid_record(random, n)),
+    };
+    for record in &mut records {
+        if random.chance(1, 16) {
+            *record = random::damaged_record(random, n);
+        }
+    }
+    records
+}
+
+/// At least 20,000 pairs of mostly small graphs, and some of any size.
+fn compare_pairs(call: Call, seed: u64) -> Comparison {
+    let mut compared = Comparison::new(call, seed);
+    let random = &mut Xorshift::new(seed + 1);
+    while compared.inputs() < 20_000 {
+        let table = match random.chance(1, 16) {
+            true => random::damaged_table(random),
+            false => random::valid_table(random),
+        };
+        for _ in 0..8 {
+            let shape = match random.chance(1, 10) {
+                true => Shape::any(random),
+                false => Shape::small(random, 9, 4),
+            };
+            let [first, second] = records(random, &table, &shape);
+            compared.check(&table, &[&first, &second]);
+        }
+    }
+    compared
+}
+
+/// Pairs of graphs with up to 255 nodes and 2,048 links.
+fn compare_large(call: Call, seed: u64) -> Comparison {
+    let mut compared = Comparison::new(call, seed);
+    let random = &mut Xorshift::new(seed + 1);
+    for _ in 0..400 {
+        let table = random::valid_table(random);
+        let features = *random.choose(&[2, 8, 64]);
+        let nodes = *random.choose(&[40, 200, 254, MOST_NODES]);
+        let shape = Shape {
+            nodes,
+            extra_links: random.pick(2 * MOST_LINKS),
+            features: (0..features).collect(),
+            spread: *random.choose(&[1, 2, 20, MOST_NODES]),
+            tops: random.pick(5),
+        };
+        let (first, second) = random::pair(random, &table.accepted(), &shape);
+        let records = [first, second].map(|graph| record::write(&graph));
+        compared.check(&table, &[&records[0], &records[1]]);
+    }
+    compared
+}
+
+#[test]
+fn the_order_of_random_pairs() {
+    let compared = compare_pairs(ORDER, 21);
+    compared.assert_replies(&[1, 2, 3, 4, 5, 6, 7], 50);
+    compared.assert_answers(4_000);
+}
+
+#[test]
+fn the_order_of_large_pairs() {
+    let compared = compare_large(ORDER, 23);
+    compared.assert_replies(&[], 0);
+    compared.assert_answers(50);
+}
+
+#[test]
+fn the_common_part_of_random_pairs() {
+    let compared = compare_pairs(GENERALIZE, 25);
+    compared.assert_replies(&[0, 1, 2, 3, 4, 5, 6, 7, 8, 11], 30);
+}
+
+#[test]
+fn the_common_part_of_large_pairs() {
+    let compared = compare_large(GENERALIZE, 27);
+    compared.assert_replies(&[0, 8, 11], 50);
+}
+
+/// What the two graphs of a crossing have beyond their paths to leaves.
+struct Crossing {
+    /// How many switches, and how many leaves.
+    count: usize,
+    /// How many links each leaf has.
+    leaf_links: usize,
+    /// How many links more the root has.
+    root_links: usize,
+    /// How many links more the first switch has.
+    switch_links: usize,
+}
+
+impl Crossing {
+    /// A root, switches below it and leaves below these, all top. The path i, j
+    /// leads to leaf i in the first graph and to leaf j in the second, so that the
+    /// common part has a node for each pair of leaves. All other links lead to one
+    /// node, and by the highest features.
+    fn records(&self) -> [Vec<u8>; 2] {
+        [true, false].map(|first| {
+            let leaf = |place: usize| 1 + self.count + place;
+            let last = leaf(self.count);
+            let more = |links: usize| (0..links).map(move |link| (63 - link, last));
+            let root = (0..self.count).map(|place| (place, 1 + place));
+            let mut nodes = vec![node(root.chain(more(self.root_links)))];
+            for i in 0..self.count {
+                let leaves = (0..self.count).map(|j| (j, leaf(if first { i } else { j })));
+                let links = if i == 0 { self.switch_links } else { 0 };
+                nodes.push(node(leaves.chain(more(links))));
+            }
+            nodes.extend((0..self.count).map(|_| node(more(self.leaf_links))));
+            if self.leaf_links > 0 {
+                nodes.push(node([].into_iter()));
+            }
+            record::write(&Graph { nodes })
+        })
+    }
+}
+
+/// A node of the diamond's top with the links given.
+fn node(links: impl Iterator<Item = (usize, usize)>) -> Node {
+    Node {
+        node_type: 3,
+        links: links
+            .map(|(feature, target)| (feature as u8, target))
+            .collect(),
+    }
+}
+
+#[test]
+fn common_parts_at_the_limits() {
+    let mut compared = Comparison::new(GENERALIZE, 29);
+    let table = random::diamond();
+    let ladders = [MOST_NODES, 200].map(|nodes| record::write(&random::ladder(nodes, &[3, 60], 3)));
+    let shorter = Reply::Length(ladders[1].len());
+    assert_eq!(compared.check(&table, &[&ladders[0], &ladders[1]]), shorter);
+    assert_eq!(compared.check(&table, &[&ladders[1], &ladders[0]]), shorter);
+    // 1 + 15 + 225 nodes, and 1 + 16 + 256.
+    for (count, number) in [(15, None), (16, Some(11))] {
+        let crossing = Crossing {
+            count,
+            leaf_links: 0,
+            root_links: 0,
+            switch_links: 0,
+        };
+        let [first, second] = crossing.records();
+        let reply = compared.check(&table, &[&first, &second]);
+        assert_eq!(reply.number(), number, "{count} leaves");
+    }
+    // 64 links at the root, 8 at each of 8 switches and 30 at each of 64 pairs of
+    // leaves, which is 2,048; and one more.
+    for (switch_links, number) in [(0, None), (1, Some(11))] {
+        let crossing = Crossing {
+            count: 8,
+            leaf_links: 30,
+            root_links: 56,
+            switch_links,
+        };
+        let [first, second] = crossing.records();
+        let reply = compared.check(&table, &[&first, &second]);
+        assert_eq!(reply.number(), number, "{switch_links} links more");
+    }
+    compared.assert_replies(&[0, 8, 11], 3);
+}

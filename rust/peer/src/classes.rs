@@ -1,0 +1,31 @@
+//! Classes of numbers: union by lower number, with paths halved on the way up.
+
+pub struct Classes<const N: usize> {
+    parent: [u16; N],
+}
+
+impl<const N: usize> Classes<N> {
+    pub fn new() -> Self {
+        Classes {
+            parent: std::array::from_fn(|number| number as u16),
+        }
+    }
+
+    /// The least number of the class.
+    pub fn find(&mut self, mut number: u16) -> u16 {
+        loop {
+            let parent = self.parent[usize::from(number)];
+            if parent == number {
+                return number;
+            }
+            let above = self.parent[usize::from(parent)];
+            self.parent[usize::from(number)] = above;
+            number = above;
+        }
+    }
+
+    /// Puts a class under another with a lower least number.
+    pub fn put_under(&mut self, lower: u16, higher: u16) {
+        self.parent[usize::from(higher)] = lower;
+    }
+}

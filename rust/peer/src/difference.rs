@@ -1,0 +1,123 @@
+//! The difference of g and s, s in written numbering and below g by a map of nodes.
+
+use crate::classes::Classes;
+use crate::graph::Graph;
+use crate::table::Table;
+
+/// No node of g enters a link.
+const BARE: u8 = u8::MAX;
+/// A group without a link so far.
+const NONE: u16 = u16::MAX;
+
+/// Links of s are known by their places, which go by parent and feature.
+pub fn difference(table: &Table, g: &Graph, s: &Graph, map: &[u8; 255]) -> Graph {
+    let top = (table.n - 1) as u8;
+    // For each link of s a node of g that a link over it enters, and classes of such nodes.
+    let mut owner = [BARE; 2048];
+    let mut groups = Classes::<255>::new();
+    let mut over = [top; 255];
+    for (node, &image) in map[..g.nodes].iter().enumerate() {
+        let image = usize::from(image);
+        let met = &mut over[image];
+        *met = table.meets[usize::from(*met)][usize::from(g.types[node])];
+        let mut below = s.row(image);
+        for place in g.row(node) {
+            let feature = g.features[place];
+            let found = below.find(|&other| s.features[other] == feature);
+            let owner = &mut owner[found.expect("a path of g is one of s")];
+            if *owner == BARE {
+                *owner = g.targets[place];
+                continue;
+            }
+            let x = groups.find(u16::from(*owner));
+            let y = groups.find(u16::from(g.targets[place]));
+            if x != y {
+                groups.put_under(x.min(y), x.max(y));
+            }
+        }
+    }
+    // The least link of each group.
+    let links = s.links();
+    let mut least = [NONE; 255];
+    let mut leads = [false; 2048];
+    let mut leaders = [0u16; 255];
+    let mut has_bare = [false; 255];
+    for place in 0..links {
+        let target = usize::from(s.targets[place]);
+        if owner[place] == BARE {
+            has_bare[target] = true;
+            leads[place] = true;
+        } else {
+            let first = &mut least[usize::from(groups.find(u16::from(owner[place])))];
+            leads[place] = *first == NONE;
+            *first = (*first).min(place as u16);
+        }
+        leaders[target] += u16::from(leads[place]);
+    }
+    let mut wanted = [0u8; 255];
+    let mut kept = [false; 255];
+    for node in 0..s.nodes {
+        let residual = table.residual(s.types[node], over[node]);
+        wanted[node] = residual.expect("the table admits differences");
+        kept[node] = node == 0 || leaders[node] >= 2 || has_bare[node] || wanted[node] != top;
+    }
+    keep_above(s, &leads, &mut kept);
+    let mut rest = Graph::empty();
+    rest.nodes = s.nodes;
+    rest.types = wanted;
+    let mut count = 0;
+    for node in 0..s.nodes {
+        for place in s.row(node) {
+            if leads[place] && kept[usize::from(s.targets[place])] {
+                rest.features[count] = s.features[place];
+                rest.targets[count] = s.targets[place];
+                count += 1;
+            }
+        }
+        rest.first[node + 1] = count as u16;
+    }
+    rest
+}
+
+/// Keeps every node from which a leading link leaves to a kept one.
+fn keep_above(s: &Graph, leads: &[bool; 2048], kept: &mut [bool; 255]) {
+    // The leading links by the node that they enter.
+    let mut first = [0u16; 256];
+    for place in 0..s.links() {
+        first[usize::from(s.targets[place]) + 1] += u16::from(leads[place]);
+    }
+    for node in 0..s.nodes {
+        first[node + 1] += first[node];
+    }
+    let mut next = first;
+    let mut parents = [0u8; 2048];
+    for node in 0..s.nodes {
+        for place in s.row(node) {
+            if leads[place] {
+                let at = &mut next[usize::from(s.targets[place])];
+                parents[usize::from(*at)] = node as u8;
+                *at += 1;
+            }
+        }
+    }
+    let mut queue = [0u8; 255];
+    let mut end = 0;
+    for (node, &is_kept) in kept[..s.nodes].iter().enumerate() {
+        if is_kept {
+            queue[end] = node as u8;
+            end += 1;
+        }
+    }
+    let mut head = 0;
+    while head < end {
+        let node = usize::from(queue[head]);
+        for &parent in &parents[usize::from(first[node])..usize::from(first[node + 1])] {
+            if !kept[usize::from(parent)] {
+                kept[usize::from(parent)] = true;
+                queue[end] = parent;
+                end += 1;
+            }
+        }
+        head += 1;
+    }
+}

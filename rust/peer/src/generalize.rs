@@ -1,0 +1,54 @@
+//! The common part: the pairs of nodes that one path leads to in both graphs.
+
+use crate::Refusal;
+use crate::graph::Graph;
+use crate::table::Table;
+
+/// The common part, or 11.
+pub fn generalize(table: &Table, a: &Graph, b: &Graph) -> Result<Graph, Refusal> {
+    const CLEAR: u16 = u16::MAX;
+    let mut marks = [CLEAR; 65025];
+    let mut queue = [(0u8, 0u8); 255];
+    let mut common = Graph::empty();
+    marks[0] = 0;
+    let (mut next, mut end, mut links) = (0, 1, 0);
+    while next < end {
+        let (u, v) = queue[next];
+        let (u, v) = (usize::from(u), usize::from(v));
+        common.types[next] = table.joins[usize::from(a.types[u])][usize::from(b.types[v])];
+        let (mut left, mut right) = (a.row(u), b.row(v));
+        while !left.is_empty() && !right.is_empty() {
+            let (f, h) = (a.features[left.start], b.features[right.start]);
+            if f < h {
+                left.start += 1;
+                continue;
+            }
+            if h < f {
+                right.start += 1;
+                continue;
+            }
+            let pair = (a.targets[left.start], b.targets[right.start]);
+            let mark = &mut marks[255 * usize::from(pair.0) + usize::from(pair.1)];
+            if *mark == CLEAR {
+                if end == 255 {
+                    return Err(Refusal::of(11));
+                }
+                *mark = end as u16;
+                queue[end] = pair;
+                end += 1;
+            }
+            if links == 2048 {
+                return Err(Refusal::of(11));
+            }
+            common.features[links] = f;
+            common.targets[links] = *mark as u8;
+            links += 1;
+            left.start += 1;
+            right.start += 1;
+        }
+        next += 1;
+        common.first[next] = links as u16;
+    }
+    common.nodes = end;
+    Ok(common)
+}

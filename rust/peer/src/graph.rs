@@ -1,0 +1,108 @@
+//! A graph in compressed rows, and reading one from a record.
+
+/// Node v's links are the places `first[v]` to `first[v + 1]`, features ascending.
+pub struct Graph {
+    pub nodes: usize,
+    pub types: [u8; 255],
+    pub first: [u16; 256],
+    pub features: [u8; 2048],
+    pub targets: [u8; 2048],
+}
+
+impl Graph {
+    pub fn empty() -> Graph {
+        Graph {
+            nodes: 0,
+            types: [0; 255],
+            first: [0; 256],
+            features: [0; 2048],
+            targets: [0; 2048],
+        }
+    }
+
+    /// The places of a node's links.
+    pub fn row(&self, node: usize) -> std::ops::Range<usize> {
+        usize::from(self.first[node])..usize::from(self.first[node + 1])
+    }
+
+    /// How many links there are.
+    pub fn links(&self) -> usize {
+        usize::from(self.first[self.nodes])
+    }
+
+    /// The record's graph over n types, or 4 to 7.
+    pub fn read(n: usize, record: &[u8]) -> Result<Graph, u8> {
+        let graph = Graph::parse(record).ok_or(4)?;
+        let types = &graph.types[..graph.nodes];
+        let targets = &graph.targets[..graph.links()];
+        let is_in_range = types.iter().all(|&t| t != 0 && usize::from(t) < n)
+            && targets.iter().all(|&w| usize::from(w) < graph.nodes);
+        if !is_in_range {
+            return Err(5);
+        }
+        graph.sources_first()?;
+        Ok(graph)
+    }
+
+    fn parse(record: &[u8]) -> Option<Graph> {
+        let (&nodes, mut rest) = record.split_first()?;
+        let mut graph = Graph::empty();
+        graph.nodes = usize::from(nodes);
+        let mut links = 0;
+        for node in 0..graph.nodes {
+            let (header, after) = rest.split_first_chunk::<9>()?;
+            graph.types[node] = header[0];
+            let mut map = u64::from_le_bytes(header[1..].try_into().expect("8 bytes"));
+            let count = map.count_ones() as usize;
+            if links + count > 2048 || after.len() < count {
+                return None;
+            }
+            let (targets, after) = after.split_at(count);
+            graph.targets[links..links + count].copy_from_slice(targets);
+            for feature in &mut graph.features[links..links + count] {
+                *feature = map.trailing_zeros() as u8;
+                map &= map - 1;
+            }
+            links += count;
+            graph.first[node + 1] = links as u16;
+            rest = after;
+        }
+        (nodes > 0 && rest.is_empty()).then_some(graph)
+    }
+
+    /// Takes nodes away whose incoming links are all taken: 6 if some stay, 7 if
+    /// one beside the root has no incoming link. Where none stays, every node is
+    /// below one without incoming links.
+    fn sources_first(&self) -> Result<(), u8> {
+        let mut incoming = [0u16; 255];
+        for &target in &self.targets[..self.links()] {
+            incoming[usize::from(target)] += 1;
+        }
+        let mut queue = [0u8; 255];
+        let mut end = 0;
+        for (node, &count) in incoming[..self.nodes].iter().enumerate() {
+            if count == 0 {
+                queue[end] = node as u8;
+                end += 1;
+            }
+        }
+        let sources = end;
+        let is_rooted = sources == 1 && queue[0] == 0;
+        let mut next = 0;
+        while next < end {
+            for place in self.row(usize::from(queue[next])) {
+                let target = usize::from(self.targets[place]);
+                incoming[target] -= 1;
+                if incoming[target] == 0 {
+                    queue[end] = target as u8;
+                    end += 1;
+                }
+            }
+            next += 1;
+        }
+        if end < self.nodes {
+            return Err(6);
+        }
+        if is_rooted { Ok(()) } else { Err(7) }
+    }
+}

@@ -1,0 +1,192 @@
+//! The combination: classes of the nodes of both graphs, merged down equal features.
+
+use crate::Refusal;
+use crate::classes::Classes;
+use crate::graph::Graph;
+use crate::table::Table;
+
+/// Up to 255 nodes of each graph, and their links.
+const NODES: usize = 510;
+const LINKS: usize = 4096;
+/// A merge appends a row of up to 64 links.
+const ROOM: usize = LINKS + 64 * NODES;
+
+/// The links of each class: a span of places, features ascending.
+struct Rows {
+    span: [(u16, u16); NODES],
+    features: [u8; ROOM],
+    targets: [u16; ROOM],
+    end: usize,
+}
+
+/// Writes the combination, or 9, 10, 11, 8.
+pub fn unify(table: &Table, a: &Graph, b: &Graph, output: &mut [u8]) -> Result<usize, Refusal> {
+    let mut rows = Rows {
+        span: [(0, 0); NODES],
+        features: [0; ROOM],
+        targets: [0; ROOM],
+        end: 0,
+    };
+    rows.place(a, 0);
+    rows.place(b, a.nodes);
+    let total = a.nodes + b.nodes;
+    let mut classes = Classes::<NODES>::new();
+    let mut pending = [(0u16, 0u16); LINKS + 1];
+    pending[0] = (0, a.nodes as u16);
+    let mut waiting = 1;
+    while waiting > 0 {
+        waiting -= 1;
+        let (x, y) = pending[waiting];
+        let (x, y) = (classes.find(x), classes.find(y));
+        if x != y {
+            let (lower, higher) = (x.min(y), x.max(y));
+            classes.put_under(lower, higher);
+            rows.merge(lower, higher, &mut pending, &mut waiting);
+        }
+    }
+    // Each class gets a number, the root's the first, and the meet of its types.
+    let mut number = [u16::MAX; NODES];
+    let mut representative = [0u16; NODES];
+    let mut types = [0u8; NODES];
+    let mut count = 0;
+    for node in 0..total {
+        let class = usize::from(classes.find(node as u16));
+        let node_type = if node < a.nodes {
+            a.types[node]
+        } else {
+            b.types[node - a.nodes]
+        };
+        if number[class] == u16::MAX {
+            number[class] = count as u16;
+            representative[count] = class as u16;
+            types[count] = node_type;
+            count += 1;
+        } else {
+            let met = &mut types[usize::from(number[class])];
+            *met = table.meets[usize::from(*met)][usize::from(node_type)];
+        }
+    }
+    let mut links = 0;
+    let mut incoming = [0u16; NODES];
+    for &class in &representative[..count] {
+        let (start, end) = rows.span[usize::from(class)];
+        for target in &mut rows.targets[usize::from(start)..usize::from(end)] {
+            *target = number[usize::from(classes.find(*target))];
+            incoming[usize::from(*target)] += 1;
+            links += 1;
+        }
+    }
+    if has_cycle(&rows, &representative[..count], &mut incoming) {
+        return Err(Refusal::of(9));
+    }
+    if types[..count].contains(&0) {
+        return Err(Refusal::of(10));
+    }
+    if count > 255 || links > 2048 {
+        return Err(Refusal::of(11));
+    }
+    let mut graph = Graph::empty();
+    graph.nodes = count;
+    graph.types[..count].copy_from_slice(&types[..count]);
+    let mut place = 0;
+    for (node, &class) in representative[..count].iter().enumerate() {
+        let (start, end) = rows.span[usize::from(class)];
+        for from in usize::from(start)..usize::from(end) {
+            graph.features[place] = rows.features[from];
+            graph.targets[place] = rows.targets[from] as u8;
+            place += 1;
+        }
+        graph.first[node + 1] = place as u16;
+    }
+    crate::write::write(&graph, output)
+}
+
+/// Whether some classes stay when those are taken away whose incoming links all are.
+fn has_cycle(rows: &Rows, representative: &[u16], incoming: &mut [u16; NODES]) -> bool {
+    let mut queue = [0u16; NODES];
+    let mut end = 0;
+    for (node, &count) in incoming[..representative.len()].iter().enumerate() {
+        if count == 0 {
+            queue[end] = node as u16;
+            end += 1;
+        }
+    }
+    let mut next = 0;
+    while next < end {
+        let (start, last) = rows.span[usize::from(representative[usize::from(queue[next])])];
+        for &target in &rows.targets[usize::from(start)..usize::from(last)] {
+            incoming[usize::from(target)] -= 1;
+            if incoming[usize::from(target)] == 0 {
+                queue[end] = target;
+                end += 1;
+            }
+        }
+        next += 1;
+    }
+    end < representative.len()
+}
+
+impl Rows {
+    /// The links of a graph whose node 0 has this number.
+    fn place(&mut self, graph: &Graph, root: usize) {
+        for node in 0..graph.nodes {
+            let start = self.end;
+            for place in graph.row(node) {
+                self.features[self.end] = graph.features[place];
+                self.targets[self.end] = (root + usize::from(graph.targets[place])) as u16;
+                self.end += 1;
+            }
+            self.span[root + node] = (start as u16, self.end as u16);
+        }
+    }
+
+    /// Appends the links of two classes as those of the lower. Two links by one
+    /// feature become one, and their targets are to be merged.
+    fn merge(
+        &mut self,
+        lower: u16,
+        higher: u16,
+        pending: &mut [(u16, u16); LINKS + 1],
+        waiting: &mut usize,
+    ) {
+        let (mut i, i_end) = self.span[usize::from(lower)];
+        let (mut j, j_end) = self.span[usize::from(higher)];
+        if j == j_end {
+            return;
+        }
+        if i == i_end {
+            self.span[usize::from(lower)] = (j, j_end);
+            return;
+        }
+        let start = self.end;
+        while i < i_end || j < j_end {
+            let left = if i < i_end {
+                self.features[usize::from(i)]
+            } else {
+                64
+            };
+            let right = if j < j_end {
+                self.features[usize::from(j)]
+            } else {
+                64
+            };
+            if left <= right {
+                self.features[self.end] = left;
+                self.targets[self.end] = self.targets[usize::from(i)];
+                i += 1;
+            } else {
+                self.features[self.end] = right;
+                self.targets[self.end] = self.targets[usize::from(j)];
+            }
+            if left == right {
+                pending[*waiting] = (self.targets[self.end], self.targets[usize::from(j)]);
+                *waiting += 1;
+            }
+            if right <= left {
+                j += 1;
+            }
+            self.end += 1;
+        }
+        self.span[usize::from(lower)] = (start as u16, self.end as u16);
+    }
+}

@@ -1,0 +1,94 @@
+//! Numbering by first visit, and writing.
+
+use crate::Refusal;
+use crate::graph::Graph;
+
+/// The nodes in the order of their numbers, and each node's number.
+struct Numbering {
+    order: [u8; 255],
+    number: [u8; 255],
+    count: usize,
+}
+
+/// Depth first from the root, lowest feature first.
+fn number(graph: &Graph) -> Numbering {
+    let mut numbering = Numbering {
+        order: [0; 255],
+        number: [0; 255],
+        count: 1,
+    };
+    let mut seen = [false; 255];
+    seen[0] = true;
+    // On the way down: a node and the place of its next link.
+    let mut way = [(0u8, 0u16); 255];
+    way[0] = (0, graph.first[0]);
+    let mut depth = 1;
+    while depth > 0 {
+        let (node, place) = &mut way[depth - 1];
+        if *place == graph.first[usize::from(*node) + 1] {
+            depth -= 1;
+            continue;
+        }
+        let target = graph.targets[usize::from(*place)];
+        *place += 1;
+        let at = usize::from(target);
+        if !seen[at] {
+            seen[at] = true;
+            numbering.number[at] = numbering.count as u8;
+            numbering.order[numbering.count] = target;
+            numbering.count += 1;
+            way[depth] = (target, graph.first[at]);
+            depth += 1;
+        }
+    }
+    numbering
+}
+
+/// Writes the nodes that the root reaches, or 8.
+pub fn write(graph: &Graph, output: &mut [u8]) -> Result<usize, Refusal> {
+    let numbering = number(graph);
+    let order = &numbering.order[..numbering.count];
+    let links: usize = order
+        .iter()
+        .map(|&node| graph.row(usize::from(node)).len())
+        .sum();
+    let length = 1 + 9 * numbering.count + links;
+    let Some(mut rest) = output.get_mut(..length) else {
+        return Err(Refusal::of(8));
+    };
+    rest[0] = numbering.count as u8;
+    rest = &mut rest[1..];
+    for &node in order {
+        let row = graph.row(usize::from(node));
+        let (header, after) = rest.split_at_mut(9);
+        let (targets, after) = after.split_at_mut(row.len());
+        let mut map = 0u64;
+        for (target, place) in targets.iter_mut().zip(row) {
+            map |= 1 << graph.features[place];
+            *target = numbering.number[usize::from(graph.targets[place])];
+        }
+        header[0] = graph.types[usize::from(node)];
+        header[1..].copy_from_slice(&map.to_le_bytes());
+        rest = after;
+    }
+    Ok(length)
+}
+
+/// The same graph by its written numbers.
+pub fn renumbered(graph: &Graph) -> Graph {
+    let numbering = number(graph);
+    let mut written = Graph::empty();
+    written.nodes = numbering.count;
+    let mut links = 0;
+    for (new, &old) in numbering.order[..numbering.count].iter().enumerate() {
+        let old = usize::from(old);
+        written.types[new] = graph.types[old];
+        for place in graph.row(old) {
+            written.features[links] = graph.features[place];
+            written.targets[links] = numbering.number[usize::from(graph.targets[place])];
+            links += 1;
+        }
+        written.first[new + 1] = links as u16;
+    }
+    written
+}

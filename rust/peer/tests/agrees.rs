@@ -1,0 +1,104 @@
+//! The peer answers as the reference does, so that what is measured is the same work.
+
+use peer::Refusal;
+use reference::calls;
+use reference::random::{self, Shape, TableBytes, Xorshift};
+use reference::record::{self, LONGEST_RECORD};
+use reference::reply::{self, Reply, Which};
+use reference::table::Table;
+
+fn reply_of(result: Result<usize, Refusal>) -> Result<Reply, Refusal> {
+    result.map(Reply::Length)
+}
+
+/// The reply of the reference as the peer's.
+fn expected(reply: Reply) -> Result<Reply, Refusal> {
+    match reply {
+        Reply::Refused(refusal) => Err(Refusal {
+            number: refusal.number(),
+            second: matches!(refusal, reply::Refusal::Graph(_, Which::Second)),
+        }),
+        reply => Ok(reply),
+    }
+}
+
+/// Every call on one input, with outputs of a given length.
+fn check(table: &TableBytes, first: &[u8], second: &[u8], room: usize, counts: &mut [usize; 14]) {
+    let (n, bytes) = (table.n, &table.bytes[..]);
+    let mut check = |call: &str,
+                     ours: &mut dyn FnMut(&mut [u8]) -> Result<Reply, Refusal>,
+                     theirs: &mut dyn FnMut(&mut [u8]) -> Reply| {
+        let (mut out, mut judged) = (vec![7; room], vec![7; room]);
+        let (ours, theirs) = (ours(&mut out), theirs(&mut judged));
+        assert_eq!(
+            ours,
+            expected(theirs),
+            "{call}: {table:?} {first:?} {second:?}"
+        );
+        assert_eq!(out, judged, "{call}: {table:?} {first:?} {second:?}");
+        counts[usize::from(theirs.number().unwrap_or(0))] += 1;
+    };
+    check(
+        "rewrite",
+        &mut |out| reply_of(peer::rewrite(n, bytes, first, out)),
+        &mut |out| calls::rewrite(n, bytes, first, out),
+    );
+    check(
+        "order",
+        &mut |_| {
+            let answer = peer::is_below(n, bytes, first, second)?;
+            Ok(if answer { Reply::Yes } else { Reply::No })
+        },
+        &mut |_| calls::order(n, bytes, first, second),
+    );
+    check(
+        "common part",
+        &mut |out| reply_of(peer::generalize(n, bytes, first, second, out)),
+        &mut |out| calls::common_part(n, bytes, first, second, out),
+    );
+    check(
+        "combination",
+        &mut |out| reply_of(peer::unify(n, bytes, first, second, out)),
+        &mut |out| calls::combination(n, bytes, first, second, out),
+    );
+    check(
+        "difference",
+        &mut |out| reply_of(peer::difference(n, bytes, first, second, out)),
+        &mut |out| calls::difference(n, bytes, first, second, out),
+    );
+}
+
+#[test]
+fn the_peer_answers_as_the_reference() {
+    let random = &mut Xorshift::new(41);
+    let mut counts = [0; 14];
+    for _ in 0..1_500 {
+        let table = match random.chance(1, 12) {
+            true => random::damaged_table(random),
+            false => random::valid_table(random),
+        };
+        for _ in 0..6 {
+            let shape = match random.chance(1, 8) {
+                true => Shape::any(random),
+                false => Shape::small(random, 9, 4),
+            };
+            let n = table.n.clamp(2, 64);
+            let mut records = match Table::accept(table.n, &table.bytes) {
+                Ok(accepted) => {
+                    let (first, second) = random::pair(random, &accepted, &shape);
+                    [record::write(&first), record::write(&second)]
+                }
+                Err(_) => [0, 1].map(|_| random::valid_record(random, n)),
+            };
+            for record in &mut records {
+                if random.chance(1, 12) {
+                    *record = random::damaged_record(random, n);
+                }
+            }
+            let small = random.pick(100);
+            let room = *random.choose(&[LONGEST_RECORD, LONGEST_RECORD, small]);
+            check(&table, &records[0], &records[1], room, &mut counts);
+        }
+    }
+    assert!(counts.into_iter().all(|count| count >= 5), "{counts:?}");
+}

@@ -1,0 +1,75 @@
+//! The number that the static library answers (`crates/library/specs/Code.antt`),
+//! read as an answer.
+
+use crate::refusal::{Refusal, Side};
+
+/// What a number stands for.
+#[derive(Clone, Copy, Debug, PartialEq, Eq)]
+pub enum Answer {
+    Length(usize),
+    Yes,
+    No,
+    Refused(Refusal),
+}
+
+/// A number below this is a length; a refusal's is this or more.
+const FIRST_REFUSAL: u64 = 1 << 32;
+
+const NO: u64 = 1 << 33;
+const YES: u64 = NO + 1;
+
+/// The answer that a number stands for; stops the program where there is none.
+pub fn answer(code: u64) -> Answer {
+    match code {
+        YES => Answer::Yes,
+        NO => Answer::No,
+        length if length < FIRST_REFUSAL => Answer::Length(length as usize),
+        _ => {
+            let refusal = Refusal::ALL
+                .into_iter()
+                .find(|&known| code_of(known) == code);
+            Answer::Refused(refusal.unwrap_or_else(|| panic!("{code} is the number of no answer")))
+        }
+    }
+}
+
+fn code_of(refusal: Refusal) -> u64 {
+    let side = match refusal.side() {
+        Some(Side::First) => 1,
+        Some(Side::Second) => 2,
+        None => 0,
+    };
+    FIRST_REFUSAL + 256 * side + u64::from(refusal.number())
+}
+
+#[cfg(test)]
+mod tests {
+    use super::*;
+    use crate::refusal::{GraphFault, TableFault};
+
+    #[test]
+    fn numbers_are_read_as_the_library_states_them() {
+        let known = [
+            ((1 << 32) + 1, Refusal::Table(TableFault::Size)),
+            (
+                (1 << 32) + 256 + 4,
+                Refusal::Graph(GraphFault::Malformed, Side::First),
+            ),
+            (
+                (1 << 32) + 512 + 7,
+                Refusal::Graph(GraphFault::Unreached, Side::Second),
+            ),
+            ((1 << 32) + 8, Refusal::NoRoom),
+            ((1 << 32) + 11, Refusal::TooLarge),
+        ];
+        for (code, refusal) in known {
+            assert_eq!(answer(code), Answer::Refused(refusal));
+        }
+        assert_eq!(answer(4344), Answer::Length(4344));
+        assert_eq!(answer((1 << 33) + 1), Answer::Yes);
+        assert_eq!(answer(1 << 33), Answer::No);
+        for refusal in Refusal::ALL {
+            assert_eq!(answer(code_of(refusal)), Answer::Refused(refusal));
+        }
+    }
+}

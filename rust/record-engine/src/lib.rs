@@ -1,0 +1,184 @@
+//! The record engine for Rust programs. A call takes a type table, one or two
+//! records and, where it writes a record, an output that the caller lends; it
+//! gives the length of what it wrote, a yes or a no, or a [`Refusal`].
+//!
+//! The functions behind these calls are proved (`crates/engine`); here is only
+//! the passage to them, by a static library that `rt staticlib library` writes.
+//! On a refusal no byte of the output is changed. On success the output's first
+//! bytes are the record and its other bytes are unchanged.
+//!
+//! A table has n types, 2 to 64, and 8 bytes for each. The examples use the
+//! diamond: the contradiction 0, two types 1 and 2 that nothing but it is below,
+//! and 3, the top.
+
+#![warn(missing_docs)]
+
+mod code;
+mod refusal;
+
+pub use refusal::{GraphFault, Refusal, Side, TableFault};
+
+use code::Answer;
+
+/// The length of the longest record: an output of so many bytes is never too short.
+pub const LONGEST_RECORD: usize = 4344;
+
+unsafe extern "C" {
+    // Each slice is a pointer to its first byte and a length.
+    fn record_rewrite(
+        n: usize,
+        table: *const u8,
+        table_length: usize,
+        record: *const u8,
+        record_length: usize,
+        output: *mut u8,
+        output_length: usize,
+    ) -> u64;
+
+    fn record_order(
+        n: usize,
+        table: *const u8,
+        table_length: usize,
+        first: *const u8,
+        first_length: usize,
+        second: *const u8,
+        second_length: usize,
+    ) -> u64;
+
+    fn record_generalize(
+        n: usize,
+        table: *const u8,
+        table_length: usize,
+        first: *const u8,
+        first_length: usize,
+        second: *const u8,
+        second_length: usize,
+        output: *mut u8,
+        output_length: usize,
+    ) -> u64;
+}
+
+/// Writes a record in its one written form: equal meaning gives equal bytes.
+///
+/// Refused by 1 to 7, the record counting as the first, and by 8.
+///
+/// ```
+/// let diamond = record_engine::table(&[0x01, 0x03, 0x05, 0x0F]);
+/// // A lone top, node 0 with no links.
+/// let record = [1, 3, 0, 0, 0, 0, 0, 0, 0, 0];
+/// let mut output = [0; record_engine::LONGEST_RECORD];
+/// let length = record_engine::rewrite(4, &diamond, &record, &mut output)?;
+/// assert_eq!(output[..length], record);
+/// # Ok::<(), record_engine::Refusal>(())
+/// ```
+pub fn rewrite(n: usize, table: &[u8], record: &[u8], output: &mut [u8]) -> Result<usize, Refusal> {
+    // SAFETY: the pointers and lengths are those of slices that live through the
+    // call, and the function is proved to stay inside them and to keep none.
+    let code = unsafe {
+        record_rewrite(
+            n,
+            table.as_ptr(),
+            table.len(),
+            record.as_ptr(),
+            record.len(),
+            output.as_mut_ptr(),
+            output.len(),
+        )
+    };
+    length(code)
+}
+
+/// Whether the first record's graph is below the second's: every path of the
+/// second is a path of the first, with a type below or equal, and paths that
+/// share in the second share in the first.
+///
+/// Refused by 1 to 7.
+///
+/// ```
+/// let diamond = record_engine::table(&[0x01, 0x03, 0x05, 0x0F]);
+/// let a = [1, 1, 0, 0, 0, 0, 0, 0, 0, 0];
+/// let top = [1, 3, 0, 0, 0, 0, 0, 0, 0, 0];
+/// assert!(record_engine::is_below(4, &diamond, &a, &top)?);
+/// assert!(!record_engine::is_below(4, &diamond, &top, &a)?);
+/// # Ok::<(), record_engine::Refusal>(())
+/// ```
+pub fn is_below(n: usize, table: &[u8], first: &[u8], second: &[u8]) -> Result<bool, Refusal> {
+    // SAFETY: as in `rewrite`; nothing is written.
+    let code = unsafe {
+        record_order(
+            n,
+            table.as_ptr(),
+            table.len(),
+            first.as_ptr(),
+            first.len(),
+            second.as_ptr(),
+            second.len(),
+        )
+    };
+    match code::answer(code) {
+        Answer::Yes => Ok(true),
+        Answer::No => Ok(false),
+        Answer::Refused(refusal) => Err(refusal),
+        Answer::Length(_) => unreachable!("the order gives no length"),
+    }
+}
+
+/// Writes the common part of two records, their generalization: the paths in
+/// both, each with the join of its two types, two sharing exactly when they
+/// share in both.
+///
+/// Refused by 1 to 7, then by 11 and 8.
+///
+/// ```
+/// let diamond = record_engine::table(&[0x01, 0x03, 0x05, 0x0F]);
+/// let a = [1, 1, 0, 0, 0, 0, 0, 0, 0, 0];
+/// let b = [1, 2, 0, 0, 0, 0, 0, 0, 0, 0];
+/// let mut output = [0; record_engine::LONGEST_RECORD];
+/// let length = record_engine::generalize(4, &diamond, &a, &b, &mut output)?;
+/// assert_eq!(output[..length], [1, 3, 0, 0, 0, 0, 0, 0, 0, 0]);
+/// # Ok::<(), record_engine::Refusal>(())
+/// ```
+pub fn generalize(
+    n: usize,
+    table: &[u8],
+    first: &[u8],
+    second: &[u8],
+    output: &mut [u8],
+) -> Result<usize, Refusal> {
+    // SAFETY: as in `rewrite`.
+    let code = unsafe {
+        record_generalize(
+            n,
+            table.as_ptr(),
+            table.len(),
+            first.as_ptr(),
+            first.len(),
+            second.as_ptr(),
+            second.len(),
+            output.as_mut_ptr(),
+            output.len(),
+        )
+    };
+    length(code)
+}
+
+/// The bytes of a table of at most 8 types, from the first byte of each row.
+///
+/// ```
+/// assert_eq!(record_engine::table(&[0x01, 0x03])[..], [1, 0, 0, 0, 0, 0, 0, 0, 3, 0, 0, 0, 0, 0, 0, 0]);
+/// ```
+pub fn table(first_bytes: &[u8]) -> Vec<u8> {
+    first_bytes
+        .iter()
+        .flat_map(|&byte| [byte, 0, 0, 0, 0, 0, 0, 0])
+        .collect()
+}
+
+/// The answer of a call that writes a record.
+fn length(code: u64) -> Result<usize, Refusal> {
+    match code::answer(code) {
+        Answer::Length(length) => Ok(length),
+        Answer::Refused(refusal) => Err(refusal),
+        Answer::Yes | Answer::No => unreachable!("a call that writes gives a length"),
+    }
+}

@@ -1,0 +1,122 @@
+//! Why a call has no result.
+
+use std::error::Error;
+use std::fmt;
+
+/// Why a type table is refused.
+#[derive(Clone, Copy, Debug, PartialEq, Eq, Hash)]
+pub enum TableFault {
+    /// 1: n is not 2 to 64, or the table's length is not 8 × n.
+    Size,
+    /// 2: a bit at n or above, no order, 0 not least, or n − 1 not greatest.
+    Order,
+    /// 3: two types without a meet or a join.
+    Bounds,
+}
+
+/// Why a record is refused.
+#[derive(Clone, Copy, Debug, PartialEq, Eq, Hash)]
+pub enum GraphFault {
+    /// 4: no nodes, too short, bytes left over, or more than 2,048 links.
+    Malformed,
+    /// 5: a type that is 0 or at least n, or a target that is no node.
+    OutOfRange,
+    /// 6: a node reaches itself.
+    Cyclic,
+    /// 7: a node that the root does not reach.
+    Unreached,
+}
+
+/// Which of two records; a lone record counts as the first.
+#[derive(Clone, Copy, Debug, PartialEq, Eq, Hash)]
+pub enum Side {
+    /// The first record.
+    First,
+    /// The second record.
+    Second,
+}
+
+/// Why a call has no result. The output is then as it was.
+#[derive(Clone, Copy, Debug, PartialEq, Eq, Hash)]
+pub enum Refusal {
+    /// 1 to 3: the table.
+    Table(TableFault),
+    /// 4 to 7: one of the records.
+    Graph(GraphFault, Side),
+    /// 8: the result exists and the output is shorter.
+    NoRoom,
+    /// 11: the result has more than 255 nodes or 2,048 links.
+    TooLarge,
+}
+
+impl Refusal {
+    /// Every refusal.
+    pub const ALL: [Refusal; 13] = [
+        Refusal::Table(TableFault::Size),
+        Refusal::Table(TableFault::Order),
+        Refusal::Table(TableFault::Bounds),
+        Refusal::Graph(GraphFault::Malformed, Side::First),
+        Refusal::Graph(GraphFault::Malformed, Side::Second),
+        Refusal::Graph(GraphFault::OutOfRange, Side::First),
+        Refusal::Graph(GraphFault::OutOfRange, Side::Second),
+        Refusal::Graph(GraphFault::Cyclic, Side::First),
+        Refusal::Graph(GraphFault::Cyclic, Side::Second),
+        Refusal::Graph(GraphFault::Unreached, Side::First),
+        Refusal::Graph(GraphFault::Unreached, Side::Second),
+        Refusal::NoRoom,
+        Refusal::TooLarge,
+    ];
+
+    /// The number of this refusal in document 01.
+    ///
+    /// ```
+    /// use record_engine::{Refusal, TableFault};
+    /// assert_eq!(Refusal::Table(TableFault::Bounds).number(), 3);
+    /// ```
+    pub fn number(self) -> u8 {
+        match self {
+            Refusal::Table(TableFault::Size) => 1,
+            Refusal::Table(TableFault::Order) => 2,
+            Refusal::Table(TableFault::Bounds) => 3,
+            Refusal::Graph(GraphFault::Malformed, _) => 4,
+            Refusal::Graph(GraphFault::OutOfRange, _) => 5,
+            Refusal::Graph(GraphFault::Cyclic, _) => 6,
+            Refusal::Graph(GraphFault::Unreached, _) => 7,
+            Refusal::NoRoom => 8,
+            Refusal::TooLarge => 11,
+        }
+    }
+
+    /// The record that the refusal tells of, for 4 to 7.
+    pub fn side(self) -> Option<Side> {
+        match self {
+            Refusal::Graph(_, side) => Some(side),
+            _ => None,
+        }
+    }
+}
+
+impl fmt::Display for Refusal {
+    fn fmt(&self, formatter: &mut fmt::Formatter<'_>) -> fmt::Result {
+        let reason = match self {
+            Refusal::Table(TableFault::Size) => "the table's size does not fit its types",
+            Refusal::Table(TableFault::Order) => "the table is not an order of its types",
+            Refusal::Table(TableFault::Bounds) => "two types have no meet or no join",
+            Refusal::Graph(GraphFault::Malformed, _) => "the record is malformed",
+            Refusal::Graph(GraphFault::OutOfRange, _) => "a type or a target is out of range",
+            Refusal::Graph(GraphFault::Cyclic, _) => "a node reaches itself",
+            Refusal::Graph(GraphFault::Unreached, _) => "the root does not reach a node",
+            Refusal::NoRoom => "the output is shorter than the result",
+            Refusal::TooLarge => "the result has more than 255 nodes or 2,048 links",
+        };
+        write!(formatter, "refused {}", self.number())?;
+        match self.side() {
+            Some(Side::First) => write!(formatter, " first")?,
+            Some(Side::Second) => write!(formatter, " second")?,
+            None => {}
+        }
+        write!(formatter, ": {reason}")
+    }
+}
+
+impl Error for Refusal {}
