@@ -1,2 +1,4 @@
 -- Laws of replies.
 pub mod Replies
+pub mod Results
+pub mod Demands

@@ -39,7 +39,7 @@ use Rattle.record.proofs.Reaching.{SelfReach, AllReached, cyclic-exact,
 use Rattle.record.proofs.Accepted.{Rules, rules-linked, rules-of-any-size}
 
 -- equal forms are written of one list of rows
-written-injective : {form other : List (Row ℕ)} → _≡_ {A = Canonical ℕ} (written form) (written other) → form ≡ other
+pub written-injective : {form other : List (Row ℕ)} → _≡_ {A = Canonical ℕ} (written form) (written other) → form ≡ other
 written-injective e = cc
 
 rules-decoded : {n : ℕ} {rows : List (Row ℕ)} → Rules n rows → decoded (encoded rows) ≡ some rows
