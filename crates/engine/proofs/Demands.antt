@@ -21,7 +21,7 @@ use Rattle.lattice.specs.Table as table
 use Rattle.lattice.specs.Reply.{opened}
 use Rattle.lattice.specs.Labels.{typeLabels, OfAnySize, LeastOfAnySize}
 use Rattle.lattice.proofs.Residuals.{opened-accepted}
-use Rattle.lattice.proofs.Transfer.{generalization-least, same-least}
+use Rattle.lattice.proofs.AnySize.{generalization-least, same-least}
 use Rattle.record.specs.Read.{reading, accepted, graphOfRows}
 use Rattle.record.proofs.Nodes.{length-from, reached-listed}
 use Rattle.record.proofs.Accepted.{accepted-rules, rules-linked}

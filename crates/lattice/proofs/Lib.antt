@@ -10,4 +10,5 @@ pub mod Residuals
 pub mod Lawful
 pub mod Relabel
 pub mod Transfer
+pub mod AnySize
 pub mod Examples

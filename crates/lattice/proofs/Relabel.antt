@@ -3,13 +3,16 @@
 use mathlib.Core.Path.{_≡_, refl, sym, ap, _∙_}
 use mathlib.Core.Bool.{Bool, true, false, cond}
 use mathlib.Core.List.{List, [], map, map-map, reverse}
+use mathlib.Core.Logic.{_↔_}
 use mathlib.Core.Option.{Option, none, some}
+use Prim.Native.Nat.{ℕ}
+use native.Mathlib.Omega.{arith}
 use lib.Dec.{leb}
 use Rattle.graphs.specs.Label.{Labels}
-use Rattle.graphs.specs.Graph.{Graph, Below, SameMeaning}
+use Rattle.graphs.specs.Graph.{Graph, Corefer, Below, SameMeaning}
 use Rattle.graphs.specs.Rows.{Row}
 use Rattle.graphs.specs.Number.{Canonical, manyNodes, manyLinks, written, canonical, counted, rowOf, linkCount, visit}
-use Rattle.graphs.specs.Unify.{Unified, cycle, clash, unified}
+use Rattle.graphs.specs.Unify.{Joined, left, right, flip, chain, down, Unified, cycle, clash, unified}
 
 -- a graph with other labels
 abbrev pub relabel : {K L A : Type 0} → (K → L) → Graph K A → Graph L A
@@ -45,6 +48,27 @@ abbrev pub relabelUnified : {K L N : Type 0} → (K → L) → Unified K N → U
 relabelUnified f cycle = cycle
 relabelUnified f clash = clash
 relabelUnified f (unified u) = unified (relabel f u)
+
+module _ {K L N : Type 0} (f : K → L) where
+  pub relabel-cycle : (o : Unified K N) → (relabelUnified f o ≡ cycle) ↔ (o ≡ cycle)
+  relabel-cycle cycle = (λ _. refl, λ _. refl)
+  relabel-cycle clash = (λ e. let z : _≡_ {A = ℕ} 0 1 = cc in absurd (omega arith), λ e. ap (relabelUnified f) e)
+  relabel-cycle (unified u) = (λ e. let z : _≡_ {A = ℕ} 0 1 = cc in absurd (omega arith), λ e. ap (relabelUnified f) e)
+
+  pub relabel-clash : (o : Unified K N) → (relabelUnified f o ≡ clash) ↔ (o ≡ clash)
+  relabel-clash cycle = (λ e. let z : _≡_ {A = ℕ} 0 1 = cc in absurd (omega arith), λ e. ap (relabelUnified f) e)
+  relabel-clash clash = (λ _. refl, λ _. refl)
+  relabel-clash (unified u) = (λ e. let z : _≡_ {A = ℕ} 0 1 = cc in absurd (omega arith), λ e. ap (relabelUnified f) e)
+
+-- Which paths are joined depends on which corefer, and on no label.
+module _ {K L A B C D : Type 0} (g : Graph K A) (h : Graph K B) (k : Graph L C) (m : Graph L D)
+    (first : (p q : List ℕ) → Corefer g p q → Corefer k p q) (second : (p q : List ℕ) → Corefer h p q → Corefer m p q) where
+  pub joined-carried : {p q : List ℕ} → Joined g h p q → Joined k m p q
+  joined-carried {p} {q} (left c) = left (first p q c)
+  joined-carried {p} {q} (right c) = right (second p q c)
+  joined-carried (flip i) = flip (joined-carried i)
+  joined-carried (chain i j) = chain (joined-carried i) (joined-carried j)
+  joined-carried (down f i j) = down f (joined-carried i) (joined-carried j)
 
 -- Equal meaning carries the order, whatever the labels.
 module _ {𝓛 : Labels} {A B C : Type 0} {s : Graph (𝓛 .L) A} {g : Graph (𝓛 .L) B} {h : Graph (𝓛 .L) C} where

@@ -20,7 +20,7 @@ use Rattle.graphs.proofs.Finite.{same-any-size}
 use Rattle.graphs.proofs.Form.Invariant.{same-canonical}
 use Rattle.graphs.proofs.Product as Product
 use Rattle.lattice.specs.Table.{below, accepted, cell, meet, join}
-use Rattle.lattice.specs.Labels.{typeLabels, Typed, OfAnySize, LeastOfAnySize}
+use Rattle.lattice.specs.Labels.{typeLabels, Typed, OfAnySize}
 use Rattle.lattice.proofs.Relabel.{relabel, relabelForm, relabelUnified, canonical-relabel, same-below-left, same-below-right}
 use Rattle.lattice.proofs.Lawful.{TypeBelow, typed, typed-number, type-path, lawful, lawful-lattice, meet-number, join-number}
 
@@ -48,7 +48,7 @@ module _ (n : ℕ) (t : List ℕ) (ok : accepted n t ≡ true) where
 
   module _ {A : Type 0} (g : Graph ℕ A) (types : Typed n g) where
     -- a node's label, lifted and lowered
-    lifted-label : (v : A) → Reached g v → typed n t ok (g .label v) .0 ≡ g .label v
+    pub lifted-label : (v : A) → Reached g v → typed n t ok (g .label v) .0 ≡ g .label v
     lifted-label v r = typed-number n t ok (g .label v) (types v r)
 
     -- lowering undoes lifting
@@ -95,14 +95,15 @@ module _ (n : ℕ) (t : List ℕ) (ok : accepted n t ≡ true) where
           },
     )
 
-  pub any-size-lower : {A : Type 0} {g : Graph (TypeBelow n) A} → AnySize law g ↔ AnySize raw (lower g)
+  -- with the same list of nodes
+  unfoldable pub any-size-lower : {A : Type 0} {g : Graph (TypeBelow n) A} → AnySize law g ↔ AnySize raw (lower g)
   any-size-lower = (
     λ a. record { nodes = a .nodes; listed = a .listed; features = a .features; consistent = a .consistent; acyclic = a .acyclic },
     λ a. record { nodes = a .nodes; listed = a .listed; features = a .features; consistent = a .consistent; acyclic = a .acyclic },
   )
 
   -- what is of any size over types is so over numbers
-  pub lower-of-any-size : {A : Type 0} {g : Graph (TypeBelow n) A} → AnySize law g → OfAnySize n t (lower g)
+  unfoldable pub lower-of-any-size : {A : Type 0} {g : Graph (TypeBelow n) A} → AnySize law g → OfAnySize n t (lower g)
   lower-of-any-size {g = g} a = record { any-size = any-size-lower .0 a; typed = lower-typed g }
 
   -- Lifting: from numbers below n to types and back.
@@ -143,7 +144,8 @@ module _ (n : ℕ) (t : List ℕ) (ok : accepted n t ≡ true) where
         labels v r w = ap₂ (below t) (lifted-label s left (to v) (r .0, w)) (lifted-label g right v r)
 
   module _ {A : Type 0} (g : Graph ℕ A) where
-    pub any-size-lift : Typed n g → AnySize raw g ↔ AnySize law (lift g)
+    -- with the same list of nodes
+    unfoldable pub any-size-lift : Typed n g → AnySize raw g ↔ AnySize law (lift g)
     any-size-lift types = (
       λ a.
           record {
@@ -163,7 +165,7 @@ module _ (n : ℕ) (t : List ℕ) (ok : accepted n t ≡ true) where
           },
     )
 
-    pub lift-any-size : OfAnySize n t g → AnySize law (lift g)
+    unfoldable pub lift-any-size : OfAnySize n t g → AnySize law (lift g)
     lift-any-size size = any-size-lift (size .typed) .0 (size .any-size)
 
     -- written forms
@@ -206,39 +208,6 @@ module _ (n : ℕ) (t : List ℕ) (ok : accepted n t ≡ true) where
 
     pub generalization-lower : SameMeaning raw (generalization raw g h) (lower (generalization law (lift g) (lift h)))
     generalization-lower = exact-same generalization-exact
-
-  -- "Common part": it is a graph of any size, and the least of those above both
-  pub generalization-least : {A B : Type 0} (g : Graph ℕ A) (h : Graph ℕ B) → OfAnySize n t g → OfAnySize n t h →
-      LeastOfAnySize n t g h (generalization raw g h)
-  generalization-least g h size other =
-      let best = Product.generalization-least (lawful-lattice n t ok) (Product.product-is-generalization law (lift g) (lift h)) in
-      let same = generalization-lower g h (size .typed) (other .typed) in
-      record {
-        of-any-size = same-of-any-size (lower (generalization law (lift g) (lift h))) (generalization raw g h) (same-sym same)
-            (lower-of-any-size
-            (Product.generalization-any-size (lawful-lattice n t ok) (Product.product-is-generalization law (lift g) (lift h))
-            (lift-any-size g size)));
-        left = same-below-left (same-sym (lower-lift-same g (size .typed)))
-            (same-below-right (same-sym same) (below-lower .0 (best .left)));
-        right = same-below-left (same-sym (lower-lift-same h (other .typed)))
-            (same-below-right (same-sym same) (below-lower .0 (best .right)));
-        least = λ m above b c.
-            same-below-left (same-sym same)
-            (same-below-right (same-sym (lower-lift-same m (above .typed)))
-            (below-lower .0
-            (best .least (lift m) (below-lift g m (size .typed) (above .typed) .0 b) (below-lift h m (other .typed) (above .typed) .0 c))));
-      }
-
-  -- what means the same as the least graph is it
-  pub same-least : {A B C D : Type 0} (g : Graph ℕ A) (h : Graph ℕ B) (k : Graph ℕ C) (m : Graph ℕ D) → SameMeaning raw k m →
-      LeastOfAnySize n t g h k → LeastOfAnySize n t g h m
-  same-least g h k m same best =
-      record {
-        of-any-size = same-of-any-size k m same (best .of-any-size);
-        left = same-below-right same (best .left);
-        right = same-below-right same (best .right);
-        least = λ u above b c. same-below-left same (best .least u above b c);
-      }
 
   -- Unification.
 

@@ -1,5 +1,5 @@
 -- The types of a table as labels of graphs: numbers below n with the order, meets and joins of the table, n - 1 as top and 0 as the
--- contradiction (document 01, "Type table"); graphs of any size over a table, and the least of those above two graphs.
+-- contradiction (document 01, "Type table"); graphs of any size over a table, and bounds among them.
 use Prim.Native.Nat.{ℕ, _-_, _<_}
 use mathlib.Core.List.{List}
 use lib.Dec.{eqb}
@@ -35,3 +35,11 @@ pub record LeastOfAnySize (n : ℕ) (t : List ℕ) {A B C : Type 0} (g : Graph �
   pub right : Below (typeLabels n t) h k
   pub least : {D : Type 0} (m : Graph ℕ D) → OfAnySize n t m → Below (typeLabels n t) g m → Below (typeLabels n t) h m →
       Below (typeLabels n t) k m
+
+-- k is a graph of any size below both graphs, and above every graph of any size that lies below both.
+pub record GreatestOfAnySize (n : ℕ) (t : List ℕ) {A B C : Type 0} (g : Graph ℕ A) (h : Graph ℕ B) (k : Graph ℕ C) : Type 1 where
+  pub of-any-size : OfAnySize n t k
+  pub left : Below (typeLabels n t) k g
+  pub right : Below (typeLabels n t) k h
+  pub greatest : {D : Type 0} (m : Graph ℕ D) → OfAnySize n t m → Below (typeLabels n t) m g → Below (typeLabels n t) m h →
+      Below (typeLabels n t) m k
