@@ -11,7 +11,7 @@ use native.Mathlib.Omega.{arith}
 use lib.Dec.{eqb}
 use lib.ListN.{length, take}
 use Rattle.graphs.specs.Graph.{Below, walk}
-use Rattle.graphs.specs.Rows.{Row, from}
+use Rattle.graphs.specs.Rows.{Row}
 use Rattle.graphs.specs.Order.{subsumes}
 use Rattle.graphs.proofs.Lists.{tells-eqb}
 use Rattle.graphs.proofs.Search.{true-false}
@@ -23,9 +23,8 @@ use Rattle.lattice.specs.Labels.{typeLabels, OfAnySize, LeastOfAnySize}
 use Rattle.lattice.proofs.Residuals.{opened-accepted}
 use Rattle.lattice.proofs.AnySize.{generalization-least, same-least}
 use Rattle.record.specs.Read.{reading, accepted, graphOfRows}
-use Rattle.record.proofs.Nodes.{length-from, reached-listed}
-use Rattle.record.proofs.Accepted.{accepted-rules, rules-linked}
-use Rattle.record.proofs.Theorems.{accepted-of-any-size}
+use Rattle.record.proofs.Nodes.{length-from}
+use Rattle.record.proofs.Theorems.{accepted-of-any-size, accepted-nodes}
 use Rattle.generalize.specs.Pairs.{samePair}
 use Rattle.generalize.proofs.Sides.{tells-pair}
 use Rattle.engine.specs.declared.Reply.the-variants.{Length, Yes, No}
@@ -34,7 +33,7 @@ use Rattle.engine.specs.Demand.{Given, Writes, common, CommonPart}
 use Rattle.engine.proofs.Results.{result-writes}
 
 module _ (n : ℕ) (t a b : List ℕ) (s g : List (Row ℕ)) (given : Given n t a b s g) where
-  second-size : OfAnySize n t (graphOfRows g)
+  abbrev second-size : OfAnySize n t (graphOfRows g)
   second-size = accepted-of-any-size n b g (given .second) t
 
   ordering-is : ordering n t a b ≡ ordered n t s g
@@ -50,11 +49,12 @@ module _ (n : ℕ) (t a b : List ℕ) (s g : List (Row ℕ)) (given : Given n t 
     where
       short : (p : List ℕ) (v : ℕ) → walk (graphOfRows g) p ≡ some v → length p < length g
       short p v e =
-          let listed = reached-listed g (rules-linked (accepted-rules n b g (given .second))) in
           omega (
             arith,
+            ap length (accepted-nodes n b g (given .second) t),
             length-from 0 (length g),
-            short-paths (graphOfRows g) (from 0 (length g)) listed (second-size .any-size .acyclic) p v e,
+            short-paths (graphOfRows g) (second-size .any-size .nodes) (λ v. second-size .any-size .listed v .0) (second-size .any-size .acyclic)
+                p v e,
           )
 
   -- The order answers yes exactly where the first graph is below the second, and no exactly where it is not.

@@ -1,6 +1,6 @@
 -- Accepted records: the rules that their rows keep, stated without bytes; that rows which keep them state a graph of any size, and
 -- one that fits, so that an accepted record can always be written. Nothing here asks that the table's types are a lattice.
-use mathlib.Core.Path.{_≡_}
+use mathlib.Core.Path.{_≡_, refl}
 use mathlib.Core.List.{List, [], List·Memᴰ}
 use Prim.Native.Nat.{ℕ, _≤_, _<_}
 use native.Mathlib.Omega.{arith}
@@ -86,6 +86,11 @@ module _ (n : ℕ) (rows : List (Row ℕ)) (rules : Rules n rows) where
             let (_, known, _) = rules .ranged (getD rows v (0, [])) (node-row rows v (reached-inside rows (rules-linked rules) v r)) in
             known;
       }
+
+  -- its nodes are the numbers of the rows
+  pub rules-nodes : (t : List ℕ) → rules-of-any-size t .any-size .nodes ≡ from 0 (length rows)
+  unfolding rules-of-any-size rules-any-size
+  rules-nodes t = refl
 
   -- neither count is passed, so there is a written form
   pub rules-fit : (form : List (Row ℕ)) × (canonical eqb (graphOfRows rows) ≡ written form)

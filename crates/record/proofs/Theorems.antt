@@ -10,7 +10,7 @@ use Prim.Native.Nat.{ℕ, _≤_, _<_}
 use lib.Dec.{eqb}
 use lib.ListN.{length, getD}
 use Rattle.graphs.specs.Graph.{Graph, Tells, follow, Reached, SameMeaning}
-use Rattle.graphs.specs.Rows.{Row}
+use Rattle.graphs.specs.Rows.{Row, from}
 use Rattle.graphs.specs.Number.{canonical, written}
 use Rattle.graphs.specs.Large.{linksIn, Ascending}
 use Rattle.graphs.proofs.Lists.{tells-eqb}
@@ -23,7 +23,7 @@ use Rattle.record.proofs.Readings.{reading-says, in-range}
 use Rattle.record.proofs.Decoded.{AreBytes, decoded-says, decoded-short, decoded-label, decoded-target}
 use Rattle.record.proofs.Nodes.{Linked, decoded-linked}
 use Rattle.record.proofs.Reaching.{cyclic-exact, reaches-exact}
-use Rattle.record.proofs.Accepted.{accepted-rules, rules-of-any-size, rules-fit}
+use Rattle.record.proofs.Accepted.{accepted-rules, rules-of-any-size, rules-nodes, rules-fit}
 use Rattle.record.proofs.Rewritten as Rewritten
 
 module _ (n : ℕ) (bytes : List ℕ) where
@@ -97,6 +97,10 @@ module _ (n : ℕ) (bytes : List ℕ) (rows : List (Row ℕ)) (ok : reading n by
 
   pub accepted-of-any-size : (t : List ℕ) → OfAnySize n t (graphOfRows rows)
   accepted-of-any-size t = rules-of-any-size n rows (accepted-rules n bytes rows ok) t
+
+  pub accepted-nodes : (t : List ℕ) → accepted-of-any-size t .any-size .nodes ≡ from 0 (length rows)
+  unfolding accepted-of-any-size
+  accepted-nodes t = rules-nodes n rows (accepted-rules n bytes rows ok) t
 
   -- 5. An accepted record fits: 11 never applies to it.
 
