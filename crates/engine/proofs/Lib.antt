@@ -4,3 +4,5 @@ pub mod Replies
 pub mod Tables
 pub mod Orders
 pub mod CommonParts
+pub mod Results
+pub mod Demands

@@ -24,7 +24,7 @@ use Rattle.lattice.specs.Labels.{typeLabels}
 use Rattle.decode.specs.declared.Graph as declared
 use Rattle.record.specs.Read.{reading}
 use Rattle.record.proofs.Nodes.{length-from, reached-listed}
-use Rattle.record.proofs.Accepted.{Rules, rules-linked, rules-any-size}
+use Rattle.record.proofs.Accepted.{Rules, rules-linked, rules-of-any-size}
 use Rattle.subsume.specs.declared.Order.{Order}
 use Rattle.subsume.specs.declared.Order.the-variants as order
 use Rattle.subsume.specs.Promise.{Orders}
@@ -41,19 +41,20 @@ module _ (n : ℕ) (t : List ℕ) (s g : List (Row ℕ)) (rules : Rules n g) whe
       omega (
         arith,
         length-from 0 (length g),
-        short-paths (graphOfRows g) (from 0 (length g)) (reached-listed g (rules-linked rules)) (rules-any-size n g rules t .acyclic) p v e,
+        short-paths (graphOfRows g) (from 0 (length g)) (reached-listed g (rules-linked rules)) (rules-of-any-size n g rules t .any-size .acyclic) p v e,
       )
 
-  exact : (subsumes (typeLabels n t) eqb eqb (graphOfRows s) (graphOfRows g) (length g) ≡ true) ↔
+  -- "is the first below the second": the computed order is the order over paths
+  pub order-test : (subsumes (typeLabels n t) eqb eqb (graphOfRows s) (graphOfRows g) (length g) ≡ true) ↔
       Below (typeLabels n t) (graphOfRows s) (graphOfRows g)
-  exact =
+  order-test =
       subsumes-exact (typeLabels n t) eqb eqb tells-eqb tells-eqb (graphOfRows s) (graphOfRows g)
-      (rules-any-size n g rules t .features) (length g) short
+      (rules-of-any-size n g rules t .any-size .features) (length g) short
 
   module _ {answer : Order} {map : List ℕ} (orders : Orders n t s g answer map) where
     ordered-yes : answer ≡ order.Below → Yes ≡ ordered n t s g
     unfolding ordered
-    ordered-yes e = ap (λ (b : Bool). cond b Yes No) (sym (exact .1 (map-below (orders .yes-stands e))))
+    ordered-yes e = ap (λ (b : Bool). cond b Yes No) (sym (order-test .1 (map-below (orders .yes-stands e))))
 
     ordered-no : answer ≡ order.NotBelow → No ≡ ordered n t s g
     unfolding ordered
@@ -61,7 +62,7 @@ module _ (n : ℕ) (t : List ℕ) (s g : List (Row ℕ)) (rules : Rules n g) whe
       where
         go : (b : Bool) → subsumes (typeLabels n t) eqb eqb (graphOfRows s) (graphOfRows g) (length g) ≡ b → No ≡ cond b Yes No
         go false q = refl
-        go true q = absurd (orders .no-stands e (exact .0 q))
+        go true q = absurd (orders .no-stands e (order-test .0 q))
 
 -- over an accepted table: yes and no
 module _ (n : ℕ) (t a b : List ℕ) {s g : declared.Graph} (given : Accepts n a s × Accepts n b g) {answer : Order} {map : List ℕ}

@@ -1,3 +1,4 @@
 -- What the public calls answer, and what their parts promise.
 pub mod Reply
 pub mod Pair
+pub mod Demand

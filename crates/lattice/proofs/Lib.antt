@@ -7,4 +7,8 @@ pub mod Rows
 pub mod Opening
 pub mod Laws
 pub mod Residuals
+pub mod Lawful
+pub mod Relabel
+pub mod Transfer
+pub mod AnySize
 pub mod Examples

@@ -1,6 +1,6 @@
 -- Accepted records: the rules that their rows keep, stated without bytes; that rows which keep them state a graph of any size, and
 -- one that fits, so that an accepted record can always be written. Nothing here asks that the table's types are a lattice.
-use mathlib.Core.Path.{_≡_}
+use mathlib.Core.Path.{_≡_, refl}
 use mathlib.Core.List.{List, [], List·Memᴰ}
 use Prim.Native.Nat.{ℕ, _≤_, _<_}
 use native.Mathlib.Omega.{arith}
@@ -14,7 +14,7 @@ use Rattle.graphs.specs.Large.{linksIn}
 use Rattle.graphs.proofs.Lists.{from-range, tells-eqb}
 use Rattle.graphs.proofs.Search.{true-false}
 use Rattle.graphs.proofs.Form.Large.{canonical-fits}
-use Rattle.lattice.specs.Labels.{typeLabels}
+use Rattle.lattice.specs.Labels.{typeLabels, OfAnySize}
 use Rattle.record.specs.Read.{graphOfRows, reading, accepted}
 use Rattle.record.proofs.Readings.{Stands, InRange, reading-says, in-range}
 use Rattle.record.proofs.Decoded.{decoded-says}
@@ -62,7 +62,7 @@ accepted-rules n bytes rows ok = rules (reading-says n bytes (accepted rows) .0 
 
 module _ (n : ℕ) (rows : List (Row ℕ)) (rules : Rules n rows) where
   -- "A graph of any size keeps every rule of an accepted record but the counts"
-  pub rules-any-size : (t : List ℕ) → AnySize (typeLabels n t) (graphOfRows rows)
+  rules-any-size : (t : List ℕ) → AnySize (typeLabels n t) (graphOfRows rows)
   rules-any-size t =
       record {
         nodes = from 0 (length rows);
@@ -76,6 +76,21 @@ module _ (n : ℕ) (rows : List (Row ℕ)) (rules : Rules n rows) where
             ne-eqb (graphOfRows rows .label v) 0 (λ e. omega arith);
         acyclic = λ v f p r e. rules .acyclic (v, reached-inside rows (rules-linked rules) v r, f, p, e);
       }
+
+  -- with types below n
+  pub rules-of-any-size : (t : List ℕ) → OfAnySize n t (graphOfRows rows)
+  rules-of-any-size t =
+      record {
+        any-size = rules-any-size t;
+        typed = λ v r.
+            let (_, known, _) = rules .ranged (getD rows v (0, [])) (node-row rows v (reached-inside rows (rules-linked rules) v r)) in
+            known;
+      }
+
+  -- its nodes are the numbers of the rows
+  pub rules-nodes : (t : List ℕ) → rules-of-any-size t .any-size .nodes ≡ from 0 (length rows)
+  unfolding rules-of-any-size rules-any-size
+  rules-nodes t = refl
 
   -- neither count is passed, so there is a written form
   pub rules-fit : (form : List (Row ℕ)) × (canonical eqb (graphOfRows rows) ≡ written form)

@@ -1,15 +1,17 @@
--- Written records. The written form of an accepted record's graph keeps the rules too, since its rows are the reached nodes of
+-- Written records. The written form of a graph of any size keeps the rules of a record, since its rows are the reached nodes of
 -- that graph and a cycle of one is a cycle of the other; so it is accepted, and is its own written form. Reading undoes writing,
 -- so equal bytes are equal forms, and these are equal meanings.
 use mathlib.Core.Path.{_≡_, sym, _∙_, ap}
-use mathlib.Core.List.{List, [], _∷_, _++_}
+use mathlib.Core.Bool.{Bool}
+use mathlib.Core.List.{List, _∷_, _++_}
 use mathlib.Core.Logic.{_↔_}
 use mathlib.Core.Option.{some}
 use Prim.Native.Nat.{ℕ, _<_}
 use native.Mathlib.Omega.{arith}
+use borrow.Author.Tests.{eqb-false}
 use lib.Dec.{eqb}
-use lib.ListN.{length, getD}
-use Rattle.graphs.specs.Graph.{Reached, SameMeaning}
+use lib.ListN.{length}
+use Rattle.graphs.specs.Graph.{Graph, Tells, Reached, SameMeaning}
 use Rattle.graphs.specs.Rows.{Row}
 use Rattle.graphs.specs.Number.{Canonical, canonical, written}
 use Rattle.graphs.proofs.Walk.{some-injective, walk-append}
@@ -26,75 +28,19 @@ use Rattle.graphs.proofs.Form.Rules.{
   form-features,
   form-targets,
 }
-use Rattle.lattice.specs.Labels.{typeLabels}
+use Rattle.lattice.specs.Labels.{typeLabels, OfAnySize}
 use Rattle.decode.specs.Decode.{decoded}
 use Rattle.encode.specs.Encode.{encoded}
 use Rattle.record.specs.Read.{graphOfRows, cyclic, reading, accepted}
 use Rattle.record.proofs.Readings.{InRange, reading-says, in-range}
 use Rattle.record.proofs.RoundTrip.{decode-encode}
-use Rattle.record.proofs.Nodes.{Linked, full-list, node-row, reached-inside, narrow}
+use Rattle.record.proofs.Nodes.{Linked, full-list, reached-inside, narrow}
 use Rattle.record.proofs.Reaching.{SelfReach, AllReached, cyclic-exact, reaches-exact}
-use Rattle.record.proofs.Accepted.{Rules, rules-linked}
+use Rattle.record.proofs.Accepted.{Rules, rules-linked, rules-of-any-size}
 
 -- equal forms are written of one list of rows
-written-injective : {form other : List (Row ℕ)} → _≡_ {A = Canonical ℕ} (written form) (written other) → form ≡ other
+pub written-injective : {form other : List (Row ℕ)} → _≡_ {A = Canonical ℕ} (written form) (written other) → form ≡ other
 written-injective e = cc
-
-module _ (n : ℕ) (rows : List (Row ℕ)) (rules : Rules n rows) (form : List (Row ℕ))
-    (e : canonical eqb (graphOfRows rows) ≡ written form) where
-  small : (v w f : ℕ) → Reached (graphOfRows rows) v → graphOfRows rows .link v f ≡ some w → f < 64
-  small = narrow rows (rules-linked rules)
-
-  form-linked : Linked form
-  form-linked =
-      record {
-        nonempty = form-nonempty eqb tells-eqb (graphOfRows rows) small form e;
-        features = form-features eqb tells-eqb (graphOfRows rows) small form e;
-        targets = form-targets eqb tells-eqb (graphOfRows rows) small form e;
-      }
-
-  -- the form, written again, is the form
-  pub form-again : canonical eqb (graphOfRows form) ≡ written form
-  form-again = canonical-idempotent eqb tells-eqb (graphOfRows rows) small 0 form e
-
-  pub form-meaning : (t : List ℕ) → SameMeaning (typeLabels n t) (graphOfRows rows) (graphOfRows form)
-  form-meaning t =
-      canonical-exact (typeLabels n t) eqb eqb tells-eqb tells-eqb (graphOfRows rows) (graphOfRows form) small (narrow form form-linked)
-      form e .1 form-again
-
-  form-ranged : InRange n form
-  form-ranged r m =
-      let (v, reached, label) = form-labels eqb tells-eqb (graphOfRows rows) small form e r m in
-      let (nonzero, known, _) = rules .ranged (getD rows v (0, [])) (node-row rows v (reached-inside rows (rules-linked rules) v reached)) in
-      (omega arith, omega arith, form-linked .targets r m)
-
-  -- the form has as many rows as its graph has nodes
-  form-reached : AllReached form
-  form-reached v h =
-      let (nodes, d, listed, q) = form-nodes eqb tells-eqb (graphOfRows form) (narrow form form-linked) form form-again in
-      listed v .1 (full-list (length form) nodes d (λ x m. reached-inside form form-linked x (listed x .1 m)) (sym q) v h)
-
-  -- a node that reaches itself is at the end of two paths that share, and they share in the graph that was written
-  form-acyclic : SelfReach form → ⊥
-  form-acyclic (v, h, f, p, loop) =
-      let (path, at) = form-reached v h in
-      let (w, d, c) = form-meaning [] .corefers path (path ++ (f ∷ p)) .1
-      (v, at, walk-append (graphOfRows form) path (f ∷ p) at ∙ loop) in
-      rules .acyclic
-      (w, reached-inside rows (rules-linked rules) w (path, d), f, p, sym (walk-append (graphOfRows rows) path (f ∷ p) d) ∙ c)
-
-  -- what is written keeps the rules
-  pub form-rules : Rules n form
-  form-rules =
-      record {
-        nonempty = form-linked .nonempty;
-        short = form-short eqb tells-eqb (graphOfRows rows) small form e;
-        links = form-links eqb tells-eqb (graphOfRows rows) small form e;
-        ordered = λ r m. (form-ascending eqb tells-eqb (graphOfRows rows) small form e r m, form-linked .features r m);
-        ranged = form-ranged;
-        acyclic = form-acyclic;
-        reached = form-reached;
-      }
 
 rules-decoded : {n : ℕ} {rows : List (Row ℕ)} → Rules n rows → decoded (encoded rows) ≡ some rows
 rules-decoded {rows = rows} rules = decode-encode rows (rules .nonempty) (rules .links) (rules .ordered)
@@ -108,6 +54,65 @@ rules-read n rows rules =
       not-true (cyclic rows) (λ q. rules .acyclic (cyclic-exact rows (rules-linked rules) .0 q)),
       reaches-exact rows (rules-linked rules) .1 (rules .short, rules .reached),
     )
+
+module _ (n : ℕ) (t : List ℕ) {A : Type 0} (same : A → A → Bool) (tells : Tells same) (g : Graph ℕ A) (size : OfAnySize n t g)
+    (form : List (Row ℕ)) (e : canonical same g ≡ written form) where
+  small : (v w : A) (f : ℕ) → Reached g v → g .link v f ≡ some w → f < 64
+  small = size .any-size .features
+
+  form-linked : Linked form
+  form-linked =
+      record {
+        nonempty = form-nonempty same tells g small form e;
+        features = form-features same tells g small form e;
+        targets = form-targets same tells g small form e;
+      }
+
+  -- the form, written again, is the form
+  pub form-again : canonical eqb (graphOfRows form) ≡ written form
+  form-again = canonical-idempotent same tells g small 0 form e
+
+  pub form-meaning : SameMeaning (typeLabels n t) g (graphOfRows form)
+  form-meaning =
+      canonical-exact (typeLabels n t) same eqb tells tells-eqb g (graphOfRows form) small (narrow form form-linked) form e .1 form-again
+
+  form-ranged : InRange n form
+  form-ranged r m =
+      let (v, reached, label) = form-labels same tells g small form e r m in
+      let nonzero : (g .label v ≡ 0) → ⊥ = eqb-false (g .label v) 0 (size .any-size .consistent v reached) in
+      let known : g .label v < n = size .typed v reached in
+      (omega arith, omega arith, form-linked .targets r m)
+
+  -- the form has as many rows as its graph has nodes
+  form-reached : AllReached form
+  form-reached v h =
+      let (nodes, d, listed, q) = form-nodes eqb tells-eqb (graphOfRows form) (narrow form form-linked) form form-again in
+      listed v .1 (full-list (length form) nodes d (λ x m. reached-inside form form-linked x (listed x .1 m)) (sym q) v h)
+
+  -- a node that reaches itself is at the end of two paths that share, and they share in the graph that was written
+  form-acyclic : SelfReach form → ⊥
+  form-acyclic (v, h, f, p, loop) =
+      let (path, at) = form-reached v h in
+      let (w, d, c) = form-meaning .corefers path (path ++ (f ∷ p)) .1
+      (v, at, walk-append (graphOfRows form) path (f ∷ p) at ∙ loop) in
+      size .any-size .acyclic w f p (path, d) (sym (walk-append g path (f ∷ p) d) ∙ c)
+
+  -- what is written keeps the rules
+  pub form-rules : Rules n form
+  form-rules =
+      record {
+        nonempty = form-linked .nonempty;
+        short = form-short same tells g small form e;
+        links = form-links same tells g small form e;
+        ordered = λ r m. (form-ascending same tells g small form e r m, form-linked .features r m);
+        ranged = form-ranged;
+        acyclic = form-acyclic;
+        reached = form-reached;
+      }
+
+  -- what is written is accepted when it is read, and means what was written
+  pub written-reads : (reading n (encoded form) ≡ accepted form) × SameMeaning (typeLabels n t) g (graphOfRows form)
+  written-reads = (rules-read n form form-rules, form-meaning)
 
 -- so their bytes determine them
 encoded-injective : {n : ℕ} (rows other : List (Row ℕ)) → Rules n rows → Rules n other → encoded rows ≡ encoded other → rows ≡ other
@@ -123,7 +128,8 @@ meaning-by-bytes n t rows other rules same form form′ e e′ = (
   λ m. ap encoded (written-injective (sym (exact .0 m) ∙ e′)),
   λ q.
       exact .1
-      (e′ ∙ ap written (sym (encoded-injective form form′ (form-rules n rows rules form e) (form-rules n other same form′ e′) q))),
+      (e′ ∙ ap written (sym (encoded-injective form form′ (form-rules n t eqb tells-eqb (graphOfRows rows) (rules-of-any-size n rows rules t) form e)
+      (form-rules n t eqb tells-eqb (graphOfRows other) (rules-of-any-size n other same t) form′ e′) q))),
 )
   where
     exact : SameMeaning (typeLabels n t) (graphOfRows rows) (graphOfRows other) ↔ (canonical eqb (graphOfRows other) ≡ written form)

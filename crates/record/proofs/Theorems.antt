@@ -2,19 +2,20 @@
 -- "Returned by a call", is the text beside it. A record is a list of bytes, read over a table with n types; its rows are a type
 -- and links for each node, and `graphOfRows rows` is the graph that they state. Nothing here asks that the types are a lattice.
 use mathlib.Core.Path.{_≡_}
-use mathlib.Core.Bool.{true, false}
+use mathlib.Core.Bool.{Bool, true, false}
 use mathlib.Core.List.{List, _∷_, List·Memᴰ}
 use mathlib.Core.Logic.{_↔_}
 use mathlib.Core.Option.{none, some}
 use Prim.Native.Nat.{ℕ, _≤_, _<_}
 use lib.Dec.{eqb}
 use lib.ListN.{length, getD}
-use Rattle.graphs.specs.Graph.{follow, Reached, SameMeaning, AnySize}
-use Rattle.graphs.specs.Rows.{Row}
+use Rattle.graphs.specs.Graph.{Graph, Tells, follow, Reached, SameMeaning}
+use Rattle.graphs.specs.Rows.{Row, from}
 use Rattle.graphs.specs.Number.{canonical, written}
 use Rattle.graphs.specs.Large.{linksIn, Ascending}
+use Rattle.graphs.proofs.Lists.{tells-eqb}
 use Rattle.record.specs.declared.GraphFault.the-variants.{Malformed, OutOfRange, Cyclic, Unreached}
-use Rattle.lattice.specs.Labels.{typeLabels}
+use Rattle.lattice.specs.Labels.{typeLabels, OfAnySize}
 use Rattle.decode.specs.Decode.{decoded}
 use Rattle.encode.specs.Encode.{encoded}
 use Rattle.record.specs.Read.{graphOfRows, inRange, cyclic, reachesAll, reading, accepted, refused}
@@ -22,7 +23,7 @@ use Rattle.record.proofs.Readings.{reading-says, in-range}
 use Rattle.record.proofs.Decoded.{AreBytes, decoded-says, decoded-short, decoded-label, decoded-target}
 use Rattle.record.proofs.Nodes.{Linked, decoded-linked}
 use Rattle.record.proofs.Reaching.{cyclic-exact, reaches-exact}
-use Rattle.record.proofs.Accepted.{accepted-rules, rules-any-size, rules-fit}
+use Rattle.record.proofs.Accepted.{accepted-rules, rules-of-any-size, rules-nodes, rules-fit}
 use Rattle.record.proofs.Rewritten as Rewritten
 
 module _ (n : ℕ) (bytes : List ℕ) where
@@ -94,8 +95,12 @@ module _ (n : ℕ) (bytes : List ℕ) where
 module _ (n : ℕ) (bytes : List ℕ) (rows : List (Row ℕ)) (ok : reading n bytes ≡ accepted rows) where
   -- 4. "A graph of any size keeps every rule of an accepted record but the counts of nodes and links": so an accepted one is such.
 
-  pub accepted-any-size : (t : List ℕ) → AnySize (typeLabels n t) (graphOfRows rows)
-  accepted-any-size t = rules-any-size n rows (accepted-rules n bytes rows ok) t
+  pub accepted-of-any-size : (t : List ℕ) → OfAnySize n t (graphOfRows rows)
+  accepted-of-any-size t = rules-of-any-size n rows (accepted-rules n bytes rows ok) t
+
+  pub accepted-nodes : (t : List ℕ) → accepted-of-any-size t .any-size .nodes ≡ from 0 (length rows)
+  unfolding accepted-of-any-size
+  accepted-nodes t = rules-nodes n rows (accepted-rules n bytes rows ok) t
 
   -- 5. An accepted record fits: 11 never applies to it.
 
@@ -112,7 +117,14 @@ meaning-exact n t bytes bytes′ rows rows′ ok ok′ form form′ e e′ =
     Rewritten.meaning-by-bytes n t rows rows′ (accepted-rules n bytes rows ok)
     (accepted-rules n bytes′ rows′ ok′) form form′ e e′
 
--- 7. A written record is accepted, is its own written record, and means what was written.
+-- 7. What is written of a graph of any size is accepted, and means what was written.
+
+pub written-reads : (n : ℕ) (t : List ℕ) {A : Type 0} (same : A → A → Bool) → Tells same → (g : Graph ℕ A) → OfAnySize n t g →
+    (form : List (Row ℕ)) → canonical same g ≡ written form →
+    (reading n (encoded form) ≡ accepted form) × SameMeaning (typeLabels n t) g (graphOfRows form)
+written-reads n t same tells g size form e = Rewritten.written-reads n t same tells g size form e
+
+-- 8. A written record is accepted, is its own written record, and means what was written.
 
 pub written-accepted : (n : ℕ) (t : List ℕ) (bytes : List ℕ) (rows : List (Row ℕ)) →
     reading n bytes ≡ accepted rows → (form : List (Row ℕ)) → canonical eqb (graphOfRows rows) ≡ written form →
@@ -120,8 +132,6 @@ pub written-accepted : (n : ℕ) (t : List ℕ) (bytes : List ℕ) (rows : List 
     (canonical eqb (graphOfRows form) ≡ written form) ×
     SameMeaning (typeLabels n t) (graphOfRows rows) (graphOfRows form)
 written-accepted n t bytes rows ok form e =
-    let rules = accepted-rules n bytes rows ok in (
-      Rewritten.rules-read n form (Rewritten.form-rules n rows rules form e),
-      Rewritten.form-again n rows rules form e,
-      Rewritten.form-meaning n rows rules form e t,
-    )
+    let size = accepted-of-any-size n bytes rows ok t in
+    let (read, means) = written-reads n t eqb tells-eqb (graphOfRows rows) size form e in
+    (read, Rewritten.form-again n t eqb tells-eqb (graphOfRows rows) size form e, means)

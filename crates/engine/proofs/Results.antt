@@ -1,0 +1,140 @@
+-- What a call answers that writes a graph of any size as its result, whatever operation made the graph: 11 exactly where it is too
+-- large, else 8 exactly where the output is shorter than its record, else the record's length, with the record in the output.
+use mathlib.Core.Path.{_≡_, refl, sym, _∙_, ap}
+use mathlib.Core.Bool.{Bool, true, false, cond}
+use mathlib.Core.List.{List, _++_}
+use mathlib.Core.Logic.{inl, inr, ⊎-elim}
+use mathlib.Core.Option.{some}
+use Prim.Native.Nat.{ℕ, _≤_, _<_}
+use native.Mathlib.Omega.{arith}
+use borrow.Author.Tests.{leb-true, leb-false}
+use lib.Dec.{leb}
+use lib.ListN.{length, take, drop}
+use lib.Seq.{take-append-seam, drop-append-seam}
+use Rattle.graphs.specs.Graph.{Graph, Tells, Reached}
+use Rattle.graphs.specs.Rows.{Row}
+use Rattle.graphs.specs.Number.{Canonical, canonical, manyNodes, manyLinks, written}
+use Rattle.graphs.proofs.Form.Large.{canonical-many-nodes, canonical-many-links, canonical-fits}
+use Rattle.lattice.specs.Labels.{OfAnySize}
+use Rattle.encode.specs.declared.Written.the-variants as outcome
+use Rattle.encode.specs.Encode.{encoded, fitted, writtenOut}
+use Rattle.record.specs.Read.{reading}
+use Rattle.record.proofs.Rewritten.{written-injective}
+use Rattle.record.proofs.Theorems.{written-reads}
+use Rattle.engine.specs.declared.Reply.{Reply}
+use Rattle.engine.specs.declared.Reply.the-variants.{Length, NoRoom, TooLarge}
+use Rattle.engine.specs.Reply.{Result, refusing, resultOf}
+use Rattle.engine.specs.Demand.{Large, Wrote, Writes}
+
+-- a graph as a call's result
+abbrev pub resultFor : {C : Type 0} → (C → C → Bool) → Graph ℕ C → List ℕ → Result
+resultFor same k out = resultOf (writtenOut (canonical same k) out)
+
+-- a record and what follows it in the output
+abbrev holding : List ℕ → List ℕ → Result
+holding bytes out = record { reply = Length (length bytes); output = bytes ++ drop (length bytes) out }
+
+length-injective : {l m : ℕ} → _≡_ {A = Reply} (Length l) (Length m) → l ≡ m
+length-injective e = cc
+
+module _ {C : Type 0} (same : C → C → Bool) (k : Graph ℕ C) (out : List ℕ) where
+  -- the three results, each with its reason
+  data Told : Result → Type 0 where
+    large : Large k → Told (refusing TooLarge out)
+    short : (form : List (Row ℕ)) → canonical same k ≡ written form → length out < length (encoded form) → Told (refusing NoRoom out)
+    held : (form : List (Row ℕ)) → canonical same k ≡ written form → length (encoded form) ≤ length out → Told (holding (encoded form) out)
+
+module _ (n : ℕ) (t : List ℕ) {C : Type 0} (same : C → C → Bool) (tells : Tells same) (k : Graph ℕ C) (size : OfAnySize n t k) (out : List ℕ) where
+  told : Told same k out (resultFor same k out)
+  unfolding writtenOut fitted
+  told = go (canonical same k) refl
+    where
+      small : (v w : C) (f : ℕ) → Reached k v → k .link v f ≡ some w → f < 64
+      small = size .any-size .features
+
+      room : (form : List (Row ℕ)) → canonical same k ≡ written form → (b : Bool) → leb (length (encoded form)) (length out) ≡ b →
+          Told same k out
+          (resultOf
+          (cond b
+          (record { answer = outcome.Length (length (encoded form)); output = encoded form ++ drop (length (encoded form)) out })
+          (record { answer = outcome.NoRoom; output = out })))
+      room form e true h = held form e (leb-true (length (encoded form)) (length out) h)
+      room form e false h = short form e (leb-false (length (encoded form)) (length out) h)
+
+      go : (c : Canonical ℕ) → canonical same k ≡ c → Told same k out (resultOf (writtenOut c out))
+      go manyNodes e = large (inl (canonical-many-nodes same tells k small .0 e))
+      go manyLinks e = large (inr (canonical-many-links same tells k small .0 e .1))
+      go (written form) e = room form e (leb (length (encoded form)) (length out)) refl
+
+  -- a graph with a form is not too large
+  form-fits : (form : List (Row ℕ)) → canonical same k ≡ written form → Large k → ⊥
+  form-fits form e =
+      let (nodes, links) = canonical-fits same tells k (size .any-size .features) .1 (form, e) in
+      ⊎-elim nodes links
+
+  -- there is one form, hence one length
+  one-length : (form other : List (Row ℕ)) → canonical same k ≡ written form → canonical same k ≡ written other →
+      length (encoded form) ≡ length (encoded other)
+  one-length form other e d = ap (λ (f : List (Row ℕ)). length (encoded f)) (written-injective (sym e ∙ d))
+
+  wrote-form : (form : List (Row ℕ)) → canonical same k ≡ written form → (l : ℕ) → length (encoded form) ≡ l →
+      Wrote n t same k out l (holding (encoded form) out .output)
+  wrote-form form e l is =
+      let output : List ℕ = holding (encoded form) out .output in
+      let bytes : take l output ≡ encoded form =
+      ap (λ (m : ℕ). take m output) (sym is) ∙ take-append-seam (encoded form) (drop (length (encoded form)) out) in
+      let (reads, means) = written-reads n t same tells k size form e in
+      record {
+        form = form;
+        fits = e;
+        bytes = bytes;
+        others = ap (λ (m : ℕ). drop m output) (sym is) ∙ drop-append-seam (encoded form) (drop (length (encoded form)) out) ∙
+            ap (λ (m : ℕ). drop m out) is;
+        reads = ap (reading n) bytes ∙ reads;
+        means = means;
+      }
+
+  told-writes : (r : Result) → Told same k out r → Writes n t same k out r
+  told-writes r (large many) =
+      record {
+        replies = inl refl;
+        too-large = (λ _. many, λ _. refl);
+        no-room = (λ q. let z : _≡_ {A = ℕ} 0 1 = cc in absurd (omega arith), λ (few, _). absurd (few many));
+        fits = λ l. (λ q. let z : _≡_ {A = ℕ} 0 1 = cc in absurd (omega arith), λ (few, _). absurd (few many));
+        unchanged = λ _. refl;
+        wrote = λ l q. let z : _≡_ {A = ℕ} 0 1 = cc in absurd (omega arith);
+      }
+  told-writes r (short form e less) =
+      record {
+        replies = inr (inl refl);
+        too-large = (λ q. let z : _≡_ {A = ℕ} 0 1 = cc in absurd (omega arith), λ many. absurd (form-fits form e many));
+        no-room = (λ _. (form-fits form e, (form, e, less)), λ _. refl);
+        fits = λ l. (
+          λ q. let z : _≡_ {A = ℕ} 0 1 = cc in absurd (omega arith),
+          λ (_, (other, d, (is, fit))). absurd (omega (arith, one-length form other e d)),
+        );
+        unchanged = λ _. refl;
+        wrote = λ l q. let z : _≡_ {A = ℕ} 0 1 = cc in absurd (omega arith);
+      }
+  told-writes r (held form e fit) =
+      record {
+        replies = inr (inr (length (encoded form), refl));
+        too-large = (λ q. let z : _≡_ {A = ℕ} 0 1 = cc in absurd (omega arith), λ many. absurd (form-fits form e many));
+        no-room = (
+          λ q. let z : _≡_ {A = ℕ} 0 1 = cc in absurd (omega arith),
+          λ (_, (other, d, less)). absurd (omega (arith, one-length form other e d)),
+        );
+        fits = λ l. (
+          λ q. (form-fits form e, (form, e, (length-injective q, fit))),
+          λ (_, (other, d, (is, _))). ap Length (one-length form other e d ∙ is),
+        );
+        unchanged = λ q.
+            ⊎-elim
+            (λ q. let z : _≡_ {A = ℕ} 0 1 = cc in absurd (omega arith))
+            (λ q. let z : _≡_ {A = ℕ} 0 1 = cc in absurd (omega arith)) q;
+        wrote = λ l q. wrote-form form e l (length-injective q);
+      }
+
+  -- what is answered where a graph of any size is written
+  pub result-writes : Writes n t same k out (resultFor same k out)
+  result-writes = told-writes (resultFor same k out) told
