@@ -1,2 +1,4 @@
 -- What the public calls answer.
 pub mod Reply
+pub mod Unification
+pub mod Difference

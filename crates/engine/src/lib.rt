@@ -24,7 +24,11 @@ pub enum Reply {
     Table(TableFault),
     Graph(GraphFault, Side),
     NoRoom,
+    Cycle,
+    Clash,
     TooLarge,
+    NotBelow,
+    NotAdmitted,
 }
 
 // A record in written form.
