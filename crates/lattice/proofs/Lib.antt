@@ -10,4 +10,3 @@ pub mod Residuals
 pub mod Lawful
 pub mod Relabel
 pub mod Transfer
-pub mod Examples
