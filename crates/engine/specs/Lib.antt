@@ -2,3 +2,5 @@
 pub mod Reply
 pub mod Pair
 pub mod Demand
+pub mod Unification
+pub mod Difference

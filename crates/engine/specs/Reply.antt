@@ -21,7 +21,7 @@ use Rattle.generalize.specs.Pairs.{samePair}
 use Rattle.engine.specs.declared.Side.{Side}
 use Rattle.engine.specs.declared.Side.the-variants.{First, Second}
 use Rattle.engine.specs.declared.Reply.{Reply}
-use Rattle.engine.specs.declared.Reply.the-variants.{Length, Yes, No, Table, Graph, NoRoom, TooLarge}
+use Rattle.engine.specs.declared.Reply.the-variants.{Length, Yes, No, Table, Graph, NoRoom, Cycle, Clash, TooLarge, NotBelow, NotAdmitted}
 
 -- the number of a refusal
 abbrev pub refusal : Reply → Option ℕ
@@ -31,7 +31,11 @@ refusal No = none
 refusal (Table fault) = some (table.tableNumber fault)
 refusal (Graph fault side) = some (graph.graphNumber fault)
 refusal NoRoom = some 8
+refusal Cycle = some 9
+refusal Clash = some 10
 refusal TooLarge = some 11
+refusal NotBelow = some 12
+refusal NotAdmitted = some 13
 
 -- which graph a refusal tells of
 abbrev pub side : Reply → Option Side
@@ -41,7 +45,11 @@ side No = none
 side (Table fault) = none
 side (Graph fault which) = some which
 side NoRoom = none
+side Cycle = none
+side Clash = none
 side TooLarge = none
+side NotBelow = none
+side NotAdmitted = none
 
 -- a reply and the output beside it
 pub record Result : Type 0 where

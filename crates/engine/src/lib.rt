@@ -30,7 +30,11 @@ pub enum Reply {
     Table(TableFault),
     Graph(GraphFault, Side),
     NoRoom,
+    Cycle,
+    Clash,
     TooLarge,
+    NotBelow,
+    NotAdmitted,
 }
 
 // Whether two records are accepted, else the first refusal and which graph it tells of.

@@ -11,4 +11,3 @@ pub mod Search
 pub mod Unification
 pub mod Difference
 pub mod Theorems
-pub mod Examples

@@ -10,4 +10,3 @@ pub mod Generalize
 pub mod Order
 pub mod Unify
 pub mod Difference
-pub mod Small

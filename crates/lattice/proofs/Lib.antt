@@ -11,4 +11,3 @@ pub mod Lawful
 pub mod Relabel
 pub mod Transfer
 pub mod AnySize
-pub mod Examples

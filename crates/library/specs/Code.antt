@@ -6,7 +6,7 @@ use Rattle.record.specs.Read.{graphNumber}
 use Rattle.engine.specs.declared.Side.{Side}
 use Rattle.engine.specs.declared.Side.the-variants.{First, Second}
 use Rattle.engine.specs.declared.Reply.{Reply}
-use Rattle.engine.specs.declared.Reply.the-variants.{Length, Yes, No, Table, Graph, NoRoom, TooLarge}
+use Rattle.engine.specs.declared.Reply.the-variants.{Length, Yes, No, Table, Graph, NoRoom, Cycle, Clash, TooLarge, NotBelow, NotAdmitted}
 
 -- 0 stands for a refusal that tells of no graph
 abbrev pub sideNumber : Side → ℕ
@@ -23,4 +23,8 @@ codeOf No = 8589934592
 codeOf (Table fault) = refusalCode (tableNumber fault) 0
 codeOf (Graph fault which) = refusalCode (graphNumber fault) (sideNumber which)
 codeOf NoRoom = refusalCode 8 0
+codeOf Cycle = refusalCode 9 0
+codeOf Clash = refusalCode 10 0
 codeOf TooLarge = refusalCode 11 0
+codeOf NotBelow = refusalCode 12 0
+codeOf NotAdmitted = refusalCode 13 0

@@ -55,7 +55,11 @@ fn code(reply: Reply) -> u64
         Reply::Table(fault) => refusal(table_number(fault), 0),
         Reply::Graph(fault, side) => refusal(graph_number(fault), side_number(side)),
         Reply::NoRoom => refusal(8, 0),
+        Reply::Cycle => refusal(9, 0),
+        Reply::Clash => refusal(10, 0),
         Reply::TooLarge => refusal(11, 0),
+        Reply::NotBelow => refusal(12, 0),
+        Reply::NotAdmitted => refusal(13, 0),
     }
 }
 

@@ -48,6 +48,30 @@ enum-told-4 c = search needs
 refusal-requires-4 : tie.Need-refusal-requires-4
 refusal-requires-4 c κs = search needs
 
+enum-told-5 : tie.Need-enum-told-5
+enum-told-5 c = search needs
+
+refusal-requires-5 : tie.Need-refusal-requires-5
+refusal-requires-5 c κs = search needs
+
+enum-told-6 : tie.Need-enum-told-6
+enum-told-6 c = search needs
+
+refusal-requires-6 : tie.Need-refusal-requires-6
+refusal-requires-6 c κs = search needs
+
+enum-told-7 : tie.Need-enum-told-7
+enum-told-7 c = search needs
+
+refusal-requires-7 : tie.Need-refusal-requires-7
+refusal-requires-7 c κs = search needs
+
+enum-told-8 : tie.Need-enum-told-8
+enum-told-8 c = search needs
+
+refusal-requires-8 : tie.Need-refusal-requires-8
+refusal-requires-8 c κs = search needs
+
 returns : tie.Need-returns
 returns c = search needs
 
@@ -71,6 +95,18 @@ returns-6 c = search needs
 returns-7 : tie.Need-returns-7
 returns-7 c = search needs
 
+returns-8 : tie.Need-returns-8
+returns-8 c = search needs
+
+returns-9 : tie.Need-returns-9
+returns-9 c = search needs
+
+returns-10 : tie.Need-returns-10
+returns-10 c = search needs
+
+returns-11 : tie.Need-returns-11
+returns-11 c = search needs
+
 pub code-spec : {M : Type 1} → statement M
 code-spec =
     tie.close
@@ -89,10 +125,22 @@ code-spec =
     refusal-requires-3
     enum-told-4
     refusal-requires-4
+    enum-told-5
+    refusal-requires-5
+    enum-told-6
+    refusal-requires-6
+    enum-told-7
+    refusal-requires-7
+    enum-told-8
+    refusal-requires-8
     returns
     returns-2
     returns-3
     returns-4
     returns-5
     returns-6
-    returns-7)
+    returns-7
+    returns-8
+    returns-9
+    returns-10
+    returns-11)

@@ -1,0 +1,39 @@
+-- What the call for a combination replies and leaves in the output (document 01, "Combination").
+use mathlib.Core.Bool.{Bool}
+use mathlib.Core.List.{List}
+use mathlib.Core.Logic.{_⊎_}
+use Prim.Native.Nat.{ℕ}
+use lib.Dec.{eqb}
+use lib.ListN.{length}
+use Rattle.graphs.specs.Rows.{Row, from}
+use Rattle.graphs.specs.Number.{canonical}
+use Rattle.graphs.specs.Unify.{Unified, cycle, clash, unified, sameBeside, unification}
+use Rattle.lattice.specs.Reply.{opened}
+use Rattle.lattice.specs.Labels.{typeLabels}
+use Rattle.encode.specs.Encode.{writtenOut}
+use Rattle.record.specs.Read.{graphOfRows, reading}
+use Rattle.engine.specs.declared.Reply.the-variants.{Cycle, Clash}
+use Rattle.engine.specs.Reply.{Result, resultOf, refusing, checked, readBoth}
+
+-- whether two nodes of either graph are one
+abbrev pub sameEither : ℕ ⊎ ℕ → ℕ ⊎ ℕ → Bool
+sameEither = sameBeside eqb eqb
+
+-- a loop, a clash and no loop, or the record in written form
+abbrev pub combined : Unified ℕ (ℕ ⊎ ℕ) → List ℕ → Result
+combined cycle out = refusing Cycle out
+combined clash out = refusing Clash out
+combined (unified u) out = resultOf (writtenOut (canonical sameEither u) out)
+
+-- the combination of two graphs in written form
+unfoldable pub unifiedRows : ℕ → List ℕ → List ℕ → List (Row ℕ) → List (Row ℕ) → Result
+unifiedRows n t out g h =
+    combined
+    (unification (typeLabels n t) eqb eqb (graphOfRows g) (from 0 (length g)) (graphOfRows h) (from 0 (length h)))
+    out
+
+-- the combination: then 9, 10, 11, 8
+unfoldable pub unifying : ℕ → List ℕ → List ℕ → List ℕ → List ℕ → Result
+unifying n t a b out =
+    checked (λ r. refusing r out) (opened n t)
+    (readBoth (λ r. refusing r out) (reading n a) (reading n b) (unifiedRows n t out))

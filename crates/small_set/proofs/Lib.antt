@@ -1,0 +1,2 @@
+-- Proofs about the small set.
+pub mod SmallSet

@@ -1,0 +1,162 @@
+-- Document 01's small set ("Fittings to check", cases 1 to 12): one table of calls on bytes, each with what it replies and leaves in the
+-- output.
+use mathlib.Core.Path.{_≡_}
+use mathlib.Core.List.{List, [], _∷_, _++_}
+use mathlib.Core.Option.{Option, some}
+use Prim.Native.Nat.{ℕ}
+use lib.ListN.{length, drop, replicate}
+use Rattle.graphs.specs.Rows.{Row}
+use Rattle.record.specs.Read.{reading, accepted}
+use Rattle.engine.specs.declared.Reply.the-variants.{Length}
+use Rattle.engine.specs.Reply.{Result, refusal, generalizing}
+use Rattle.engine.specs.Unification.{unifying}
+use Rattle.engine.specs.Difference.{differing}
+
+-- a type table and its number of types
+pub record Types : Type 0 where
+  pub count : ℕ
+  pub table : List ℕ
+
+-- rows with these first bytes, and "the rest zero"
+abbrev pub rows : List ℕ → List ℕ
+rows [] = []
+rows (b ∷ bs) = (b ∷ replicate 7 0) ++ rows bs
+
+-- "The diamond used below: n = 4, first bytes of the rows 01 03 05 0F, the rest zero."
+abbrev pub diamond : Types
+diamond = record { count = 4; table = rows (0x01 ∷ 0x03 ∷ 0x05 ∷ 0x0F ∷ []) }
+
+-- "Types 1 and 2 are called a and b; 3 is top."
+abbrev pub a : ℕ
+a = 1
+
+abbrev pub b : ℕ
+b = 2
+
+abbrev pub top : ℕ
+top = 3
+
+-- "Three middle types between least and top, mutually unordered": 1, 2 and 3 between 0 and 4
+abbrev pub threeMiddles : Types
+threeMiddles = record { count = 5; table = rows (0x01 ∷ 0x03 ∷ 0x05 ∷ 0x09 ∷ 0x1F ∷ []) }
+
+-- of case 13, which is not in the small set: "Types 1, 2 both under 3 and 4, which are unordered, and 5 top"
+abbrev pub twoOverTwo : Types
+twoOverTwo = record { count = 6; table = rows (0x01 ∷ 0x03 ∷ 0x05 ∷ 0x0F ∷ 0x17 ∷ 0x3F ∷ []) }
+
+-- a node in a record: its type, the features 0 to 7 that stand, and the nodes they lead to
+abbrev pub node : ℕ → ℕ → List ℕ → List ℕ
+node type standing targets = type ∷ standing ∷ replicate 7 0 ++ targets
+
+-- a node without links
+abbrev pub leaf : ℕ → List ℕ
+leaf type = node type 0x00 []
+
+-- a graph of one node
+abbrev pub lone : ℕ → List ℕ
+lone type = 1 ∷ leaf type
+
+-- "P = top[0: X top, 1: X]"
+abbrev pub P : List ℕ
+P = 2 ∷ node top 0x03 (1 ∷ 1 ∷ []) ++ leaf top
+
+-- "Q = top[0: top, 1: top]"
+abbrev pub Q : List ℕ
+Q = 3 ∷ node top 0x03 (1 ∷ 2 ∷ []) ++ leaf top ++ leaf top
+
+-- "R = top[0: X a, 1: X]"
+abbrev pub R : List ℕ
+R = 2 ∷ node top 0x03 (1 ∷ 1 ∷ []) ++ leaf a
+
+-- a call on two records that lends an output
+abbrev pub Call : Type 0
+Call = ℕ → List ℕ → List ℕ → List ℕ → List ℕ → Result
+
+-- what a call gives: a record, or a refusal by its number
+pub data Answer : Type 0 where
+  gives : List ℕ → Answer
+  refuses : ℕ → Answer
+
+-- "its first bytes are the record, the others unchanged"; on a refusal, "unchanged"
+abbrev pub Answers : List ℕ → Answer → Result → Type 0
+Answers out (gives bytes) r = r ≡ record { reply = Length (length bytes); output = bytes ++ drop (length bytes) out }
+Answers out (refuses number) r = _≡_ {A = Option ℕ × List ℕ} (refusal (r .reply), r .output) (some number, out)
+
+-- a call, what is handed to it, and what it gives
+pub record Case : Type 0 where
+  pub call : Call
+  pub types : Types
+  pub first : List ℕ
+  pub second : List ℕ
+  pub answer : Answer
+
+-- the output lent to each case
+abbrev pub lent : List ℕ
+lent = replicate 40 0xEE
+
+abbrev pub Holds : Case → Type 0
+Holds c = Answers lent (c .answer) (c .call (c .types .count) (c .types .table) (c .first) (c .second) lent)
+
+-- each case of a list holds
+infixr 1 _and_
+pub data AllHold : List Case → Type 0 where
+  none-left : AllHold []
+  _and_ : {c : Case} {cs : List Case} → Holds c → AllHold cs → AllHold (c ∷ cs)
+
+-- a case over the diamond; "the difference takes g first, s second"
+abbrev pub overDiamond : Call → List ℕ → List ℕ → Answer → Case
+overDiamond call first second answer =
+    record { call = call; types = diamond; first = first; second = second; answer = answer }
+
+-- a case over three middle types, on two of them
+abbrev pub overThreeMiddles : Call → Answer → Case
+overThreeMiddles call answer =
+    record { call = call; types = threeMiddles; first = lone 1; second = lone 2; answer = answer }
+
+-- "Cases 1 to 12 are the small set."
+abbrev pub cases : List Case
+cases =
+    -- 1. Common part of a[0: b] and b: a lone top, 01 03 and eight 00.
+    overDiamond generalizing (2 ∷ node a 0x01 (1 ∷ []) ++ leaf b) (lone b) (gives (0x01 ∷ 0x03 ∷ replicate 8 0x00))
+    -- 2. Combine a with b: 10.
+    ∷ overDiamond unifying (lone a) (lone b) (refuses 10)
+    -- 3. Combine P with top[0: a, 1: top]: R.
+    ∷ overDiamond unifying P (3 ∷ node top 0x03 (1 ∷ 2 ∷ []) ++ leaf a ++ leaf top) (gives R)
+    -- 4. Combine P with top[0: a, 1: b]: 10.
+    ∷ overDiamond unifying P (3 ∷ node top 0x03 (1 ∷ 2 ∷ []) ++ leaf a ++ leaf b) (refuses 10)
+    -- 5. Combine P with top[0: Z a, 1: b[0: Z]]: 9, though a and b clash too.
+    ∷ overDiamond unifying P (3 ∷ node top 0x03 (1 ∷ 2 ∷ []) ++ leaf a ++ node b 0x01 (1 ∷ [])) (refuses 9)
+    -- 6. Common part of P and Q: Q.
+    ∷ overDiamond generalizing P Q (gives Q)
+    -- 7. Difference of g = P, s = R: top[0: a].
+    ∷ overDiamond differing P R (gives (2 ∷ node top 0x01 (1 ∷ []) ++ leaf a))
+    -- 8. Difference of g = Q, s = R: R.
+    ∷ overDiamond differing Q R (gives R)
+    -- 9. Difference of a graph from itself: a lone top.
+    ∷ overDiamond differing R R (gives (lone top))
+    ∷ overDiamond differing P P (gives (lone top))
+    -- 10. Difference of g = P, s = Q: 12.
+    ∷ overDiamond differing P Q (refuses 12)
+    -- 11. s = top[0: X top, 1: X, 2: X]; g the same with 0 and 1 shared, 2 apart, all top: top[0: X top, 2: X].
+    ∷ overDiamond differing
+    (3 ∷ node top 0x07 (1 ∷ 1 ∷ 2 ∷ []) ++ leaf top ++ leaf top)
+    (2 ∷ node top 0x07 (1 ∷ 1 ∷ 1 ∷ []) ++ leaf top)
+    (gives (2 ∷ node top 0x05 (1 ∷ 1 ∷ []) ++ leaf top))
+    -- 12. Three middle types between least and top, mutually unordered: accepted (a common part is given), and every difference
+    -- gives 13.
+    ∷ overThreeMiddles generalizing (gives (lone 4))
+    ∷ overThreeMiddles differing (refuses 13)
+    ∷ []
+
+-- every difference of two graphs accepted over a table gives 13, whatever output is lent
+abbrev pub NoDifference : Types → Type 0
+NoDifference types =
+    (first second out : List ℕ) (g s : List (Row ℕ)) →
+    reading (types .count) first ≡ accepted g →
+    reading (types .count) second ≡ accepted s →
+    Answers out (refuses 13) (differing (types .count) (types .table) first second out)
+
+-- The small set: every case of the table holds, and of case 12 "every difference gives 13" for all graphs.
+pub record SmallSet : Type 0 where
+  pub all-hold : AllHold cases
+  pub no-difference : NoDifference threeMiddles

@@ -1,0 +1,2 @@
+-- The cases of the small set.
+pub mod Cases
