@@ -10,7 +10,7 @@ const BARE: u8 = u8::MAX;
 const NONE: u16 = u16::MAX;
 
 /// Links of s are known by their places, which go by parent and feature.
-pub fn difference(table: &Table, g: &Graph, s: &Graph, map: &[u8; 255]) -> Graph {
+pub fn difference(table: &Table, g: &Graph, s: &Graph, map: &[u8; 255], rest: &mut Graph) {
     let top = (table.n - 1) as u8;
     // For each link of s a node of g that a link over it enters, and classes of such nodes.
     let mut owner = [BARE; 2048];
@@ -62,7 +62,6 @@ pub fn difference(table: &Table, g: &Graph, s: &Graph, map: &[u8; 255]) -> Graph
         kept[node] = node == 0 || leaders[node] >= 2 || has_bare[node] || wanted[node] != top;
     }
     keep_above(s, &leads, &mut kept);
-    let mut rest = Graph::empty();
     rest.nodes = s.nodes;
     rest.types = wanted;
     let mut count = 0;
@@ -76,7 +75,6 @@ pub fn difference(table: &Table, g: &Graph, s: &Graph, map: &[u8; 255]) -> Graph
         }
         rest.first[node + 1] = count as u16;
     }
-    rest
 }
 
 /// Keeps every node from which a leading link leaves to a kept one.

@@ -4,12 +4,11 @@ use crate::Refusal;
 use crate::graph::Graph;
 use crate::table::Table;
 
-/// The common part, or 11.
-pub fn generalize(table: &Table, a: &Graph, b: &Graph) -> Result<Graph, Refusal> {
+/// Makes the common part, or gives 11.
+pub fn generalize(table: &Table, a: &Graph, b: &Graph, common: &mut Graph) -> Result<(), Refusal> {
     const CLEAR: u16 = u16::MAX;
     let mut marks = [CLEAR; 65025];
     let mut queue = [(0u8, 0u8); 255];
-    let mut common = Graph::empty();
     marks[0] = 0;
     let (mut next, mut end, mut links) = (0, 1, 0);
     while next < end {
@@ -50,5 +49,5 @@ pub fn generalize(table: &Table, a: &Graph, b: &Graph) -> Result<Graph, Refusal>
         common.first[next] = links as u16;
     }
     common.nodes = end;
-    Ok(common)
+    Ok(())
 }

@@ -30,44 +30,42 @@ impl Graph {
         usize::from(self.first[self.nodes])
     }
 
-    /// The record's graph over n types, or 4 to 7.
-    pub fn read(n: usize, record: &[u8]) -> Result<Graph, u8> {
-        let graph = Graph::parse(record).ok_or(4)?;
-        let types = &graph.types[..graph.nodes];
-        let targets = &graph.targets[..graph.links()];
+    /// Takes in a record's graph over n types, or gives 4 to 7.
+    pub fn read(&mut self, n: usize, record: &[u8]) -> Result<(), u8> {
+        self.parse(record).ok_or(4)?;
+        let types = &self.types[..self.nodes];
+        let targets = &self.targets[..self.links()];
         let is_in_range = types.iter().all(|&t| t != 0 && usize::from(t) < n)
-            && targets.iter().all(|&w| usize::from(w) < graph.nodes);
+            && targets.iter().all(|&w| usize::from(w) < self.nodes);
         if !is_in_range {
             return Err(5);
         }
-        graph.sources_first()?;
-        Ok(graph)
+        self.sources_first()
     }
 
-    fn parse(record: &[u8]) -> Option<Graph> {
+    fn parse(&mut self, record: &[u8]) -> Option<()> {
         let (&nodes, mut rest) = record.split_first()?;
-        let mut graph = Graph::empty();
-        graph.nodes = usize::from(nodes);
+        self.nodes = usize::from(nodes);
         let mut links = 0;
-        for node in 0..graph.nodes {
+        for node in 0..self.nodes {
             let (header, after) = rest.split_first_chunk::<9>()?;
-            graph.types[node] = header[0];
+            self.types[node] = header[0];
             let mut map = u64::from_le_bytes(header[1..].try_into().expect("8 bytes"));
             let count = map.count_ones() as usize;
             if links + count > 2048 || after.len() < count {
                 return None;
             }
             let (targets, after) = after.split_at(count);
-            graph.targets[links..links + count].copy_from_slice(targets);
-            for feature in &mut graph.features[links..links + count] {
+            self.targets[links..links + count].copy_from_slice(targets);
+            for feature in &mut self.features[links..links + count] {
                 *feature = map.trailing_zeros() as u8;
                 map &= map - 1;
             }
             links += count;
-            graph.first[node + 1] = links as u16;
+            self.first[node + 1] = links as u16;
             rest = after;
         }
-        (nodes > 0 && rest.is_empty()).then_some(graph)
+        (nodes > 0 && rest.is_empty()).then_some(())
     }
 
     /// Takes nodes away whose incoming links are all taken: 6 if some stay, 7 if

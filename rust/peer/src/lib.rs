@@ -38,16 +38,18 @@ impl Refusal {
 
 /// A record in written form.
 pub fn rewrite(n: usize, table: &[u8], record: &[u8], output: &mut [u8]) -> Result<usize, Refusal> {
-    Table::open(n, table)?;
-    let graph = Graph::read(n, record).map_err(Refusal::of)?;
+    Table::empty().open(n, table)?;
+    let mut graph = Graph::empty();
+    graph.read(n, record).map_err(Refusal::of)?;
     write::write(&graph, output)
 }
 
 /// Whether the first is below the second.
 pub fn is_below(n: usize, table: &[u8], first: &[u8], second: &[u8]) -> Result<bool, Refusal> {
-    let table = Table::open(n, table)?;
-    let (first, second) = read_both(n, first, second)?;
-    Ok(order::node_map(&table, &first, &second).is_some())
+    let (mut types, mut a, mut b) = (Table::empty(), Graph::empty(), Graph::empty());
+    types.open(n, table)?;
+    read_both(n, [first, second], [&mut a, &mut b])?;
+    Ok(order::node_map(&types, &a, &b).is_some())
 }
 
 /// The common part.
@@ -58,9 +60,11 @@ pub fn generalize(
     second: &[u8],
     output: &mut [u8],
 ) -> Result<usize, Refusal> {
-    let table = Table::open(n, table)?;
-    let (first, second) = read_both(n, first, second)?;
-    let common = generalize::generalize(&table, &first, &second)?;
+    let (mut types, mut a, mut b) = (Table::empty(), Graph::empty(), Graph::empty());
+    types.open(n, table)?;
+    read_both(n, [first, second], [&mut a, &mut b])?;
+    let mut common = Graph::empty();
+    generalize::generalize(&types, &a, &b, &mut common)?;
     write::write(&common, output)
 }
 
@@ -72,9 +76,10 @@ pub fn unify(
     second: &[u8],
     output: &mut [u8],
 ) -> Result<usize, Refusal> {
-    let table = Table::open(n, table)?;
-    let (first, second) = read_both(n, first, second)?;
-    unify::unify(&table, &first, &second, output)
+    let (mut types, mut a, mut b) = (Table::empty(), Graph::empty(), Graph::empty());
+    types.open(n, table)?;
+    read_both(n, [first, second], [&mut a, &mut b])?;
+    unify::unify(&types, &a, &b, output)
 }
 
 /// The difference of g, the first, and s, the second.
@@ -85,23 +90,26 @@ pub fn difference(
     s: &[u8],
     output: &mut [u8],
 ) -> Result<usize, Refusal> {
-    let table = Table::open(n, table)?;
-    let (g, s) = read_both(n, g, s)?;
-    if !table.admits_differences() {
+    let (mut types, mut general, mut specific) = (Table::empty(), Graph::empty(), Graph::empty());
+    types.open(n, table)?;
+    read_both(n, [g, s], [&mut general, &mut specific])?;
+    if !types.admits_differences() {
         return Err(Refusal::of(13));
     }
-    let s = write::renumbered(&s);
-    let Some(map) = order::node_map(&table, &s, &g) else {
+    let mut written = Graph::empty();
+    write::renumber(&specific, &mut written);
+    let Some(map) = order::node_map(&types, &written, &general) else {
         return Err(Refusal::of(12));
     };
-    write::write(&difference::difference(&table, &g, &s, &map), output)
+    let mut rest = Graph::empty();
+    difference::difference(&types, &general, &written, &map, &mut rest);
+    write::write(&rest, output)
 }
 
-fn read_both(n: usize, first: &[u8], second: &[u8]) -> Result<(Graph, Graph), Refusal> {
-    let first = Graph::read(n, first).map_err(Refusal::of)?;
-    let second = Graph::read(n, second).map_err(|number| Refusal {
-        number,
-        second: true,
-    })?;
-    Ok((first, second))
+fn read_both(n: usize, records: [&[u8]; 2], graphs: [&mut Graph; 2]) -> Result<(), Refusal> {
+    for ((record, graph), second) in records.into_iter().zip(graphs).zip([false, true]) {
+        let read = graph.read(n, record);
+        read.map_err(|number| Refusal { number, second })?;
+    }
+    Ok(())
 }

@@ -12,24 +12,27 @@ pub struct Table {
 }
 
 impl Table {
-    /// The table, or 1, 2 or 3.
-    pub fn open(n: usize, bytes: &[u8]) -> Result<Table, Refusal> {
+    pub fn empty() -> Table {
+        Table {
+            n: 0,
+            down: [0; 64],
+            meets: [[0; 64]; 64],
+            joins: [[0; 64]; 64],
+        }
+    }
+
+    /// Takes in the table, or gives 1, 2 or 3.
+    pub fn open(&mut self, n: usize, bytes: &[u8]) -> Result<(), Refusal> {
         if !(2..=64).contains(&n) || bytes.len() != 8 * n {
             return Err(Refusal::of(1));
         }
-        let mut down = [0; 64];
-        for (word, row) in down.iter_mut().zip(bytes.chunks_exact(8)) {
+        self.n = n;
+        for (word, row) in self.down.iter_mut().zip(bytes.chunks_exact(8)) {
             *word = u64::from_le_bytes(row.try_into().expect("8 bytes"));
         }
-        let up = upper(n, &down).ok_or(Refusal::of(2))?;
-        let mut table = Table {
-            n,
-            down,
-            meets: [[0; 64]; 64],
-            joins: [[0; 64]; 64],
-        };
-        let bounded = fill(n, &down, &mut table.meets) && fill(n, &up, &mut table.joins);
-        bounded.then_some(table).ok_or(Refusal::of(3))
+        let up = upper(n, &self.down).ok_or(Refusal::of(2))?;
+        let bounded = fill(n, &self.down, &mut self.meets) && fill(n, &up, &mut self.joins);
+        if bounded { Ok(()) } else { Err(Refusal::of(3)) }
     }
 
     pub fn is_below(&self, lower: u8, upper: u8) -> bool {

@@ -74,10 +74,9 @@ pub fn write(graph: &Graph, output: &mut [u8]) -> Result<usize, Refusal> {
     Ok(length)
 }
 
-/// The same graph by its written numbers.
-pub fn renumbered(graph: &Graph) -> Graph {
+/// Makes the same graph by its written numbers.
+pub fn renumber(graph: &Graph, written: &mut Graph) {
     let numbering = number(graph);
-    let mut written = Graph::empty();
     written.nodes = numbering.count;
     let mut links = 0;
     for (new, &old) in numbering.order[..numbering.count].iter().enumerate() {
@@ -90,5 +89,4 @@ pub fn renumbered(graph: &Graph) -> Graph {
         }
         written.first[new + 1] = links as u16;
     }
-    written
 }

@@ -1,0 +1,79 @@
+//! The calls that are measured, by each of three workers.
+
+use crate::inputs::Input;
+use record_engine::LONGEST_RECORD;
+use reference::calls;
+use reference::reply::Reply;
+
+/// Who does the work.
+#[derive(Clone, Copy, PartialEq, Eq)]
+pub enum Worker {
+    Engine,
+    Peer,
+    Reference,
+}
+
+impl Worker {
+    pub const ALL: [Worker; 3] = [Worker::Engine, Worker::Peer, Worker::Reference];
+}
+
+/// Work on an input; gives the length of what it wrote, and 1 for a yes.
+pub type Work = fn(&Input, &mut [u8]) -> Option<usize>;
+
+/// One call by each of the three.
+pub struct Call {
+    pub name: &'static str,
+    engine: Work,
+    peer: Work,
+    reference: Work,
+}
+
+impl Call {
+    pub fn work(&self, worker: Worker) -> Work {
+        match worker {
+            Worker::Engine => self.engine,
+            Worker::Peer => self.peer,
+            Worker::Reference => self.reference,
+        }
+    }
+
+    pub fn answer(&self, worker: Worker, input: &Input) -> Option<usize> {
+        self.work(worker)(input, &mut [0; LONGEST_RECORD])
+    }
+}
+
+pub const CALLS: [Call; 3] = [
+    Call {
+        name: "rewrite",
+        engine: |x, out| record_engine::rewrite(x.n, &x.table, &x.specific, out).ok(),
+        peer: |x, out| peer::rewrite(x.n, &x.table, &x.specific, out).ok(),
+        reference: |x, out| length(calls::rewrite(x.n, &x.table, &x.specific, out)),
+    },
+    Call {
+        name: "order",
+        engine: |x, _| {
+            let answer = record_engine::is_below(x.n, &x.table, &x.specific, &x.general);
+            answer.ok().map(usize::from)
+        },
+        peer: |x, _| {
+            let answer = peer::is_below(x.n, &x.table, &x.specific, &x.general);
+            answer.ok().map(usize::from)
+        },
+        reference: |x, _| length(calls::order(x.n, &x.table, &x.specific, &x.general)),
+    },
+    Call {
+        name: "common part",
+        engine: |x, out| record_engine::generalize(x.n, &x.table, &x.general, &x.other, out).ok(),
+        peer: |x, out| peer::generalize(x.n, &x.table, &x.general, &x.other, out).ok(),
+        reference: |x, out| length(calls::common_part(x.n, &x.table, &x.general, &x.other, out)),
+    },
+];
+
+fn length(reply: Reply) -> Option<usize> {
+    match reply {
+        Reply::Length(length) => Some(length),
+        Reply::Yes => Some(1),
+        Reply::No => Some(0),
+        Reply::Refused(_) => None,
+    }
+}
