@@ -10,7 +10,7 @@ use native.Mathlib.Numerals.{add-one}
 use native.Mathlib.Omega.{arith}
 use borrow.Author.Tests.{eq-eqb, ne-eqb}
 use lib.Dec.{eqb, leb}
-use lib.ListN.{length, getD, set, take, drop, length-append, length-drop, length-set, drop-of-length-le}
+use lib.ListN.{length, getD, set, take, drop, length-append, length-drop, length-set}
 use lib.Seq.{slice, sets, sets-eq, length-sets, length-take-le, take-set-le, take-at, drop-at, getD-take, getD-drop, getD-set-same, getD-set-other}
 use Rattle.graphs.specs.Graph.{onward, andThen}
 use Rattle.graphs.specs.Rows.{Row, from}
@@ -21,6 +21,7 @@ use Rattle.decode.specs.Decode.{Taken, changed, takeTarget, takeLinks, t
 use Rattle.decode.specs.Parse.{Stored}
 use Rattle.decode.specs.Promise.{Parses}
 use Rattle.decode.proofs.Parsing.{after, after-none, after-more, length-map, untaken}
+use Rattle.decode.proofs.Steps.{ByteTaken}
 
 -- ---- stores from a place on
 
@@ -126,17 +127,6 @@ row-rising room rest t e = go (leb 9 (length rest)) e
     go true q = row-of-links (getD rest 0 0) (takeLinks (bitOf (drop 1 rest)) (from 0 64) room (drop 9 rest))
         (links-rising (bitOf (drop 1 rest)) 64 0 room (drop 9 rest)) t q
     go false q = none-some q
-
--- there was a byte for its type
-row-started : (room : ℕ) (bytes : List ℕ) (at : ℕ) (t : Taken (Row ℕ)) → takeRow room (drop at bytes) ≡ some t → at < length bytes
-unfolding takeRow
-row-started room bytes at t e = go (decLt at (length bytes))
-  where
-    go : Dec (at < length bytes) → at < length bytes
-    go (yes l) = l
-    go (no n) =
-        let past : length bytes ≤ at = omega arith in
-        none-some (sym (ap (takeRow room) (drop-of-length-le bytes past)) ∙ e)
 
 -- ---- rows in arrays
 
@@ -298,6 +288,12 @@ module _ {types first features targets : List ℕ} {links v : ℕ} (s : Filled t
 
 -- ---- the rows of a record
 
+-- the node count was taken
+pub record Counted (bytes : List ℕ) (nodes start : ℕ) : Type 0 where
+  pub taken : ByteTaken bytes 0 nodes start
+  pub some-nodes : nodes ≡ 0 → ⊥
+  pub small : nodes ≤ 255
+
 -- `read` is the rows in the arrays and those still to be read.
 pub record Filling (bytes : List ℕ) (nodes : ℕ) (types first features targets : List ℕ) (at links v : ℕ) : Type 0 where
   pub todo : ℕ
@@ -308,15 +304,16 @@ pub record Filling (bytes : List ℕ) (nodes : ℕ) (types first features target
   pub room : links ≤ 2048
   pub filled : Filled types first features targets links v
 
-pub fill-begin : (bytes : List ℕ) (nodes : ℕ) (types first features targets : List ℕ) → (length bytes ≡ 0 → ⊥) →
+pub fill-begin : (bytes : List ℕ) (nodes at : ℕ) (types first features targets : List ℕ) → Counted bytes nodes at →
     length types ≡ 255 → length first ≡ 256 → length features ≡ 2048 → length targets ≡ 2048 → getD first 0 0 ≡ 0 →
-    Filling bytes nodes types first features targets 1 0 0
+    Filling bytes nodes types first features targets at 0 0
 unfolding rowsFrom
-fill-begin bytes nodes types first features targets full types-long first-long features-long targets-long start = record {
+fill-begin bytes nodes at types first features targets n types-long first-long features-long targets-long start = record {
   todo = nodes;
   up-to = omega arith;
-  read-is = after-none (takeRows nodes 2048 (drop 1 bytes));
-  inside = omega arith;
+  read-is =
+      after-none (takeRows nodes 2048 (drop 1 bytes)) ∙ ap (λ (k : ℕ). after [] (takeRows nodes 2048 (drop k bytes))) (sym (n .taken .next-is));
+  inside = omega (arith, n .taken .inside, n .taken .next-is);
   room = omega arith;
   filled = record {
     types-long = types-long;
@@ -345,7 +342,7 @@ rows-one (suc k) room rest h =
 
 -- ---- whole records
 
-pub decoded-empty : (bytes : List ℕ) → length bytes ≡ 0 → decoded bytes ≡ none
+pub decoded-empty : (bytes : List ℕ) → length bytes ≤ 0 → decoded bytes ≡ none
 unfolding decoded
 decoded-empty [] e = refl
 decoded-empty (b ∷ bytes) e = absurd (omega arith)
@@ -355,13 +352,13 @@ unfolding decoded
 decoded-zero [] e = refl
 decoded-zero (n ∷ rest) e = ap (λ (b : Bool). cond b none (whole (takeRows n 2048 rest))) (eq-eqb n 0 e)
 
-decoded-rows : (bytes : List ℕ) (nodes : ℕ) → (length bytes ≡ 0 → ⊥) → nodes ≡ getD bytes 0 0 → (nodes ≡ 0 → ⊥) →
+decoded-rows : (bytes : List ℕ) (nodes : ℕ) {start : ℕ} → Counted bytes nodes start →
     decoded bytes ≡ whole (takeRows nodes 2048 (drop 1 bytes))
 unfolding decoded
-decoded-rows [] nodes full counted some-nodes = absurd (full refl)
-decoded-rows (n ∷ rest) nodes full counted some-nodes =
-    untaken (eqb n 0) none (whole (takeRows n 2048 rest)) (ne-eqb n 0 (λ q. some-nodes (counted ∙ q)))
-    ∙ ap (λ (k : ℕ). whole (takeRows k 2048 rest)) (sym counted)
+decoded-rows [] nodes n = absurd (omega (arith, n .taken .inside))
+decoded-rows (b ∷ rest) nodes n =
+    untaken (eqb b 0) none (whole (takeRows b 2048 rest)) (ne-eqb b 0 (λ q. n .some-nodes (n .taken .byte-is ∙ q)))
+    ∙ ap (λ (k : ℕ). whole (takeRows k 2048 rest)) (sym (n .taken .byte-is))
 
 pub parse-none : (bytes : List ℕ) (ok : Bool) (g : declared.Graph) → ok ≡ false → decoded bytes ≡ none → Parses bytes ok g
 parse-none bytes ok g no-record e = record { none-stands = λ q. no-record; some-stands = λ rows q. none-some (sym e ∙ q) }
@@ -377,13 +374,7 @@ module _ {bytes : List ℕ} {nodes : ℕ} {types first features targets : List �
       ∙ ap (λ (o : Option (Taken (Row ℕ))). andThen o λ r. onward (changed λ rs. r .value ∷ rs)
       (takeRows (s .todo - 1) (r .room) (r .rest))) e)
 
-  pub fill-started : {next count : ℕ} {features′ targets′ : List ℕ} →
-      Stored (λ ls. (getD bytes at 0, ls)) (takeRow (2048 - links)
-      (drop at bytes)) bytes links next count features targets features′ targets′ →
-      at < length bytes
-  fill-started t = row-started (2048 - links) bytes at _ (t .read-is)
-
-  pub fill-step : (next count : ℕ) (features′ targets′ : List ℕ) → v < nodes → nodes ≤ 255 →
+  fill-step : (next count : ℕ) (features′ targets′ : List ℕ) → v < nodes → nodes ≤ 255 →
       Stored (λ ls. (getD bytes at 0, ls)) (takeRow (2048 - links)
       (drop at bytes)) bytes links next count features targets features′ targets′ →
       Filling bytes nodes (set types v (getD bytes at 0)) (set first (v + 1) count) features′ targets′ next count (v + 1)
@@ -463,39 +454,50 @@ module _ {bytes : List ℕ} {nodes : ℕ} {types first features targets : List �
         ascending = λ u k h a b. s .filled .ascending u k (omega arith) a b;
       }
 
-  pub parse-all : v ≡ nodes → (nodes ≡ 0 → ⊥) → nodes ≤ 255 → (length bytes ≡ 0 → ⊥) → nodes ≡ getD bytes 0 0 → at ≡ length bytes →
+  -- the same, where the reader took the type
+  pub fill-next : {start b behind : ℕ} (next count : ℕ) (features′ targets′ : List ℕ) → Counted bytes nodes start → v < nodes →
+      ByteTaken bytes at b behind →
+      Stored (λ ls. (getD bytes at 0, ls)) (takeRow (2048 - links)
+      (drop at bytes)) bytes links next count features targets features′ targets′ →
+      Filling bytes nodes (set types v b) (set first (v + 1) count) features′ targets′ next count (v + 1)
+  fill-next next count features′ targets′ n h taken t =
+      subst (λ (b : ℕ). Filling bytes nodes (set types v b) (set first (v + 1) count) features′ targets′ next count (v + 1))
+      (sym (taken .byte-is)) (fill-step next count features′ targets′ h (n .small) t)
+
+  pub parse-all : {start : ℕ} → Counted bytes nodes start → nodes ≤ v → length bytes - at ≡ 0 →
       Parses bytes true (record { nodes = nodes; types = types; first = first; features = features; targets = targets })
-  parse-all e some-nodes small full counted over = record {
+  parse-all n h over = record {
     none-stands = λ q. none-some (sym q ∙ read);
     some-stands = λ rows q. (
       refl,
       record {
         rows-are = some-injective
             (sym read ∙ q);
-        shaped = shaped-all e some-nodes small;
-        small = small;
+        shaped = shaped-all full (n .some-nodes) (n .small);
+        small = n .small;
       },
     );
   }
     where
+      full : v ≡ nodes
+      full = omega (arith, s .up-to)
+
       read : decoded bytes ≡ some (rowsOf nodes types first features targets)
       read =
-          decoded-rows bytes nodes full counted some-nodes
-          ∙ ap whole (rows-all e)
+          decoded-rows bytes nodes n
+          ∙ ap whole (rows-all full)
           ∙ ap (λ (b : Bool). cond b (some (rowsOf nodes types first features targets)) none)
           (eq-eqb (length (drop at bytes)) 0 (omega (arith, length-drop at bytes)))
 
   -- a row is missing
-  pub decoded-stop : (nodes ≡ 0 → ⊥) → (length bytes ≡ 0 → ⊥) → nodes ≡ getD bytes 0 0 → v < nodes → takeRow (2048 - links)
-      (drop at bytes) ≡ none →
+  pub decoded-stop : {start : ℕ} → Counted bytes nodes start → v < nodes → takeRow (2048 - links) (drop at bytes) ≡ none →
       decoded bytes ≡ none
-  decoded-stop some-nodes full counted h e = decoded-rows bytes nodes full counted some-nodes ∙ ap whole (fill-stop h e)
+  decoded-stop n h e = decoded-rows bytes nodes n ∙ ap whole (fill-stop h e)
 
   -- bytes are left over
-  pub decoded-over : v ≡ nodes → (nodes ≡ 0 → ⊥) → (length bytes ≡ 0 → ⊥) → nodes ≡ getD bytes 0 0 → (at ≡ length bytes → ⊥) →
-      decoded bytes ≡ none
-  decoded-over e some-nodes full counted over =
-      decoded-rows bytes nodes full counted some-nodes
-      ∙ ap whole (rows-all e)
+  pub decoded-over : {start : ℕ} → Counted bytes nodes start → nodes ≤ v → (length bytes - at ≡ 0 → ⊥) → decoded bytes ≡ none
+  decoded-over n h over =
+      decoded-rows bytes nodes n
+      ∙ ap whole (rows-all (omega (arith, s .up-to)))
       ∙ untaken (eqb (length (drop at bytes)) 0) (some (rowsOf nodes types first features targets)) none
-      (ne-eqb (length (drop at bytes)) 0 (λ q. over (omega (arith, length-drop at bytes, s .inside))))
+      (ne-eqb (length (drop at bytes)) 0 (λ q. over (omega (arith, length-drop at bytes))))

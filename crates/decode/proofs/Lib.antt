@@ -1,3 +1,5 @@
 -- Laws of decoding.
 pub mod Parsing
 pub mod Filling
+pub mod Steps
+pub mod Thin

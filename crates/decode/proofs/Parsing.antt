@@ -22,6 +22,7 @@ use Rattle.decode.specs.declared.parse.RowEnd.{RowEnd}
 use Rattle.decode.specs.declared.parse.RowEnd.the-variants.{At, Short}
 use Rattle.decode.specs.Decode.{Taken, changed, takeTarget, takeLinks, takeRow, bitOf}
 use Rattle.decode.specs.Parse.{wordOf, takeWord, Stored, Took}
+use Rattle.decode.proofs.Steps.{ByteTaken, MapTaken}
 
 -- a test has one answer
 pub never : {A : Type 0} → false ≡ true → A
@@ -292,7 +293,7 @@ module _ {read : Option (Taken (List (ℕ × ℕ)))} {bytes : List ℕ} {count :
   link-short n h =
       read-next n ∙ ap (after (s .taken)) (no-bytes _ _ (2048 - links) (drop at bytes) (drop-of-length-le bytes h))
 
-  pub link-step : (left ≡ 0 → ⊥) → links < 2048 → at < length bytes →
+  link-step : (left ≡ 0 → ⊥) → links < 2048 → at < length bytes →
       Linking read bytes count features₀ targets₀ (set features links (feature + trailingZeros 64 left))
       (set targets links (getD bytes at 0))
       (left / 2 ^ trailingZeros 64 left / 2) (feature + trailingZeros 64 left + 1) (at + 1) (links + 1)
@@ -326,6 +327,14 @@ module _ {read : Option (Taken (List (ℕ × ℕ)))} {bytes : List ℕ} {count :
             ap₂ (λ (l : List ℕ) (k : ℕ). set l k (getD bytes at 0)) (s .targets-are) (s .counted) ∙ stored-more (λ l. l .1)
             (s .taken) link targets₀ count;
       }
+
+  pub link-next : {b next : ℕ} → (left ≡ 0 → ⊥) → links < 2048 → ByteTaken bytes at b next →
+      Linking read bytes count features₀ targets₀ (set features links (feature + trailingZeros 64 left)) (set targets links b)
+      (left / 2 ^ trailingZeros 64 left / 2) (feature + trailingZeros 64 left + 1) next (links + 1)
+  link-next n h t =
+      subst₂ (λ (b k : ℕ). Linking read bytes count features₀ targets₀ (set features links (feature + trailingZeros 64 left))
+      (set targets links b) (left / 2 ^ trailingZeros 64 left / 2) (feature + trailingZeros 64 left + 1) k (links + 1))
+      (sym (t .byte-is)) (sym (t .next-is)) (link-step n h (t .inside))
 
   pub link-end : left ≡ 0 → Stored (λ ls. ls) read bytes count at links features₀ targets₀ features targets
   unfolding after
@@ -368,10 +377,17 @@ pub untaken : {X : Type 0} (b : Bool) (x y : X) → b ≡ false → cond b x y �
 untaken b x y e = ap (λ (c : Bool). cond c x y) e
 
 -- too few bytes for a type and a map
-pub row-short : (bytes : List ℕ) (at room : ℕ) → length bytes - at < 9 → takeRow room (drop at bytes) ≡ none
+row-short : (bytes : List ℕ) (at room : ℕ) → length bytes - at < 9 → takeRow room (drop at bytes) ≡ none
 unfolding takeRow
 row-short bytes at room h =
     untaken _ _ none (lt-leb 9 (length (drop at bytes)) (omega (arith, length-drop at bytes)))
+
+pub row-untyped : (bytes : List ℕ) (at room : ℕ) → length bytes ≤ at → takeRow room (drop at bytes) ≡ none
+row-untyped bytes at room h = row-short bytes at room (omega arith)
+
+pub row-unmapped : (bytes : List ℕ) (at room : ℕ) {b behind : ℕ} → ByteTaken bytes at b behind → length bytes - behind < 8 →
+    takeRow room (drop at bytes) ≡ none
+row-unmapped bytes at room t h = row-short bytes at room (omega (arith, t .next-is))
 
 -- the type, and the links by the word of the map
 pub row-is : (bytes : List ℕ) (at room : ℕ) → ((i : ℕ) → getD bytes i 0 < 256) → 9 ≤ length bytes - at →
@@ -410,7 +426,7 @@ stored-made make more read bytes count next links features targets features′ t
 }
 
 -- the row where its links were taken, or not
-pub row-took : (bytes : List ℕ) (at count word : ℕ) (features targets : List ℕ) (end : RowEnd) (features′ targets′ : List ℕ) →
+row-took : (bytes : List ℕ) (at count word : ℕ) (features targets : List ℕ) (end : RowEnd) (features′ targets′ : List ℕ) →
     ((i : ℕ) → getD bytes i 0 < 256) → 9 ≤ length bytes - at → word ≡ wordOf 8 (drop (at + 1) bytes) →
     Took (λ ls. ls) (takeWord 64 0 word (2048 - count) (drop (at + 9) bytes)) bytes count features targets end features′ targets′ →
     Took (λ ls. (getD bytes at 0, ls)) (takeRow (2048 - count) (drop at bytes)) bytes count features targets end features′ targets′
@@ -431,3 +447,15 @@ row-took bytes at count word features targets end features′ targets′ small e
     same =
         row-is bytes at (2048 - count) small enough
         ∙ ap (λ (w : ℕ). onward (changed more) (takeWord 64 0 w (2048 - count) (drop (at + 9) bytes))) (sym word-is)
+
+-- the same, where the reader took the type and the map
+pub row-read : (bytes : List ℕ) (at count word : ℕ) (features targets : List ℕ) (end : RowEnd) (features′ targets′ : List ℕ) →
+    {b behind start : ℕ} → ((i : ℕ) → getD bytes i 0 < 256) → ByteTaken bytes at b behind → MapTaken bytes behind word start →
+    Took (λ ls. ls) (takeWord 64 0 word (2048 - count) (drop start bytes)) bytes count features targets end features′ targets′ →
+    Took (λ ls. (getD bytes at 0, ls)) (takeRow (2048 - count) (drop at bytes)) bytes count features targets end features′ targets′
+row-read bytes at count word features targets end features′ targets′ {behind = behind} {start} small t m took =
+    let place : start ≡ at + 9 = omega (arith, t .next-is, m .next-is) in
+    row-took bytes at count word features targets end features′ targets′ small (omega (arith, t .next-is, m .inside))
+    (m .word-is ∙ ap (λ (k : ℕ). wordOf 8 (drop k bytes)) (t .next-is))
+    (subst (λ (k : ℕ). Took (λ ls. ls) (takeWord 64 0 word (2048 - count) (drop k bytes)) bytes count features targets end features′ targets′)
+    place took)

@@ -2,3 +2,4 @@
 pub mod Decode
 pub mod Promise
 pub mod Parse
+pub mod Reader

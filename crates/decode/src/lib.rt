@@ -2,6 +2,7 @@
 
 pub mod parse;
 pub mod range;
+pub mod reader;
 
 // A graph in compressed rows: node v's links are the places first[v] to first[v + 1], features ascending.
 pub struct Graph {

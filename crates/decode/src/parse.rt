@@ -1,12 +1,18 @@
 // Parsing: a record's bytes into compressed rows, or nothing where they are no record (refusal 4).
 
 use crate::Graph;
-ghost use Prim.Native.Nat.{_+_, _-_, _≤_};
+use crate::reader::MapStep;
+use crate::reader::Step;
+use crate::reader::byte_from;
+use crate::reader::first_byte;
+use crate::reader::left_from;
+use crate::reader::map_from;
+ghost use Prim.Native.Nat.{_-_, _≤_};
 ghost use lib.ListN.{drop, getD, length};
 ghost use mathlib.Core.Bool.{false};
 ghost use mathlib.Core.Path.{_≡_};
 ghost use Rattle.decode.specs.Decode.{takeRow};
-ghost use Rattle.decode.specs.Parse.{Took, takeWord, wordOf};
+ghost use Rattle.decode.specs.Parse.{Took, takeWord};
 ghost use Rattle.decode.specs.Promise.{Parses};
 
 pub struct Parsed {
@@ -18,26 +24,6 @@ pub struct Parsed {
 pub enum RowEnd {
     At(usize, usize),
     Short,
-}
-
-fn wide(x: u8) -> u64
-    ensures { λ r. ⌜ r ≡ x ⌝ }
-{
-    x as u64
-}
-
-// The feature map at a place, bit f for feature f.
-pub fn map_at(bytes: &[u8], at: usize) -> u64
-    requires { ⌜ at + 8 ≤ length (now bytes) ⌝ }
-    ensures { λ r. ⌜ r ≡ wordOf 8 (drop at (now (bytes .entry))) ⌝ }
-{
-    let mut map: u64 = 0;
-    let mut i: usize = 8;
-    while i != 0 {
-        i -= 1;
-        map = map * 256 + wide(bytes[at + i]);
-    }
-    map
 }
 
 // Takes a target byte for each standing bit of the map, lowest first, and stores the links from a place on.
@@ -61,16 +47,17 @@ pub fn take_links(
         if 2048 <= links {
             return RowEnd::Short;
         }
-        if bytes.len() <= at {
+        let step = byte_from(bytes, at);
+        let Step::Byte(target, next) = step else {
             return RowEnd::Short;
-        }
+        };
         let zeros = u64::trailing_zeros(left);
         feature += zeros as u64;
         features[links] = feature as u8;
-        targets[links] = bytes[at] as u16;
+        targets[links] = target as u16;
         left = (left >> zeros) >> 1;
         feature += 1;
-        at += 1;
+        at = next;
         links += 1;
     }
     RowEnd::At(at, links)
@@ -88,11 +75,15 @@ pub fn take_row(
     requires { ⌜ count ≤ 2048 ⌝ }
     ensures { λ r. ⌜ Took (λ ls. (getD (now (bytes .entry)) at 0, ls)) (takeRow (2048 - count) (drop at (now (bytes .entry)))) (now (bytes .entry)) count (now (features .entry)) (now (targets .entry)) r (now (features .exit)) (now (targets .exit)) ⌝ }
 {
-    if bytes.len() - at < 9 {
+    let step = byte_from(bytes, at);
+    let Step::Byte(_, behind) = step else {
         return RowEnd::Short;
-    }
-    let map = map_at(bytes, at + 1);
-    take_links(bytes, map, at + 9, count, features, targets)
+    };
+    let map_step = map_from(bytes, behind);
+    let MapStep::Map(map, start) = map_step else {
+        return RowEnd::Short;
+    };
+    take_links(bytes, map, start, count, features, targets)
 }
 
 // No record.
@@ -115,10 +106,11 @@ fn refused() -> Parsed
 pub fn parse(bytes: &[u8]) -> Parsed
     ensures { λ r. ⌜ Parses (now (bytes .entry)) (r .ok) (r .graph) ⌝ }
 {
-    if bytes.len() == 0 {
+    let step = first_byte(bytes);
+    let Step::Byte(count, start) = step else {
         return refused();
-    }
-    let nodes = bytes[0] as usize;
+    };
+    let nodes = count as usize;
     if nodes == 0 {
         return refused();
     }
@@ -126,21 +118,25 @@ pub fn parse(bytes: &[u8]) -> Parsed
     let mut first = [0u16; 256];
     let mut features = [0u8; 2048];
     let mut targets = [0u16; 2048];
-    let mut at: usize = 1;
+    let mut at = start;
     let mut links: usize = 0;
     let mut v: usize = 0;
     while v < nodes {
-        let end = take_row(bytes, at, links, &mut features, &mut targets);
-        let RowEnd::At(next, count) = end else {
+        let type_step = byte_from(bytes, at);
+        let Step::Byte(t, _) = type_step else {
             return refused();
         };
-        types[v] = bytes[at];
+        let end = take_row(bytes, at, links, &mut features, &mut targets);
+        let RowEnd::At(next, total) = end else {
+            return refused();
+        };
+        types[v] = t;
         v += 1;
-        first[v] = count as u16;
+        first[v] = total as u16;
         at = next;
-        links = count;
+        links = total;
     }
-    if at != bytes.len() {
+    if left_from(bytes, at) != 0 {
         return refused();
     }
     Parsed {

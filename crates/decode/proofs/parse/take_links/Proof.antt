@@ -3,8 +3,10 @@ use Prim.Native.Nat.{_-_}
 use native.Mathlib.Omega.{arith}
 use lib.ListN.{drop}
 use borrow.Author.Needs.{needs}
+use denote.Ref.{now}
 use Rattle.decode.specs.Parse.{takeWord}
-use Rattle.decode.proofs.Parsing.{Linking, link-begin, link-feature, link-full, link-short, link-step, link-end, took-none, took-all}
+use Rattle.decode.proofs.Parsing.{Linking, link-begin, link-feature, link-full, link-short, link-next, link-end, took-none, took-all}
+use Rattle.decode.proofs.Steps.{byte-taken, byte-ended}
 use Rattle.decode.proofs.parse.take_links.Statement.{statement}
 use Rattle.decode.proofs.parse.take_links.Tie as tie
 
@@ -17,31 +19,48 @@ abbrev μ-loop : tie.MeasureT-loop
     64 - feature
 
 loop-holds : tie.Need-loop-holds Inv-loop μ-loop
-loop-holds c = link-begin _ _ _ _ _ _ (c .fits .map .fits) (c .pre .0) (c .pre .1)
+loop-holds c = link-begin _ _ _ _ _ _ (c .before .fits .map .fits) (c .before .pre .0) (c .before .pre .1)
 
 returns : tie.Need-returns Inv-loop μ-loop
 returns c = took-none (link-full (c .before .before .loop .inv) (c .before .loop-test .taken) (c .if1 .taken))
 
+byte-from-requires : tie.Need-byte-from-requires Inv-loop μ-loop
+byte-from-requires c κs = search needs
+
+enum-known-step : tie.Need-enum-known-step Inv-loop μ-loop
+enum-known-step c = search needs
+
+enum-told : tie.Need-enum-told Inv-loop μ-loop
+enum-told c = search needs
+
 returns-2 : tie.Need-returns-2 Inv-loop μ-loop
-returns-2 c = took-none (link-short (c .before .before .before .loop .inv) (c .before .before .loop-test .taken) (c .if2 .taken))
+returns-2 c =
+    let r = c .before .before in
+    let l = r .before .before .before in
+    took-none
+    (link-short (l .loop .inv) (r .before .before .loop-test .taken)
+    (byte-ended (now (l .before .before .args .bytes)) (l .loop .at) (r .byte-from .ensures) (c .enum-told .given .1)))
 
 cast-feature : tie.Need-cast-feature Inv-loop μ-loop
-cast-feature c = omega (arith, link-feature (c .before .before .before .loop .inv) (c .before .before .loop-test .taken))
+cast-feature c =
+    let t = c .before .before .before .before .before in
+    omega (arith, link-feature (t .before .loop .inv) (t .loop-test .taken))
 
 add-feature : tie.Need-add-feature Inv-loop μ-loop
-add-feature c = omega (arith, link-feature (c .before .before .before .loop .inv) (c .before .before .loop-test .taken))
+add-feature c =
+    let t = c .before .before .before .before .before in
+    omega (arith, link-feature (t .before .loop .inv) (t .loop-test .taken))
 
 cast-features : tie.Need-cast-features Inv-loop μ-loop
-cast-features c = omega (arith, link-feature (c .before .before .before .loop .inv) (c .before .before .loop-test .taken))
+cast-features c =
+    let t = c .before .before .before .before .before in
+    omega (arith, link-feature (t .before .loop .inv) (t .loop-test .taken))
 
 element-write-features : tie.Need-element-write-features Inv-loop μ-loop
 element-write-features c = search needs
 
-shared-slice-read-targets : tie.Need-shared-slice-read-targets Inv-loop μ-loop
-shared-slice-read-targets c = search needs
-
 cast-targets : tie.Need-cast-targets Inv-loop μ-loop
-cast-targets c = omega (arith, c .shared-slice-known .given (c .before .before .before .before .loop .at))
+cast-targets c = search needs
 
 mul-targets : tie.Need-mul-targets Inv-loop μ-loop
 mul-targets c = search needs
@@ -50,27 +69,33 @@ element-write-targets : tie.Need-element-write-targets Inv-loop μ-loop
 element-write-targets c = search needs
 
 cast-left : tie.Need-cast-left Inv-loop μ-loop
-cast-left c = omega (arith, link-feature (c .before .before .before .before .loop .inv) (c .before .before .before .loop-test .taken))
+cast-left c =
+    let t = c .before .before .before .before .before in
+    omega (arith, link-feature (t .before .loop .inv) (t .loop-test .taken))
 
 shr-left : tie.Need-shr-left Inv-loop μ-loop
-shr-left c = omega (arith, link-feature (c .before .before .before .before .loop .inv) (c .before .before .before .loop-test .taken))
+shr-left c =
+    let t = c .before .before .before .before .before in
+    omega (arith, link-feature (t .before .loop .inv) (t .loop-test .taken))
 
 add-feature-2 : tie.Need-add-feature-2 Inv-loop μ-loop
-add-feature-2 c = omega (arith, link-feature (c .before .before .before .before .loop .inv) (c .before .before .before .loop-test .taken))
-
-add-at : tie.Need-add-at Inv-loop μ-loop
-add-at c = search needs
+add-feature-2 c =
+    let t = c .before .before .before .before .before in
+    omega (arith, link-feature (t .before .loop .inv) (t .loop-test .taken))
 
 add-links : tie.Need-add-links Inv-loop μ-loop
 add-links c = search needs
 
 loop-less : tie.Need-loop-less Inv-loop μ-loop
-loop-less c = omega (arith, link-feature (c .before .before .before .before .loop .inv) (c .before .before .before .loop-test .taken))
+loop-less c =
+    let t = c .before .before .before .before .before in
+    omega (arith, link-feature (t .before .loop .inv) (t .loop-test .taken))
 
 loop-again : tie.Need-loop-again Inv-loop μ-loop
 loop-again c =
-    let l = c .before .before .before in
-    link-step (l .before .loop .inv) (l .loop-test .taken) (c .before .before .if1 .left) (c .before .if2 .left)
+    let r = c .before .before .before in
+    link-next (r .before .before .before .loop .inv) (r .before .before .loop-test .taken) (r .before .if1 .left)
+    (byte-taken _ _ (r .byte-from .ensures) (c .before .step .given .1))
 
 returns-3 : tie.Need-returns-3 Inv-loop μ-loop
 returns-3 c = took-all (link-end (c .before .loop .inv) (c .loop-test .left))
@@ -83,19 +108,20 @@ take-links-spec =
     μ-loop
     loop-holds
     returns
+    byte-from-requires
+    enum-known-step
+    enum-told
     returns-2
     cast-feature
     add-feature
     cast-features
     element-write-features
-    shared-slice-read-targets
     cast-targets
     mul-targets
     element-write-targets
     cast-left
     shr-left
     add-feature-2
-    add-at
     add-links
     loop-less
     loop-again

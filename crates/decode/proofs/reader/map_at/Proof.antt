@@ -1,10 +1,10 @@
--- `parse::map_at` meets its contract: the loop joins the bytes from the last one down.
+-- `reader::map_at` meets its contract: the loop joins the bytes from the last one down.
 use Prim.Native.Nat.{_+_, _-_}
 use native.Mathlib.Omega.{arith}
 use borrow.Author.Needs.{needs}
 use Rattle.decode.proofs.Parsing.{Joining, join-begin, join-fits, join-next, join-end}
-use Rattle.decode.proofs.parse.map_at.Statement.{statement}
-use Rattle.decode.proofs.parse.map_at.Tie as tie
+use Rattle.decode.proofs.reader.map_at.Statement.{statement}
+use Rattle.decode.proofs.reader.map_at.Tie as tie
 
 abbrev Inv-loop : tie.InvT-loop
 Inv-loop bytes at map₀ i₀ map i = Joining bytes at map i

@@ -1,0 +1,132 @@
+// The reader of a record: the record's bytes and the position of the next one, kept together. It starts at byte 0, takes a byte
+// or a feature map and tells the position behind it, and tells how much is left. Parsing calls the last four functions, whose
+// parameters are plain: each makes the reader at a position and leaves the work to it.
+
+ghost use Prim.Native.Nat.{_+_, _≤_};
+ghost use lib.ListN.{drop, length};
+ghost use mathlib.Core.Path.{_≡_};
+ghost use Rattle.decode.specs.Parse.{wordOf};
+ghost use Rattle.decode.specs.Reader.{byteStep, bytesLeft, mapStep};
+
+pub struct Reader<'a> {
+    pub bytes: &'a [u8],
+    pub next: usize,
+}
+
+// The next byte and the position behind it; or the record ends.
+pub enum Step {
+    Byte(u8, usize),
+    End,
+}
+
+// The next eight bytes as a feature map, and the position behind them; or the record ends.
+pub enum MapStep {
+    Map(u64, usize),
+    Cut,
+}
+
+fn wide(x: u8) -> u64
+    ensures { λ r. ⌜ r ≡ x ⌝ }
+{
+    x as u64
+}
+
+// The feature map at a place, bit f for feature f.
+pub fn map_at(bytes: &[u8], at: usize) -> u64
+    requires { ⌜ at + 8 ≤ length (now bytes) ⌝ }
+    ensures { λ r. ⌜ r ≡ wordOf 8 (drop at (now (bytes .entry))) ⌝ }
+{
+    let mut map: u64 = 0;
+    let mut i: usize = 8;
+    while i != 0 {
+        i -= 1;
+        map = map * 256 + wide(bytes[at + i]);
+    }
+    map
+}
+
+// How many bytes stand from a place on.
+pub fn left_at(bytes: &[u8], at: usize) -> usize
+    ensures { λ r. ⌜ r ≡ bytesLeft (now (bytes .entry)) at ⌝ }
+{
+    if bytes.len() <= at {
+        return 0;
+    }
+    bytes.len() - at
+}
+
+// The byte at a place.
+pub fn byte_at(bytes: &[u8], at: usize) -> Step
+    ensures { λ r. ⌜ r ≡ byteStep (now (bytes .entry)) at ⌝ }
+{
+    if bytes.len() <= at {
+        return Step::End;
+    }
+    Step::Byte(bytes[at], at + 1)
+}
+
+// The feature map at a place, where its eight bytes stand.
+pub fn whole_map_at(bytes: &[u8], at: usize) -> MapStep
+    ensures { λ r. ⌜ r ≡ mapStep (now (bytes .entry)) at ⌝ }
+{
+    if left_at(bytes, at) < 8 {
+        return MapStep::Cut;
+    }
+    MapStep::Map(map_at(bytes, at), at + 8)
+}
+
+// The reader at the start of a record.
+pub fn start<'a>(bytes: &'a [u8]) -> Reader<'a>
+    ensures { λ r. ⌜ (r .bytes ≡ bytes .entry) × (r .next ≡ 0) ⌝ }
+{
+    Reader { bytes, next: 0 }
+}
+
+// Takes the next byte.
+pub fn byte<'a>(r: Reader<'a>) -> Step
+    ensures { λ s. ⌜ s ≡ byteStep (now (r .entry .bytes)) (r .entry .next) ⌝ }
+{
+    byte_at(r.bytes, r.next)
+}
+
+// Takes the next feature map.
+pub fn map<'a>(r: Reader<'a>) -> MapStep
+    ensures { λ s. ⌜ s ≡ mapStep (now (r .entry .bytes)) (r .entry .next) ⌝ }
+{
+    whole_map_at(r.bytes, r.next)
+}
+
+// How many bytes are left.
+pub fn left<'a>(r: Reader<'a>) -> usize
+    ensures { λ n. ⌜ n ≡ bytesLeft (now (r .entry .bytes)) (r .entry .next) ⌝ }
+{
+    left_at(r.bytes, r.next)
+}
+
+// The record's first byte.
+pub fn first_byte(bytes: &[u8]) -> Step
+    ensures { λ s. ⌜ s ≡ byteStep (now (bytes .entry)) 0 ⌝ }
+{
+    byte(start(bytes))
+}
+
+// The byte that the reader takes at a position.
+pub fn byte_from(bytes: &[u8], at: usize) -> Step
+    ensures { λ s. ⌜ s ≡ byteStep (now (bytes .entry)) at ⌝ }
+{
+    byte(Reader { bytes, next: at })
+}
+
+// The feature map that the reader takes at a position.
+pub fn map_from(bytes: &[u8], at: usize) -> MapStep
+    ensures { λ s. ⌜ s ≡ mapStep (now (bytes .entry)) at ⌝ }
+{
+    map(Reader { bytes, next: at })
+}
+
+// How many bytes the reader has left at a position.
+pub fn left_from(bytes: &[u8], at: usize) -> usize
+    ensures { λ n. ⌜ n ≡ bytesLeft (now (bytes .entry)) at ⌝ }
+{
+    left(Reader { bytes, next: at })
+}
