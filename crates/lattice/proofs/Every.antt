@@ -28,6 +28,10 @@ pub and-fails-right : (a b : Bool) → b ≡ false → a && b ≡ false
 and-fails-right true b h = h
 and-fails-right false b h = refl
 
+-- four tests that passed leave the fifth to decide
+pub fifth-decides : {a b c d e : Bool} → a ≡ true → b ≡ true → c ≡ true → d ≡ true → e ≡ (a && b && c && d && e)
+fifth-decides f g h k = rw (f, g, h, k)
+
 pub implies-at : (a b : Bool) → implies a b ≡ true → a ≡ true → b ≡ true
 implies-at true b h g = h
 implies-at false b h g = let z : _≡_ {A = ℕ} 0 1 = cc in absurd (omega arith)

@@ -1,6 +1,7 @@
 -- Lemmas that several proofs share.
 pub mod Every
 pub mod WordLaws
+pub mod Bits
 pub mod OrderLaws
 pub mod BoundLaws
 pub mod Rows

@@ -40,11 +40,11 @@ pub fn open_table(
     if table.len() != 8 * n {
         return Opened::Refused(TableFault::Size);
     }
-    let down = words::read_words(n, table, false);
-    if !order::is_ordered(n, table, &down) {
+    let down = words::read_words(n, table);
+    if !order::is_ordered(n, &down) {
         return Opened::Refused(TableFault::Order);
     }
-    let up = words::read_words(n, table, true);
+    let up = words::turn_words(n, &down);
     let all_meet = bounds::fill(n, &down, meets);
     let all_join = bounds::fill(n, &up, joins);
     if !all_meet {
@@ -66,6 +66,6 @@ pub fn admits_differences(n: usize, table: &[u8]) -> bool
     let Opened::Accepted = answer else {
         return false;
     };
-    let down = words::read_words(n, table, false);
+    let down = words::read_words(n, table);
     differences::all_residuals(n, &down)
 }
