@@ -4,7 +4,8 @@ use Prim.Native.Nat.{ℕ, zero, suc, _+_, _*_, _-_, _/_, _%_, _^_, _<_, _≤_}
 use mathlib.Core.Path.{_≡_, refl, sym, ap, ap₂, subst, _∙_}
 use mathlib.Core.Bool.{Bool, true, false, not, _&&_}
 use mathlib.Core.List.{List}
-use native.Mathlib.Nat.{mod-lt, zero-div, mod-eq-of-lt, two-pow-succ, div-lt-iff-lt-mul, le-div-iff-mul-le, lt-of-lt-of-le, add-zero, add-suc, add-mul, mul-assoc, mul-comm}
+use mathlib.Core.Logic.{⊎-elim}
+use native.Mathlib.Nat.{mod-lt, zero-div, mod-eq-of-lt, two-pow-succ, div-lt-iff-lt-mul, le-div-iff-mul-le, div-eq-of-lt, lt-of-lt-of-le, add-zero, add-suc, add-mul, mul-assoc, mul-comm}
 use native.Mathlib.Omega.{arith}
 use lib.Bits.{bitAnd, bitXor, and-shr, xor-shr, and-mod, xor-mod, xor-add-and, and-le-l}
 use lib.Count.{trailingZeros, under, leadingZeros, leading-top}
@@ -13,8 +14,8 @@ use lib.ListN.{getD}
 use lib.Pow.{mod-pow-add, shr-shr, shr-lt, pow-mono, pow-pos, pow-add, shl-exact}
 use borrow.Author.Tests.{eq-eqb, ne-eqb, eqb-true}
 use Rattle.lattice.specs.Table.{every, implies, below}
-use Rattle.lattice.specs.Words.{digit, word, related, bit, without}
-use Rattle.lattice.proofs.Every.{and-left, and-both, true-not-false, implies-from, every-fails, every-all}
+use Rattle.lattice.specs.Words.{digit, word, related, bit, without, Inside}
+use Rattle.lattice.proofs.Every.{below-or-not, and-left, and-both, true-not-false, implies-from, every-fails, every-all}
 use Rattle.lattice.proofs.WordLaws.{word-below, word-same, word-bits, word-cut}
 
 two : 0 < 2
@@ -49,6 +50,16 @@ bits-same k v w l s h = sym (bits-word k v l) ∙ word-same k (bit v) (bit w) h 
 pub no-bit : (j : ℕ) → bit 0 j ≡ false
 unfolding bit
 no-bit j = rw (zero-div (2 ^ j))
+
+-- a number below 2 ^ n has no bit at n or above
+pub small-inside : (n w : ℕ) → w < 2 ^ n → Inside n w
+unfolding bit
+small-inside n w l j s e = ⊎-elim (λ r. r) (λ r. absurd (true-not-false (bit w j) e (none r))) (below-or-not j n) where
+  none : n ≤ j → eqb (w / 2 ^ j % 2) 1 ≡ false
+  none r =
+      let most : 2 ^ n ≤ 2 ^ j = pow-mono r in
+      let small : w < 2 ^ j = omega arith in
+      rw (div-eq-of-lt small)
 
 -- a number with a bit is not 0
 pub bit-positive : (w j : ℕ) → bit w j ≡ true → 0 < w
@@ -114,6 +125,9 @@ without-rest a b =
     twice : (x y : Bool) → x && (x && y) ≡ x && y
     twice true y = refl
     twice false y = refl
+
+pub without-most : (a b : ℕ) → without a b ≤ a
+without-most a b = omega (arith, without-rest a b)
 
 pub without-less : (a b j : ℕ) → bit a j ≡ true → bit b j ≡ true → without a b < a
 without-less a b j e f =

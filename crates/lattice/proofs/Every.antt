@@ -61,7 +61,7 @@ below-or-not j n = go (ltb j n) refl where
   go true e = inl (ltb-true j n e)
   go false e = inr (ltb-false j n e)
 
-below-suc : {k n : ℕ} {P : Type 0} → k < suc n → (k ≡ n → P) → (k < n → P) → P
+pub below-suc : {k n : ℕ} {P : Type 0} → k < suc n → (k ≡ n → P) → (k < n → P) → P
 below-suc l here before = ⊎-elim here before (eq-or-lt-of-le (le-of-suc-le-suc l))
 
 pub every-at : (p : ℕ → Bool) (n k : ℕ) → every n p ≡ true → k < n → p k ≡ true
@@ -143,6 +143,32 @@ last-passed p c l h = last-step p c l ∙ rw h
 
 pub last-here : (p : ℕ → Bool) (c : ℕ) → 0 < c → p (c - 1) ≡ true → last c p ≡ some (c - 1)
 last-here p c l h = last-step p c l ∙ rw h
+
+-- a search that finds nothing, and one that finds the only number that passes
+pub last-nothing : (p : ℕ → Bool) (n : ℕ) → ((k : ℕ) → k < n → p k ≡ false) → last n p ≡ none
+unfolding last
+last-nothing p zero h = refl
+last-nothing p (suc n) h = rw (h n (omega arith)) (last-nothing p n λ k l. h k (omega arith))
+
+pub last-only : (p : ℕ → Bool) (n c : ℕ) → c < n → p c ≡ true → ((k : ℕ) → k < n → p k ≡ true → k ≡ c) → last n p ≡ some c
+unfolding last
+last-only p zero c l e h = absurd (not-suc-le-zero l)
+last-only p (suc n) c l e h = go (last-only p n c) (p n) refl where
+  go : (c < n → p c ≡ true → ((k : ℕ) → k < n → p k ≡ true → k ≡ c) → last n p ≡ some c) → (b : Bool) → p n ≡ b
+      → cond (p n) (some n) (last n p) ≡ some c
+  go before true f = rw f (ap some (h n (omega arith) f))
+  go before false f =
+      rw f
+      (below-suc l (λ q. absurd (true-not-false (p n) (ap p (sym q) ∙ e) f)) (λ s. before s e λ k r g. h k (omega arith) g))
+
+-- a search finds where a number passes
+pub last-found : (p : ℕ → Bool) (n c : ℕ) → c < n → p c ≡ true → found (last n p) ≡ true
+unfolding last
+last-found p zero c l e = absurd (not-suc-le-zero l)
+last-found p (suc n) c l e = go (last-found p n c) (p n) refl where
+  go : (c < n → p c ≡ true → found (last n p) ≡ true) → (b : Bool) → p n ≡ b → found (cond (p n) (some n) (last n p)) ≡ true
+  go before true f = rw f
+  go before false f = rw f (below-suc l (λ q. absurd (true-not-false (p n) (ap p (sym q) ∙ e) f)) (λ s. before s e))
 
 -- what a call answered, after a branch on its negation
 pub refuted : {b p : Bool} → b ≡ p → not b ≡ true → p ≡ false

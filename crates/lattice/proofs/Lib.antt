@@ -5,7 +5,9 @@ pub mod Bits
 pub mod OrderLaws
 pub mod BoundLaws
 pub mod Rows
+pub mod Search
 pub mod Opening
 pub mod Laws
 pub mod Residuals
+pub mod Primes
 pub mod Examples

@@ -12,9 +12,9 @@ use Rattle.lattice.specs.declared.Opened.{Opened}
 use Rattle.lattice.specs.declared.Opened.the-variants.{Accepted, Refused}
 use Rattle.lattice.specs.Table.{every, found, sized, ordered, bounded, meet, join, boundRow, overwrite, filled}
 use Rattle.lattice.specs.Reply.{opened, Opening}
-use Rattle.lattice.specs.Words.{Words, turned, wordBound, allFound, rowOrdered}
+use Rattle.lattice.specs.Words.{related, Words, turned, wordBound, allFound, rowOrdered, Sided}
 use Rattle.lattice.proofs.Every.{and-left, and-right, and-both, and-fails-right, every-at, every-all, same-test}
-use Rattle.lattice.proofs.OrderLaws.{Ordered, ordered-facts, rows-ordered, turned-words}
+use Rattle.lattice.proofs.OrderLaws.{Ordered, ordered-facts, rows-ordered, Side, side, sided, turned-words}
 use Rattle.lattice.proofs.BoundLaws.{meet-found, join-found}
 use Rattle.lattice.proofs.Rows.{overwrite-same, found-same}
 
@@ -76,6 +76,21 @@ module _ (n : ℕ) (t : List ℕ) (meets joins : List (List ℕ)) where
   refuse-order down s few words h =
       let o : ordered n t ≡ false = sym (rows-ordered n t down few words) ∙ h in
       record { answers = rw (s, o); meets-hold = rw (s, o); joins-hold = rw (s, o) }
+
+-- the words of both sides of an order
+module _ (n : ℕ) (t down : List ℕ) (s : sized n t ≡ true) (words : Words n t false down) (order : every n (rowOrdered n down) ≡ true) where
+  opened-side : (up : Bool) → Side n (related t up)
+  opened-side up =
+      let f : (2 ≤ n) × (n ≤ 64) × (length t ≡ 8 * n) = size-facts n t s in
+      side n t up (f .2) (ordered-facts n t (sym (rows-ordered n t down (f .1) words) ∙ order))
+
+  pub down-sided : Sided n down
+  down-sided = sided n (related t false) down (size-facts n t s .1) (opened-side false) words
+
+  pub up-sided : (up : List ℕ) → ((i : ℕ) → i < n → getD up i 0 ≡ turned n down i) → Sided n up
+  up-sided up made =
+      let f : (2 ≤ n) × (n ≤ 64) × (length t ≡ 8 * n) = size-facts n t s in
+      sided n (related t true) up (f .1) (opened-side true) (turned-words n t down up (f .1) (f .2) words made)
 
 -- an order: the answer goes by whether all bounds were found, and the tables hold them
 module _ (n : ℕ) (t down up : List ℕ) (meets₀ meets joins₀ joins : List (List ℕ)) (met joined : Bool) (s : sized n t ≡ true)

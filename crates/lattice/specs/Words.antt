@@ -60,6 +60,10 @@ pub record Sided (n : ℕ) (ws : List ℕ) : Type 0 where
   pub inside : (i j : ℕ) → i < n → j < 64 → bit (getD ws i 0) j ≡ true → j < n
   pub anti : (i j : ℕ) → i < n → j < n → bit (getD ws i 0) j ≡ true → bit (getD ws j 0) i ≡ true → i ≡ j
 
+-- no bit of w stands at n or above
+abbrev pub Inside : ℕ → ℕ → Type 0
+Inside n w = (j : ℕ) → j < 64 → bit w j ≡ true → j < n
+
 -- what is below both d and q is below p
 abbrev pub wordMeetBelow : List ℕ → ℕ → ℕ → ℕ → Bool
 wordMeetBelow ws p q d = partOf (bitAnd (getD ws d 0) (getD ws q 0)) (getD ws p 0)
@@ -76,6 +80,10 @@ module _ (n : ℕ) (ws : List ℕ) where
   -- the types whose meet with q is below p are those below one type
   abbrev pub wordResidual : ℕ → ℕ → Option ℕ
   wordResidual p q = holder (word n (wordMeetBelow ws p q))
+
+  -- where the types strictly below j are those below one type, the types not above j are those below one type
+  unfoldable pub wordPrime : ℕ → Bool
+  wordPrime j = implies (found (holder (without (getD ws j 0) (2 ^ j)))) (found (holder (without (getD ws (n - 1) 0) (turned n ws j))))
 
 -- every two types have a bound
 unfoldable pub allFound : ℕ → (ℕ → ℕ → Option ℕ) → Bool

@@ -1,36 +1,38 @@
 // The table of meets or of joins, from the words of one side: the bound of a and b is the type whose word is the common part
 // of their words.
 ghost use mathlib.Core.Path.{_≡_};
-ghost use Prim.Native.Nat.{_<_, _≤_};
+ghost use Prim.Native.Nat.{ℕ, _<_, _≤_};
 ghost use lib.ListN.{getD};
 ghost use lib.Dec.{ltb};
 ghost use Rattle.lattice.specs.Table.{every, cell, boundRow, overwrite};
-ghost use Rattle.lattice.specs.Words.{holder, wordBound, allFound};
+ghost use Rattle.lattice.specs.Words.{holder, wordBound, allFound, Sided, Inside};
 
-// The last type below n whose word is `word`, or 64 where there is none.
-pub fn find_word(n: usize, words: &[u64; 64], word: u64) -> u8
-    requires { ⌜ n ≤ 64 ⌝ }
-    ensures { λ r. ⌜ r ≡ cell (holder n (now (words .entry)) word) ⌝ }
+// The type whose word is `word`, or 64 where there is none. It has a bit of its own in the word, so it is sought among the
+// standing bits, from the lowest for `low`, else from the highest; all on the side of a type that is not it are put aside.
+pub fn find_word(words: &[u64; 64], word: u64, low: bool) -> u8
+    ensures { λ r. ⌜ ((n : ℕ) → n ≤ 64 → Sided n (now (words .entry)) → Inside n word → r ≡ cell (holder n (now (words .entry)) word)) ⌝ }
 {
-    let mut c = n;
-    while 0 < c {
-        c -= 1;
+    let mut left = word;
+    while left != 0 {
+        let c = super::words::end_bit(left, low);
         if words[c] == word {
             return c as u8;
         }
+        let others = super::words::cleared(left, c);
+        left = super::words::without(others, words[c]);
     }
     64
 }
 
 // The bounds of type a with every type below n; 0 in the other cells.
-pub fn bound_row(n: usize, words: &[u64; 64], a: usize) -> [u8; 64]
-    requires { ⌜ (a < n) × (n ≤ 64) ⌝ }
+pub fn bound_row(n: usize, words: &[u64; 64], low: bool, a: usize) -> [u8; 64]
+    requires { ⌜ (a < n) × (n ≤ 64) × Sided n (now words) ⌝ }
     ensures { λ r. ⌜ r ≡ boundRow n (wordBound n (now (words .entry))) a ⌝ }
 {
     let mut row = [0u8; 64];
     let mut b = 0;
     while b < n {
-        row[b] = find_word(n, words, words[a] & words[b]);
+        row[b] = find_word(words, words[a] & words[b], low);
         b += 1;
     }
     row
@@ -52,15 +54,15 @@ pub fn is_row_found(n: usize, row: &[u8; 64]) -> bool
 }
 
 // Fills the first n rows of the table, and answers whether every two types have a bound.
-pub fn fill(n: usize, words: &[u64; 64], table: &mut [[u8; 64]; 64]) -> bool
-    requires { ⌜ n ≤ 64 ⌝ }
+pub fn fill(n: usize, words: &[u64; 64], low: bool, table: &mut [[u8; 64]; 64]) -> bool
+    requires { ⌜ (n ≤ 64) × Sided n (now words) ⌝ }
     ensures all { λ r. ⌜ r ≡ allFound n (wordBound n (now (words .entry))) ⌝ }
     ensures rows { λ r. ⌜ now (table .exit) ≡ overwrite n (boundRow n (wordBound n (now (words .entry)))) (now (table .entry)) ⌝ }
 {
     let mut found = true;
     let mut a = 0;
     while a < n {
-        let row = bound_row(n, words, a);
+        let row = bound_row(n, words, low, a);
         if !is_row_found(n, &row) {
             found = false;
         }

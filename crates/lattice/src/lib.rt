@@ -45,8 +45,8 @@ pub fn open_table(
         return Opened::Refused(TableFault::Order);
     }
     let up = words::turn_words(n, &down);
-    let all_meet = bounds::fill(n, &down, meets);
-    let all_join = bounds::fill(n, &up, joins);
+    let all_meet = bounds::fill(n, &down, false, meets);
+    let all_join = bounds::fill(n, &up, true, joins);
     if !all_meet {
         return Opened::Refused(TableFault::Bounds);
     }
@@ -66,6 +66,5 @@ pub fn admits_differences(n: usize, table: &[u8]) -> bool
     let Opened::Accepted = answer else {
         return false;
     };
-    let down = words::read_words(n, table);
-    differences::all_residuals(n, &down)
+    differences::admits(n, table)
 }

@@ -1,6 +1,6 @@
 -- `open_table` meets its contract: each return by the lemma of `Opening` that is for it.
 use borrow.Author.Needs.{needs}
-use Rattle.lattice.proofs.Opening.{size-low, size-high, size-other, size-right, refuse-size, refuse-order, no-meet, no-join, accept}
+use Rattle.lattice.proofs.Opening.{size-low, size-high, size-other, size-right, refuse-size, refuse-order, down-sided, up-sided, no-meet, no-join, accept}
 use Rattle.lattice.proofs.Every.{refuted, held}
 use Rattle.lattice.proofs.open_table.Statement.{statement}
 use Rattle.lattice.proofs.open_table.Tie as tie
@@ -39,10 +39,20 @@ turn-words-requires : tie.Need-turn-words-requires
 turn-words-requires c κs = search needs
 
 fill-requires : tie.Need-fill-requires
-fill-requires c κs = search needs
+fill-requires c κs =
+    let start = c .before .before .before .before .before .before .before .before .before .before .before .before in (
+      search needs,
+      down-sided (start .args .n) (start .args .table .now) _ (size-right _ _ (search needs) (search needs) (c .before .before .before .before .before .before .before .before .if3 .left))
+          (c .before .before .before .before .before .before .before .read-words .ensures) (held (c .before .before .before .before .before .is-ordered .ensures) (c .before .before .before .before .if4 .left)),
+    )
 
 fill-requires-2 : tie.Need-fill-requires-2
-fill-requires-2 c κs = search needs
+fill-requires-2 c κs =
+    let start = c .before .before .before .before .before .before .before .before .before .before .before .before .before .before .before in (
+      search needs,
+      up-sided (start .args .n) (start .args .table .now) _ (size-right _ _ (search needs) (search needs) (c .before .before .before .before .before .before .before .before .before .before .before .if3 .left))
+          (c .before .before .before .before .before .before .before .before .before .before .read-words .ensures) (held (c .before .before .before .before .before .before .before .before .is-ordered .ensures) (c .before .before .before .before .before .before .before .if4 .left)) _ (c .before .before .before .before .before .turn-words .ensures),
+    )
 
 returns-5 : tie.Need-returns-5
 returns-5 c =

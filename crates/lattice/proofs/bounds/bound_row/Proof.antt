@@ -8,18 +8,19 @@ use borrow.Author.Needs.{needs}
 use Rattle.lattice.specs.Table.{cell}
 use Rattle.lattice.specs.Words.{wordBound}
 use Rattle.lattice.proofs.Rows.{set-more, set-rest, row-made}
+use Rattle.lattice.proofs.Search.{common-inside}
 use Rattle.lattice.proofs.bounds.bound_row.Statement.{statement}
 use Rattle.lattice.proofs.bounds.bound_row.Tie as tie
 
 abbrev Inv-loop : tie.InvT-loop
-Inv-loop n words a row₀ b₀ row b =
+Inv-loop n words low a row₀ b₀ row b =
     (b ≤ n)
     × (length row ≡ 64)
     × ((k : ℕ) → k < b → getD row k 0 ≡ cell (wordBound n words a k))
     × ((k : ℕ) → b ≤ k → k < 64 → getD row k 0 ≡ 0)
 
 abbrev μ-loop : tie.MeasureT-loop
-μ-loop n words a row₀ b₀ row b = n - b
+μ-loop n words low a row₀ b₀ row b = n - b
 
 loop-holds : tie.Need-loop-holds Inv-loop μ-loop
 loop-holds c = (search needs, search needs, below-none _, λ k l s. getD-replicate {A = ℕ} 64 k 0 0 s)
@@ -50,10 +51,14 @@ loop-less c = search needs
 
 loop-again : tie.Need-loop-again Inv-loop μ-loop
 loop-again c =
-    let turn = c .before .before .before .before .loop in (
+    let start = c .before .before .before .before .before in
+    let turn = c .before .before .before .before .loop in
+    let n = start .args .n in
+    let ws = start .args .words .now in (
       search needs,
       search needs,
-      set-more _ (turn .row) (turn .b) _ (search needs) (turn .inv .2) (c .find-word .ensures),
+      set-more (λ k. cell (wordBound n ws (start .args .a) k)) (turn .row) (turn .b) _ (search needs) (turn .inv .2)
+          (c .find-word .ensures n (start .pre .1) (start .pre .2) (common-inside n ws (start .args .a) (turn .b) (start .pre .0) (start .pre .2))),
       set-rest (turn .row) (turn .b) _ (turn .inv .3),
     )
 

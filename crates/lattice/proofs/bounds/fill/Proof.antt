@@ -12,13 +12,13 @@ use Rattle.lattice.proofs.bounds.fill.Statement.{statement}
 use Rattle.lattice.proofs.bounds.fill.Tie as tie
 
 abbrev Inv-loop : tie.InvT-loop
-Inv-loop n words table₀ found₀ a₀ table found a =
+Inv-loop n words low table₀ found₀ a₀ table found a =
     (a ≤ n)
     × (found ≡ every a (λ k. every n (λ b. foundOf (wordBound n words k b))))
     × (table ≡ overwrite a (boundRow n (wordBound n words)) table₀)
 
 abbrev μ-loop : tie.MeasureT-loop
-μ-loop n words table₀ found₀ a₀ table found a = n - a
+μ-loop n words low table₀ found₀ a₀ table found a = n - a
 
 loop-holds : tie.Need-loop-holds Inv-loop μ-loop
 loop-holds c = (search needs, sym (every-none _), sym (overwrite-none _ _))
@@ -29,8 +29,8 @@ bound-row-requires c κs = search needs
 is-row-found-requires : tie.Need-is-row-found-requires Inv-loop μ-loop
 is-row-found-requires c κs = search needs
 
-mul-t11 : tie.Need-mul-t11 Inv-loop μ-loop
-mul-t11 c = search needs
+mul-t12 : tie.Need-mul-t12 Inv-loop μ-loop
+mul-t12 c = search needs
 
 element-set-from-table : tie.Need-element-set-from-table Inv-loop μ-loop
 element-set-from-table c = search needs
@@ -71,7 +71,7 @@ fill-spec =
     loop-holds
     bound-row-requires
     is-row-found-requires
-    mul-t11
+    mul-t12
     element-set-from-table
     add-a
     loop-less

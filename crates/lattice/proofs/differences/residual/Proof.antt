@@ -1,10 +1,6 @@
 -- `residual` meets its contract: the type whose word is that of the types whose meet with q is below p.
-use Prim.Native.Nat.{ℕ}
-use mathlib.Core.Path.{_∙_, ap}
+use Rattle.lattice.proofs.Residuals.{residual-cell}
 use borrow.Author.Needs.{needs}
-use Rattle.lattice.specs.Table.{cell}
-use Rattle.lattice.specs.Words.{holder}
-use Rattle.lattice.proofs.Residuals.{residual-found}
 use Rattle.lattice.proofs.differences.residual.Statement.{statement}
 use Rattle.lattice.proofs.differences.residual.Tie as tie
 
@@ -17,12 +13,10 @@ find-word-requires c κs = search needs
 returns : tie.Need-returns
 returns c =
     let start = c .before .before in
-    let n = start .args .n in
-    let ws = start .args .down .now in
     λ t ok words.
-    c .find-word .ensures ∙
-    ap (λ (w : ℕ). cell (holder n ws w)) (c .before .residual-word .ensures) ∙
-    ap cell (residual-found n t ws ok words (start .args .p) (start .args .q) (start .pre .1) (start .pre .2))
+    residual-cell (start .args .n) t (start .args .down .now) ok words (start .args .p) (start .args .q) _ _ (start .pre .1) (start .pre .2)
+    (c .before .residual-word .ensures)
+    (c .find-word .ensures)
 
 pub residual-spec : {M : Type 1} → statement M
 residual-spec = tie.close (tie.spec residual-word-requires find-word-requires returns)
