@@ -132,6 +132,17 @@ last-step p (suc c) l =
 pub every-done : (p : ℕ → Bool) (k n : ℕ) → k ≤ n → n ≤ k → every k p ≡ true → true ≡ every n p
 every-done p k n l s h = let e : k ≡ n = omega arith in sym (subst (λ (m : ℕ). every m p ≡ true) e h)
 
+-- a flag that tells of the numbers below k, where k passes, and at the end of a loop
+pub all-kept : (p : ℕ → Bool) (k : ℕ) (r : Bool) → r ≡ every k p → p k ≡ true → r ≡ every (k + 1) p
+unfolding every
+all-kept p k r e f = rw (add-one, f) (e ∙ go (every k p)) where
+  go : (b : Bool) → b ≡ (b && true)
+  go true = refl
+  go false = refl
+
+pub every-end : (p : ℕ → Bool) (k n : ℕ) (r : Bool) → k ≤ n → n ≤ k → r ≡ every k p → r ≡ every n p
+every-end p k n r l s e = let q : k ≡ n = omega arith in e ∙ ap (λ (m : ℕ). every m p) q
+
 -- at the end of a search down to 0
 pub last-none : (p : ℕ → Bool) (c : ℕ) → c ≤ 0 → last c p ≡ none
 unfolding last

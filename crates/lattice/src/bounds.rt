@@ -2,9 +2,7 @@
 // of their words.
 ghost use mathlib.Core.Path.{_≡_};
 ghost use Prim.Native.Nat.{ℕ, _<_, _≤_};
-ghost use lib.ListN.{getD};
-ghost use lib.Dec.{ltb};
-ghost use Rattle.lattice.specs.Table.{every, cell, boundRow, overwrite};
+ghost use Rattle.lattice.specs.Table.{every, found as foundOf, cell, boundRow, overwrite};
 ghost use Rattle.lattice.specs.Words.{holder, wordBound, allFound, Sided, Inside};
 
 // The type whose word is `word`, or 64 where there is none. It has a bit of its own in the word, so it is sought among the
@@ -24,33 +22,30 @@ pub fn find_word(words: &[u64; 64], word: u64, low: bool) -> u8
     64
 }
 
-// The bounds of type a with every type below n; 0 in the other cells.
-pub fn bound_row(n: usize, words: &[u64; 64], low: bool, a: usize) -> [u8; 64]
-    requires { ⌜ (a < n) × (n ≤ 64) × Sided n (now words) ⌝ }
-    ensures { λ r. ⌜ r ≡ boundRow n (wordBound n (now (words .entry))) a ⌝ }
-{
-    let mut row = [0u8; 64];
-    let mut b = 0;
-    while b < n {
-        row[b] = find_word(words, words[a] & words[b], low);
-        b += 1;
-    }
-    row
+// A row of a table of bounds, and whether the bounds in it were all found.
+pub struct BoundRow {
+    pub cells: [u8; 64],
+    pub found: bool,
 }
 
-// Whether the first n cells of a row hold types.
-pub fn is_row_found(n: usize, row: &[u8; 64]) -> bool
-    requires { ⌜ n ≤ 64 ⌝ }
-    ensures { λ r. ⌜ r ≡ every n (λ b. ltb (getD (now (row .entry)) b 0) 64) ⌝ }
+// The bounds of type a with every type below n; 0 in the other cells.
+pub fn bound_row(n: usize, words: &[u64; 64], low: bool, a: usize) -> BoundRow
+    requires { ⌜ (a < n) × (n ≤ 64) × Sided n (now words) ⌝ }
+    ensures cells { λ r. ⌜ r .cells ≡ boundRow n (wordBound n (now (words .entry))) a ⌝ }
+    ensures found { λ r. ⌜ r .found ≡ every n (λ b. foundOf (wordBound n (now (words .entry)) a b)) ⌝ }
 {
+    let mut cells = [0u8; 64];
+    let mut found = true;
     let mut b = 0;
     while b < n {
-        if 64 <= row[b] {
-            return false;
+        let c = find_word(words, words[a] & words[b], low);
+        if 64 <= c {
+            found = false;
         }
+        cells[b] = c;
         b += 1;
     }
-    true
+    BoundRow { cells, found }
 }
 
 // Fills the first n rows of the table, and answers whether every two types have a bound.
@@ -63,10 +58,11 @@ pub fn fill(n: usize, words: &[u64; 64], low: bool, table: &mut [[u8; 64]; 64]) 
     let mut a = 0;
     while a < n {
         let row = bound_row(n, words, low, a);
-        if !is_row_found(n, &row) {
+        if !row.found {
             found = false;
         }
-        table[a] = row;
+        let cells = row.cells;
+        table[a] = cells;
         a += 1;
     }
     found
