@@ -6,18 +6,21 @@ ghost use Rattle.lattice.specs.Table.{every, found as foundOf, cell, bou
 ghost use Rattle.lattice.specs.Words.{holder, wordBound, allFound, Sided, Inside};
 
 // The type whose word is `word`, or 64 where there is none. It has a bit of its own in the word, so it is sought among the
-// standing bits, from the lowest for `low`, else from the highest; all on the side of a type that is not it are put aside.
+// standing bits: at first the lowest for `low`, else the highest, and then from both ends in turn, for tables that are not
+// numbered along the order. A type that is not it is put aside with all on its side.
 pub fn find_word(words: &[u64; 64], word: u64, low: bool) -> u8
     ensures { λ r. ⌜ ((n : ℕ) → n ≤ 64 → Sided n (now (words .entry)) → Inside n word → r ≡ cell (holder n (now (words .entry)) word)) ⌝ }
 {
     let mut left = word;
+    let mut end = low;
     while left != 0 {
-        let c = super::words::end_bit(left, low);
+        let c = super::words::end_bit(left, end);
         if words[c] == word {
             return c as u8;
         }
         let others = super::words::cleared(left, c);
         left = super::words::without(others, words[c]);
+        end = !end;
     }
     64
 }

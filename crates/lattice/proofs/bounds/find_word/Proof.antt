@@ -10,10 +10,10 @@ use Rattle.lattice.proofs.bounds.find_word.Statement.{statement}
 use Rattle.lattice.proofs.bounds.find_word.Tie as tie
 
 abbrev Inv-loop : tie.InvT-loop
-Inv-loop words word low left₀ left = Seeking words word left
+Inv-loop words word low left₀ end₀ left end = Seeking words word left
 
 abbrev μ-loop : tie.MeasureT-loop
-μ-loop words word low left₀ left = left
+μ-loop words word low left₀ end₀ left end = left
 
 loop-holds : tie.Need-loop-holds Inv-loop μ-loop
 loop-holds c = seek-begin _ _
