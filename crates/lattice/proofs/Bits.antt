@@ -37,7 +37,7 @@ word-bit (suc k) w =
     ap₂ (λ (d r : ℕ). d * 2 ^ k + r) (bit-digit w k) (word-bit k w) ∙ sym (mod-pow-add w 1 k) ∙
     ap (λ (x : ℕ). w % 2 ^ x) (omega arith)
 
-pub bits-word : (k w : ℕ) → w < 2 ^ k → word k (bit w) ≡ w
+bits-word : (k w : ℕ) → w < 2 ^ k → word k (bit w) ≡ w
 bits-word k w l = word-bit k w ∙ mod-eq-of-lt l
 
 -- a word has the bits that it is made of
@@ -62,7 +62,7 @@ small-inside n w l j s e = ⊎-elim (λ r. r) (λ r. absurd (true-not-false (bit
       rw (div-eq-of-lt small)
 
 -- a number with a bit is not 0
-pub bit-positive : (w j : ℕ) → bit w j ≡ true → 0 < w
+bit-positive : (w j : ℕ) → bit w j ≡ true → 0 < w
 bit-positive zero j h = absurd (true-not-false (bit 0 j) h (no-bit j))
 bit-positive (suc w) j h = omega arith
 
@@ -76,7 +76,7 @@ one-word j l =
     word-cut 0 j (λ i. eqb i j) (omega arith) (λ i a b. ne-eqb i j (λ e. absurd (omega arith))) in
     cut ∙ rw (eq-eqb j j refl, low) (omega arith)
 
-pub one-bit : (j k : ℕ) → j < 64 → k < 64 → bit (2 ^ j) k ≡ eqb k j
+one-bit : (j k : ℕ) → j < 64 → k < 64 → bit (2 ^ j) k ≡ eqb k j
 one-bit j k l s = ap (λ (w : ℕ). bit w k) (sym (one-word j l)) ∙ bit-word 64 (λ i. eqb i j) k s
 
 pub and-bit : (a b j : ℕ) → bit (bitAnd a b) j ≡ (bit a j && bit b j)
@@ -129,7 +129,7 @@ without-rest a b =
 pub without-most : (a b : ℕ) → without a b ≤ a
 without-most a b = omega (arith, without-rest a b)
 
-pub without-less : (a b j : ℕ) → bit a j ≡ true → bit b j ≡ true → without a b < a
+without-less : (a b j : ℕ) → bit a j ≡ true → bit b j ≡ true → without a b < a
 without-less a b j e f =
     omega (arith, without-rest a b, bit-positive (bitAnd a b) j (and-bit a b j ∙ and-both (bit a j) (bit b j) e f))
 
@@ -231,7 +231,8 @@ module _ {w left : ℕ} {p : ℕ → Bool} (s : Passed w left p) where
         passed = λ k r e f. go k r e (bit left k) refl (eqb k j) refl (sym (cleared-bit left j k l r) ∙ f);
       }
     where
-      go : (k : ℕ) → k < 64 → bit w k ≡ true → (b : Bool) → bit left k ≡ b → (c : Bool) → eqb k j ≡ c → (bit left k && not (eqb k j)) ≡ false → p k ≡ true
+      go : (k : ℕ) → k < 64 → bit w k ≡ true → (b : Bool) → bit left k ≡ b → (c : Bool) → eqb k j ≡ c
+          → (bit left k && not (eqb k j)) ≡ false → p k ≡ true
       go k r e b e₁ true e₂ h₁ = subst (λ (i : ℕ). p i ≡ true) (sym (eqb-true k j e₂)) h
       go k r e false e₁ false e₂ h₁ = s .passed k r e e₁
       go k r e true e₁ false e₂ h₁ = absurd (true-not-false true refl (sym (rw (e₁, e₂)) ∙ h₁))

@@ -1,5 +1,5 @@
 -- Tests as facts: a conjunction, an implication, `every` and `last` of `Table`, each as what it says where it is true.
-use Prim.Native.Nat.{ℕ, zero, suc, _+_, _-_, _<_, _≤_}
+use Prim.Native.Nat.{ℕ, zero, suc, _+_, _<_, _≤_}
 use mathlib.Core.Path.{_≡_, refl, sym, ap, subst, _∙_}
 use mathlib.Core.Bool.{Bool, true, false, cond, not, _&&_}
 use mathlib.Core.Option.{Option, none, some}
@@ -50,6 +50,10 @@ same-test false false f g = refl
 pub not-true-false : (a : Bool) → (a ≡ true → ⊥) → a ≡ false
 not-true-false true h = absurd (h refl)
 not-true-false false h = refl
+
+pub not-false-true : (a : Bool) → (a ≡ false → ⊥) → a ≡ true
+not-false-true true h = refl
+not-false-true false h = absurd (h refl)
 
 pub true-not-false : (a : Bool) → a ≡ true → a ≡ false → ⊥
 true-not-false a g h = let z : _≡_ {A = ℕ} 0 1 = cc in omega arith
@@ -120,14 +124,6 @@ pub found-some : (o : Option ℕ) → found o ≡ true → (c : ℕ) × (o ≡ s
 found-some none h = let z : _≡_ {A = ℕ} 0 1 = cc in absurd (omega arith)
 found-some (some c) h = (c, refl)
 
--- one step down of a search for the last
-pub last-step : (p : ℕ → Bool) (c : ℕ) → 0 < c → last c p ≡ cond (p (c - 1)) (some (c - 1)) (last (c - 1) p)
-unfolding last
-last-step p zero l = absurd (not-suc-le-zero l)
-last-step p (suc c) l =
-    let e : suc c - 1 ≡ c = omega arith in
-    rw e
-
 -- at the end of a loop that passed every number
 pub every-done : (p : ℕ → Bool) (k n : ℕ) → k ≤ n → n ≤ k → every k p ≡ true → true ≡ every n p
 every-done p k n l s h = let e : k ≡ n = omega arith in sym (subst (λ (m : ℕ). every m p ≡ true) e h)
@@ -142,18 +138,6 @@ all-kept p k r e f = rw (add-one, f) (e ∙ go (every k p)) where
 
 pub every-end : (p : ℕ → Bool) (k n : ℕ) (r : Bool) → k ≤ n → n ≤ k → r ≡ every k p → r ≡ every n p
 every-end p k n r l s e = let q : k ≡ n = omega arith in e ∙ ap (λ (m : ℕ). every m p) q
-
--- at the end of a search down to 0
-pub last-none : (p : ℕ → Bool) (c : ℕ) → c ≤ 0 → last c p ≡ none
-unfolding last
-last-none p c l = let e : c ≡ 0 = omega arith in rw e
-
--- a search down by one that does not find, and one that does
-pub last-passed : (p : ℕ → Bool) (c : ℕ) → 0 < c → p (c - 1) ≡ false → last c p ≡ last (c - 1) p
-last-passed p c l h = last-step p c l ∙ rw h
-
-pub last-here : (p : ℕ → Bool) (c : ℕ) → 0 < c → p (c - 1) ≡ true → last c p ≡ some (c - 1)
-last-here p c l h = last-step p c l ∙ rw h
 
 -- a search that finds nothing, and one that finds the only number that passes
 pub last-nothing : (p : ℕ → Bool) (n : ℕ) → ((k : ℕ) → k < n → p k ≡ false) → last n p ≡ none

@@ -12,7 +12,7 @@ use lib.Dec.{eqb}
 use borrow.Author.Tests.{eq-eqb, ne-eqb, eqb-true, not-true}
 use Rattle.lattice.specs.Table.{every, found, implies, below, accepted, meetBelow, isResidual, residual, admits}
 use Rattle.lattice.specs.Words.{digit, word, related, Words, bit, without, turned, holder, wordPrime, Sided, Inside}
-use Rattle.lattice.proofs.Every.{and-left, and-right, and-both, implies-at, implies-from, every-at, every-all, same-test, not-true-false, true-not-false, below-or-not, below-suc, last-passes, last-found, found-some}
+use Rattle.lattice.proofs.Every.{and-left, and-right, and-both, implies-at, implies-from, every-at, every-all, same-test, not-true-false, not-false-true, true-not-false, below-or-not, below-suc, last-passes, last-found, found-some}
 use Rattle.lattice.proofs.WordLaws.{word-below}
 use Rattle.lattice.proofs.Bits.{bit-word, bits-same, without-bit, without-most, cleared-bit}
 use Rattle.lattice.proofs.OrderLaws.{row-bit}
@@ -220,7 +220,7 @@ module _ (n : ℕ) (t ws : List ℕ) (ok : accepted n t ≡ true) (words : Words
           let dj : below t d j ≡ true = and-left (below t d j) (not (eqb d j)) g in
           let apart : eqb d j ≡ false = not-true (eqb d j) (and-right (below t d j) (not (eqb d j)) g) in
           k .greatest d ld dj
-          (stands (below t d p) λ not-below.
+          (not-false-true (below t d p) λ not-below.
           let passes : below t d m && not (below t d p) ≡ true =
           rw (below-transitive n t ok d j m ld l (x .type) dj jm, not-below) in
           let less : getD ws d 0 < getD ws j 0 = word-less d j ld l dj λ same. true-not-false (eqb d j) (eq-eqb d j same) apart in
@@ -240,10 +240,6 @@ module _ (n : ℕ) (t ws : List ℕ) (ok : accepted n t ≡ true) (words : Words
           true-not-false (below t j e) (below-transitive n t ok j m e l (x .type) le jm (x .left))
           (not-true (below t j e) (sym (split .2 e le) ∙ ea)))
           (least-or-none (λ j. below t j m && not (below t j p)) (λ j. getD ws j 0) n)
-        where
-          stands : (b : Bool) → (b ≡ false → ⊥) → b ≡ true
-          stands true h = refl
-          stands false h = absurd (h refl)
 
       residual-there : found (residual n t p q) ≡ true
       unfolding residual isResidual
@@ -254,12 +250,8 @@ module _ (n : ℕ) (t ws : List ℕ) (ok : accepted n t ≡ true) (words : Words
           let r : (m : ℕ) × Meet n t (e .0) q m = meet-exists n t ok (e .0) q (e .1) lq in
           last-found (isResidual n t p q) n (e .0) (e .1)
           (and-both (meetBelow n t p q (e .0)) (every n (λ d. implies (meetBelow n t p q d) (below t d (e .0))))
-          (under (e .0) (r .0) (r .1) ∙ stands (below t (r .0) p) (greatest-under (e .0) (r .0) (e .1) (r .1) (e .3)))
+          (under (e .0) (r .0) (r .1) ∙ not-false-true (below t (r .0) p) (greatest-under (e .0) (r .0) (e .1) (r .1) (e .3)))
           (every-all _ n λ d l. implies-from (meetBelow n t p q d) (below t d (e .0)) (e .2 d l)))
-        where
-          stands : (b : Bool) → (b ≡ false → ⊥) → b ≡ true
-          stands true h = refl
-          stands false h = absurd (h refl)
 
   -- the residual of an irreducible type's lower neighbour by the type splits the types
   splits-there : admits n t ≡ true → (j : ℕ) → j < n → Primes n t j

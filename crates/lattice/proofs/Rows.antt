@@ -1,7 +1,7 @@
 -- The rows of a table of bounds: what stands in a row and in the table's cells, and when two such tables are equal.
 use Prim.Native.Nat.{ℕ, zero, suc, _+_, _<_, _≤_}
 use mathlib.Core.Path.{_≡_, refl, sym, ap, _∙_}
-use mathlib.Core.Bool.{Bool, true, false, cond, _&&_}
+use mathlib.Core.Bool.{Bool, true, false, cond}
 use mathlib.Core.List.{List, [], _∷_, map}
 use mathlib.Core.Option.{Option, none, some}
 use mathlib.Core.Logic.{⊎-elim}
@@ -11,11 +11,10 @@ use native.Mathlib.Omega.{arith}
 use lib.ListN.{length, getD, set, length-append, length-set, length-map, List·getD-append}
 use lib.Seq.{ext-getD, getD-at, getD-set-same, getD-set-other}
 use lib.Dec.{leb, ltb, eqb}
-use lib.Bits.{bitAnd}
 use borrow.Author.Count.{below-more}
 use borrow.Author.Tests.{le-leb, lt-leb, leb-true, lt-ltb}
 use Rattle.lattice.specs.Table.{every, found, cell, boundRow, overwrite, upto}
-use Rattle.lattice.specs.Words.{allFound, holder, wordBound}
+use Rattle.lattice.specs.Words.{allFound, holder}
 use Rattle.lattice.proofs.Every.{every-same, below-or-not, last-passes}
 
 length-upto : (k : ℕ) → length (upto k) ≡ k
@@ -123,7 +122,7 @@ pub set-rest : (l : List ℕ) (i v : ℕ) → ((k : ℕ) → i ≤ k → k < 64 
 set-rest l i v h k r s = getD-set-other l i k v 0 (λ q. absurd (omega arith)) ∙ h k (omega arith) s
 
 -- a holder is a type
-pub holder-type : (n : ℕ) (ws : List ℕ) (w c : ℕ) → holder n ws w ≡ some c → c < n
+holder-type : (n : ℕ) (ws : List ℕ) (w c : ℕ) → holder n ws w ≡ some c → c < n
 unfolding holder
 holder-type n ws w c e = last-passes (λ k. eqb (getD ws k 0) w) n c e .0
 

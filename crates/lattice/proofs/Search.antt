@@ -1,18 +1,17 @@
 -- The search for the type that has a word, in the words of one side of an order: it is a bit of its own word, and no type on
 -- the side of another that has the word's bits can be it.
-use Prim.Native.Nat.{ℕ, zero, suc, _-_, _^_, _<_, _≤_}
-use mathlib.Core.Path.{_≡_, refl, sym, ap, subst, _∙_}
-use mathlib.Core.Bool.{Bool, true, false, not, _&&_}
+use Prim.Native.Nat.{ℕ, _^_, _<_, _≤_}
+use mathlib.Core.Path.{_≡_, sym, ap, subst, _∙_}
+use mathlib.Core.Bool.{true, false, not, _&&_}
 use mathlib.Core.List.{List}
-use mathlib.Core.Option.{Option, none, some}
 use native.Mathlib.Omega.{arith}
 use lib.ListN.{getD}
 use lib.Bits.{bitAnd}
 use lib.Dec.{ltb, eqb}
 use borrow.Author.Tests.{eq-eqb, ne-eqb, eqb-true}
-use Rattle.lattice.specs.Table.{last, cell, found}
+use Rattle.lattice.specs.Table.{cell, found}
 use Rattle.lattice.specs.Words.{bit, without, holder, Sided, Inside}
-use Rattle.lattice.proofs.Every.{and-left, and-both, not-true-false, true-not-false, last-nothing, last-only}
+use Rattle.lattice.proofs.Every.{and-left, not-true-false, true-not-false, last-nothing, last-only}
 use Rattle.lattice.proofs.Bits.{no-bit, and-bit, without-bit, without-most, cleared-bit, cleared-less}
 use Rattle.lattice.proofs.Rows.{holder-found}
 

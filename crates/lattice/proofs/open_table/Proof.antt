@@ -40,18 +40,26 @@ turn-words-requires c κs = search needs
 
 fill-requires : tie.Need-fill-requires
 fill-requires c κs =
-    let start = c .before .before .before .before .before .before .before .before .before .before .before .before in (
+    let tested = c .before .before .before .before .before in
+    let start = tested .before .before .before .before .before .before .before in (
       search needs,
-      down-sided (start .args .n) (start .args .table .now) _ (size-right _ _ (search needs) (search needs) (c .before .before .before .before .before .before .before .before .if3 .left))
-          (c .before .before .before .before .before .before .before .read-words .ensures) (held (c .before .before .before .before .before .is-ordered .ensures) (c .before .before .before .before .if4 .left)),
+      down-sided (start .args .n) (start .args .table .now) _
+          (size-right _ _ (search needs) (search needs) (tested .before .before .before .if3 .left))
+          (tested .before .before .read-words .ensures)
+          (held (tested .is-ordered .ensures) (c .before .before .before .before .if4 .left)),
     )
 
 fill-requires-2 : tie.Need-fill-requires-2
 fill-requires-2 c κs =
-    let start = c .before .before .before .before .before .before .before .before .before .before .before .before .before .before .before in (
+    let tested = c .before .before .before .before .before .before .before .before in
+    let start = tested .before .before .before .before .before .before .before in (
       search needs,
-      up-sided (start .args .n) (start .args .table .now) _ (size-right _ _ (search needs) (search needs) (c .before .before .before .before .before .before .before .before .before .before .before .if3 .left))
-          (c .before .before .before .before .before .before .before .before .before .before .read-words .ensures) (held (c .before .before .before .before .before .before .before .before .is-ordered .ensures) (c .before .before .before .before .before .before .before .if4 .left)) _ (c .before .before .before .before .before .turn-words .ensures),
+      up-sided (start .args .n) (start .args .table .now) _
+          (size-right _ _ (search needs) (search needs) (tested .before .before .before .if3 .left))
+          (tested .before .before .read-words .ensures)
+          (held (tested .is-ordered .ensures) (c .before .before .before .before .before .before .before .if4 .left))
+          _
+          (c .before .before .before .before .before .turn-words .ensures),
     )
 
 returns-5 : tie.Need-returns-5

@@ -1,5 +1,5 @@
 -- `find_word` meets its contract: every type that has the word is among the bits left.
-use Prim.Native.Nat.{ℕ, _^_}
+use Prim.Native.Nat.{ℕ}
 use mathlib.Core.Path.{ap, sym, subst, _∙_}
 use native.Mathlib.Omega.{arith}
 use lib.ListN.{getD}

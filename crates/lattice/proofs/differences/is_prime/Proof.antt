@@ -1,7 +1,6 @@
 -- `is_prime` meets its contract: a part of a word has a holder where the search finds one.
 use Prim.Native.Nat.{_^_, _-_}
 use mathlib.Core.Path.{sym, ap, _∙_}
-use native.Mathlib.Omega.{arith}
 use lib.ListN.{getD}
 use borrow.Author.Tests.{le-ltb, lt-ltb}
 use Rattle.lattice.specs.Words.{without, wordPrime}
@@ -28,7 +27,9 @@ returns c =
     let start = c .before .before .before .before in
     let n = start .args .n in
     let j = start .args .j in
-    let lower = part-found n (start .args .down .now) j (2 ^ j) _ _ (start .pre .0) (start .pre .1) (start .pre .2) (c .before .before .cleared .ensures) (c .before .find-word .ensures) in
+    let lower =
+    part-found n (start .args .down .now) j (2 ^ j) _ _ (start .pre .0) (start .pre .1) (start .pre .2) (c .before .before .cleared .ensures)
+    (c .before .find-word .ensures) in
     simp (sym lower ∙ le-ltb _ _ (c .if1 .taken))
 
 turn-word-requires : tie.Need-turn-word-requires
@@ -56,7 +57,9 @@ returns-2 c =
     let n = start .args .n in
     let j = start .args .j in
     let ws = start .args .down .now in
-    let lower = part-found n ws j (2 ^ j) _ _ (start .pre .0) (start .pre .1) (start .pre .2) (c .before .before .before .before .before .before .cleared .ensures) (c .before .before .before .before .before .find-word .ensures) in
+    let first = c .before .before .before .before .before in
+    let lower =
+    part-found n ws j (2 ^ j) _ _ (start .pre .0) (start .pre .1) (start .pre .2) (first .before .cleared .ensures) (first .find-word .ensures) in
     let made = c .before .without .ensures ∙ ap (without (getD ws (n - 1) 0)) (c .before .before .before .turn-word .ensures) in
     let others = part-found n ws (n - 1) _ _ _ (search needs) (start .pre .1) (start .pre .2) made (c .find-word2 .ensures) in
     others ∙ simp (sym lower ∙ lt-ltb _ _ (c .before .before .before .before .if1 .left))

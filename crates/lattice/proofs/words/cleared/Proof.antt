@@ -1,5 +1,4 @@
 -- `cleared` meets its contract: the one bit shifted to j is 2 ^ j.
-use Prim.Native.Nat.{ℕ}
 use mathlib.Core.Path.{ap, _∙_}
 use Rattle.lattice.specs.Words.{without}
 use Rattle.lattice.proofs.WordLaws.{shifted}

@@ -1,7 +1,6 @@
 -- `end_bit` meets its contract: next to the zeros at an end stands a bit.
 use native.Mathlib.Omega.{arith}
 use Rattle.lattice.proofs.Bits.{lowest-bit, highest-bit}
-use borrow.Author.Needs.{needs}
 use Rattle.lattice.proofs.words.end_bit.Statement.{statement}
 use Rattle.lattice.proofs.words.end_bit.Tie as tie
 

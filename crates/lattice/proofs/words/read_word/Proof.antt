@@ -39,7 +39,8 @@ add-word c =
     let turn = c .before .before .loop in
     let start = c .before .before .before .before in
     record {
-      fits = byte-fits (start .args .table .now) (start .args .i) (turn .k) _ _ (search needs) (turn .inv .1) (c .byte-at .ensures .0) (c .byte-at .ensures .1);
+      fits = byte-fits (start .args .table .now) (start .args .i) (turn .k) _ _ (search needs) (turn .inv .1) (c .byte-at .ensures .0)
+          (c .byte-at .ensures .1);
     }
 
 add-k : tie.Need-add-k Inv-loop μ-loop
@@ -53,7 +54,8 @@ loop-again c =
     let turn = c .before .before .loop in
     let start = c .before .before .before .before in (
       search needs,
-      next-byte (start .args .table .now) (start .args .i) (turn .k) _ _ (search needs) (turn .inv .1) (c .byte-at .ensures .0) (c .byte-at .ensures .1),
+      next-byte (start .args .table .now) (start .args .i) (turn .k) _ _ (search needs) (turn .inv .1) (c .byte-at .ensures .0)
+          (c .byte-at .ensures .1),
     )
 
 returns : tie.Need-returns Inv-loop μ-loop
