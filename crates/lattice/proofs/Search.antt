@@ -10,7 +10,7 @@ use lib.Bits.{bitAnd}
 use lib.Dec.{ltb, eqb}
 use borrow.Author.Tests.{eq-eqb, ne-eqb, eqb-true}
 use Rattle.lattice.specs.Table.{cell, found}
-use Rattle.lattice.specs.Words.{bit, without, holder, Sided, Inside}
+use Rattle.lattice.specs.Words.{bit, without, holder, wordBound, Sided, Inside}
 use Rattle.lattice.proofs.Every.{and-left, not-true-false, true-not-false, last-nothing, last-only}
 use Rattle.lattice.proofs.Bits.{no-bit, and-bit, without-bit, without-most, cleared-bit, cleared-less}
 use Rattle.lattice.proofs.Rows.{holder-found}
@@ -83,6 +83,15 @@ module _ {ws : List ℕ} {word left : ℕ} (s : Seeking ws word left) where
 pub common-inside : (n : ℕ) (ws : List ℕ) (a b : ℕ) → a < n → Sided n ws → Inside n (bitAnd (getD ws a 0) (getD ws b 0))
 common-inside n ws a b l side j r e =
     side .inside a j l r (and-left (bit (getD ws a 0) j) (bit (getD ws b 0) j) (sym (and-bit (getD ws a 0) (getD ws b 0) j) ∙ e))
+
+-- a type that has the common part of the words of a and b as its word is their bound
+module _ (ws : List ℕ) (a b c : ℕ) (l : c < 64) (e : getD ws c 0 ≡ bitAnd (getD ws a 0) (getD ws b 0)) where
+  pub bound-at : bit (bitAnd (getD ws a 0) (getD ws b 0)) c ≡ true
+      → (n : ℕ) → n ≤ 64 → Sided n ws → a < n → b < n → c ≡ cell (wordBound n ws a b)
+  bound-at h n few side la lb = seek-found (seek-begin ws _) c l h e n few side (common-inside n ws a b la side)
+
+  pub bound-own : (n : ℕ) → n ≤ 64 → Sided n ws → c < n → a < n → b < n → c ≡ cell (wordBound n ws a b)
+  bound-own n few side lc = bound-at (ap (λ (w : ℕ). bit w c) (sym e) ∙ side .own c lc) n few side
 
 -- a word without some of its bits has no bit at n or above where the word has none
 pub without-inside : (n a b : ℕ) → Inside n a → Inside n (without a b)

@@ -25,6 +25,28 @@ pub fn find_word(words: &[u64; 64], word: u64, low: bool) -> u8
     64
 }
 
+// The bound of types a and b, or 64 where there is none: at once where it is the type at the end of the word, or one of the two.
+pub fn bound(words: &[u64; 64], low: bool, a: usize, b: usize) -> u8
+    requires { ⌜ (a < 64) × (b < 64) ⌝ }
+    ensures { λ r. ⌜ ((n : ℕ) → n ≤ 64 → Sided n (now (words .entry)) → a < n → b < n → r ≡ cell (wordBound n (now (words .entry)) a b)) ⌝ }
+{
+    let word = words[a] & words[b];
+    if word == 0 {
+        return 64;
+    }
+    let c = super::words::end_bit(word, low);
+    if words[c] == word {
+        return c as u8;
+    }
+    if words[a] == word {
+        return a as u8;
+    }
+    if words[b] == word {
+        return b as u8;
+    }
+    find_word(words, word, low)
+}
+
 // A row of a table of bounds, and whether the bounds in it were all found.
 pub struct BoundRow {
     pub cells: [u8; 64],
@@ -41,7 +63,7 @@ pub fn bound_row(n: usize, words: &[u64; 64], low: bool, a: usize) -> BoundRow
     let mut found = true;
     let mut b = 0;
     while b < n {
-        let c = find_word(words, words[a] & words[b], low);
+        let c = bound(words, low, a, b);
         if 64 <= c {
             found = false;
         }

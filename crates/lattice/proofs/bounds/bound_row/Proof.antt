@@ -10,7 +10,6 @@ use Rattle.lattice.specs.Table.{every, found as foundOf, cell}
 use Rattle.lattice.specs.Words.{wordBound}
 use Rattle.lattice.proofs.Every.{every-none, every-fails, all-kept, every-end}
 use Rattle.lattice.proofs.Rows.{set-more, set-rest, row-made, holder-found}
-use Rattle.lattice.proofs.Search.{common-inside}
 use borrow.Author.Needs.{needs}
 use Rattle.lattice.proofs.bounds.bound_row.Statement.{statement}
 use Rattle.lattice.proofs.bounds.bound_row.Tie as tie
@@ -29,20 +28,8 @@ abbrev μ-loop : tie.MeasureT-loop
 loop-holds : tie.Need-loop-holds Inv-loop μ-loop
 loop-holds c = (search needs, search needs, below-none _, λ k l s. getD-replicate {A = ℕ} 64 k 0 0 s, sym (every-none _))
 
-mul-find-word : tie.Need-mul-find-word Inv-loop μ-loop
-mul-find-word c = search needs
-
-element-copy-out-find-word : tie.Need-element-copy-out-find-word Inv-loop μ-loop
-element-copy-out-find-word c = search needs
-
-mul-find-word-2 : tie.Need-mul-find-word-2 Inv-loop μ-loop
-mul-find-word-2 c = search needs
-
-element-copy-out-find-word-2 : tie.Need-element-copy-out-find-word-2 Inv-loop μ-loop
-element-copy-out-find-word-2 c = search needs
-
-find-word-requires : tie.Need-find-word-requires Inv-loop μ-loop
-find-word-requires c κs = search needs
+bound-requires : tie.Need-bound-requires Inv-loop μ-loop
+bound-requires c κs = search needs
 
 array-write-cells : tie.Need-array-write-cells Inv-loop μ-loop
 array-write-cells c = search needs
@@ -55,12 +42,11 @@ loop-less c = search needs
 
 loop-again : tie.Need-loop-again Inv-loop μ-loop
 loop-again c =
-    let start = c .before .before .before .before .before .before in
-    let turn = c .before .before .before .before .before .loop in
+    let start = c .before .before .before .before in
+    let turn = c .before .before .before .loop in
     let n = start .args .n in
     let ws = start .args .words .now in
-    let answer =
-    c .before .find-word .ensures n (start .pre .1) (start .pre .2) (common-inside n ws (start .args .a) (turn .b) (start .pre .0) (start .pre .2)) in
+    let answer = c .before .bound .ensures n (start .pre .1) (start .pre .2) (start .pre .0) (search needs) in
     let told = holder-found n ws _ _ _ (start .pre .1) refl answer in (
       search needs,
       search needs,
@@ -88,11 +74,7 @@ bound-row-spec =
     Inv-loop
     μ-loop
     loop-holds
-    mul-find-word
-    element-copy-out-find-word
-    mul-find-word-2
-    element-copy-out-find-word-2
-    find-word-requires
+    bound-requires
     array-write-cells
     add-b
     loop-less
