@@ -1,5 +1,5 @@
 -- Tests as facts: a conjunction, an implication, `every` and `last` of `Table`, each as what it says where it is true.
-use Prim.Native.Nat.{ℕ, zero, suc, _+_, _-_, _<_, _≤_}
+use Prim.Native.Nat.{ℕ, zero, suc, _+_, _<_, _≤_}
 use mathlib.Core.Path.{_≡_, refl, sym, ap, subst, _∙_}
 use mathlib.Core.Bool.{Bool, true, false, cond, not, _&&_}
 use mathlib.Core.Option.{Option, none, some}
@@ -28,6 +28,10 @@ pub and-fails-right : (a b : Bool) → b ≡ false → a && b ≡ false
 and-fails-right true b h = h
 and-fails-right false b h = refl
 
+-- four tests that passed leave the fifth to decide
+pub fifth-decides : {a b c d e : Bool} → a ≡ true → b ≡ true → c ≡ true → d ≡ true → e ≡ (a && b && c && d && e)
+fifth-decides f g h k = rw (f, g, h, k)
+
 pub implies-at : (a b : Bool) → implies a b ≡ true → a ≡ true → b ≡ true
 implies-at true b h g = h
 implies-at false b h g = let z : _≡_ {A = ℕ} 0 1 = cc in absurd (omega arith)
@@ -47,6 +51,10 @@ pub not-true-false : (a : Bool) → (a ≡ true → ⊥) → a ≡ false
 not-true-false true h = absurd (h refl)
 not-true-false false h = refl
 
+pub not-false-true : (a : Bool) → (a ≡ false → ⊥) → a ≡ true
+not-false-true true h = refl
+not-false-true false h = absurd (h refl)
+
 pub true-not-false : (a : Bool) → a ≡ true → a ≡ false → ⊥
 true-not-false a g h = let z : _≡_ {A = ℕ} 0 1 = cc in omega arith
 
@@ -57,7 +65,7 @@ below-or-not j n = go (ltb j n) refl where
   go true e = inl (ltb-true j n e)
   go false e = inr (ltb-false j n e)
 
-below-suc : {k n : ℕ} {P : Type 0} → k < suc n → (k ≡ n → P) → (k < n → P) → P
+pub below-suc : {k n : ℕ} {P : Type 0} → k < suc n → (k ≡ n → P) → (k < n → P) → P
 below-suc l here before = ⊎-elim here before (eq-or-lt-of-le (le-of-suc-le-suc l))
 
 pub every-at : (p : ℕ → Bool) (n k : ℕ) → every n p ≡ true → k < n → p k ≡ true
@@ -116,29 +124,46 @@ pub found-some : (o : Option ℕ) → found o ≡ true → (c : ℕ) × (o ≡ s
 found-some none h = let z : _≡_ {A = ℕ} 0 1 = cc in absurd (omega arith)
 found-some (some c) h = (c, refl)
 
--- one step down of a search for the last
-pub last-step : (p : ℕ → Bool) (c : ℕ) → 0 < c → last c p ≡ cond (p (c - 1)) (some (c - 1)) (last (c - 1) p)
-unfolding last
-last-step p zero l = absurd (not-suc-le-zero l)
-last-step p (suc c) l =
-    let e : suc c - 1 ≡ c = omega arith in
-    rw e
-
 -- at the end of a loop that passed every number
 pub every-done : (p : ℕ → Bool) (k n : ℕ) → k ≤ n → n ≤ k → every k p ≡ true → true ≡ every n p
 every-done p k n l s h = let e : k ≡ n = omega arith in sym (subst (λ (m : ℕ). every m p ≡ true) e h)
 
--- at the end of a search down to 0
-pub last-none : (p : ℕ → Bool) (c : ℕ) → c ≤ 0 → last c p ≡ none
+-- a flag that tells of the numbers below k, where k passes, and at the end of a loop
+pub all-kept : (p : ℕ → Bool) (k : ℕ) (r : Bool) → r ≡ every k p → p k ≡ true → r ≡ every (k + 1) p
+unfolding every
+all-kept p k r e f = rw (add-one, f) (e ∙ go (every k p)) where
+  go : (b : Bool) → b ≡ (b && true)
+  go true = refl
+  go false = refl
+
+pub every-end : (p : ℕ → Bool) (k n : ℕ) (r : Bool) → k ≤ n → n ≤ k → r ≡ every k p → r ≡ every n p
+every-end p k n r l s e = let q : k ≡ n = omega arith in e ∙ ap (λ (m : ℕ). every m p) q
+
+-- a search that finds nothing, and one that finds the only number that passes
+pub last-nothing : (p : ℕ → Bool) (n : ℕ) → ((k : ℕ) → k < n → p k ≡ false) → last n p ≡ none
 unfolding last
-last-none p c l = let e : c ≡ 0 = omega arith in rw e
+last-nothing p zero h = refl
+last-nothing p (suc n) h = rw (h n (omega arith)) (last-nothing p n λ k l. h k (omega arith))
 
--- a search down by one that does not find, and one that does
-pub last-passed : (p : ℕ → Bool) (c : ℕ) → 0 < c → p (c - 1) ≡ false → last c p ≡ last (c - 1) p
-last-passed p c l h = last-step p c l ∙ rw h
+pub last-only : (p : ℕ → Bool) (n c : ℕ) → c < n → p c ≡ true → ((k : ℕ) → k < n → p k ≡ true → k ≡ c) → last n p ≡ some c
+unfolding last
+last-only p zero c l e h = absurd (not-suc-le-zero l)
+last-only p (suc n) c l e h = go (last-only p n c) (p n) refl where
+  go : (c < n → p c ≡ true → ((k : ℕ) → k < n → p k ≡ true → k ≡ c) → last n p ≡ some c) → (b : Bool) → p n ≡ b
+      → cond (p n) (some n) (last n p) ≡ some c
+  go before true f = rw f (ap some (h n (omega arith) f))
+  go before false f =
+      rw f
+      (below-suc l (λ q. absurd (true-not-false (p n) (ap p (sym q) ∙ e) f)) (λ s. before s e λ k r g. h k (omega arith) g))
 
-pub last-here : (p : ℕ → Bool) (c : ℕ) → 0 < c → p (c - 1) ≡ true → last c p ≡ some (c - 1)
-last-here p c l h = last-step p c l ∙ rw h
+-- a search finds where a number passes
+pub last-found : (p : ℕ → Bool) (n c : ℕ) → c < n → p c ≡ true → found (last n p) ≡ true
+unfolding last
+last-found p zero c l e = absurd (not-suc-le-zero l)
+last-found p (suc n) c l e = go (last-found p n c) (p n) refl where
+  go : (c < n → p c ≡ true → found (last n p) ≡ true) → (b : Bool) → p n ≡ b → found (cond (p n) (some n) (last n p)) ≡ true
+  go before true f = rw f
+  go before false f = rw f (below-suc l (λ q. absurd (true-not-false (p n) (ap p (sym q) ∙ e) f)) (λ s. before s e))
 
 -- what a call answered, after a branch on its negation
 pub refuted : {b p : Bool} → b ≡ p → not b ≡ true → p ≡ false

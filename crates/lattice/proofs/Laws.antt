@@ -2,14 +2,15 @@
 -- the table admits differences, residuals and wanted types.
 use Prim.Native.Nat.{ℕ, _*_, _-_, _<_, _≤_}
 use mathlib.Core.Path.{_≡_, sym, ap, subst, _∙_}
-use mathlib.Core.Bool.{true, _&&_}
+use mathlib.Core.Bool.{true, false, _&&_}
 use mathlib.Core.List.{List, []}
 use mathlib.Core.Option.{Option, some}
 use native.Mathlib.Omega.{arith}
 use lib.ListN.{length, getD}
 use Rattle.lattice.specs.Table.{every, found, implies, below, sized, ordered, bounded, accepted, isMeet, isJoin, meet, join, meetBelow, isResidual, residual, admits, filled, boundRow}
+use Rattle.lattice.specs.Words.{related, Words, Sided}
 use Rattle.lattice.proofs.Every.{and-left, and-right, and-both, implies-at, every-at, last-passes, found-some}
-use Rattle.lattice.proofs.OrderLaws.{Ordered, ordered-facts}
+use Rattle.lattice.proofs.OrderLaws.{Ordered, ordered-facts, side, sided}
 use Rattle.lattice.proofs.Opening.{size-facts}
 use Rattle.lattice.proofs.Rows.{getD-overwrite, row-bound}
 
@@ -58,6 +59,10 @@ module _ (n : ℕ) (t : List ℕ) (ok : accepted n t ≡ true) where
 
   pub accepted-facts : Ordered n t
   accepted-facts = ordered-facts n t (and-right (sized n t) (ordered n t) accepted-order)
+
+  -- the words of its lower types are those of an order's side
+  pub accepted-sided : (ws : List ℕ) → Words n t false ws → Sided n ws
+  accepted-sided ws words = sided n (related t false) ws (accepted-size .1) (side n t false (accepted-size .2) accepted-facts) words
 
   accepted-bounds : (a b : ℕ) → a < n → b < n → found (meet n t a b) && found (join n t a b) ≡ true
   unfolding accepted bounded

@@ -4,7 +4,7 @@ use mathlib.Core.Path.{_≡_, sym, _∙_}
 use mathlib.Core.Bool.{Bool, true, false, cond, not, _&&_}
 use mathlib.Core.List.{List}
 use native.Mathlib.Omega.{arith}
-use lib.ListN.{length}
+use lib.ListN.{length, getD}
 use lib.Dec.{leb, eqb}
 use borrow.Author.Tests.{le-leb, lt-leb, leb-true, eq-eqb, ne-eqb, eqb-true, not-true, not-false}
 use Rattle.lattice.specs.declared.TableFault.the-variants.{Size, Order, Bounds}
@@ -12,9 +12,9 @@ use Rattle.lattice.specs.declared.Opened.{Opened}
 use Rattle.lattice.specs.declared.Opened.the-variants.{Accepted, Refused}
 use Rattle.lattice.specs.Table.{every, found, sized, ordered, bounded, meet, join, boundRow, overwrite, filled}
 use Rattle.lattice.specs.Reply.{opened, Opening}
-use Rattle.lattice.specs.Words.{Words, wordBound, allFound, rowOrdered}
+use Rattle.lattice.specs.Words.{related, Words, turned, wordBound, allFound, rowOrdered, Sided}
 use Rattle.lattice.proofs.Every.{and-left, and-right, and-both, and-fails-right, every-at, every-all, same-test}
-use Rattle.lattice.proofs.OrderLaws.{Ordered, ordered-facts, rows-ordered}
+use Rattle.lattice.proofs.OrderLaws.{Ordered, ordered-facts, rows-ordered, Side, side, sided, turned-words}
 use Rattle.lattice.proofs.BoundLaws.{meet-found, join-found}
 use Rattle.lattice.proofs.Rows.{overwrite-same, found-same}
 
@@ -70,16 +70,31 @@ module _ (n : ℕ) (t : List ℕ) (meets joins : List (List ℕ)) where
   refuse-size h = record { answers = rw h; meets-hold = rw h; joins-hold = rw h }
 
   -- refused by order: nothing is changed
-  pub refuse-order : (down : List ℕ) → sized n t ≡ true → n ≤ 64 → Words n t false down → every n (rowOrdered n t down) ≡ false
+  pub refuse-order : (down : List ℕ) → sized n t ≡ true → n ≤ 64 → Words n t false down → every n (rowOrdered n down) ≡ false
       → Opening n t (Refused Order) meets meets joins joins
   unfolding opened filled
   refuse-order down s few words h =
       let o : ordered n t ≡ false = sym (rows-ordered n t down few words) ∙ h in
       record { answers = rw (s, o); meets-hold = rw (s, o); joins-hold = rw (s, o) }
 
+-- the words of both sides of an order
+module _ (n : ℕ) (t down : List ℕ) (s : sized n t ≡ true) (words : Words n t false down) (order : every n (rowOrdered n down) ≡ true) where
+  opened-side : (up : Bool) → Side n (related t up)
+  opened-side up =
+      let f : (2 ≤ n) × (n ≤ 64) × (length t ≡ 8 * n) = size-facts n t s in
+      side n t up (f .2) (ordered-facts n t (sym (rows-ordered n t down (f .1) words) ∙ order))
+
+  pub down-sided : Sided n down
+  down-sided = sided n (related t false) down (size-facts n t s .1) (opened-side false) words
+
+  pub up-sided : (up : List ℕ) → ((i : ℕ) → i < n → getD up i 0 ≡ turned n down i) → Sided n up
+  up-sided up made =
+      let f : (2 ≤ n) × (n ≤ 64) × (length t ≡ 8 * n) = size-facts n t s in
+      sided n (related t true) up (f .1) (opened-side true) (turned-words n t down up (f .1) (f .2) words made)
+
 -- an order: the answer goes by whether all bounds were found, and the tables hold them
 module _ (n : ℕ) (t down up : List ℕ) (meets₀ meets joins₀ joins : List (List ℕ)) (met joined : Bool) (s : sized n t ≡ true)
-    (words : Words n t false down) (words′ : Words n t true up) (order : every n (rowOrdered n t down) ≡ true)
+    (words : Words n t false down) (made : (i : ℕ) → i < n → getD up i 0 ≡ turned n down i) (order : every n (rowOrdered n down) ≡ true)
     (m : (met ≡ allFound n (wordBound n down)) × (meets ≡ overwrite n (boundRow n (wordBound n down)) meets₀))
     (j : (joined ≡ allFound n (wordBound n up)) × (joins ≡ overwrite n (boundRow n (wordBound n up)) joins₀)) where
   answer : (r : Opened) → cond (met && joined) Accepted (Refused Bounds) ≡ r → Opening n t r meets₀ meets joins₀ joins
@@ -89,7 +104,8 @@ module _ (n : ℕ) (t down up : List ℕ) (meets₀ meets joins₀ joins : List 
       let o : ordered n t ≡ true = sym (rows-ordered n t down (f .1) words) ∙ order in
       let facts : Ordered n t = ordered-facts n t o in
       let same : (a b : ℕ) → a < n → b < n → wordBound n down a b ≡ meet n t a b = meet-found n t down (f .1) (f .2) facts words in
-      let same′ : (a b : ℕ) → a < n → b < n → wordBound n up a b ≡ join n t a b = join-found n t up (f .1) (f .2) facts words′ in
+      let same′ : (a b : ℕ) → a < n → b < n → wordBound n up a b ≡ join n t a b =
+      join-found n t up (f .1) (f .2) facts (turned-words n t down up (f .1) (f .2) words made) in
       let all : met ≡ allFound n (meet n t) = m .0 ∙ found-same n _ _ same in
       let all′ : joined ≡ allFound n (join n t) = j .0 ∙ found-same n _ _ same′ in
       let b : met && joined ≡ bounded n t = rw (all, all′) (found-bounded n t) in

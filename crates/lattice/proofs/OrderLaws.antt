@@ -1,6 +1,6 @@
 -- An order's laws as facts, and that the tests on words decide them.
 use Prim.Native.Nat.{ℕ, suc, _+_, _*_, _-_, _/_, _%_, _^_, _<_, _≤_}
-use mathlib.Core.Path.{_≡_}
+use mathlib.Core.Path.{_≡_, sym, ap, _∙_}
 use mathlib.Core.Bool.{Bool, true, false, _&&_}
 use mathlib.Core.List.{List}
 use mathlib.Core.Logic.{⊎-elim}
@@ -10,9 +10,10 @@ use lib.ListN.{length, getD, List·getD-eq-default}
 use lib.Dec.{leb, eqb}
 use borrow.Author.Tests.{eq-eqb, eqb-true, le-leb, leb-true}
 use Rattle.lattice.specs.Table.{every, implies, below, ordered, within, reflexive, antisymmetric, transitive, least, greatest}
-use Rattle.lattice.specs.Words.{word, related, Words, partOf, pairOrdered, rowOrdered}
+use Rattle.lattice.specs.Words.{word, related, Words, bit, turned, partOf, pairOrdered, rowOrdered, Sided}
 use Rattle.lattice.proofs.Every.{and-left, and-right, and-both, implies-at, implies-from, every-at, every-all, same-test, true-not-false, below-or-not}
-use Rattle.lattice.proofs.WordLaws.{bits-part-of, part-of-bits, short-bits, bits-short}
+use Rattle.lattice.proofs.WordLaws.{word-same, word-cut, bits-part-of, part-of-bits, short-bits, bits-short}
+use Rattle.lattice.proofs.Bits.{bit-word}
 
 -- the laws of the order that the rows state, for types below n
 pub record Ordered (n : ℕ) (t : List ℕ) : Type 0 where
@@ -80,54 +81,59 @@ module _ (n : ℕ) (t : List ℕ) where
 
 -- the tests on words decide the laws
 module _ (n : ℕ) (t ws : List ℕ) (few : n ≤ 64) (words : Words n t false ws) where
-  pub pair-facts : (i j : ℕ) → i < n → j < n → pairOrdered t ws i j ≡ true → below t j i ≡ true
+  -- bit j of word i is the bit of the table
+  pub row-bit : (i j : ℕ) → i < n → j < 64 → bit (getD ws i 0) j ≡ below t j i
+  row-bit i j l s = ap (λ (w : ℕ). bit w j) (words i l) ∙ bit-word 64 (related t false i) j s
+
+  pair-facts : (i j : ℕ) → i < n → j < n → pairOrdered ws i j ≡ true
       → ((k : ℕ) → k < 64 → below t k j ≡ true → below t k i ≡ true) × (below t i j ≡ true → i ≡ j)
   unfolding pairOrdered
-  pair-facts i j l s h e =
-      let both : partOf (getD ws j 0) (getD ws i 0) && implies (below t i j) (eqb i j) ≡ true = implies-at (below t j i) _ h e in
+  pair-facts i j l s h =
+      let test : Bool = implies (bit (getD ws j 0) i) (eqb i j) in
       let sub : partOf (word 64 (related t false j)) (word 64 (related t false i)) ≡ true =
-      rw (← words j s, ← words i l)
-      (and-left (partOf (getD ws j 0) (getD ws i 0)) (implies (below t i j) (eqb i j)) both) in (
+      rw (← words j s, ← words i l) (and-left (partOf (getD ws j 0) (getD ws i 0)) test h) in (
         part-of-bits 64 (related t false j) (related t false i) sub,
         λ f.
             eqb-true i j
-            (implies-at (below t i j) (eqb i j)
-            (and-right (partOf (getD ws j 0) (getD ws i 0)) (implies (below t i j) (eqb i j)) both)
-            f),
+            (implies-at (bit (getD ws j 0) i) (eqb i j) (and-right (partOf (getD ws j 0) (getD ws i 0)) test h)
+            (row-bit j i s (omega arith) ∙ f)),
       )
 
-  pub facts-pair : Ordered n t → (i j : ℕ) → i < n → j < n → pairOrdered t ws i j ≡ true
+  facts-pair : Ordered n t → (i j : ℕ) → i < n → j < n → below t j i ≡ true → pairOrdered ws i j ≡ true
   unfolding pairOrdered
-  facts-pair o i j l s =
-      implies-from (below t j i) (partOf (getD ws j 0) (getD ws i 0) && implies (below t i j) (eqb i j)) λ e.
-      and-both (partOf (getD ws j 0) (getD ws i 0)) (implies (below t i j) (eqb i j))
+  facts-pair o i j l s e =
+      and-both (partOf (getD ws j 0) (getD ws i 0)) (implies (bit (getD ws j 0) i) (eqb i j))
       (rw (words j s, words i l)
       (bits-part-of 64 (related t false j) (related t false i) λ k r f. o .chain k j i (o .inside j k s r f) s l f e))
-      (implies-from (below t i j) (eqb i j) λ f. eq-eqb i j (o .anti i j l s f e))
+      (implies-from (bit (getD ws j 0) i) (eqb i j) λ f. eq-eqb i j (o .anti i j l s (sym (row-bit j i s (omega arith)) ∙ f) e))
 
   -- what the tests of row i say
-  row-facts : (i : ℕ) → i < n → rowOrdered n t ws i ≡ true
+  row-facts : (i : ℕ) → i < n → rowOrdered n ws i ≡ true
       → ((j : ℕ) → j < 64 → below t j i ≡ true → j < n) × (below t i i ≡ true) × (below t 0 i ≡ true) × (below t i (n - 1) ≡ true)
-      × (every n (pairOrdered t ws i) ≡ true)
+      × ((j : ℕ) → j < n → below t j i ≡ true → pairOrdered ws i j ≡ true)
   unfolding rowOrdered
   row-facts i l h =
-      let short : Bool = leb (getD ws i 0 / 2 ^ (n - 1)) 1 in
-      let h₃ : short && below t i i && below t 0 i && below t i (n - 1) ≡ true = and-left _ (every n (pairOrdered t ws i)) h in
-      let h₂ : short && below t i i && below t 0 i ≡ true = and-left _ (below t i (n - 1)) h₃ in
-      let h₁ : short && below t i i ≡ true = and-left _ (below t 0 i) h₂ in
-      let h₀ : leb (word 64 (related t false i) / 2 ^ (n - 1)) 1 ≡ true = rw (← words i l) (and-left short (below t i i) h₁) in (
+      let w : ℕ = getD ws i 0 in
+      let short : Bool = leb (w / 2 ^ (n - 1)) 1 in
+      let under : Bool = bit (getD ws (n - 1) 0) i in
+      let pairs : Bool = every 64 (λ j. implies (bit w j) (pairOrdered ws i j)) in
+      let h₃ : short && bit w i && bit w 0 && under ≡ true = and-left _ pairs h in
+      let h₂ : short && bit w i && bit w 0 ≡ true = and-left _ under h₃ in
+      let h₁ : short && bit w i ≡ true = and-left _ (bit w 0) h₂ in
+      let h₀ : leb (word 64 (related t false i) / 2 ^ (n - 1)) 1 ≡ true = rw (← words i l) (and-left short (bit w i) h₁) in
+      let all : pairs ≡ true = and-right (short && bit w i && bit w 0 && under) pairs h in (
         short-bits n 64 (related t false i) (omega arith) h₀,
-        and-right short (below t i i) h₁,
-        and-right (short && below t i i) (below t 0 i) h₂,
-        and-right (short && below t i i && below t 0 i) (below t i (n - 1)) h₃,
-        and-right (short && below t i i && below t 0 i && below t i (n - 1)) (every n (pairOrdered t ws i)) h,
+        sym (row-bit i i l (omega arith)) ∙ and-right short (bit w i) h₁,
+        sym (row-bit i 0 l (omega arith)) ∙ and-right (short && bit w i) (bit w 0) h₂,
+        sym (row-bit (n - 1) i (omega arith) (omega arith)) ∙ and-right (short && bit w i && bit w 0) under h₃,
+        λ j s e. implies-at (bit w j) (pairOrdered ws i j) (every-at _ 64 j all (omega arith)) (row-bit i j l (omega arith) ∙ e),
       )
 
-  pub rows-facts : every n (rowOrdered n t ws) ≡ true → Ordered n t
+  pub rows-facts : every n (rowOrdered n ws) ≡ true → Ordered n t
   rows-facts h =
       let row : (i : ℕ) (l : i < n) → _ = λ i l. row-facts i l (every-at _ n i h l) in
-      let pair : (i j : ℕ) (l : i < n) (s : j < n) → _ =
-      λ i j l s. pair-facts i j l s (every-at _ n j (row i l .4) s) in
+      let pair : (i j : ℕ) (l : i < n) (s : j < n) → below t j i ≡ true → _ =
+      λ i j l s e. pair-facts i j l s (row i l .4 j s e) in
       record {
         inside = λ i j l. row i l .0 j;
         self = λ i l. row i l .1;
@@ -137,16 +143,29 @@ module _ (n : ℕ) (t ws : List ℕ) (few : n ≤ 64) (words : Words n t false w
         top = λ i l. row i l .3;
       }
 
-  pub facts-rows : Ordered n t → every n (rowOrdered n t ws) ≡ true
+  pub facts-rows : Ordered n t → every n (rowOrdered n ws) ≡ true
   unfolding rowOrdered
   facts-rows o =
       every-all _ n λ i l.
       let short : leb (getD ws i 0 / 2 ^ (n - 1)) 1 ≡ true =
       rw (words i l) (bits-short n 64 (related t false i) (omega arith) few λ j. o .inside i j l) in
-      let pairs : every n (pairOrdered t ws i) ≡ true = every-all _ n λ j s. facts-pair o i j l s in
-      rw (short, o .self i l, o .bottom i l, o .top i l, pairs)
+      let pairs : every 64 (λ j. implies (bit (getD ws i 0) j) (pairOrdered ws i j)) ≡ true =
+      every-all _ 64 λ j s.
+      implies-from (bit (getD ws i 0) j) (pairOrdered ws i j) λ e.
+      let f : below t j i ≡ true = sym (row-bit i j l s) ∙ e in
+      facts-pair o i j l (o .inside i j l s f) f in
+      rw (
+        short,
+        row-bit i i l (omega arith),
+        o .self i l,
+        row-bit i 0 l (omega arith),
+        o .bottom i l,
+        row-bit (n - 1) i (omega arith) (omega arith),
+        o .top i l,
+        pairs,
+      )
 
-  pub rows-ordered : every n (rowOrdered n t ws) ≡ ordered n t
+  pub rows-ordered : every n (rowOrdered n ws) ≡ ordered n t
   rows-ordered = same-test _ _ (λ h. facts-ordered n t (rows-facts h)) (λ h. facts-rows (ordered-facts n t h))
 
 -- off the table no bit stands
@@ -160,6 +179,7 @@ off-table n t j i e l =
 pub record Side (n : ℕ) (rel : ℕ → ℕ → Bool) : Type 0 where
   pub inside : (i j : ℕ) → i < n → j < 64 → rel i j ≡ true → j < n
   pub self : (i : ℕ) → i < n → rel i i ≡ true
+  pub anti : (i j : ℕ) → i < n → j < n → rel i j ≡ true → rel j i ≡ true → i ≡ j
   pub chain : (i j k : ℕ) → i < n → j < n → k < n → rel i j ≡ true → rel j k ≡ true → rel i k ≡ true
 
 pub side : (n : ℕ) (t : List ℕ) (up : Bool) → length t ≡ 8 * n → Ordered n t → Side n (related t up)
@@ -168,7 +188,33 @@ side n t true e o =
       inside = λ i j l s f.
           ⊎-elim (λ r. r) (λ r. absurd (true-not-false (below t i j) f (off-table n t i j e r))) (below-or-not j n);
       self = o .self;
+      anti = o .anti;
       chain = o .chain;
     }
 side n t false e o =
-    record { inside = o .inside; self = o .self; chain = λ i j k l s r f g. o .chain k j i r s l g f }
+    record {
+      inside = o .inside;
+      self = o .self;
+      anti = λ i j l s f g. o .anti i j l s g f;
+      chain = λ i j k l s r f g. o .chain k j i r s l g f;
+    }
+
+-- the words of a side are those of an order
+pub sided : (n : ℕ) (rel : ℕ → ℕ → Bool) (ws : List ℕ) → n ≤ 64 → Side n rel → ((i : ℕ) → i < n → getD ws i 0 ≡ word 64 (rel i)) → Sided n ws
+sided n rel ws few laws words =
+    let at : (i j : ℕ) → i < n → j < 64 → bit (getD ws i 0) j ≡ rel i j =
+    λ i j l s. ap (λ (w : ℕ). bit w j) (words i l) ∙ bit-word 64 (rel i) j s in
+    record {
+      own = λ i l. at i i l (omega arith) ∙ laws .self i l;
+      inside = λ i j l s e. laws .inside i j l s (sym (at i j l s) ∙ e);
+      anti = λ i j l s e f. laws .anti i j l s (sym (at i j l (omega arith)) ∙ e) (sym (at j i s (omega arith)) ∙ f);
+    }
+
+-- the words of the types below, turned, are those of the types above
+pub turned-words : (n : ℕ) (t down up : List ℕ) → n ≤ 64 → length t ≡ 8 * n → Words n t false down
+    → ((i : ℕ) → i < n → getD up i 0 ≡ turned n down i) → Words n t true up
+unfolding turned
+turned-words n t down up few e words made i l =
+    made i l ∙
+    word-same n (λ j. bit (getD down j 0) i) (related t true i) (λ j s. row-bit n t down few words j i s (omega arith)) ∙
+    sym (word-cut n 64 (related t true i) few λ j a b. off-table n t i j e a)

@@ -1,7 +1,6 @@
--- The type whose word is that of the types whose meet with q is below p is the residual of p by q; so the words decide
--- whether an accepted table admits differences.
+-- The type whose word is that of the types whose meet with q is below p is the residual of p by q.
 use Prim.Native.Nat.{ℕ, _<_, _≤_}
-use mathlib.Core.Path.{_≡_, refl, sym, _∙_}
+use mathlib.Core.Path.{_≡_, refl, sym, ap, subst, _∙_}
 use mathlib.Core.Bool.{Bool, true, false, cond, _&&_}
 use mathlib.Core.List.{List}
 use native.Mathlib.Omega.{arith}
@@ -13,13 +12,13 @@ use Rattle.lattice.specs.declared.TableFault.{TableFault}
 use Rattle.lattice.specs.declared.TableFault.the-variants.{Size, Order, Bounds}
 use Rattle.lattice.specs.declared.Opened.{Opened}
 use Rattle.lattice.specs.declared.Opened.the-variants.{Accepted, Refused}
-use Rattle.lattice.specs.Table.{every, implies, below, sized, ordered, bounded, accepted, meetBelow, isResidual, residual, admits}
+use Rattle.lattice.specs.Table.{every, implies, below, sized, ordered, bounded, accepted, meetBelow, isResidual, residual, cell}
 use Rattle.lattice.specs.Reply.{opened}
-use Rattle.lattice.specs.Words.{word, related, Words, partOf, wordMeetBelow, holder, wordResidual, allFound}
+use Rattle.lattice.specs.Words.{word, related, Words, partOf, wordMeetBelow, holder, wordResidual, Sided, Inside}
 use Rattle.lattice.proofs.Every.{and-left, and-right, and-both, implies-at, implies-from, every-at, every-all, same-test, not-true-false, last-same}
-use Rattle.lattice.proofs.WordLaws.{word-same, word-bits, word-and, bits-part-of, part-of-bits, word-cut}
-use Rattle.lattice.proofs.Rows.{found-same}
-use Rattle.lattice.proofs.Laws.{Meet, meet-below, accepted-size, accepted-facts, below-reflexive, below-transitive, meet-exists}
+use Rattle.lattice.proofs.WordLaws.{word-below, word-same, word-bits, word-and, bits-part-of, part-of-bits, word-cut}
+use Rattle.lattice.proofs.Bits.{small-inside}
+use Rattle.lattice.proofs.Laws.{Meet, meet-below, accepted-size, accepted-facts, accepted-sided, below-reflexive, below-transitive, meet-exists}
 
 module _ (n : ℕ) (t ws : List ℕ) (ok : accepted n t ≡ true) (words : Words n t false ws) where
   -- the test on words decides whether the meet of d and q is below p
@@ -87,9 +86,13 @@ module _ (n : ℕ) (t ws : List ℕ) (ok : accepted n t ≡ true) (words : Words
   unfolding holder residual
   residual-found p q lp lq = last-same _ _ n λ c lc. residual-test p q c lp lq lc
 
-  pub all-admits : allFound n (wordResidual n ws) ≡ admits n t
-  unfolding allFound admits
-  all-admits = found-same n (wordResidual n ws) (residual n t) residual-found
+  -- what the search answers for the word of the types whose meet with q is below p
+  pub residual-cell : (p q v r : ℕ) → p < n → q < n → v ≡ word n (wordMeetBelow ws p q)
+      → ((m : ℕ) → m ≤ 64 → Sided m ws → Inside m v → r ≡ cell (holder m ws v)) → r ≡ cell (residual n t p q)
+  residual-cell p q v r lp lq e answer =
+      answer n (accepted-size n t ok .1) (accepted-sided n t ok ws words)
+      (subst (Inside n) (sym e) (small-inside n _ (word-below n (wordMeetBelow ws p q)))) ∙
+      ap (λ (w : ℕ). cell (holder n ws w)) e ∙ ap cell (residual-found p q lp lq)
 
 -- the answer of opening says whether the table is accepted
 pub opened-accepted : (n : ℕ) (t : List ℕ) (r : Opened) → r ≡ opened n t → r ≡ Accepted → accepted n t ≡ true

@@ -1,7 +1,7 @@
 -- The rows of a table of bounds: what stands in a row and in the table's cells, and when two such tables are equal.
 use Prim.Native.Nat.{ℕ, zero, suc, _+_, _<_, _≤_}
 use mathlib.Core.Path.{_≡_, refl, sym, ap, _∙_}
-use mathlib.Core.Bool.{Bool, true, false, cond, _&&_}
+use mathlib.Core.Bool.{Bool, true, false, cond}
 use mathlib.Core.List.{List, [], _∷_, map}
 use mathlib.Core.Option.{Option, none, some}
 use mathlib.Core.Logic.{⊎-elim}
@@ -11,11 +11,10 @@ use native.Mathlib.Omega.{arith}
 use lib.ListN.{length, getD, set, length-append, length-set, length-map, List·getD-append}
 use lib.Seq.{ext-getD, getD-at, getD-set-same, getD-set-other}
 use lib.Dec.{leb, ltb, eqb}
-use lib.Bits.{bitAnd}
 use borrow.Author.Count.{below-more}
 use borrow.Author.Tests.{le-leb, lt-leb, leb-true, lt-ltb}
 use Rattle.lattice.specs.Table.{every, found, cell, boundRow, overwrite, upto}
-use Rattle.lattice.specs.Words.{allFound, holder, wordBound}
+use Rattle.lattice.specs.Words.{allFound, holder}
 use Rattle.lattice.proofs.Every.{every-same, below-or-not, last-passes}
 
 length-upto : (k : ℕ) → length (upto k) ≡ k
@@ -66,13 +65,6 @@ module _ (n : ℕ) (bound : ℕ → ℕ → Option ℕ) (a : ℕ) where
 cell-found : (o : Option ℕ) → ((c : ℕ) → o ≡ some c → c < 64) → ltb (cell o) 64 ≡ found o
 cell-found none h = refl
 cell-found (some c) h = lt-ltb c 64 (h c refl)
-
--- a row's bounds were found where its first cells hold types
-pub row-found : (n : ℕ) (bound : ℕ → ℕ → Option ℕ) (a : ℕ) → n ≤ 64 → ((b c : ℕ) → bound a b ≡ some c → c < n)
-    → every n (λ b. ltb (getD (boundRow n bound a) b 0) 64) ≡ every n (λ b. found (bound a b))
-row-found n bound a few types =
-    every-same _ _ n λ b l.
-    ap (λ (x : ℕ). ltb x 64) (row-bound n bound a b l (omega arith)) ∙ cell-found (bound a b) λ c e. omega (arith, types b c e)
 
 row-same : (n : ℕ) (f g : ℕ → ℕ → Option ℕ) (a : ℕ) → ((b : ℕ) → b < n → f a b ≡ g a b) → boundRow n f a ≡ boundRow n g a
 unfolding boundRow
@@ -130,7 +122,7 @@ pub set-rest : (l : List ℕ) (i v : ℕ) → ((k : ℕ) → i ≤ k → k < 64 
 set-rest l i v h k r s = getD-set-other l i k v 0 (λ q. absurd (omega arith)) ∙ h k (omega arith) s
 
 -- a holder is a type
-pub holder-type : (n : ℕ) (ws : List ℕ) (w c : ℕ) → holder n ws w ≡ some c → c < n
+holder-type : (n : ℕ) (ws : List ℕ) (w c : ℕ) → holder n ws w ≡ some c → c < n
 unfolding holder
 holder-type n ws w c e = last-passes (λ k. eqb (getD ws k 0) w) n c e .0
 
@@ -140,20 +132,6 @@ holder-found n ws v w r few q e =
     let f : ltb (cell (holder n ws w)) 64 ≡ found (holder n ws w) =
     cell-found (holder n ws w) λ c h. omega (arith, holder-type n ws w c h) in
     cc
-
--- what a turn of the filling adds: the row's answer, and whether all were found so far
-pub row-answer : (n : ℕ) (ws : List ℕ) (a : ℕ) (row : List ℕ) (r : Bool) → n ≤ 64 → row ≡ boundRow n (wordBound n ws) a
-    → r ≡ every n (λ b. ltb (getD row b 0) 64) → r ≡ every n (λ b. found (wordBound n ws a b))
-row-answer n ws a row r few e f =
-    f ∙ ap (λ (l : List ℕ). every n (λ b. ltb (getD l b 0) 64)) e ∙
-    row-found n (wordBound n ws) a few λ b c h. holder-type n ws (bitAnd (getD ws a 0) (getD ws b 0)) c h
-
-pub all-kept : (p : ℕ → Bool) (k : ℕ) (r : Bool) → r ≡ every k p → p k ≡ true → r ≡ every (k + 1) p
-unfolding every
-all-kept p k r e f = rw (add-one, f) (e ∙ go (every k p)) where
-  go : (b : Bool) → b ≡ (b && true)
-  go true = refl
-  go false = refl
 
 pub next-row : (k : ℕ) (row : ℕ → List ℕ) (rows table : List (List ℕ)) (v : List ℕ) → table ≡ overwrite k row rows → v ≡ row k
     → set table k v ≡ overwrite (k + 1) row rows

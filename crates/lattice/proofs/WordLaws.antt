@@ -132,7 +132,7 @@ bits-short n k p l s h =
     le-leb (word k p / 2 ^ (n - 1)) 1 (omega arith)
 
 -- a bit shifted to its place, and added to a word below it
-shifted : (j : ℕ) → j < 64 → (1 * 2 ^ j) % 2 ^ 64 ≡ 2 ^ j
+pub shifted : (j : ℕ) → j < 64 → (1 * 2 ^ j) % 2 ^ 64 ≡ 2 ^ j
 shifted j l = shl-exact {a = 1} 1 j 64 (lit< tt) (omega arith) ∙ omega arith
 
 pub bit-fits : (j w : ℕ) → j < 64 → w < 2 ^ j → (1 * 2 ^ j) % 2 ^ 64 + w < 2 ^ 64

@@ -1,13 +1,13 @@
 -- What the parts of `open_table` and `admits_differences` answer, in words. Nothing here is needed to read the contracts of
 -- those two: their proofs show that these tests on words decide what `Table` defines.
-use Prim.Native.Nat.{ℕ, zero, suc, _+_, _*_, _-_, _/_, _^_, _<_}
+use Prim.Native.Nat.{ℕ, zero, suc, _+_, _*_, _-_, _/_, _%_, _^_, _<_}
 use mathlib.Core.Path.{_≡_}
 use mathlib.Core.Bool.{Bool, true, false, _&&_}
 use mathlib.Core.List.{List}
 use mathlib.Core.Option.{Option}
 use lib.ListN.{getD}
 use lib.Dec.{leb, eqb}
-use lib.Bits.{bitAnd}
+use lib.Bits.{bitAnd, bitXor}
 use Rattle.lattice.specs.Table.{every, last, implies, below, found}
 
 -- a bit as a number
@@ -29,17 +29,40 @@ related t false i j = below t j i
 abbrev pub Words : ℕ → List ℕ → Bool → List ℕ → Type 0
 Words n t up ws = (i : ℕ) → i < n → getD ws i 0 ≡ word 64 (related t up i)
 
+-- bit j of w stands
+unfoldable pub bit : ℕ → ℕ → Bool
+bit w j = eqb (w / 2 ^ j % 2) 1
+
+-- the bits of a that do not stand in b
+abbrev pub without : ℕ → ℕ → ℕ
+without a b = bitXor a (bitAnd a b)
+
+-- the word of the types that have bit i in their words: from the types below each type, those above i
+unfoldable pub turned : ℕ → List ℕ → ℕ → ℕ
+turned n ws i = word n λ j. bit (getD ws j 0) i
+
 -- all bits of a stand in b
 abbrev pub partOf : ℕ → ℕ → Bool
 partOf a b = eqb (bitAnd a b) a
 
--- where j is below i, all that is below j is below i, and i is below j only where they are one type
-unfoldable pub pairOrdered : List ℕ → List ℕ → ℕ → ℕ → Bool
-pairOrdered t ws i j = implies (below t j i) (partOf (getD ws j 0) (getD ws i 0) && implies (below t i j) (eqb i j))
+-- of a type j below i: all that is below j is below i, and i is below j only where they are one type
+unfoldable pub pairOrdered : List ℕ → ℕ → ℕ → Bool
+pairOrdered ws i j = partOf (getD ws j 0) (getD ws i 0) && implies (bit (getD ws j 0) i) (eqb i j)
 
 -- row i passes the tests of refusal 2
-unfoldable pub rowOrdered : ℕ → List ℕ → List ℕ → ℕ → Bool
-rowOrdered n t ws i = leb (getD ws i 0 / 2 ^ (n - 1)) 1 && below t i i && below t 0 i && below t i (n - 1) && every n (pairOrdered t ws i)
+unfoldable pub rowOrdered : ℕ → List ℕ → ℕ → Bool
+rowOrdered n ws i = leb (getD ws i 0 / 2 ^ (n - 1)) 1 && bit (getD ws i 0) i && bit (getD ws i 0) 0 && bit (getD ws (n - 1) 0) i
+    && every 64 λ j. implies (bit (getD ws i 0) j) (pairOrdered ws i j)
+
+-- words of one side of an order: each has its own bit and none at n or above, and two types with each other's bit are one
+pub record Sided (n : ℕ) (ws : List ℕ) : Type 0 where
+  pub own : (i : ℕ) → i < n → bit (getD ws i 0) i ≡ true
+  pub inside : (i j : ℕ) → i < n → j < 64 → bit (getD ws i 0) j ≡ true → j < n
+  pub anti : (i j : ℕ) → i < n → j < n → bit (getD ws i 0) j ≡ true → bit (getD ws j 0) i ≡ true → i ≡ j
+
+-- no bit of w stands at n or above
+abbrev pub Inside : ℕ → ℕ → Type 0
+Inside n w = (j : ℕ) → j < 64 → bit w j ≡ true → j < n
 
 -- what is below both d and q is below p
 abbrev pub wordMeetBelow : List ℕ → ℕ → ℕ → ℕ → Bool
@@ -57,6 +80,10 @@ module _ (n : ℕ) (ws : List ℕ) where
   -- the types whose meet with q is below p are those below one type
   abbrev pub wordResidual : ℕ → ℕ → Option ℕ
   wordResidual p q = holder (word n (wordMeetBelow ws p q))
+
+  -- where the types strictly below j are those below one type, the types not above j are those below one type
+  unfoldable pub wordPrime : ℕ → Bool
+  wordPrime j = implies (found (holder (without (getD ws j 0) (2 ^ j)))) (found (holder (without (getD ws (n - 1) 0) (turned n ws j))))
 
 -- every two types have a bound
 unfoldable pub allFound : ℕ → (ℕ → ℕ → Option ℕ) → Bool

@@ -1,70 +1,93 @@
 // The table of meets or of joins, from the words of one side: the bound of a and b is the type whose word is the common part
 // of their words.
 ghost use mathlib.Core.Path.{_≡_};
-ghost use Prim.Native.Nat.{_<_, _≤_};
-ghost use lib.ListN.{getD};
-ghost use lib.Dec.{ltb};
-ghost use Rattle.lattice.specs.Table.{every, cell, boundRow, overwrite};
-ghost use Rattle.lattice.specs.Words.{holder, wordBound, allFound};
+ghost use Prim.Native.Nat.{ℕ, _<_, _≤_};
+ghost use Rattle.lattice.specs.Table.{every, found as foundOf, cell, boundRow, overwrite};
+ghost use Rattle.lattice.specs.Words.{holder, wordBound, allFound, Sided, Inside};
 
-// The last type below n whose word is `word`, or 64 where there is none.
-pub fn find_word(n: usize, words: &[u64; 64], word: u64) -> u8
-    requires { ⌜ n ≤ 64 ⌝ }
-    ensures { λ r. ⌜ r ≡ cell (holder n (now (words .entry)) word) ⌝ }
+// The type whose word is `word`, or 64 where there is none. It has a bit of its own in the word, so it is sought among the
+// standing bits: at first the lowest for `low`, else the highest, and then from both ends in turn, for tables that are not
+// numbered along the order. A type that is not it is put aside with all on its side.
+pub fn find_word(words: &[u64; 64], word: u64, low: bool) -> u8
+    ensures { λ r. ⌜ ((n : ℕ) → n ≤ 64 → Sided n (now (words .entry)) → Inside n word → r ≡ cell (holder n (now (words .entry)) word)) ⌝ }
 {
-    let mut c = n;
-    while 0 < c {
-        c -= 1;
+    let mut left = word;
+    let mut end = low;
+    while left != 0 {
+        let c = super::words::end_bit(left, end);
         if words[c] == word {
             return c as u8;
         }
+        let others = super::words::cleared(left, c);
+        left = super::words::without(others, words[c]);
+        end = !end;
     }
     64
 }
 
-// The bounds of type a with every type below n; 0 in the other cells.
-pub fn bound_row(n: usize, words: &[u64; 64], a: usize) -> [u8; 64]
-    requires { ⌜ (a < n) × (n ≤ 64) ⌝ }
-    ensures { λ r. ⌜ r ≡ boundRow n (wordBound n (now (words .entry))) a ⌝ }
+// The bound of types a and b, or 64 where there is none: at once where it is the type at the end of the word, or one of the two.
+pub fn bound(words: &[u64; 64], low: bool, a: usize, b: usize) -> u8
+    requires { ⌜ (a < 64) × (b < 64) ⌝ }
+    ensures { λ r. ⌜ ((n : ℕ) → n ≤ 64 → Sided n (now (words .entry)) → a < n → b < n → r ≡ cell (wordBound n (now (words .entry)) a b)) ⌝ }
 {
-    let mut row = [0u8; 64];
-    let mut b = 0;
-    while b < n {
-        row[b] = find_word(n, words, words[a] & words[b]);
-        b += 1;
+    let word = words[a] & words[b];
+    if word == 0 {
+        return 64;
     }
-    row
+    let c = super::words::end_bit(word, low);
+    if words[c] == word {
+        return c as u8;
+    }
+    if words[a] == word {
+        return a as u8;
+    }
+    if words[b] == word {
+        return b as u8;
+    }
+    find_word(words, word, low)
 }
 
-// Whether the first n cells of a row hold types.
-pub fn is_row_found(n: usize, row: &[u8; 64]) -> bool
-    requires { ⌜ n ≤ 64 ⌝ }
-    ensures { λ r. ⌜ r ≡ every n (λ b. ltb (getD (now (row .entry)) b 0) 64) ⌝ }
+// A row of a table of bounds, and whether the bounds in it were all found.
+pub struct BoundRow {
+    pub cells: [u8; 64],
+    pub found: bool,
+}
+
+// The bounds of type a with every type below n; 0 in the other cells.
+pub fn bound_row(n: usize, words: &[u64; 64], low: bool, a: usize) -> BoundRow
+    requires { ⌜ (a < n) × (n ≤ 64) × Sided n (now words) ⌝ }
+    ensures cells { λ r. ⌜ r .cells ≡ boundRow n (wordBound n (now (words .entry))) a ⌝ }
+    ensures found { λ r. ⌜ r .found ≡ every n (λ b. foundOf (wordBound n (now (words .entry)) a b)) ⌝ }
 {
+    let mut cells = [0u8; 64];
+    let mut found = true;
     let mut b = 0;
     while b < n {
-        if 64 <= row[b] {
-            return false;
+        let c = bound(words, low, a, b);
+        if 64 <= c {
+            found = false;
         }
+        cells[b] = c;
         b += 1;
     }
-    true
+    BoundRow { cells, found }
 }
 
 // Fills the first n rows of the table, and answers whether every two types have a bound.
-pub fn fill(n: usize, words: &[u64; 64], table: &mut [[u8; 64]; 64]) -> bool
-    requires { ⌜ n ≤ 64 ⌝ }
+pub fn fill(n: usize, words: &[u64; 64], low: bool, table: &mut [[u8; 64]; 64]) -> bool
+    requires { ⌜ (n ≤ 64) × Sided n (now words) ⌝ }
     ensures all { λ r. ⌜ r ≡ allFound n (wordBound n (now (words .entry))) ⌝ }
     ensures rows { λ r. ⌜ now (table .exit) ≡ overwrite n (boundRow n (wordBound n (now (words .entry)))) (now (table .entry)) ⌝ }
 {
     let mut found = true;
     let mut a = 0;
     while a < n {
-        let row = bound_row(n, words, a);
-        if !is_row_found(n, &row) {
+        let row = bound_row(n, words, low, a);
+        if !row.found {
             found = false;
         }
-        table[a] = row;
+        let cells = row.cells;
+        table[a] = cells;
         a += 1;
     }
     found

@@ -7,7 +7,7 @@ ghost use Rattle.lattice.specs.Table.{accepted, admits};
 ghost use Rattle.lattice.specs.Reply.{Opening};
 
 mod bounds;
-mod differences;
+pub mod differences;
 mod order;
 pub mod words;
 
@@ -40,13 +40,13 @@ pub fn open_table(
     if table.len() != 8 * n {
         return Opened::Refused(TableFault::Size);
     }
-    let down = words::read_words(n, table, false);
-    if !order::is_ordered(n, table, &down) {
+    let down = words::read_words(n, table);
+    if !order::is_ordered(n, &down) {
         return Opened::Refused(TableFault::Order);
     }
-    let up = words::read_words(n, table, true);
-    let all_meet = bounds::fill(n, &down, meets);
-    let all_join = bounds::fill(n, &up, joins);
+    let up = words::turn_words(n, &down);
+    let all_meet = bounds::fill(n, &down, false, meets);
+    let all_join = bounds::fill(n, &up, true, joins);
     if !all_meet {
         return Opened::Refused(TableFault::Bounds);
     }
@@ -66,6 +66,5 @@ pub fn admits_differences(n: usize, table: &[u8]) -> bool
     let Opened::Accepted = answer else {
         return false;
     };
-    let down = words::read_words(n, table, false);
-    differences::all_residuals(n, &down)
+    differences::admits(n, table)
 }

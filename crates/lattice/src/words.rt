@@ -1,9 +1,11 @@
 // The bits of a table, and the words that are made of them: bit j of word i stands where type j is on one side of type i,
 // below it or above it.
 ghost use mathlib.Core.Path.{_≡_};
-ghost use Prim.Native.Nat.{_+_, _*_, _^_, _<_, _≤_};
+ghost use mathlib.Core.Bool.{true, false};
+ghost use Prim.Native.Nat.{ℕ, _+_, _*_, _^_, _<_, _≤_};
+ghost use lib.ListN.{getD};
 ghost use Rattle.lattice.specs.Table.{below};
-ghost use Rattle.lattice.specs.Words.{digit, word, related, Words};
+ghost use Rattle.lattice.specs.Words.{digit, word, related, Words, bit, without as withoutOf, turned};
 
 // Whether the table's bit says that type j is below or equal to type i. Off the table no bit stands.
 pub fn is_below(table: &[u8], j: usize, i: usize) -> bool
@@ -18,15 +20,38 @@ pub fn is_below(table: &[u8], j: usize, i: usize) -> bool
     }
 }
 
-// Whether type j is on the given side of type i: above it for `up`, else below it.
-pub fn is_related(table: &[u8], up: bool, i: usize, j: usize) -> bool
-    requires { ⌜ (i < 64) × (j < 64) ⌝ }
-    ensures { λ r. ⌜ r ≡ related (now (table .entry)) up i j ⌝ }
+// Whether bit j of a word stands.
+pub fn has_bit(word: u64, j: usize) -> bool
+    requires { ⌜ j < 64 ⌝ }
+    ensures { λ r. ⌜ r ≡ bit word j ⌝ }
 {
-    if up {
-        is_below(table, i, j)
+    (word >> j) % 2 == 1
+}
+
+// The bits of a word that do not stand in another.
+pub fn without(word: u64, other: u64) -> u64
+    ensures { λ r. ⌜ r ≡ withoutOf word other ⌝ }
+{
+    word ^ (word & other)
+}
+
+// The word with bit j cleared.
+pub fn cleared(word: u64, j: usize) -> u64
+    requires { ⌜ j < 64 ⌝ }
+    ensures { λ r. ⌜ r ≡ withoutOf word (2 ^ j) ⌝ }
+{
+    without(word, 1u64 << j)
+}
+
+// A standing bit: the lowest for `low`, else the highest.
+pub fn end_bit(word: u64, low: bool) -> usize
+    requires { ⌜ 0 < word ⌝ }
+    ensures { λ r. ⌜ (r < 64) × (bit word r ≡ true) ⌝ }
+{
+    if low {
+        u64::trailing_zeros(word) as usize
     } else {
-        is_below(table, j, i)
+        63 - u64::leading_zeros(word) as usize
     }
 }
 
@@ -38,31 +63,71 @@ pub fn with_bit(word: u64, j: usize, stands: bool) -> u64
     if stands { (1u64 << j) + word } else { word }
 }
 
-// The word of type i.
-pub fn read_word(table: &[u8], up: bool, i: usize) -> u64
+// The byte at a place, 0 off the table.
+pub fn byte_at(table: &[u8], at: usize) -> u64
+    ensures { λ r. ⌜ (r ≡ getD (now (table .entry)) at 0) × (r < 256) ⌝ }
+{
+    if at < table.len() {
+        table[at] as u64
+    } else {
+        0
+    }
+}
+
+// The word of the types below type i.
+pub fn read_word(table: &[u8], i: usize) -> u64
     requires { ⌜ i < 64 ⌝ }
-    ensures { λ r. ⌜ r ≡ word 64 (related (now (table .entry)) up i) ⌝ }
+    ensures { λ r. ⌜ r ≡ word 64 (related (now (table .entry)) false i) ⌝ }
+{
+    let mut word = 0u64;
+    let mut k = 0;
+    while k < 8 {
+        let byte = byte_at(table, 8 * i + k);
+        word += byte << (8 * k);
+        k += 1;
+    }
+    word
+}
+
+// The words of the types below each type below n.
+pub fn read_words(n: usize, table: &[u8]) -> [u64; 64]
+    requires { ⌜ n ≤ 64 ⌝ }
+    ensures { λ r. ⌜ Words n (now (table .entry)) false r ⌝ }
+{
+    let mut words = [0u64; 64];
+    let mut i = 0;
+    while i < n {
+        words[i] = read_word(table, i);
+        i += 1;
+    }
+    words
+}
+
+// The word of the types above type i, from the words of those below.
+pub fn turn_word(n: usize, words: &[u64; 64], i: usize) -> u64
+    requires { ⌜ (n ≤ 64) × (i < 64) ⌝ }
+    ensures { λ r. ⌜ r ≡ turned n (now (words .entry)) i ⌝ }
 {
     let mut word = 0u64;
     let mut j = 0;
-    while j < 64 {
-        let stands = is_related(table, up, i, j);
+    while j < n {
+        let stands = has_bit(words[j], i);
         word = with_bit(word, j, stands);
         j += 1;
     }
     word
 }
 
-// The words of the types below n.
-pub fn read_words(n: usize, table: &[u8], up: bool) -> [u64; 64]
+// The words of the types above each type below n, from the words of those below.
+pub fn turn_words(n: usize, words: &[u64; 64]) -> [u64; 64]
     requires { ⌜ n ≤ 64 ⌝ }
-    ensures { λ r. ⌜ Words n (now (table .entry)) up r ⌝ }
+    ensures { λ r. ⌜ ((i : ℕ) → i < n → getD r i 0 ≡ turned n (now (words .entry)) i) ⌝ }
 {
-    let mut words = [0u64; 64];
+    let mut result = [0u64; 64];
     let mut i = 0;
     while i < n {
-        words[i] = read_word(table, up, i);
+        result[i] = turn_word(n, words, i);
         i += 1;
     }
-    words
+    result
 }

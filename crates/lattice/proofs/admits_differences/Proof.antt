@@ -1,9 +1,7 @@
--- `admits_differences` meets its contract: a table that is not accepted is told by the answer of `open_table`, and the words
--- decide the rest.
+-- `admits_differences` meets its contract: a table that is not accepted is told by the answer of `open_table`.
 use mathlib.Core.Path.{sym, _∙_}
 use borrow.Author.Needs.{needs}
-use Rattle.lattice.proofs.Residuals.{opened-accepted, opened-refused, all-admits}
-use Rattle.lattice.proofs.Laws.{accepted-size}
+use Rattle.lattice.proofs.Residuals.{opened-accepted, opened-refused}
 use Rattle.lattice.proofs.admits_differences.Statement.{statement}
 use Rattle.lattice.proofs.admits_differences.Tie as tie
 
@@ -21,33 +19,18 @@ returns c =
     let start = c .before .before .before .before .before .before in
     sym (rw (opened-refused (start .args .n) (start .args .table .now) _ _ (c .before .before .open-table .ensures .answers) (c .enum-told2 .given .1)))
 
-read-words-requires : tie.Need-read-words-requires
-read-words-requires c κs =
+admits-requires : tie.Need-admits-requires
+admits-requires c κs =
     let start = c .before .before .before .before .before .before in
-    accepted-size _ _
-    (opened-accepted (start .args .n) (start .args .table .now) _ (c .before .before .open-table .ensures .answers) (c .enum-told .given .1)) .1
-
-all-residuals-requires : tie.Need-all-residuals-requires
-all-residuals-requires c κs =
-    let start = c .before .before .before .before .before .before .before .before in
-    accepted-size _ _
-    (opened-accepted (start .args .n) (start .args .table .now) _ (c .before .before .before .before .open-table .ensures .answers) (c .before .before .enum-told .given .1)) .1
+    opened-accepted (start .args .n) (start .args .table .now) _ (c .before .before .open-table .ensures .answers) (c .enum-told .given .1)
 
 returns-2 : tie.Need-returns-2
 returns-2 c =
-    let start = c .before .before .before .before .before .before .before .before .before in
-    let ok =
-    opened-accepted (start .args .n) (start .args .table .now) _ (c .before .before .before .before .before .open-table .ensures .answers) (c .before .before .before .enum-told .given .1) in
-    c .all-residuals .ensures ∙ all-admits (start .args .n) (start .args .table .now) _ ok (c .before .before .read-words .ensures) ∙ rw ok
+    let start = c .before .before .before .before .before .before .before in
+    let ok = opened-accepted (start .args .n) (start .args .table .now) _ (c .before .before .before .open-table .ensures .answers) (c .before .enum-told .given .1) in
+    c .admits .ensures ∙ rw ok
 
 pub admits-differences-spec : {M : Type 1} → statement M
 admits-differences-spec =
     tie.close
-    (tie.spec
-    open-table-requires
-    enum-told
-    enum-told-2
-    returns
-    read-words-requires
-    all-residuals-requires
-    returns-2)
+    (tie.spec open-table-requires enum-told enum-told-2 returns admits-requires returns-2)

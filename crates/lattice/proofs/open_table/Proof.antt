@@ -1,6 +1,6 @@
 -- `open_table` meets its contract: each return by the lemma of `Opening` that is for it.
 use borrow.Author.Needs.{needs}
-use Rattle.lattice.proofs.Opening.{size-low, size-high, size-other, size-right, refuse-size, refuse-order, no-meet, no-join, accept}
+use Rattle.lattice.proofs.Opening.{size-low, size-high, size-other, size-right, refuse-size, refuse-order, down-sided, up-sided, no-meet, no-join, accept}
 use Rattle.lattice.proofs.Every.{refuted, held}
 use Rattle.lattice.proofs.open_table.Statement.{statement}
 use Rattle.lattice.proofs.open_table.Tie as tie
@@ -35,27 +35,45 @@ returns-4 c =
     (c .before .before .before .read-words .ensures)
     (refuted (c .before .is-ordered .ensures) (c .if4 .taken))
 
-read-words-requires-2 : tie.Need-read-words-requires-2
-read-words-requires-2 c κs = search needs
+turn-words-requires : tie.Need-turn-words-requires
+turn-words-requires c κs = search needs
 
 fill-requires : tie.Need-fill-requires
-fill-requires c κs = search needs
+fill-requires c κs =
+    let tested = c .before .before .before .before .before in
+    let start = tested .before .before .before .before .before .before .before in (
+      search needs,
+      down-sided (start .args .n) (start .args .table .now) _
+          (size-right _ _ (search needs) (search needs) (tested .before .before .before .if3 .left))
+          (tested .before .before .read-words .ensures)
+          (held (tested .is-ordered .ensures) (c .before .before .before .before .if4 .left)),
+    )
 
 fill-requires-2 : tie.Need-fill-requires-2
-fill-requires-2 c κs = search needs
+fill-requires-2 c κs =
+    let tested = c .before .before .before .before .before .before .before .before in
+    let start = tested .before .before .before .before .before .before .before in (
+      search needs,
+      up-sided (start .args .n) (start .args .table .now) _
+          (size-right _ _ (search needs) (search needs) (tested .before .before .before .if3 .left))
+          (tested .before .before .read-words .ensures)
+          (held (tested .is-ordered .ensures) (c .before .before .before .before .before .before .before .if4 .left))
+          _
+          (c .before .before .before .before .before .turn-words .ensures),
+    )
 
 returns-5 : tie.Need-returns-5
 returns-5 c =
     let filled = c .before in
-    let tested = c .before .before .before .before .before .before .before .before .before in
-    let start = c .before .before .before .before .before .before .before .before .before .before .before .before .before .before .before .before in
+    let tested = c .before .before .before .before .before .before .before .before .before .before in
+    let start = c .before .before .before .before .before .before .before .before .before .before .before .before .before .before .before .before .before in
     no-meet (start .args .n) (start .args .table .now) _ _ _ _ _ _
     (filled .before .before .before .fill .result)
     (filled .fill2 .result)
     (size-right _ _ (search needs) (search needs) (tested .before .before .before .if3 .left))
     (tested .before .before .read-words .ensures)
-    (c .before .before .before .before .before .before .before .read-words2 .ensures)
-    (held (tested .is-ordered .ensures) (c .before .before .before .before .before .before .before .before .if4 .left))
+    (c .before .before .before .before .before .before .before .turn-words .ensures)
+    (held (tested .is-ordered .ensures) (c .before .before .before .before .before .before .before .before .before .if4 .left))
     (filled .before .before .before .fill .ensures)
     (filled .fill2 .ensures)
     (c .if5 .taken)
@@ -63,15 +81,15 @@ returns-5 c =
 returns-6 : tie.Need-returns-6
 returns-6 c =
     let filled = c .before .before in
-    let tested = c .before .before .before .before .before .before .before .before .before .before in
-    let start = c .before .before .before .before .before .before .before .before .before .before .before .before .before .before .before .before .before in
+    let tested = c .before .before .before .before .before .before .before .before .before .before .before in
+    let start = c .before .before .before .before .before .before .before .before .before .before .before .before .before .before .before .before .before .before in
     no-join (start .args .n) (start .args .table .now) _ _ _ _ _ _
     (filled .before .before .before .fill .result)
     (filled .fill2 .result)
     (size-right _ _ (search needs) (search needs) (tested .before .before .before .if3 .left))
     (tested .before .before .read-words .ensures)
-    (c .before .before .before .before .before .before .before .before .read-words2 .ensures)
-    (held (tested .is-ordered .ensures) (c .before .before .before .before .before .before .before .before .before .if4 .left))
+    (c .before .before .before .before .before .before .before .before .turn-words .ensures)
+    (held (tested .is-ordered .ensures) (c .before .before .before .before .before .before .before .before .before .before .if4 .left))
     (filled .before .before .before .fill .ensures)
     (filled .fill2 .ensures)
     (c .before .if5 .left)
@@ -80,15 +98,15 @@ returns-6 c =
 returns-7 : tie.Need-returns-7
 returns-7 c =
     let filled = c .before .before in
-    let tested = c .before .before .before .before .before .before .before .before .before .before in
-    let start = c .before .before .before .before .before .before .before .before .before .before .before .before .before .before .before .before .before in
+    let tested = c .before .before .before .before .before .before .before .before .before .before .before in
+    let start = c .before .before .before .before .before .before .before .before .before .before .before .before .before .before .before .before .before .before in
     accept (start .args .n) (start .args .table .now) _ _ _ _ _ _
     (filled .before .before .before .fill .result)
     (filled .fill2 .result)
     (size-right _ _ (search needs) (search needs) (tested .before .before .before .if3 .left))
     (tested .before .before .read-words .ensures)
-    (c .before .before .before .before .before .before .before .before .read-words2 .ensures)
-    (held (tested .is-ordered .ensures) (c .before .before .before .before .before .before .before .before .before .if4 .left))
+    (c .before .before .before .before .before .before .before .before .turn-words .ensures)
+    (held (tested .is-ordered .ensures) (c .before .before .before .before .before .before .before .before .before .before .if4 .left))
     (filled .before .before .before .fill .ensures)
     (filled .fill2 .ensures)
     (c .before .if5 .left)
@@ -105,7 +123,7 @@ open-table-spec =
     read-words-requires
     is-ordered-requires
     returns-4
-    read-words-requires-2
+    turn-words-requires
     fill-requires
     fill-requires-2
     returns-5

@@ -1,46 +1,38 @@
--- `bound_row` meets its contract: the cells before b hold their bounds, and the others 0.
-use Prim.Native.Nat.{ℕ, _≤_, _<_, _-_}
-use mathlib.Core.Path.{_≡_}
+-- `bound_row` meets its contract: the cells before b hold their bounds, the others 0, and `found` tells of those before b.
+use Prim.Native.Nat.{ℕ, _+_, _≤_, _<_, _-_}
+use mathlib.Core.Logic.{⊎-elim}
+use mathlib.Core.Path.{_≡_, refl, sym, _∙_}
 use native.Mathlib.Omega.{arith}
 use lib.ListN.{getD-replicate, length, getD}
 use borrow.Author.Count.{below-none}
-use borrow.Author.Needs.{needs}
-use Rattle.lattice.specs.Table.{cell}
+use borrow.Author.Tests.{le-ltb, lt-ltb}
+use Rattle.lattice.specs.Table.{every, found as foundOf, cell}
 use Rattle.lattice.specs.Words.{wordBound}
-use Rattle.lattice.proofs.Rows.{set-more, set-rest, row-made}
+use Rattle.lattice.proofs.Every.{every-none, every-fails, all-kept, every-end}
+use Rattle.lattice.proofs.Rows.{set-more, set-rest, row-made, holder-found}
+use borrow.Author.Needs.{needs}
 use Rattle.lattice.proofs.bounds.bound_row.Statement.{statement}
 use Rattle.lattice.proofs.bounds.bound_row.Tie as tie
 
 abbrev Inv-loop : tie.InvT-loop
-Inv-loop n words a row₀ b₀ row b =
+Inv-loop n words low a cells₀ found₀ b₀ cells found b =
     (b ≤ n)
-    × (length row ≡ 64)
-    × ((k : ℕ) → k < b → getD row k 0 ≡ cell (wordBound n words a k))
-    × ((k : ℕ) → b ≤ k → k < 64 → getD row k 0 ≡ 0)
+    × (length cells ≡ 64)
+    × ((k : ℕ) → k < b → getD cells k 0 ≡ cell (wordBound n words a k))
+    × ((k : ℕ) → b ≤ k → k < 64 → getD cells k 0 ≡ 0)
+    × (found ≡ every b (λ k. foundOf (wordBound n words a k)))
 
 abbrev μ-loop : tie.MeasureT-loop
-μ-loop n words a row₀ b₀ row b = n - b
+μ-loop n words low a cells₀ found₀ b₀ cells found b = n - b
 
 loop-holds : tie.Need-loop-holds Inv-loop μ-loop
-loop-holds c = (search needs, search needs, below-none _, λ k l s. getD-replicate {A = ℕ} 64 k 0 0 s)
+loop-holds c = (search needs, search needs, below-none _, λ k l s. getD-replicate {A = ℕ} 64 k 0 0 s, sym (every-none _))
 
-mul-find-word : tie.Need-mul-find-word Inv-loop μ-loop
-mul-find-word c = search needs
+bound-requires : tie.Need-bound-requires Inv-loop μ-loop
+bound-requires c κs = search needs
 
-element-copy-out-find-word : tie.Need-element-copy-out-find-word Inv-loop μ-loop
-element-copy-out-find-word c = search needs
-
-mul-find-word-2 : tie.Need-mul-find-word-2 Inv-loop μ-loop
-mul-find-word-2 c = search needs
-
-element-copy-out-find-word-2 : tie.Need-element-copy-out-find-word-2 Inv-loop μ-loop
-element-copy-out-find-word-2 c = search needs
-
-find-word-requires : tie.Need-find-word-requires Inv-loop μ-loop
-find-word-requires c κs = search needs
-
-array-write-row : tie.Need-array-write-row Inv-loop μ-loop
-array-write-row c = search needs
+array-write-cells : tie.Need-array-write-cells Inv-loop μ-loop
+array-write-cells c = search needs
 
 add-b : tie.Need-add-b Inv-loop μ-loop
 add-b c = search needs
@@ -50,20 +42,30 @@ loop-less c = search needs
 
 loop-again : tie.Need-loop-again Inv-loop μ-loop
 loop-again c =
-    let turn = c .before .before .before .before .loop in (
+    let start = c .before .before .before .before in
+    let turn = c .before .before .before .loop in
+    let n = start .args .n in
+    let ws = start .args .words .now in
+    let answer = c .before .bound .ensures n (start .pre .1) (start .pre .2) (start .pre .0) (search needs) in
+    let told = holder-found n ws _ _ _ (start .pre .1) refl answer in (
       search needs,
       search needs,
-      set-more _ (turn .row) (turn .b) _ (search needs) (turn .inv .2) (c .find-word .ensures),
-      set-rest (turn .row) (turn .b) _ (turn .inv .3),
+      set-more (λ k. cell (wordBound n ws (start .args .a) k)) (turn .cells) (turn .b) _ (search needs) (turn .inv .2) answer,
+      set-rest (turn .cells) (turn .b) _ (turn .inv .3),
+      ⊎-elim (λ w. w .1 ∙ sym (every-fails _ (turn .b + 1) (turn .b) (omega arith) (sym told ∙ le-ltb _ _ (w .0 .taken))))
+          (λ w. w .1 ∙ all-kept _ (turn .b) _ (turn .inv .4) (sym told ∙ lt-ltb _ _ (w .0 .left)))
+          (c .if1 .came),
     )
 
 returns : tie.Need-returns Inv-loop μ-loop
 returns c =
     let start = c .before .before in
-    let turn = c .before .loop in
-    row-made (start .args .n) (wordBound (start .args .n) (start .args .words .now)) (start .args .a) (turn .row) (search needs)
-    (λ k l. turn .inv .2 k (omega arith))
-    (λ k l s. turn .inv .3 k (omega arith) s)
+    let turn = c .before .loop in (
+      row-made (start .args .n) (wordBound (start .args .n) (start .args .words .now)) (start .args .a) (turn .cells) (search needs)
+          (λ k l. turn .inv .2 k (omega arith))
+          (λ k l s. turn .inv .3 k (omega arith) s),
+      every-end _ (turn .b) (start .args .n) _ (search needs) (search needs) (turn .inv .4),
+    )
 
 pub bound-row-spec : {M : Type 1} → statement M
 bound-row-spec =
@@ -72,12 +74,8 @@ bound-row-spec =
     Inv-loop
     μ-loop
     loop-holds
-    mul-find-word
-    element-copy-out-find-word
-    mul-find-word-2
-    element-copy-out-find-word-2
-    find-word-requires
-    array-write-row
+    bound-requires
+    array-write-cells
     add-b
     loop-less
     loop-again

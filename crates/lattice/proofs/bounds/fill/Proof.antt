@@ -3,22 +3,22 @@ use Prim.Native.Nat.{_+_, _≤_, _-_}
 use mathlib.Core.Logic.{⊎-elim}
 use mathlib.Core.Path.{_≡_, sym, _∙_}
 use native.Mathlib.Omega.{arith}
-use borrow.Author.Needs.{needs}
 use Rattle.lattice.specs.Table.{every, found as foundOf, boundRow, overwrite}
 use Rattle.lattice.specs.Words.{wordBound}
-use Rattle.lattice.proofs.Rows.{overwrite-none, next-row, row-answer, all-kept, fill-done}
-use Rattle.lattice.proofs.Every.{every-none, every-fails, refuted, held}
+use Rattle.lattice.proofs.Every.{every-none, every-fails, all-kept, refuted, held}
+use Rattle.lattice.proofs.Rows.{overwrite-none, next-row, fill-done}
+use borrow.Author.Needs.{needs}
 use Rattle.lattice.proofs.bounds.fill.Statement.{statement}
 use Rattle.lattice.proofs.bounds.fill.Tie as tie
 
 abbrev Inv-loop : tie.InvT-loop
-Inv-loop n words table₀ found₀ a₀ table found a =
+Inv-loop n words low table₀ found₀ a₀ table found a =
     (a ≤ n)
     × (found ≡ every a (λ k. every n (λ b. foundOf (wordBound n words k b))))
     × (table ≡ overwrite a (boundRow n (wordBound n words)) table₀)
 
 abbrev μ-loop : tie.MeasureT-loop
-μ-loop n words table₀ found₀ a₀ table found a = n - a
+μ-loop n words low table₀ found₀ a₀ table found a = n - a
 
 loop-holds : tie.Need-loop-holds Inv-loop μ-loop
 loop-holds c = (search needs, sym (every-none _), sym (overwrite-none _ _))
@@ -26,14 +26,11 @@ loop-holds c = (search needs, sym (every-none _), sym (overwrite-none _ _))
 bound-row-requires : tie.Need-bound-row-requires Inv-loop μ-loop
 bound-row-requires c κs = search needs
 
-is-row-found-requires : tie.Need-is-row-found-requires Inv-loop μ-loop
-is-row-found-requires c κs = search needs
+mul-cells : tie.Need-mul-cells Inv-loop μ-loop
+mul-cells c = search needs
 
-mul-t11 : tie.Need-mul-t11 Inv-loop μ-loop
-mul-t11 c = search needs
-
-element-set-from-table : tie.Need-element-set-from-table Inv-loop μ-loop
-element-set-from-table c = search needs
+element-set-from-cells : tie.Need-element-set-from-cells Inv-loop μ-loop
+element-set-from-cells c = search needs
 
 add-a : tie.Need-add-a Inv-loop μ-loop
 add-a c = search needs
@@ -44,15 +41,12 @@ loop-less c = search needs
 loop-again : tie.Need-loop-again Inv-loop μ-loop
 loop-again c =
     let turn = c .before .before .before .before .before .loop in
-    let start = c .before .before .before .before .before .before in
-    let answered =
-    row-answer (start .args .n) (start .args .words .now) (turn .a) (c .before .before .before .bound-row .result)
-    (c .before .is-row-found .result) (search needs) (c .before .before .before .bound-row .ensures) (c .before .is-row-found .ensures) in (
+    let row = c .before .before .before .bound-row in (
       search needs,
-      ⊎-elim (λ w. w .1 ∙ sym (every-fails _ (turn .a + 1) (turn .a) (omega arith) (refuted answered (w .0 .taken))))
-          (λ w. w .1 ∙ all-kept _ (turn .a) _ (turn .inv .1) (held answered (w .0 .left)))
-          (c .if1 .came),
-      next-row (turn .a) _ _ _ _ (turn .inv .2) (c .before .before .before .bound-row .ensures),
+      ⊎-elim (λ w. w .1 ∙ sym (every-fails _ (turn .a + 1) (turn .a) (omega arith) (refuted (row .ensures .1) (w .0 .taken))))
+          (λ w. w .1 ∙ all-kept _ (turn .a) _ (turn .inv .1) (held (row .ensures .1) (w .0 .left)))
+          (c .before .if1 .came),
+      next-row (turn .a) _ _ _ _ (turn .inv .2) (row .ensures .0),
     )
 
 returns : tie.Need-returns Inv-loop μ-loop
@@ -70,9 +64,8 @@ fill-spec =
     μ-loop
     loop-holds
     bound-row-requires
-    is-row-found-requires
-    mul-t11
-    element-set-from-table
+    mul-cells
+    element-set-from-cells
     add-a
     loop-less
     loop-again

@@ -1,28 +1,25 @@
--- `find_word` meets its contract: from n down to c no word was the one sought, so the last that is lies below c.
-use Prim.Native.Nat.{_≤_}
-use mathlib.Core.Path.{refl, sym, ap, _∙_, _≡_}
+-- `find_word` meets its contract: every type that has the word is among the bits left.
+use Prim.Native.Nat.{ℕ}
+use mathlib.Core.Path.{ap, sym, subst, _∙_}
+use native.Mathlib.Omega.{arith}
 use lib.ListN.{getD}
-use lib.Dec.{eqb}
-use borrow.Author.Tests.{eq-eqb, ne-eqb}
+use Rattle.lattice.specs.Words.{without}
+use Rattle.lattice.proofs.Search.{Seeking, seek-begin, seek-none, seek-found, seek-less, seek-next}
 use borrow.Author.Needs.{needs}
-use Rattle.lattice.specs.Table.{cell, last}
-use Rattle.lattice.specs.Words.{holder}
-use Rattle.lattice.proofs.Every.{last-none, last-passed, last-here}
 use Rattle.lattice.proofs.bounds.find_word.Statement.{statement}
 use Rattle.lattice.proofs.bounds.find_word.Tie as tie
 
 abbrev Inv-loop : tie.InvT-loop
-Inv-loop n words word c₀ c = (c ≤ n) × (holder n words word ≡ last c (λ k. eqb (getD words k 0) word))
+Inv-loop words word low left₀ end₀ left end = Seeking words word left
 
 abbrev μ-loop : tie.MeasureT-loop
-μ-loop n words word c₀ c = c
+μ-loop words word low left₀ end₀ left end = left
 
 loop-holds : tie.Need-loop-holds Inv-loop μ-loop
-unfolding holder
-loop-holds c = (search needs, refl)
+loop-holds c = seek-begin _ _
 
-sub-c : tie.Need-sub-c Inv-loop μ-loop
-sub-c c = search needs
+end-bit-requires : tie.Need-end-bit-requires Inv-loop μ-loop
+end-bit-requires c κs = search needs
 
 mul-if1 : tie.Need-mul-if1 Inv-loop μ-loop
 mul-if1 c = search needs
@@ -31,25 +28,44 @@ element-copy-out-if1 : tie.Need-element-copy-out-if1 Inv-loop μ-loop
 element-copy-out-if1 c = search needs
 
 cast-result : tie.Need-cast-result Inv-loop μ-loop
-cast-result c = search needs
+cast-result c = omega (arith, c .before .before .end-bit .ensures .0)
 
 returns : tie.Need-returns Inv-loop μ-loop
 returns c =
-    let turn = c .before .before .before .loop in
-    sym (ap cell (turn .inv .1 ∙ last-here _ (turn .c) (search needs) (eq-eqb _ _ (c .if1 .taken))))
+    let bit = c .before .before .end-bit in
+    seek-found (c .before .before .before .before .loop .inv) (bit .result) (bit .ensures .0) (bit .ensures .1) (c .if1 .taken)
+
+cleared-requires : tie.Need-cleared-requires Inv-loop μ-loop
+cleared-requires c κs = search needs
+
+mul-without : tie.Need-mul-without Inv-loop μ-loop
+mul-without c = search needs
+
+element-copy-out-without : tie.Need-element-copy-out-without Inv-loop μ-loop
+element-copy-out-without c = search needs
+
+without-requires : tie.Need-without-requires Inv-loop μ-loop
+without-requires c κs = search needs
 
 loop-less : tie.Need-loop-less Inv-loop μ-loop
-loop-less c = search needs
+loop-less c =
+    let bit = c .before .before .before .before .before .end-bit in
+    let turn = c .before .before .before .before .before .before .before .loop in
+    let ws = c .before .before .before .before .before .before .before .before .args .words .now in
+    let next = c .without .ensures ∙ ap (λ (w : ℕ). without w (getD ws (bit .result) 0)) (c .before .before .cleared .ensures) in
+    omega (arith, next, seek-less (turn .inv) (bit .result) (bit .ensures .0) (bit .ensures .1))
 
 loop-again : tie.Need-loop-again Inv-loop μ-loop
 loop-again c =
-    let turn = c .before .before .before .loop in
-    (search needs, turn .inv .1 ∙ last-passed _ (turn .c) (search needs) (ne-eqb _ _ (c .if1 .left)))
+    let bit = c .before .before .before .before .before .end-bit in
+    let turn = c .before .before .before .before .before .before .before .loop in
+    let ws = c .before .before .before .before .before .before .before .before .args .words .now in
+    let next = c .without .ensures ∙ ap (λ (w : ℕ). without w (getD ws (bit .result) 0)) (c .before .before .cleared .ensures) in
+    subst (Seeking ws (c .before .before .before .before .before .before .before .before .args .word)) (sym next)
+    (seek-next (turn .inv) (bit .result) (bit .ensures .0) (bit .ensures .1) (c .before .before .before .if1 .left))
 
 returns-2 : tie.Need-returns-2 Inv-loop μ-loop
-returns-2 c =
-    let turn = c .before .loop in
-    sym (ap cell (turn .inv .1 ∙ last-none _ (turn .c) (search needs)))
+returns-2 c = seek-none (c .before .loop .inv) (c .loop-test .left)
 
 pub find-word-spec : {M : Type 1} → statement M
 find-word-spec =
@@ -58,11 +74,15 @@ find-word-spec =
     Inv-loop
     μ-loop
     loop-holds
-    sub-c
+    end-bit-requires
     mul-if1
     element-copy-out-if1
     cast-result
     returns
+    cleared-requires
+    mul-without
+    element-copy-out-without
+    without-requires
     loop-less
     loop-again
     returns-2)

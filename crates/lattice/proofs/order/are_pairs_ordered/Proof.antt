@@ -1,54 +1,64 @@
--- `are_pairs_ordered` meets its contract: the pairs before j are ordered.
-use Prim.Native.Nat.{_≤_, _-_}
-use mathlib.Core.Path.{sym, _≡_}
-use mathlib.Core.Bool.{true}
-use borrow.Author.Needs.{needs}
-use Rattle.lattice.specs.Table.{every}
+-- `are_pairs_ordered` meets its contract: the pairs of the bits that are cleared are ordered.
+use Prim.Native.Nat.{ℕ}
+use mathlib.Core.Path.{sym, subst}
+use native.Mathlib.Omega.{arith}
+use lib.ListN.{getD}
 use Rattle.lattice.specs.Words.{pairOrdered}
-use Rattle.lattice.proofs.Every.{refuted, held, every-none, every-more, every-fails, every-done}
+use Rattle.lattice.proofs.Every.{refuted, held}
+use Rattle.lattice.proofs.Bits.{Passed, pass-begin, pass-fails, pass-next, pass-all, cleared-less}
+use borrow.Author.Needs.{needs}
 use Rattle.lattice.proofs.order.are_pairs_ordered.Statement.{statement}
 use Rattle.lattice.proofs.order.are_pairs_ordered.Tie as tie
 
 abbrev Inv-loop : tie.InvT-loop
-Inv-loop n table down i j₀ j = (j ≤ n) × (every j (pairOrdered table down i) ≡ true)
+Inv-loop down i left₀ left = Passed (getD down i 0) left (pairOrdered down i)
 
 abbrev μ-loop : tie.MeasureT-loop
-μ-loop n table down i j₀ j = n - j
+μ-loop down i left₀ left = left
+
+mul-left : tie.Need-mul-left Inv-loop μ-loop
+mul-left c = search needs
+
+element-copy-out-left : tie.Need-element-copy-out-left Inv-loop μ-loop
+element-copy-out-left c = search needs
 
 loop-holds : tie.Need-loop-holds Inv-loop μ-loop
-loop-holds c = (search needs, every-none _)
+loop-holds c = pass-begin _ _
+
+end-bit-requires : tie.Need-end-bit-requires Inv-loop μ-loop
+end-bit-requires c κs = search needs
 
 is-pair-ordered-requires : tie.Need-is-pair-ordered-requires Inv-loop μ-loop
 is-pair-ordered-requires c κs = search needs
 
 returns : tie.Need-returns Inv-loop μ-loop
 returns c =
-    let turn = c .before .before .before .loop in
-    let start = c .before .before .before .before .before in
-    let row = pairOrdered (start .args .table .now) (start .args .down .now) (start .args .i) in
+    let bit = c .before .before .end-bit in
+    let start = c .before .before .before .before .before .before in
+    let test = pairOrdered (start .args .down .now) (start .args .i) in
     sym
-    (every-fails row (start .args .n) (turn .j) (search needs)
-    (refuted {p = row (turn .j)} (c .before .is-pair-ordered .ensures) (c .if1 .taken)))
+    (pass-fails {p = test} (c .before .before .before .before .loop .inv) (bit .result) (bit .ensures .0) (bit .ensures .1)
+    (refuted {p = test (bit .result)} (c .before .is-pair-ordered .ensures) (c .if1 .taken)))
 
-add-j : tie.Need-add-j Inv-loop μ-loop
-add-j c = search needs
+cleared-requires : tie.Need-cleared-requires Inv-loop μ-loop
+cleared-requires c κs = search needs
 
 loop-less : tie.Need-loop-less Inv-loop μ-loop
-loop-less c = search needs
+loop-less c =
+    let bit = c .before .before .before .end-bit in
+    omega (arith, c .cleared .ensures, cleared-less (c .before .before .before .before .before .loop .left) (bit .result) (bit .ensures .0) (bit .ensures .1))
 
 loop-again : tie.Need-loop-again Inv-loop μ-loop
 loop-again c =
-    let turn = c .before .before .before .loop in
-    let start = c .before .before .before .before .before in
-    let row = pairOrdered (start .args .table .now) (start .args .down .now) (start .args .i) in (
-      search needs,
-      every-more row (turn .j) (turn .inv .1) (held {p = row (turn .j)} (c .before .is-pair-ordered .ensures) (c .if1 .left)),
-    )
+    let bit = c .before .before .before .end-bit in
+    let start = c .before .before .before .before .before .before .before in
+    let test = pairOrdered (start .args .down .now) (start .args .i) in
+    subst (λ (w : ℕ). Passed (getD (start .args .down .now) (start .args .i) 0) w test) (sym (c .cleared .ensures))
+    (pass-next {p = test} (c .before .before .before .before .before .loop .inv) (bit .result) (bit .ensures .0)
+    (held {p = test (bit .result)} (c .before .before .is-pair-ordered .ensures) (c .before .if1 .left)))
 
 returns-2 : tie.Need-returns-2 Inv-loop μ-loop
-returns-2 c =
-    let turn = c .before .loop in
-    every-done _ (turn .j) (c .before .before .before .args .n) (search needs) (search needs) (turn .inv .1)
+returns-2 c = sym (pass-all (c .before .loop .inv) (c .loop-test .left))
 
 pub are-pairs-ordered-spec : {M : Type 1} → statement M
 are-pairs-ordered-spec =
@@ -56,10 +66,13 @@ are-pairs-ordered-spec =
     (tie.spec
     Inv-loop
     μ-loop
+    mul-left
+    element-copy-out-left
     loop-holds
+    end-bit-requires
     is-pair-ordered-requires
     returns
-    add-j
+    cleared-requires
     loop-less
     loop-again
     returns-2)

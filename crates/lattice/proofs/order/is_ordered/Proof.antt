@@ -10,10 +10,10 @@ use Rattle.lattice.proofs.order.is_ordered.Statement.{statement}
 use Rattle.lattice.proofs.order.is_ordered.Tie as tie
 
 abbrev Inv-loop : tie.InvT-loop
-Inv-loop n table down i₀ i = (i ≤ n) × (every i (rowOrdered n table down) ≡ true)
+Inv-loop n down i₀ i = (i ≤ n) × (every i (rowOrdered n down) ≡ true)
 
 abbrev μ-loop : tie.MeasureT-loop
-μ-loop n table down i₀ i = n - i
+μ-loop n down i₀ i = n - i
 
 loop-holds : tie.Need-loop-holds Inv-loop μ-loop
 loop-holds c = (search needs, every-none _)
@@ -24,8 +24,8 @@ is-row-ordered-requires c κs = search needs
 returns : tie.Need-returns Inv-loop μ-loop
 returns c =
     let turn = c .before .before .before .loop in
-    let start = c .before .before .before .before .before in
-    let row = rowOrdered (start .args .n) (start .args .table .now) (start .args .down .now) in
+    let start = c .before .before .before .before in
+    let row = rowOrdered (start .args .n) (start .args .down .now) in
     sym
     (every-fails row (start .args .n) (turn .i) (search needs)
     (refuted {p = row (turn .i)} (c .before .is-row-ordered .ensures) (c .if1 .taken)))
@@ -39,8 +39,8 @@ loop-less c = search needs
 loop-again : tie.Need-loop-again Inv-loop μ-loop
 loop-again c =
     let turn = c .before .before .before .loop in
-    let start = c .before .before .before .before .before in
-    let row = rowOrdered (start .args .n) (start .args .table .now) (start .args .down .now) in (
+    let start = c .before .before .before .before in
+    let row = rowOrdered (start .args .n) (start .args .down .now) in (
       search needs,
       every-more row (turn .i) (turn .inv .1) (held {p = row (turn .i)} (c .before .is-row-ordered .ensures) (c .if1 .left)),
     )
@@ -48,7 +48,7 @@ loop-again c =
 returns-2 : tie.Need-returns-2 Inv-loop μ-loop
 returns-2 c =
     let turn = c .before .loop in
-    every-done _ (turn .i) (c .before .before .before .args .n) (search needs) (search needs) (turn .inv .1)
+    every-done _ (turn .i) (c .before .before .args .n) (search needs) (search needs) (turn .inv .1)
 
 pub is-ordered-spec : {M : Type 1} → statement M
 is-ordered-spec =

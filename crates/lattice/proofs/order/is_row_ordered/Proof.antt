@@ -1,9 +1,9 @@
 -- `is_row_ordered` meets its contract, return by return.
 use mathlib.Core.Path.{_∙_}
 use borrow.Author.Tests.{le-leb, lt-leb}
-use borrow.Author.Needs.{needs}
 use Rattle.lattice.specs.Words.{rowOrdered}
-use Rattle.lattice.proofs.Every.{refuted, held}
+use Rattle.lattice.proofs.Every.{fifth-decides, refuted, held}
+use borrow.Author.Needs.{needs}
 use Rattle.lattice.proofs.order.is_row_ordered.Statement.{statement}
 use Rattle.lattice.proofs.order.is_row_ordered.Tie as tie
 
@@ -23,39 +23,57 @@ returns : tie.Need-returns
 unfolding rowOrdered
 returns c = simp (lt-leb _ _ (c .if1 .taken))
 
-is-below-requires : tie.Need-is-below-requires
-is-below-requires c κs = search needs
+mul-has-bit : tie.Need-mul-has-bit
+mul-has-bit c = search needs
+
+element-copy-out-has-bit : tie.Need-element-copy-out-has-bit
+element-copy-out-has-bit c = search needs
+
+has-bit-requires : tie.Need-has-bit-requires
+has-bit-requires c κs = search needs
 
 returns-2 : tie.Need-returns-2
 unfolding rowOrdered
-returns-2 c = simp (le-leb _ _ (c .before .before .if1 .left), refuted (c .before .is-below .ensures) (c .if2 .taken))
+returns-2 c = simp (le-leb _ _ (c .before .before .before .if1 .left), refuted (c .before .has-bit .ensures) (c .if2 .taken))
 
-is-below-requires-2 : tie.Need-is-below-requires-2
-is-below-requires-2 c κs = search needs
+mul-has-bit-2 : tie.Need-mul-has-bit-2
+mul-has-bit-2 c = search needs
+
+element-copy-out-has-bit-2 : tie.Need-element-copy-out-has-bit-2
+element-copy-out-has-bit-2 c = search needs
+
+has-bit-requires-2 : tie.Need-has-bit-requires-2
+has-bit-requires-2 c κs = search needs
 
 returns-3 : tie.Need-returns-3
 unfolding rowOrdered
 returns-3 c =
     simp (
-      le-leb _ _ (c .before .before .before .before .if1 .left),
-      held (c .before .before .before .is-below .ensures) (c .before .before .if2 .left),
-      refuted (c .before .is-below2 .ensures) (c .if3 .taken),
+      le-leb _ _ (c .before .before .before .before .before .before .if1 .left),
+      held (c .before .before .before .before .has-bit .ensures) (c .before .before .before .if2 .left),
+      refuted (c .before .has-bit2 .ensures) (c .if3 .taken),
     )
 
-sub-is-below : tie.Need-sub-is-below
-sub-is-below c = search needs
+sub-has-bit : tie.Need-sub-has-bit
+sub-has-bit c = search needs
 
-is-below-requires-3 : tie.Need-is-below-requires-3
-is-below-requires-3 c κs = search needs
+mul-has-bit-3 : tie.Need-mul-has-bit-3
+mul-has-bit-3 c = search needs
+
+element-copy-out-has-bit-3 : tie.Need-element-copy-out-has-bit-3
+element-copy-out-has-bit-3 c = search needs
+
+has-bit-requires-3 : tie.Need-has-bit-requires-3
+has-bit-requires-3 c κs = search needs
 
 returns-4 : tie.Need-returns-4
 unfolding rowOrdered
 returns-4 c =
     simp (
-      le-leb _ _ (c .before .before .before .before .before .before .if1 .left),
-      held (c .before .before .before .before .before .is-below .ensures) (c .before .before .before .before .if2 .left),
-      held (c .before .before .before .is-below2 .ensures) (c .before .before .if3 .left),
-      refuted (c .before .is-below3 .ensures) (c .if4 .taken),
+      le-leb _ _ (c .before .before .before .before .before .before .before .before .before .if1 .left),
+      held (c .before .before .before .before .before .before .before .has-bit .ensures) (c .before .before .before .before .before .before .if2 .left),
+      held (c .before .before .before .before .has-bit2 .ensures) (c .before .before .before .if3 .left),
+      refuted (c .before .has-bit3 .ensures) (c .if4 .taken),
     )
 
 are-pairs-ordered-requires : tie.Need-are-pairs-ordered-requires
@@ -65,12 +83,11 @@ returns-5 : tie.Need-returns-5
 unfolding rowOrdered
 returns-5 c =
     c .are-pairs-ordered .ensures ∙
-    simp (
-      le-leb _ _ (c .before .before .before .before .before .before .before .if1 .left),
-      held (c .before .before .before .before .before .before .is-below .ensures) (c .before .before .before .before .before .if2 .left),
-      held (c .before .before .before .before .is-below2 .ensures) (c .before .before .before .if3 .left),
-      held (c .before .before .is-below3 .ensures) (c .before .if4 .left),
-    )
+    fifth-decides
+    (le-leb _ _ (c .before .before .before .before .before .before .before .before .before .before .if1 .left))
+    (held (c .before .before .before .before .before .before .before .before .has-bit .ensures) (c .before .before .before .before .before .before .before .if2 .left))
+    (held (c .before .before .before .before .before .has-bit2 .ensures) (c .before .before .before .before .if3 .left))
+    (held (c .before .before .has-bit3 .ensures) (c .before .if4 .left))
 
 pub is-row-ordered-spec : {M : Type 1} → statement M
 is-row-ordered-spec =
@@ -81,12 +98,18 @@ is-row-ordered-spec =
     sub-if1
     shr-if1
     returns
-    is-below-requires
+    mul-has-bit
+    element-copy-out-has-bit
+    has-bit-requires
     returns-2
-    is-below-requires-2
+    mul-has-bit-2
+    element-copy-out-has-bit-2
+    has-bit-requires-2
     returns-3
-    sub-is-below
-    is-below-requires-3
+    sub-has-bit
+    mul-has-bit-3
+    element-copy-out-has-bit-3
+    has-bit-requires-3
     returns-4
     are-pairs-ordered-requires
     returns-5)

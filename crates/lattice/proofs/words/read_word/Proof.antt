@@ -1,44 +1,67 @@
--- `read_word` meets its contract: the word has the bits before j.
-use Prim.Native.Nat.{ℕ, _≤_, _<_, _-_, _^_}
-use mathlib.Core.Path.{sym, subst, _≡_}
-use borrow.Author.Needs.{needs}
+-- `read_word` meets its contract: the word has the bits of the bytes before k.
+use Prim.Native.Nat.{_≤_, _-_, _*_}
+use mathlib.Core.Path.{_≡_, sym}
+use mathlib.Core.Bool.{false}
+use native.Mathlib.Omega.{arith}
 use Rattle.lattice.specs.Words.{word as wordOf, related}
-use Rattle.lattice.proofs.WordLaws.{word-none, word-below, next-word, word-done}
+use Rattle.lattice.proofs.WordLaws.{word-none, word-done}
+use Rattle.lattice.proofs.Bits.{next-byte, byte-fits}
+use borrow.Author.Needs.{needs}
 use Rattle.lattice.proofs.words.read_word.Statement.{statement}
 use Rattle.lattice.proofs.words.read_word.Tie as tie
 
 abbrev Inv-loop : tie.InvT-loop
-Inv-loop table up i word₀ j₀ word j = (j ≤ 64) × (word ≡ wordOf j (related table up i))
+Inv-loop table i word₀ k₀ word k = (k ≤ 8) × (word ≡ wordOf (8 * k) (related table false i))
 
 abbrev μ-loop : tie.MeasureT-loop
-μ-loop table up i word₀ j₀ word j = 64 - j
+μ-loop table i word₀ k₀ word k = 8 - k
 
 loop-holds : tie.Need-loop-holds Inv-loop μ-loop
 loop-holds c = (search needs, sym (word-none _))
 
-is-related-requires : tie.Need-is-related-requires Inv-loop μ-loop
-is-related-requires c κs = search needs
+mul-byte-at : tie.Need-mul-byte-at Inv-loop μ-loop
+mul-byte-at c = search needs
 
-with-bit-requires : tie.Need-with-bit-requires Inv-loop μ-loop
-with-bit-requires c κs =
+add-byte-at : tie.Need-add-byte-at Inv-loop μ-loop
+add-byte-at c = search needs
+
+byte-at-requires : tie.Need-byte-at-requires Inv-loop μ-loop
+byte-at-requires c κs = search needs
+
+mul-word : tie.Need-mul-word Inv-loop μ-loop
+mul-word c = search needs
+
+shl-word : tie.Need-shl-word Inv-loop μ-loop
+shl-word c = search needs
+
+add-word : tie.Need-add-word Inv-loop μ-loop
+add-word c =
     let turn = c .before .before .loop in
-    (search needs, subst (λ (w : ℕ). w < 2 ^ (turn .j)) (sym (turn .inv .1)) (word-below (turn .j) _))
+    let start = c .before .before .before .before in
+    record {
+      fits = byte-fits (start .args .table .now) (start .args .i) (turn .k) _ _ (search needs) (turn .inv .1) (c .byte-at .ensures .0)
+          (c .byte-at .ensures .1);
+    }
 
-add-j : tie.Need-add-j Inv-loop μ-loop
-add-j c = search needs
+add-k : tie.Need-add-k Inv-loop μ-loop
+add-k c = search needs
 
 loop-less : tie.Need-loop-less Inv-loop μ-loop
 loop-less c = search needs
 
 loop-again : tie.Need-loop-again Inv-loop μ-loop
 loop-again c =
-    let turn = c .before .before .before .loop in
-    (search needs, next-word _ (turn .j) _ _ _ (turn .inv .1) (c .before .is-related .ensures) (c .with-bit .ensures))
+    let turn = c .before .before .loop in
+    let start = c .before .before .before .before in (
+      search needs,
+      next-byte (start .args .table .now) (start .args .i) (turn .k) _ _ (search needs) (turn .inv .1) (c .byte-at .ensures .0)
+          (c .byte-at .ensures .1),
+    )
 
 returns : tie.Need-returns Inv-loop μ-loop
 returns c =
     let turn = c .before .loop in
-    word-done _ (turn .j) 64 _ (search needs) (search needs) (turn .inv .1)
+    word-done _ (8 * turn .k) 64 _ (omega (arith, turn .inv .0)) (omega arith) (turn .inv .1)
 
 pub read-word-spec : {M : Type 1} → statement M
 read-word-spec =
@@ -47,9 +70,13 @@ read-word-spec =
     Inv-loop
     μ-loop
     loop-holds
-    is-related-requires
-    with-bit-requires
-    add-j
+    mul-byte-at
+    add-byte-at
+    byte-at-requires
+    mul-word
+    shl-word
+    add-word
+    add-k
     loop-less
     loop-again
     returns)

@@ -1,6 +1,7 @@
 -- `read_words` meets its contract: the words before i are read.
 use Prim.Native.Nat.{ℕ, _≤_, _<_, _-_}
 use mathlib.Core.Path.{_≡_}
+use mathlib.Core.Bool.{false}
 use native.Mathlib.Omega.{arith}
 use lib.ListN.{length, getD}
 use borrow.Author.Needs.{needs}
@@ -10,11 +11,11 @@ use Rattle.lattice.proofs.words.read_words.Statement.{statement}
 use Rattle.lattice.proofs.words.read_words.Tie as tie
 
 abbrev Inv-loop : tie.InvT-loop
-Inv-loop n table up words₀ i₀ words i = (i ≤ n) × (length words ≡ 64) × ((k : ℕ) → k < i → getD words k 0 ≡ word 64
-    (related table up k))
+Inv-loop n table words₀ i₀ words i = (i ≤ n) × (length words ≡ 64) × ((k : ℕ) → k < i → getD words k 0 ≡ word 64
+    (related table false k))
 
 abbrev μ-loop : tie.MeasureT-loop
-μ-loop n table up words₀ i₀ words i = n - i
+μ-loop n table words₀ i₀ words i = n - i
 
 loop-holds : tie.Need-loop-holds Inv-loop μ-loop
 loop-holds c = search needs

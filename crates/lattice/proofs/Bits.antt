@@ -1,0 +1,243 @@
+-- Bits of numbers: a word has the bits that it is made of, numbers below 2 ^ 64 with the same bits are one, and what the bit
+-- operations and the counts of zeros say of bits.
+use Prim.Native.Nat.{ℕ, zero, suc, _+_, _*_, _-_, _/_, _%_, _^_, _<_, _≤_}
+use mathlib.Core.Path.{_≡_, refl, sym, ap, ap₂, subst, _∙_}
+use mathlib.Core.Bool.{Bool, true, false, not, _&&_}
+use mathlib.Core.List.{List}
+use mathlib.Core.Logic.{⊎-elim}
+use native.Mathlib.Nat.{mod-lt, zero-div, mod-eq-of-lt, two-pow-succ, div-lt-iff-lt-mul, le-div-iff-mul-le, div-eq-of-lt, lt-of-lt-of-le, add-zero, add-suc, add-mul, mul-assoc, mul-comm}
+use native.Mathlib.Omega.{arith}
+use lib.Bits.{bitAnd, bitXor, and-shr, xor-shr, and-mod, xor-mod, xor-add-and, and-le-l}
+use lib.Count.{trailingZeros, under, leadingZeros, leading-top}
+use lib.Dec.{eqb}
+use lib.ListN.{getD}
+use lib.Pow.{mod-pow-add, shr-shr, shr-lt, pow-mono, pow-pos, pow-add, shl-exact}
+use borrow.Author.Tests.{eq-eqb, ne-eqb, eqb-true}
+use Rattle.lattice.specs.Table.{every, implies, below}
+use Rattle.lattice.specs.Words.{digit, word, related, bit, without, Inside}
+use Rattle.lattice.proofs.Every.{below-or-not, and-left, and-both, true-not-false, implies-from, every-fails, every-all}
+use Rattle.lattice.proofs.WordLaws.{word-below, word-same, word-bits, word-cut}
+
+two : 0 < 2
+two = omega arith
+
+bit-digit : (w j : ℕ) → digit (bit w j) ≡ w / 2 ^ j % 2
+unfolding bit
+bit-digit w j = go (w / 2 ^ j % 2) (mod-lt (w / 2 ^ j) two) where
+  go : (d : ℕ) → d < 2 → digit (eqb d 1) ≡ d
+  go zero l = refl
+  go (suc zero) l = refl
+  go (suc (suc d)) l = absurd (omega arith)
+
+-- the k low bits of a number make the number's rest by 2 ^ k
+word-bit : (k w : ℕ) → word k (bit w) ≡ w % 2 ^ k
+unfolding word
+word-bit zero w = omega arith
+word-bit (suc k) w =
+    ap₂ (λ (d r : ℕ). d * 2 ^ k + r) (bit-digit w k) (word-bit k w) ∙ sym (mod-pow-add w 1 k) ∙
+    ap (λ (x : ℕ). w % 2 ^ x) (omega arith)
+
+bits-word : (k w : ℕ) → w < 2 ^ k → word k (bit w) ≡ w
+bits-word k w l = word-bit k w ∙ mod-eq-of-lt l
+
+-- a word has the bits that it is made of
+pub bit-word : (k : ℕ) (p : ℕ → Bool) (j : ℕ) → j < k → bit (word k p) j ≡ p j
+bit-word k p j l = word-bits k (bit (word k p)) p (bits-word k (word k p) (word-below k p)) j l
+
+pub bits-same : (k v w : ℕ) → v < 2 ^ k → w < 2 ^ k → ((j : ℕ) → j < k → bit v j ≡ bit w j) → v ≡ w
+bits-same k v w l s h = sym (bits-word k v l) ∙ word-same k (bit v) (bit w) h ∙ bits-word k w s
+
+pub no-bit : (j : ℕ) → bit 0 j ≡ false
+unfolding bit
+no-bit j = rw (zero-div (2 ^ j))
+
+-- a number below 2 ^ n has no bit at n or above
+pub small-inside : (n w : ℕ) → w < 2 ^ n → Inside n w
+unfolding bit
+small-inside n w l j s e = ⊎-elim (λ r. r) (λ r. absurd (true-not-false (bit w j) e (none r))) (below-or-not j n) where
+  none : n ≤ j → eqb (w / 2 ^ j % 2) 1 ≡ false
+  none r =
+      let most : 2 ^ n ≤ 2 ^ j = pow-mono r in
+      let small : w < 2 ^ j = omega arith in
+      rw (div-eq-of-lt small)
+
+-- a number with a bit is not 0
+bit-positive : (w j : ℕ) → bit w j ≡ true → 0 < w
+bit-positive zero j h = absurd (true-not-false (bit 0 j) h (no-bit j))
+bit-positive (suc w) j h = omega arith
+
+-- 2 ^ j is the word of one bit
+one-word : (j : ℕ) → j < 64 → word 64 (λ i. eqb i j) ≡ 2 ^ j
+unfolding word
+one-word j l =
+    let cut : word 64 (λ i. eqb i j) ≡ word (suc j) (λ i. eqb i j) =
+    word-cut (suc j) 64 (λ i. eqb i j) l (λ i a b. ne-eqb i j (λ e. absurd (omega arith))) in
+    let low : word j (λ i. eqb i j) ≡ word 0 (λ i. eqb i j) =
+    word-cut 0 j (λ i. eqb i j) (omega arith) (λ i a b. ne-eqb i j (λ e. absurd (omega arith))) in
+    cut ∙ rw (eq-eqb j j refl, low) (omega arith)
+
+one-bit : (j k : ℕ) → j < 64 → k < 64 → bit (2 ^ j) k ≡ eqb k j
+one-bit j k l s = ap (λ (w : ℕ). bit w k) (sym (one-word j l)) ∙ bit-word 64 (λ i. eqb i j) k s
+
+pub and-bit : (a b j : ℕ) → bit (bitAnd a b) j ≡ (bit a j && bit b j)
+unfolding bit
+and-bit a b j = ap (λ (x : ℕ). eqb (x % 2) 1) (and-shr a b j) ∙ odd (a / 2 ^ j) (b / 2 ^ j) where
+  go : (c d : ℕ) → c < 2 → d < 2 → eqb (bitAnd c d) 1 ≡ (eqb c 1 && eqb d 1)
+  go zero d l s = refl
+  go (suc zero) zero l s = refl
+  go (suc zero) (suc zero) l s = refl
+  go (suc zero) (suc (suc d)) l s = absurd (omega arith)
+  go (suc (suc c)) d l s = absurd (omega arith)
+
+  odd : (x y : ℕ) → eqb (bitAnd x y % 2) 1 ≡ (eqb (x % 2) 1 && eqb (y % 2) 1)
+  odd x y = ap (λ (z : ℕ). eqb z 1) (and-mod x y 1) ∙ go (x % 2) (y % 2) (mod-lt x two) (mod-lt y two)
+
+pub without-bit : (a b j : ℕ) → bit (without a b) j ≡ (bit a j && not (bit b j))
+unfolding bit
+without-bit a b j =
+    ap (λ (x : ℕ). eqb (x % 2) 1) (xor-shr a (bitAnd a b) j ∙ ap (bitXor (a / 2 ^ j)) (and-shr a b j)) ∙ odd (a / 2 ^ j) (b / 2 ^ j)
+  where
+    go : (c d : ℕ) → c < 2 → d < 2 → eqb (bitXor c (bitAnd c d)) 1 ≡ (eqb c 1 && not (eqb d 1))
+    go zero d l s = refl
+    go (suc zero) zero l s = refl
+    go (suc zero) (suc zero) l s = refl
+    go (suc zero) (suc (suc d)) l s = absurd (omega arith)
+    go (suc (suc c)) d l s = absurd (omega arith)
+
+    odd : (x y : ℕ) → eqb (bitXor x (bitAnd x y) % 2) 1 ≡ (eqb (x % 2) 1 && not (eqb (y % 2) 1))
+    odd x y =
+        ap (λ (z : ℕ). eqb z 1) (xor-mod x (bitAnd x y) 1 ∙ ap (bitXor (x % 2)) (and-mod x y 1)) ∙
+        go (x % 2) (y % 2) (mod-lt x two) (mod-lt y two)
+
+below-power : (a : ℕ) → a < 2 ^ a
+below-power zero = omega arith
+below-power (suc a) = omega (arith, below-power a, two-pow-succ a)
+
+-- what is taken out and what is left make the word
+without-rest : (a b : ℕ) → without a b + bitAnd a b ≡ a
+without-rest a b =
+    let small : a < 2 ^ a = below-power a in
+    let same : bitAnd a (bitAnd a b) ≡ bitAnd a b =
+    bits-same a _ _ (omega (arith, and-le-l a (bitAnd a b))) (omega (arith, and-le-l a b)) λ j s.
+    and-bit a (bitAnd a b) j ∙ ap (λ (x : Bool). bit a j && x) (and-bit a b j) ∙ twice (bit a j) (bit b j) ∙ sym (and-bit a b j) in
+    omega (arith, xor-add-and a (bitAnd a b), same)
+  where
+    twice : (x y : Bool) → x && (x && y) ≡ x && y
+    twice true y = refl
+    twice false y = refl
+
+pub without-most : (a b : ℕ) → without a b ≤ a
+without-most a b = omega (arith, without-rest a b)
+
+without-less : (a b j : ℕ) → bit a j ≡ true → bit b j ≡ true → without a b < a
+without-less a b j e f =
+    omega (arith, without-rest a b, bit-positive (bitAnd a b) j (and-bit a b j ∙ and-both (bit a j) (bit b j) e f))
+
+-- a word with a standing bit cleared is less
+pub cleared-less : (w j : ℕ) → j < 64 → bit w j ≡ true → without w (2 ^ j) < w
+cleared-less w j l e = without-less w (2 ^ j) j e (one-bit j j l l ∙ eq-eqb j j refl)
+
+-- a bit that still stands is another, and one that does not stood not before or is the one cleared
+pub cleared-bit : (w j k : ℕ) → j < 64 → k < 64 → bit (without w (2 ^ j)) k ≡ (bit w k && not (eqb k j))
+cleared-bit w j k l s = without-bit w (2 ^ j) k ∙ ap (λ (b : Bool). bit w k && not b) (one-bit j k l s)
+
+half-shift : (w i : ℕ) → w / 2 ^ suc i ≡ w / 2 / 2 ^ i
+half-shift w i = ap (λ (k : ℕ). w / 2 ^ k) (omega arith) ∙ sym (shr-shr w 1 i)
+
+-- below the lowest standing bit are the trailing zeros
+pub lowest-bit : (k w : ℕ) → w < 2 ^ k → 0 < w → (trailingZeros k w < k) × (bit w (trailingZeros k w) ≡ true)
+unfolding trailingZeros bit
+lowest-bit zero w l s = absurd (omega arith)
+lowest-bit (suc k) w l s = go (w % 2) refl (lowest-bit k (w / 2) (shr-lt k 1 (subst (λ (x : ℕ). w < 2 ^ x) (omega arith) l))) where
+  go : (d : ℕ) → w % 2 ≡ d
+      → (0 < w / 2 → (trailingZeros k (w / 2) < k) × (eqb (w / 2 / 2 ^ trailingZeros k (w / 2) % 2) 1 ≡ true))
+      → (under d (trailingZeros k (w / 2)) < suc k) × (eqb (w / 2 ^ under d (trailingZeros k (w / 2)) % 2) 1 ≡ true)
+  go zero e rest =
+      let r : (trailingZeros k (w / 2) < k) × (eqb (w / 2 / 2 ^ trailingZeros k (w / 2) % 2) 1 ≡ true) = rest (omega arith) in
+      (omega (arith, r .0), ap (λ (x : ℕ). eqb (x % 2) 1) (half-shift w (trailingZeros k (w / 2))) ∙ r .1)
+  go (suc d) e rest =
+      let f : w / 1 % 2 ≡ 1 = omega (arith, mod-lt w two) in
+      (omega arith, eq-eqb _ _ f)
+
+-- above the highest standing bit are the leading zeros
+pub highest-bit : (w : ℕ) → w < 2 ^ 64 → 0 < w → (leadingZeros 64 w ≤ 63) × (63 - leadingZeros 64 w < 64) × (bit w (63 - leadingZeros 64 w) ≡ true)
+unfolding bit
+highest-bit w l s =
+    let r : (j : ℕ) × (leadingZeros 64 w + suc j ≡ 64) × (2 ^ j ≤ w) × (w < 2 ^ suc j) = leading-top 64 w s l in
+    let j : r .0 ≡ 63 - leadingZeros 64 w = omega (arith, r .1) in
+    let top : w / 2 ^ (r .0) ≡ 1 = one (r .0) (r .2) (r .3) in
+    (omega (arith, r .1), omega (arith, r .1), ap (λ (k : ℕ). eqb (w / 2 ^ k % 2) 1) (sym j) ∙ rw top)
+  where
+    one : (j : ℕ) → 2 ^ j ≤ w → w < 2 ^ suc j → w / 2 ^ j ≡ 1
+    one j a b =
+        let up : w / 2 ^ j < 2 = div-lt-iff-lt-mul (pow-pos j) .1 (omega (arith, two-pow-succ j)) in
+        let down : 1 ≤ w / 2 ^ j = le-div-iff-mul-le (pow-pos j) .1 (omega arith) in
+        omega arith
+
+-- a word of m bits below k others
+word-append : (m k : ℕ) (p : ℕ → Bool) → word (m + k) p ≡ word k (λ j. p (m + j)) * 2 ^ m + word m p
+unfolding word
+word-append m zero p = ap (λ (x : ℕ). word x p) (add-zero m) ∙ none (2 ^ m) (word m p) where
+  none : (b v : ℕ) → v ≡ 0 * b + v
+  none b v = omega arith
+word-append m (suc k) p =
+    ap (λ (x : ℕ). word x p) (add-suc m k) ∙
+    ap₂ (λ (x y : ℕ). digit (p (m + k)) * x + y) (pow-add 2 m k) (word-append m k p) ∙
+    arrange (digit (p (m + k))) (2 ^ k) (2 ^ m) (word k (λ j. p (m + j))) (word m p)
+  where
+    arrange : (d a b w v : ℕ) → d * (b * a) + (w * b + v) ≡ (d * a + w) * b + v
+    arrange d a b w v =
+        let e : d * (b * a) ≡ d * a * b = ap (λ (x : ℕ). d * x) (mul-comm b a) ∙ sym (mul-assoc d a b) in
+        omega (arith, e, add-mul (d * a) w b)
+
+-- one byte more of row i
+module _ (t : List ℕ) (i k w b : ℕ) (few : k < 8) (e : w ≡ word (8 * k) (related t false i)) (is : b ≡ getD t (8 * i + k) 0) (small : b < 256) where
+  pub next-byte : w + (b * 2 ^ (8 * k)) % 2 ^ 64 ≡ word (8 * (k + 1)) (related t false i)
+  unfolding below bit
+  next-byte =
+      let bits : b ≡ word 8 (λ j. related t false i (8 * k + j)) =
+      sym (bits-word 8 b small) ∙
+      word-same 8 (bit b) (λ j. related t false i (8 * k + j))
+      (λ j l.
+      ap (λ (x : ℕ). eqb (x / 2 ^ j % 2) 1) is ∙
+      ap₂ (λ (x y : ℕ). eqb (getD t (8 * i + x) 0 / 2 ^ y % 2) 1) (omega arith) (omega arith)) in
+      let placed : (b * 2 ^ (8 * k)) % 2 ^ 64 ≡ b * 2 ^ (8 * k) = shl-exact 8 (8 * k) 64 small (omega arith) in
+      let more : word (8 * k + 8) (related t false i) ≡ b * 2 ^ (8 * k) + w =
+      word-append (8 * k) 8 (related t false i) ∙ ap₂ (λ (x y : ℕ). x * 2 ^ (8 * k) + y) (sym bits) (sym e) in
+      let next : 8 * (k + 1) ≡ 8 * k + 8 = omega arith in
+      omega (arith, placed, more, ap (λ (x : ℕ). word x (related t false i)) next)
+
+  pub byte-fits : w + (b * 2 ^ (8 * k)) % 2 ^ 64 < 2 ^ 64
+  byte-fits =
+      let l : 8 * (k + 1) ≤ 64 = omega arith in
+      subst (λ (x : ℕ). x < 2 ^ 64) (sym next-byte) (lt-of-lt-of-le (word-below (8 * (k + 1)) (related t false i)) (pow-mono l))
+
+-- Going over the standing bits of w: `left` has those that are not tested yet, and the others passed.
+pub record Passed (w left : ℕ) (p : ℕ → Bool) : Type 0 where
+  pub part : (j : ℕ) → j < 64 → bit left j ≡ true → bit w j ≡ true
+  pub passed : (j : ℕ) → j < 64 → bit w j ≡ true → bit left j ≡ false → p j ≡ true
+
+pub pass-begin : (w : ℕ) (p : ℕ → Bool) → Passed w w p
+pass-begin w p = record { part = λ j l e. e; passed = λ j l e f. absurd (true-not-false (bit w j) e f) }
+
+module _ {w left : ℕ} {p : ℕ → Bool} (s : Passed w left p) where
+  pub pass-fails : (j : ℕ) → j < 64 → bit left j ≡ true → p j ≡ false → every 64 (λ j. implies (bit w j) (p j)) ≡ false
+  pass-fails j l e f = every-fails _ 64 j l (rw (s .part j l e, f))
+
+  pub pass-next : (j : ℕ) → j < 64 → p j ≡ true → Passed w (without left (2 ^ j)) p
+  pass-next j l h =
+      record {
+        part = λ k r e. s .part k r (and-left (bit left k) (not (eqb k j)) (sym (cleared-bit left j k l r) ∙ e));
+        passed = λ k r e f. go k r e (bit left k) refl (eqb k j) refl (sym (cleared-bit left j k l r) ∙ f);
+      }
+    where
+      go : (k : ℕ) → k < 64 → bit w k ≡ true → (b : Bool) → bit left k ≡ b → (c : Bool) → eqb k j ≡ c
+          → (bit left k && not (eqb k j)) ≡ false → p k ≡ true
+      go k r e b e₁ true e₂ h₁ = subst (λ (i : ℕ). p i ≡ true) (sym (eqb-true k j e₂)) h
+      go k r e false e₁ false e₂ h₁ = s .passed k r e e₁
+      go k r e true e₁ false e₂ h₁ = absurd (true-not-false true refl (sym (rw (e₁, e₂)) ∙ h₁))
+
+  pub pass-all : left ≡ 0 → every 64 (λ j. implies (bit w j) (p j)) ≡ true
+  pass-all e =
+      every-all _ 64 λ j l.
+      implies-from (bit w j) (p j) λ f. s .passed j l f (ap (λ (x : ℕ). bit x j) e ∙ no-bit j)
