@@ -4,5 +4,6 @@ pub mod Replies
 pub mod Tables
 pub mod Orders
 pub mod CommonParts
+pub mod Combinations
 pub mod Results
 pub mod Demands
