@@ -1,0 +1,3 @@
+-- Laws of classes.
+pub mod Roots
+pub mod Merging
