@@ -408,3 +408,27 @@ module _ (a₀ a₁ b₀ b₁ : ℕ) (fs ts ls rs : List ℕ) (used count : ℕ)
 
           k : j < b₁
           k = both-in left e .1
+
+-- What is merged.
+module _ {a₀ a₁ b₀ b₁ : ℕ} {fs ts ls rs : List ℕ} {used count : ℕ} {fs′ ts′ ls′ rs′ : List ℕ} {at top : ℕ}
+    (m : Merged a₀ a₁ b₀ b₁ fs ts ls rs used count fs′ ts′ ls′ rs′ at top) (a : Span fs used a₀ a₁) (b : Span fs used b₀ b₁) where
+  pub merged-known : (k : ℕ) → used ≤ k → k < at → getD fs′ k 0 < 64
+  merged-known k low high =
+      let (p, side, both) = m .source k low high in
+      omega (
+        arith,
+        both .0,
+        ⊎-elim (λ (z : (a₀ ≤ p) × (p < a₁)). a .known p (z .0) (z .1)) (λ (z : (b₀ ≤ p) × (p < b₁)). b .known p (z .0) (z .1)) side,
+      )
+
+  -- a row has at most 64 places
+  pub merged-short : at ≤ used + 64
+  merged-short = go at refl
+    where
+      go : (n : ℕ) → n ≡ at → at ≤ used + 64
+      go zero e = omega arith
+      go (suc n) e = last (decLt used at)
+        where
+          last : Dec (used < at) → at ≤ used + 64
+          last (yes h) = omega (arith, m .short n (omega arith) (omega arith), merged-known n (omega arith) (omega arith))
+          last (no h) = omega arith

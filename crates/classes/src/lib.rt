@@ -38,7 +38,16 @@ fn join(
     let b_start = start[hi] as usize;
     let b_end = end[hi] as usize;
     let reach = rows::merge(
-        features, targets, left, right, a_start, a_end, b_start, b_end, used, count,
+        features,
+        targets,
+        left,
+        right,
+        a_start,
+        a_end,
+        b_start,
+        b_end,
+        used,
+        count,
     );
     parent[hi] = lo as u16;
     start[lo] = used as u16;
@@ -73,11 +82,35 @@ pub fn close(
         let x = forest::find(class, left[count] as usize);
         let y = forest::find(class, right[count] as usize);
         if x < y {
-            let reach = join(class, start, end, features, targets, &mut left, &mut right, x, y, used, count);
+            let reach = join(
+                class,
+                start,
+                end,
+                features,
+                targets,
+                &mut left,
+                &mut right,
+                x,
+                y,
+                used,
+                count,
+            );
             used = reach.used;
             count = reach.count;
         } else if y < x {
-            let reach = join(class, start, end, features, targets, &mut left, &mut right, y, x, used, count);
+            let reach = join(
+                class,
+                start,
+                end,
+                features,
+                targets,
+                &mut left,
+                &mut right,
+                y,
+                x,
+                used,
+                count,
+            );
             used = reach.used;
             count = reach.count;
         }

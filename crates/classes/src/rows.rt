@@ -70,5 +70,8 @@ pub fn merge(
             j += 1;
         }
     }
-    Reach { used: at, count: top }
+    Reach {
+        used: at,
+        count: top,
+    }
 }

@@ -38,24 +38,71 @@ pub fn class_rows<'a>(
     let mut pool_targets = [0u16; 36672];
     let a_links = a_first[a_nodes] as usize;
     let b_links = b_first[b_nodes] as usize;
-    beside::copy_links(a_features, a_targets, a_links, 0, 0, &mut pool_features, &mut pool_targets);
-    beside::copy_links(b_features, b_targets, b_links, a_links, a_nodes, &mut pool_features, &mut pool_targets);
+    beside::copy_links(
+        a_features,
+        a_targets,
+        a_links,
+        0,
+        0,
+        &mut pool_features,
+        &mut pool_targets,
+    );
+    beside::copy_links(
+        b_features,
+        b_targets,
+        b_links,
+        a_links,
+        a_nodes,
+        &mut pool_features,
+        &mut pool_targets,
+    );
     beside::copy_spans(a_first, a_nodes, 0, 0, &mut start, &mut end);
     beside::copy_spans(b_first, b_nodes, a_links, a_nodes, &mut start, &mut end);
     let nodes = a_nodes + b_nodes;
     let links = a_links + b_links;
-    classes::close(nodes, a_nodes, class, &mut start, &mut end, &mut pool_features, &mut pool_targets, links);
-    quotient::quotient(nodes, class, &start, &end, &pool_features, &pool_targets, first, features, targets);
+    classes::close(
+        nodes,
+        a_nodes,
+        class,
+        &mut start,
+        &mut end,
+        &mut pool_features,
+        &mut pool_targets,
+        links,
+    );
+    quotient::quotient(
+        nodes,
+        class,
+        &start,
+        &end,
+        &pool_features,
+        &pool_targets,
+        first,
+        features,
+        targets,
+    );
 }
 
 // Writes the unification of two graphs over n types.
-pub fn unify(n: usize, meets: &[[u8; 64]; 64], a: Graph, b: Graph, out: &mut [u8]) -> Combined
-{
+pub fn unify(n: usize, meets: &[[u8; 64]; 64], a: Graph, b: Graph, out: &mut [u8]) -> Combined {
     let mut class = [0u16; 510];
     let mut first = [0u16; 511];
     let mut features = [0u8; 4096];
     let mut targets = [0u16; 4096];
-    class_rows(a.nodes, &a.first, &a.features, &a.targets, b.nodes, &b.first, &b.features, &b.targets, &mut class, &mut first, &mut features, &mut targets);
+    class_rows(
+        a.nodes,
+        &a.first,
+        &a.features,
+        &a.targets,
+        b.nodes,
+        &b.first,
+        &b.features,
+        &b.targets,
+        &mut class,
+        &mut first,
+        &mut features,
+        &mut targets,
+    );
     let nodes = a.nodes + b.nodes;
     let mut order = [0u16; 510];
     if visits::acyclic::has_cycle(nodes, &first, &targets, &mut order) {

@@ -41,7 +41,16 @@ pub fn quotient<'a>(
     first[0] = 0;
     while x < nodes {
         if (class[x] as usize) == x {
-            links = copy_row(class, pool_features, pool_targets, start[x] as usize, end[x] as usize, links, features, targets);
+            links = copy_row(
+                class,
+                pool_features,
+                pool_targets,
+                start[x] as usize,
+                end[x] as usize,
+                links,
+                features,
+                targets,
+            );
         }
         x += 1;
         first[x] = links as u16;

@@ -5,8 +5,6 @@ use mathlib.Core.Path.{sym, ap}
 use borrow.Author.Needs.{needs}
 use Rattle.classes.proofs.rows.feature_at.Statement.{statement}
 use Rattle.classes.proofs.rows.feature_at.Tie as tie
-use Rattle.classes.proofs.rows.feature_at.Reads as reads
-use Rattle.classes.proofs.rows.feature_at.Lts as lts
 
 -- src/rows.rt:20:16
 element-copy-out-result : tie.Need-element-copy-out-result
