@@ -1,0 +1,4 @@
+-- Laws of unification.
+pub mod Copying
+pub mod Lowering
+pub mod Filling

@@ -1,0 +1,33 @@
+use borrow.Author.Needs.{needs}
+use Rattle.unify.proofs.answer_of.Statement.{statement}
+use Rattle.unify.proofs.answer_of.Tie as tie
+use Rattle.unify.proofs.answer_of.Reads as reads
+use Rattle.unify.proofs.answer_of.Lts as lts
+
+-- src/lib.rt:107:25
+enum-known-written : tie.Need-enum-known-written
+enum-known-written c = search needs
+
+-- src/lib.rt:108:30
+enum-told : tie.Need-enum-told
+enum-told c = search needs
+
+-- src/lib.rt:109:28
+enum-told-2 : tie.Need-enum-told-2
+enum-told-2 c = search needs
+
+-- src/lib.rt:103:1
+returns : tie.Need-returns
+returns c = ?
+
+-- src/lib.rt:103:1
+returns-2 : tie.Need-returns-2
+returns-2 c = search needs
+
+-- src/lib.rt:103:1
+returns-3 : tie.Need-returns-3
+returns-3 c = search needs
+
+pub answer-of-spec : {M : Type 1} → statement M
+answer-of-spec =
+    tie.close (tie.spec enum-known-written enum-told enum-told-2 returns returns-2 returns-3)
