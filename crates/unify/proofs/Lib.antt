@@ -2,3 +2,5 @@
 pub mod Copying
 pub mod Lowering
 pub mod Filling
+pub mod Laying
+pub mod Sides

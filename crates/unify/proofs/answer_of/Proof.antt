@@ -1,8 +1,9 @@
+-- `answer_of` meets its contract.
+use mathlib.Core.Path.{ap, sym}
+use Rattle.unify.specs.Outcome.{combinedOf}
 use borrow.Author.Needs.{needs}
 use Rattle.unify.proofs.answer_of.Statement.{statement}
 use Rattle.unify.proofs.answer_of.Tie as tie
-use Rattle.unify.proofs.answer_of.Reads as reads
-use Rattle.unify.proofs.answer_of.Lts as lts
 
 -- src/lib.rt:107:25
 enum-known-written : tie.Need-enum-known-written
@@ -18,7 +19,7 @@ enum-told-2 c = search needs
 
 -- src/lib.rt:103:1
 returns : tie.Need-returns
-returns c = ?
+returns c = ap combinedOf (sym (c .before .written .given .1))
 
 -- src/lib.rt:103:1
 returns-2 : tie.Need-returns-2
