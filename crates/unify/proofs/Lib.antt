@@ -4,3 +4,4 @@ pub mod Lowering
 pub mod Filling
 pub mod Laying
 pub mod Sides
+pub mod Sharing
