@@ -5,3 +5,4 @@ pub mod Filling
 pub mod Laying
 pub mod Sides
 pub mod Sharing
+pub mod Result

@@ -14,7 +14,7 @@ use lib.ListN.{length, getD}
 use Rattle.graphs.specs.Graph.{Graph}
 use Rattle.graphs.proofs.Unification.Related.{roots, back, next, feat, related-constant}
 use Rattle.graphs.proofs.Unification.Beside.{linkBeside, RelatedBeside, leads-related, related-reached}
-use Rattle.visits.specs.Arrays.{Laid, Linked, Shaped, Sound, rowsOf, graphOfRows}
+use Rattle.visits.specs.Arrays.{Linked, Sound, Leads, rowsOf, graphOfRows}
 use Rattle.visits.proofs.Places.{link-at, link-place}
 use Rattle.decode.specs.declared.Graph as declared
 use Rattle.classes.specs.Merge.{Span}
@@ -321,3 +321,7 @@ module _ {a b : declared.Graph} (left : Held a) (right : Held b) {class first fe
           ap (λ (i : ℕ). linkBeside (graphIn a) (graphIn b) v i) (sym (j-feature ∙ sym (s .feature) ∙ feature)) ∙ w-link,
           ap (λ (i : ℕ). getD class i 0) (w-is ∙ j-target) ∙ sym (s .target) ∙ target,
         )
+
+  -- a node with a link represents its class
+  pub leads-own : (v w : ℕ) → Leads (a .nodes + b .nodes) first targets v w → getD class v 0 ≡ v
+  leads-own v w l = stands v (l .place) (l .inside) (l .from-first) (l .before-next) .own
