@@ -200,8 +200,13 @@ module _ (n : ℕ) (meets : List (List ℕ)) {a b : declared.Graph} (left : Held
             let (v, w, v-in, v-name, l, w-name) = named-source c d f e in
             let v-class = name-class v x v-in x-in (v-name ∙ sym x-name) ∙ x-class in
             let w-in = link-in left right (m .beside) v w f v-in l .0 in
-            present (w, w-in, w-name, some-injective
-            (sym (class-link left right m types long v w f v-in l) ∙ ap (λ (z : ℕ). rows .link z f) v-class ∙ q))
+            present (
+              w,
+              w-in,
+              w-name,
+              some-injective
+                  (sym (class-link left right m types long v w f v-in l) ∙ ap (λ (z : ℕ). rows .link z f) v-class ∙ q),
+            )
 
     -- "A loop is a class that reaches itself."
 

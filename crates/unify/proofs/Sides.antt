@@ -8,7 +8,7 @@ use Prim.Native.Nat.{ℕ, suc, _+_, _-_, _≤_, _<_}
 use native.Mathlib.Decide.{decLt}
 use native.Mathlib.Omega.{arith}
 use lib.Dec.{eqb}
-use lib.ListN.{getD}
+use lib.ListN.{length, getD}
 use Rattle.graphs.specs.Graph.{Graph, onward, follow, walk, Reached}
 use Rattle.graphs.specs.Rows.{from}
 use Rattle.graphs.proofs.Walk.{some-injective, onward-some, snoc-induction, follow-last}
@@ -20,7 +20,7 @@ use Rattle.visits.proofs.VisitRows.{link-known}
 use Rattle.visits.proofs.Places.{link-at, link-place}
 use Rattle.decode.specs.declared.Graph as declared
 use Rattle.classes.specs.Classes.{At}
-use Rattle.unify.specs.Rows.{Beside}
+use Rattle.unify.specs.Rows.{Shape, Beside}
 
 abbrev pub graphIn : declared.Graph → Graph ℕ ℕ
 graphIn g = graphOfRows (rowsOf (g .nodes) (g .types) (g .first) (g .features) (g .targets))
@@ -121,8 +121,7 @@ module _ {a b : declared.Graph} (left : Held a) (right : Held b) where
         let k-in = a-inside v k i high in
         subst
         (λ (z : ℕ ⊎ ℕ).
-        Inside z × ((j : ℕ) × At start end v j × (getD pf j 0 ≡ f) × (getD pt j 0 ≡ number (a .nodes) z))) q
-        (
+        Inside z × ((j : ℕ) × At start end v j × (getD pf j 0 ≡ f) × (getD pt j 0 ≡ number (a .nodes) z))) q (
           link-known (left .sound) v f w i d .1,
           (k, (omega (arith, s .a-start v i), omega (arith, s .a-end v i)), s .a-feature k k-in ∙ feature, s .a-target k k-in ∙ target),
         )
@@ -132,8 +131,7 @@ module _ {a b : declared.Graph} (left : Held a) (right : Held b) where
         let k-in = b-inside v k i high in
         subst
         (λ (z : ℕ ⊎ ℕ).
-        Inside z × ((j : ℕ) × At start end (a .nodes + v) j × (getD pf j 0 ≡ f) × (getD pt j 0 ≡ number (a .nodes) z))) q
-        (
+        Inside z × ((j : ℕ) × At start end (a .nodes + v) j × (getD pf j 0 ≡ f) × (getD pt j 0 ≡ number (a .nodes) z))) q (
           link-known (right .sound) v f w i d .1,
           (
             getD (a .first) (a .nodes) 0 + k,
@@ -170,3 +168,14 @@ module _ {a b : declared.Graph} (left : Held a) (right : Held b) where
               (link-at (right .sound) v (j - getD (a .first) (a .nodes) 0) i (omega arith) k-high),
           omega (arith, ap (λ (k : ℕ). getD pt k 0) e, s .b-target (j - getD (a .first) (a .nodes) 0) k-in),
         )
+
+pub held-shape : {g : declared.Graph} → Held g → length (g .targets) ≡ 2048 → Shape (g .nodes) (g .first) (g .features) (g .targets)
+held-shape h long =
+    record {
+      laid = h .sound .shaped .laid;
+      small = h .small;
+      short = omega (arith, h .sound .shaped .laid .aimed);
+      known = h .sound .shaped .known;
+      ascending = h .sound .shaped .ascending;
+      within = h .sound .within;
+    }

@@ -53,6 +53,7 @@ pub fn class_labels<'a>(
     requires { ⌜ ((v : ℕ) → v < «a_nodes» → getD (now «a_types») v 0 < n) ⌝ }
     requires { ⌜ ((v : ℕ) → v < «b_nodes» → getD (now «b_types») v 0 < n) ⌝ }
     requires { ⌜ ((x : ℕ) → x < «a_nodes» + «b_nodes» → getD (now class) x 0 < 510) ⌝ }
+    ensures { λ r. ⌜ length r ≡ 510 ⌝ }
     ensures { λ r. ⌜ ((c : ℕ) → c < 510 → getD r c 0 ≡ lowered (now (meets .entry)) (now («a_types» .entry)) (now (class .entry)) 0 «a_nodes» c (lowered (now (meets .entry)) (now («b_types» .entry)) (now (class .entry)) «a_nodes» «b_nodes» c (n - 1))) ⌝ }
 {
     let mut labels = [(n - 1) as u8; 510];

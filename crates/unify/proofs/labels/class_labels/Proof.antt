@@ -26,7 +26,7 @@ lower-requires-2 c κs = let st = c .before .before .before in let e = c .before
 
 -- src/labels.rt:42:1
 returns : tie.Need-returns
-returns c = let st = c .before .before .before .before in λ x h. c .lower2 .ensures .1 .1 x h ∙ ap (lowered (st .args .meets .now) (st .args .a-types .now) (st .args .class .now) 0 (st .args .a-nodes) x) (c .before .before .lower .ensures .1 .1 x h ∙ ap (lowered (st .args .meets .now) (st .args .b-types .now) (st .args .class .now) (st .args .a-nodes) (st .args .b-nodes) x) (getD-replicate {A = ℕ} 510 x (st .args .n - 1) 0 h))
+returns c = let st = c .before .before .before .before in (c .lower2 .ensures .0, λ x h. c .lower2 .ensures .1 .1 x h ∙ ap (lowered (st .args .meets .now) (st .args .a-types .now) (st .args .class .now) 0 (st .args .a-nodes) x) (c .before .before .lower .ensures .1 .1 x h ∙ ap (lowered (st .args .meets .now) (st .args .b-types .now) (st .args .class .now) (st .args .a-nodes) (st .args .b-nodes) x) (getD-replicate {A = ℕ} 510 x (st .args .n - 1) 0 h)))
 
 pub class-labels-spec : {M : Type 1} → statement M
 class-labels-spec =
