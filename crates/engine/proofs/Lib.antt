@@ -4,6 +4,7 @@ pub mod Replies
 pub mod Tables
 pub mod Orders
 pub mod CommonParts
+pub mod Combinations
 pub mod Results
 pub mod Demanded
 pub mod Demands

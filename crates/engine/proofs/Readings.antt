@@ -4,9 +4,11 @@ use mathlib.Core.Path.{_≡_, refl, sym, _∙_, ap, ap₂}
 use mathlib.Core.List.{List}
 use Prim.Native.Nat.{ℕ, _≤_, _<_}
 use native.Mathlib.Omega.{arith}
-use lib.ListN.{getD}
+use lib.ListN.{length, getD}
+use Rattle.graphs.specs.Graph.{Reached}
 use Rattle.graphs.specs.Rows.{Row}
 use Rattle.visits.specs.Arrays.{Sound}
+use Rattle.visits.proofs.VisitRows.{length-rows}
 use Rattle.decode.specs.declared.Graph as declared
 use Rattle.decode.specs.Promise.{Held}
 use Rattle.record.specs.declared.GraphFault.{GraphFault}
@@ -16,7 +18,7 @@ use Rattle.record.specs.Read.{Reading, refused, accepted, reading}
 use Rattle.record.specs.Promise.{Reads, verdictOf}
 use Rattle.record.proofs.Held.{rows-ranged}
 use Rattle.record.proofs.Accepted.{Rules, accepted-rules}
-use Rattle.generalize.proofs.Sides.{rowsIn}
+use Rattle.generalize.proofs.Sides.{rowsIn, graphIn}
 use Rattle.engine.specs.declared.Side.{Side}
 use Rattle.engine.specs.declared.PairVerdict.{PairVerdict}
 use Rattle.engine.specs.declared.PairVerdict.the-variants as pair
@@ -42,11 +44,17 @@ accepts-held e (held, sound) = record { is = e ∙ ap accepted (sym (held .rows-
 pub accepts-rules : {n : ℕ} {bytes : List ℕ} {g : declared.Graph} → Accepts n bytes g → Rules n (rowsIn g)
 accepts-rules {n} {bytes} {g} given = accepted-rules n bytes (rowsIn g) (given .is)
 
-accepts-types : {n : ℕ} {bytes : List ℕ} {g : declared.Graph} → n ≤ 64 → Accepts n bytes g →
-    (v : ℕ) → v < g .nodes → getD (g .types) v 0 < 64
-accepts-types {n} few given v h =
-    let (_, known) = rows-ranged (given .sound .shaped) n (accepts-rules given .ranged) .types-in v h in
-    omega arith
+-- its types are the table's
+pub accepts-types : {n : ℕ} {bytes : List ℕ} {g : declared.Graph} → Accepts n bytes g → (v : ℕ) → v < g .nodes → getD (g .types) v 0 < n
+accepts-types {n} given v h = rows-ranged (given .sound .shaped) n (accepts-rules given .ranged) .types-in v h .1
+
+-- a row for each node
+pub rows-in : (g : declared.Graph) → length (rowsIn g) ≡ g .nodes
+rows-in g = length-rows (g .types) (g .first) (g .features) (g .targets) 0 (g .nodes)
+
+-- its nodes are reached
+pub accepts-reached : {n : ℕ} {bytes : List ℕ} {g : declared.Graph} → Accepts n bytes g → (v : ℕ) → v < g .nodes → Reached (graphIn g) v
+accepts-reached {g = g} given v h = accepts-rules given .reached v (omega (arith, rows-in g))
 
 -- One record.
 
@@ -76,8 +84,10 @@ pub ready : {n : ℕ} {a b : List ℕ} {g h : declared.Graph} → n ≤ 64 → A
     (SoundIn h ×
     (((g .nodes ≤ 255) × (h .nodes ≤ 255)) ×
     (((v : ℕ) → v < g .nodes → getD (g .types) v 0 < 64) × ((v : ℕ) → v < h .nodes → getD (h .types) v 0 < 64))))
-ready few (one, other) =
-    (one .sound, (other .sound, ((one .small, other .small), (accepts-types few one, accepts-types few other))))
+ready few (one, other) = (
+  one .sound,
+  (other .sound, ((one .small, other .small), (λ v i. omega (arith, accepts-types one v i), λ v i. omega (arith, accepts-types other v i)))),
+)
 
 module _ {n : ℕ} {a b : List ℕ} {v : PairVerdict} {g h : declared.Graph} (reads : ReadsBoth n a b v g h) where
   joint : {o p : Reading} {w : PairVerdict} → v ≡ w → reading n a ≡ o → reading n b ≡ p → jointVerdict (verdictOf o) (verdictOf p) ≡ w

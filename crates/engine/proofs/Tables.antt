@@ -1,4 +1,4 @@
--- What an accepted table lets graphs go by: labels are types below n, and the filled table of joins gives the joins of the types.
+-- What an accepted table lets graphs go by: labels are types below n, and the filled tables give the meets and joins of the types.
 -- Graphs that differ in nothing have one written form, whichever labels they were computed with.
 use mathlib.Core.Path.{_≡_, refl, sym, _∙_, ap, subst}
 use mathlib.Core.Bool.{Bool, true}
@@ -14,11 +14,11 @@ use Rattle.graphs.specs.Number.{canonical}
 use Rattle.graphs.proofs.Form.Bisimilar.{Alike, absent, present}
 use Rattle.graphs.proofs.Form.Invariant.{bisimilar-canonical}
 use Rattle.visits.specs.Arrays.{graphOfRows}
-use Rattle.lattice.specs.Table.{accepted, join, cell, filled}
+use Rattle.lattice.specs.Table.{accepted, meet, join, cell, filled}
 use Rattle.lattice.specs.declared.Opened.{Opened}
 use Rattle.lattice.specs.declared.Opened.the-variants.{Accepted}
 use Rattle.lattice.specs.Reply.{opened}
-use Rattle.lattice.proofs.Laws.{accepted-size, joins-cell}
+use Rattle.lattice.proofs.Laws.{Meet, accepted-size, meets-cell, joins-cell}
 use Rattle.lattice.proofs.Residuals.{opened-accepted}
 use Rattle.record.proofs.Nodes.{node-row}
 use Rattle.record.proofs.Accepted.{Rules}
@@ -36,6 +36,15 @@ label-known {n} {rows} types rules v = go (decLe (length rows) v)
         let e : graphOfRows rows .label v ≡ 0 = ap (λ (r : Row ℕ). r .0) (List·getD-eq-default rows (0, []) past) in
         omega arith
     go (no inside) = rules .ranged (getD rows v (0, [])) (node-row rows v (omega arith)) .1
+
+-- a cell of the filled meets is the meet of its types, and a type
+pub meets-known : (n : ℕ) (t : List ℕ) (rows : List (List ℕ)) {meets : List (List ℕ)} → accepted n t ≡ true → length rows ≡ 64 →
+    meets ≡ filled n t (meet n t) rows → (a b : ℕ) → a < n → b < n →
+    (getD (getD meets a []) b 0 ≡ cell (meet n t a b)) × (getD (getD meets a []) b 0 < n)
+meets-known n t rows {meets} ok long filling a b known other =
+    let m : Meet n t a b (getD (getD meets a []) b 0) =
+    subst (λ (table : List (List ℕ)). Meet n t a b (getD (getD table a []) b 0)) (sym filling) (meets-cell n t ok rows long a b known other) in
+    (sym (ap cell (m .is)), m .type)
 
 -- a cell of the filled joins is the join of its types
 pub joins-known : (n : ℕ) (t : List ℕ) (rows : List (List ℕ)) {joins : List (List ℕ)} → accepted n t ≡ true → length rows ≡ 64 →

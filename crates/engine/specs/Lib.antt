@@ -1,6 +1,6 @@
 -- What the public calls answer, and what their parts promise.
 pub mod Reply
+pub mod Unification
 pub mod Pair
 pub mod Demand
-pub mod Unification
 pub mod Difference

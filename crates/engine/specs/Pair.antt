@@ -1,10 +1,14 @@
--- What the parts of the calls with two records promise: reading both, and the common part by a table of joins.
+-- What the parts of the calls with two records promise: reading both, the common part by a table of joins, and the combination by a
+-- table of meets.
 use mathlib.Core.Path.{_≡_}
 use mathlib.Core.List.{List}
 use Prim.Native.Nat.{ℕ}
-use Rattle.graphs.specs.Rows.{Row}
+use lib.Dec.{eqb}
+use lib.ListN.{length}
+use Rattle.graphs.specs.Rows.{Row, from}
 use Rattle.graphs.specs.Number.{canonical}
 use Rattle.graphs.specs.Generalize.{generalization}
+use Rattle.graphs.specs.Unify.{unification}
 use Rattle.visits.specs.Arrays.{Sound, graphOfRows}
 use Rattle.decode.specs.declared.Graph as declared
 use Rattle.decode.specs.Promise.{Held}
@@ -14,9 +18,15 @@ use Rattle.record.specs.declared.Verdict.the-variants.{Accepted, Refused}
 use Rattle.record.specs.Read.{accepted, reading}
 use Rattle.record.specs.Promise.{verdictOf}
 use Rattle.generalize.specs.Pairs.{joinsOf, samePair}
+use Rattle.unify.specs.declared.Combined.{Combined}
+use Rattle.unify.specs.declared.Combined.the-variants as unify
+use Rattle.unify.specs.Outcome.{meetsOf}
 use Rattle.engine.specs.declared.Side.the-variants.{First, Second}
 use Rattle.engine.specs.declared.PairVerdict.{PairVerdict}
 use Rattle.engine.specs.declared.PairVerdict.the-variants as pair
+use Rattle.engine.specs.declared.Reply.{Reply}
+use Rattle.engine.specs.declared.Reply.the-variants as reply
+use Rattle.engine.specs.Unification.{combined}
 use Rattle.engine.specs.Reply.{Result, resultOf, refusing, readBoth}
 
 -- "first graph 4 to 7; second graph 4 to 7"
@@ -41,3 +51,22 @@ joined joins out g h =
 -- both graphs' 4 to 7, then their common part
 abbrev pub joining : ℕ → List (List ℕ) → List ℕ → List ℕ → List ℕ → Result
 joining n joins a b out = readBoth (λ r. refusing r out) (reading n a) (reading n b) (joined joins out)
+
+-- the combination of two graphs in written form, by a table of meets
+unfoldable pub met : ℕ → List (List ℕ) → List ℕ → List (Row ℕ) → List (Row ℕ) → Result
+met n meets out g h =
+    combined
+    (unification (meetsOf n meets) eqb eqb (graphOfRows g) (from 0 (length g)) (graphOfRows h) (from 0 (length h)))
+    out
+
+-- both graphs' 4 to 7, then their combination
+abbrev pub meeting : ℕ → List (List ℕ) → List ℕ → List ℕ → List ℕ → Result
+meeting n meets a b out = readBoth (λ r. refusing r out) (reading n a) (reading n b) (met n meets out)
+
+-- what combining answers, as a reply
+abbrev pub combinedReply : Combined → Reply
+combinedReply (unify.Length l) = reply.Length l
+combinedReply unify.Cycle = reply.Cycle
+combinedReply unify.Clash = reply.Clash
+combinedReply unify.TooLarge = reply.TooLarge
+combinedReply unify.NoRoom = reply.NoRoom

@@ -8,11 +8,14 @@ use lattice::TableFault;
 use record::GraphFault;
 use record::Verdict;
 use subsume::Order;
+use unify::Combined;
 ghost use mathlib.Core.Path.{_≡_};
-ghost use Prim.Native.Nat.{_≤_};
+ghost use Prim.Native.Nat.{_≤_, _<_};
 ghost use Rattle.record.specs.Read.{reading};
+ghost use Rattle.unify.specs.Lowered.{MeetsBelow};
 ghost use Rattle.engine.specs.Reply.{replyOf, readBoth, rewriting, rewritten, ordering, ordered, generalizing};
-ghost use Rattle.engine.specs.Pair.{joining};
+ghost use Rattle.engine.specs.Unification.{unifying};
+ghost use Rattle.engine.specs.Pair.{joining, meeting, combinedReply};
 
 mod both;
 
@@ -167,5 +170,55 @@ fn generalize_over(
     match verdict {
         PairVerdict::Refused(fault, side) => Reply::Graph(fault, side),
         PairVerdict::Both => reply_of(generalize::generalize(joins, a, b, out)),
+    }
+}
+
+// The combination of two graphs in written form.
+pub fn unify(n: usize, table: &[u8], first: &[u8], second: &[u8], out: &mut [u8]) -> Reply
+    ensures { λ r. ⌜ r ≡ unifying n (now (table .entry)) (now (first .entry)) (now (second .entry)) (now (out .entry)) .reply ⌝ }
+    ensures { λ r. ⌜ now (out .exit) ≡ unifying n (now (table .entry)) (now (first .entry)) (now (second .entry)) (now (out .entry)) .output ⌝ }
+{
+    let mut meets = [[0u8; 64]; 64];
+    let mut joins = [[0u8; 64]; 64];
+    let opened = lattice::open_table(n, table, &mut meets, &mut joins);
+    match opened {
+        Opened::Refused(fault) => Reply::Table(fault),
+        Opened::Accepted => unify_over(n, &meets, first, second, out),
+    }
+}
+
+// The same with the meets of an accepted table with n types.
+fn unify_over(
+    n: usize,
+    meets: &[[u8; 64]; 64],
+    first: &[u8],
+    second: &[u8],
+    out: &mut [u8],
+) -> Reply
+    requires { ⌜ (0 < n) × (n ≤ 64) ⌝ }
+    requires { ⌜ MeetsBelow n (now meets) ⌝ }
+    ensures { λ r. ⌜ r ≡ meeting n (now (meets .entry)) (now (first .entry)) (now (second .entry)) (now (out .entry)) .reply ⌝ }
+    ensures { λ r. ⌜ now (out .exit) ≡ meeting n (now (meets .entry)) (now (first .entry)) (now (second .entry)) (now (out .entry)) .output ⌝ }
+{
+    let pair = both::read_both(n, first, second);
+    let a = pair.first;
+    let b = pair.second;
+    let verdict = pair.verdict;
+    match verdict {
+        PairVerdict::Refused(fault, side) => Reply::Graph(fault, side),
+        PairVerdict::Both => combined_reply(unify::unify(n, meets, a, b, out)),
+    }
+}
+
+// What combining answers, as a reply.
+fn combined_reply(combined: Combined) -> Reply
+    ensures { λ r. ⌜ r ≡ combinedReply combined ⌝ }
+{
+    match combined {
+        Combined::Length(length) => Reply::Length(length),
+        Combined::Cycle => Reply::Cycle,
+        Combined::Clash => Reply::Clash,
+        Combined::TooLarge => Reply::TooLarge,
+        Combined::NoRoom => Reply::NoRoom,
     }
 }

@@ -23,7 +23,8 @@ use Rattle.subsume.specs.Following.{Span, Queued, Meets, Comes, Clash, F
 use Rattle.subsume.specs.Following.Comes.{kept, led}
 use Rattle.subsume.specs.Following.Clash.{lacks, splits}
 use Rattle.subsume.proofs.Following.{unmapped-fall}
-use Rattle.subsume.proofs.Places.{label-at, link-at, link-place, target-inside, spans}
+use Rattle.visits.proofs.Places.{label-at, link-at, link-place, target-inside}
+use Rattle.subsume.proofs.Places.{spans}
 
 -- the graph that arrays hold
 abbrev held : ℕ → List ℕ → List ℕ → List ℕ → List ℕ → Graph ℕ ℕ

@@ -2,3 +2,4 @@
 pub mod Colours
 pub mod Numbering
 pub mod VisitRows
+pub mod Places

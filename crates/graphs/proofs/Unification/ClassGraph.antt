@@ -76,7 +76,7 @@ module _ {𝓛 : Labels} (lattice : Lattice 𝓛) {N : Type 0} (test : N → Boo
 -- The links of classes that are named.
 module _ {N : Type 0} {same : N → N → Bool} (tells : Tells same) (link : N → ℕ → Option N) (nodes : List N) (name : N → N) where
   -- a link of a class is a link of one of its nodes
-  classLink-source : (c d : N) (f : ℕ) → classLink same link nodes name c f ≡ some d →
+  pub classLink-source : (c d : N) (f : ℕ) → classLink same link nodes name c f ≡ some d →
       (x : N) × (y : N) × List·Memᴰ x nodes × (name x ≡ c) × (link x f ≡ some y) × (name y ≡ d)
   unfolding classLink
   classLink-source c d f e =
@@ -86,7 +86,7 @@ module _ {N : Type 0} {same : N → N → Bool} (tells : Tells same) (link : N �
       (x, y, m, tells (name x) c .0 q, a, b)
 
   -- a link of a node is a link of its class
-  classLink-of : {r s : N} → Classes link r s nodes name → (x y : N) (f : ℕ) → List·Memᴰ x nodes → link x f ≡ some y →
+  pub classLink-of : {r s : N} → Classes link r s nodes name → (x y : N) (f : ℕ) → List·Memᴰ x nodes → link x f ≡ some y →
       classLink same link nodes name (name x) f ≡ some (name y)
   unfolding classLink
   classLink-of classes x y f m e =
@@ -99,7 +99,7 @@ module _ {N : Type 0} {same : N → N → Bool} (tells : Tells same) (link : N �
 
 module _ {L A B : Type 0} {sameA : A → A → Bool} {sameB : B → B → Bool} {g : Graph L A} {gs : List A} {h : Graph L B} {hs : List B}
     (given : Operands sameA sameB g gs h hs) where
-  name-classes : Classes (linkBeside g h) (inl (g .root)) (inr (h .root)) (nodesBeside gs hs) (className sameA sameB g gs h hs)
+  pub name-classes : Classes (linkBeside g h) (inl (g .root)) (inr (h .root)) (nodesBeside gs hs) (className sameA sameB g gs h hs)
   unfolding className
   name-classes = close-classes (tells-beside given) (beside-listing given)
 

@@ -1,0 +1,5 @@
+-- Laws of classes.
+pub mod Roots
+pub mod Merging
+pub mod Sums
+pub mod Joining

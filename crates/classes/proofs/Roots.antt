@@ -1,0 +1,310 @@
+-- Roots in a forest: what a step up keeps, and what moving a node below another leaves. A function that every step up keeps has one
+-- value on a tree (`root-constant`); so the roots of a changed forest are found by such a function.
+use mathlib.Core.Path.{_≡_, refl, sym, _∙_, ap, subst}
+use mathlib.Core.Bool.{Bool, cond}
+use mathlib.Core.List.{List}
+use Prim.Native.Nat.{ℕ, zero, suc, _≤_, _<_}
+use native.Mathlib.Decide.{decLt, ℕ-discrete}
+use native.Mathlib.Omega.{arith}
+use borrow.Author.Tests.{eq-eqb, ne-eqb}
+use lib.Dec.{eqb}
+use lib.ListN.{length, getD, set, length-set}
+use lib.Seq.{getD-set-same, getD-set-other}
+use Rattle.classes.specs.Forest.{climb, rootOf, Forest, SameRoots}
+
+-- a value stored in an array of numbers, and the others
+pub stored : (l : List ℕ) (i a : ℕ) → i < length l → getD (set l i a) i 0 ≡ a
+stored l i a h = getD-set-same l i a 0 h
+
+pub unstored : (l : List ℕ) (i a k : ℕ) → (k ≡ i → ⊥) → getD (set l i a) k 0 ≡ getD l k 0
+unstored l i a k d = getD-set-other l i k a 0 d
+
+module _ {parent : List ℕ} (forest : Forest parent) where
+  climb-fixed : (k x : ℕ) → getD parent x 0 ≡ x → climb k parent x ≡ x
+  unfolding climb
+  climb-fixed zero x e = refl
+  climb-fixed (suc k) x e = ap (climb k parent) e ∙ climb-fixed k x e
+
+  lowest : getD parent 0 0 ≡ 0
+  lowest = omega (arith, forest .down 0 (omega arith))
+
+  climb-root : (k x : ℕ) → x < 510 → x ≤ k → getD parent (climb k parent x) 0 ≡ climb k parent x
+  unfolding climb
+  climb-root zero x small h =
+      let e : x ≡ 0 = omega arith in
+      subst (λ (z : ℕ). getD parent z 0 ≡ z) (sym e) lowest
+  climb-root (suc k) x small h = go (decLt (getD parent x 0) x) (climb-root k (getD parent x 0))
+    where
+      go : Dec (getD parent x 0 < x) →
+          (getD parent x 0 < 510 → getD parent x 0 ≤ k →
+          getD parent (climb k parent (getD parent x 0)) 0 ≡ climb k parent (getD parent x 0)) →
+          getD parent (climb k parent (getD parent x 0)) 0 ≡ climb k parent (getD parent x 0)
+      go (yes l) later = later (omega arith) (omega arith)
+      go (no n) later =
+          let e : getD parent x 0 ≡ x = omega (arith, forest .down x small) in
+          subst (λ (z : ℕ). getD parent z 0 ≡ z) (sym (ap (climb k parent) e ∙ climb-fixed k x e)) e
+
+  -- steps beyond the root change nothing
+  climb-stable : (j k x : ℕ) → x < 510 → x ≤ j → x ≤ k → climb j parent x ≡ climb k parent x
+  unfolding climb
+  climb-stable zero k x small low high =
+      let e : x ≡ 0 = omega arith in
+      sym (ap (climb k parent) e ∙ climb-fixed k 0 lowest ∙ sym e)
+  climb-stable (suc j) zero x small low high =
+      let e : x ≡ 0 = omega arith in
+      ap (climb (suc j) parent) e ∙ climb-fixed (suc j) 0 lowest ∙ sym e
+  climb-stable (suc j) (suc k) x small low high =
+      go (decLt (getD parent x 0) x) (climb-stable j k (getD parent x 0))
+    where
+      go : Dec (getD parent x 0 < x) →
+          (getD parent x 0 < 510 → getD parent x 0 ≤ j → getD parent x 0 ≤ k →
+          climb j parent (getD parent x 0) ≡ climb k parent (getD parent x 0)) →
+          climb j parent (getD parent x 0) ≡ climb k parent (getD parent x 0)
+      go (yes l) later = later (omega arith) (omega arith) (omega arith)
+      go (no n) later =
+          let e : getD parent x 0 ≡ x = omega (arith, forest .down x small) in
+          ap (climb j parent) e ∙ climb-fixed j x e ∙ sym (ap (climb k parent) e ∙ climb-fixed k x e)
+
+  climb-low : (k x : ℕ) → x < 510 → climb k parent x ≤ x
+  unfolding climb
+  climb-low zero x small = omega arith
+  climb-low (suc k) x small =
+      omega (arith, forest .down x small, climb-low k (getD parent x 0) (omega (arith, forest .down x small)))
+
+  climb-constant : {C : Type 0} (h : ℕ → C) → ((x : ℕ) → x < 510 → h (getD parent x 0) ≡ h x) → (k x : ℕ) → x < 510 →
+      h (climb k parent x) ≡ h x
+  unfolding climb
+  climb-constant h keeps zero x small = refl
+  climb-constant h keeps (suc k) x small =
+      climb-constant h keeps k (getD parent x 0) (omega (arith, forest .down x small)) ∙ keeps x small
+
+  pub root-low : (x : ℕ) → x < 510 → rootOf parent x ≤ x
+  unfolding rootOf
+  root-low x small = climb-low x x small
+
+  -- a root is its own parent
+  pub root-fixed : (x : ℕ) → x < 510 → getD parent (rootOf parent x) 0 ≡ rootOf parent x
+  unfolding rootOf
+  root-fixed x small = climb-root x x small (omega arith)
+
+  pub fixed-root : (x : ℕ) → getD parent x 0 ≡ x → rootOf parent x ≡ x
+  unfolding rootOf
+  fixed-root x e = climb-fixed x x e
+
+  pub root-twice : (x : ℕ) → x < 510 → rootOf parent (rootOf parent x) ≡ rootOf parent x
+  root-twice x small = fixed-root (rootOf parent x) (root-fixed x small)
+
+  -- what represents a class is its own parent
+  pub own-parent : (x : ℕ) → x < 510 → rootOf parent x ≡ x → getD parent x 0 ≡ x
+  own-parent x small e = subst (λ (z : ℕ). getD parent z 0 ≡ z) e (root-fixed x small)
+
+  pub root-up : (x : ℕ) → x < 510 → rootOf parent (getD parent x 0) ≡ rootOf parent x
+  unfolding rootOf climb
+  root-up x small =
+      sym
+      (climb-stable x (suc x) x small (omega arith) (omega arith) ∙
+      climb-stable x (getD parent x 0) (getD parent x 0) (omega (arith, forest .down x small)) (forest .down x small) (omega arith))
+
+  pub root-constant : {C : Type 0} (h : ℕ → C) → ((x : ℕ) → x < 510 → h (getD parent x 0) ≡ h x) → (x : ℕ) → x < 510 →
+      h (rootOf parent x) ≡ h x
+  unfolding rootOf
+  root-constant h keeps x small = climb-constant h keeps x x small
+
+-- the roots of a changed forest, by a function
+roots-by : {later : List ℕ} → Forest later → (h : ℕ → ℕ) → ((x : ℕ) → x < 510 → h (getD later x 0) ≡ h x) →
+    ((x : ℕ) → x < 510 → getD later x 0 ≡ x → h x ≡ x) → (x : ℕ) → x < 510 → rootOf later x ≡ h x
+roots-by {later} forest h keeps fixed x small =
+    sym (fixed (rootOf later x) (omega (arith, root-low forest x small)) (root-fixed forest x small)) ∙
+    root-constant forest h keeps x small
+
+-- no change
+pub same-here : {parent : List ℕ} → Forest parent → SameRoots parent parent
+same-here forest = record { forest = forest; same = λ x h. refl }
+
+-- a node moved up to its parent's parent
+pub halved : {parent₀ parent : List ℕ} → SameRoots parent₀ parent → (v : ℕ) → v < 510 → getD parent v 0 < v →
+    SameRoots parent₀ (set parent v (getD parent (getD parent v 0) 0))
+halved {parent₀} {parent} s v small less =
+    record { forest = forest; same = λ x h. roots-by forest (rootOf parent) keeps fixed x h ∙ s .same x h }
+  where
+    up : ℕ
+    up = getD parent (getD parent v 0) 0
+
+    lower : getD parent (getD parent v 0) 0 ≤ getD parent v 0
+    lower = s .forest .down (getD parent v 0) (omega arith)
+
+    later : List ℕ
+    later = set parent v (getD parent (getD parent v 0) 0)
+
+    here : getD later v 0 ≡ getD parent (getD parent v 0) 0
+    here = stored parent v (getD parent (getD parent v 0) 0) (omega (arith, s .forest .long))
+
+    elsewhere : (x : ℕ) → (x ≡ v → ⊥) → getD later x 0 ≡ getD parent x 0
+    elsewhere x d = unstored parent v (getD parent (getD parent v 0) 0) x d
+
+    down : (x : ℕ) → x < 510 → Dec (x ≡ v) → getD later x 0 ≤ x
+    down x h (yes e) = omega (arith, ap (λ (z : ℕ). getD later z 0) e, here, lower)
+    down x h (no d) = omega (arith, elsewhere x d, s .forest .down x h)
+
+    forest : Forest later
+    forest =
+        record {
+          long = length-set parent v (getD parent (getD parent v 0) 0) ∙ s .forest .long;
+          down = λ x h. down x h (ℕ-discrete x v);
+        }
+
+    keeps : (x : ℕ) → x < 510 → rootOf parent (getD later x 0) ≡ rootOf parent x
+    keeps x h = go (ℕ-discrete x v)
+      where
+        go : Dec (x ≡ v) → rootOf parent (getD later x 0) ≡ rootOf parent x
+        go (yes e) =
+            ap (λ (z : ℕ). rootOf parent (getD later z 0)) e ∙ ap (rootOf parent) here ∙
+            root-up (s .forest) (getD parent v 0) (omega arith) ∙ root-up (s .forest) v small ∙ ap (rootOf parent) (sym e)
+        go (no d) = ap (rootOf parent) (elsewhere x d) ∙ root-up (s .forest) x h
+
+    fixed : (x : ℕ) → x < 510 → getD later x 0 ≡ x → rootOf parent x ≡ x
+    fixed x h q = go (ℕ-discrete x v)
+      where
+        go : Dec (x ≡ v) → rootOf parent x ≡ x
+        go (yes e) = absurd (omega (arith, ap (λ (z : ℕ). getD later z 0) e, here, lower))
+        go (no d) = fixed-root (s .forest) x (sym (elsewhere x d) ∙ q)
+
+-- the class of hi with that of lo
+abbrev pub joined : ℕ → ℕ → ℕ → ℕ
+joined lo hi c = cond (eqb c hi) lo c
+
+pub joined-here : (lo hi c : ℕ) → c ≡ hi → joined lo hi c ≡ lo
+joined-here lo hi c e = ap (λ (t : Bool). cond t lo c) (eq-eqb c hi e)
+
+pub joined-other : (lo hi c : ℕ) → (c ≡ hi → ⊥) → joined lo hi c ≡ c
+joined-other lo hi c d = ap (λ (t : Bool). cond t lo c) (ne-eqb c hi d)
+
+-- one root put below another
+module _ {parent : List ℕ} (forest : Forest parent) (lo hi : ℕ) (less : lo < hi) (small : hi < 510) (lo-root : rootOf parent lo ≡ lo)
+    (hi-root : rootOf parent hi ≡ hi) where
+  abbrev hung : List ℕ
+  hung = set parent hi lo
+
+  hung-here : getD hung hi 0 ≡ lo
+  hung-here = stored parent hi lo (omega (arith, forest .long))
+
+  hung-other : (x : ℕ) → (x ≡ hi → ⊥) → getD hung x 0 ≡ getD parent x 0
+  hung-other x d = unstored parent hi lo x d
+
+  pub hung-forest : Forest (set parent hi lo)
+  hung-forest = record { long = length-set parent hi lo ∙ forest .long; down = λ x h. down x h (ℕ-discrete x hi) }
+    where
+      down : (x : ℕ) → x < 510 → Dec (x ≡ hi) → getD hung x 0 ≤ x
+      down x h (yes e) = omega (arith, ap (λ (z : ℕ). getD hung z 0) e, hung-here)
+      down x h (no d) = omega (arith, hung-other x d, forest .down x h)
+
+  pub hung-roots : (x : ℕ) → x < 510 → rootOf (set parent hi lo) x ≡ joined lo hi (rootOf parent x)
+  hung-roots x h = roots-by hung-forest (λ (z : ℕ). joined lo hi (rootOf parent z)) keeps fixed x h
+    where
+      keeps : (x : ℕ) → x < 510 → joined lo hi (rootOf parent (getD hung x 0)) ≡ joined lo hi (rootOf parent x)
+      keeps x h = go (ℕ-discrete x hi)
+        where
+          go : Dec (x ≡ hi) → joined lo hi (rootOf parent (getD hung x 0)) ≡ joined lo hi (rootOf parent x)
+          go (yes e) =
+              ap (λ (z : ℕ). joined lo hi (rootOf parent (getD hung z 0))) e ∙
+              ap (λ (z : ℕ). joined lo hi (rootOf parent z)) hung-here ∙ ap (joined lo hi) lo-root ∙
+              joined-other lo hi lo (λ q. omega arith) ∙
+              sym (ap (λ (z : ℕ). joined lo hi (rootOf parent z)) e ∙ joined-here lo hi (rootOf parent hi) hi-root)
+          go (no d) = ap (λ (z : ℕ). joined lo hi (rootOf parent z)) (hung-other x d) ∙ ap (joined lo hi) (root-up forest x h)
+
+      fixed : (x : ℕ) → x < 510 → getD hung x 0 ≡ x → joined lo hi (rootOf parent x) ≡ x
+      fixed x h q = go (ℕ-discrete x hi)
+        where
+          go : Dec (x ≡ hi) → joined lo hi (rootOf parent x) ≡ x
+          go (yes e) = absurd (omega (arith, ap (λ (z : ℕ). getD hung z 0) e, hung-here))
+          go (no d) =
+              let e : rootOf parent x ≡ x = fixed-root forest x (sym (hung-other x d) ∙ q) in
+              ap (joined lo hi) e ∙ joined-other lo hi x d
+
+-- Every node of its own.
+
+pub separate-forest : {parent : List ℕ} → length parent ≡ 510 → ((x : ℕ) → x < 510 → getD parent x 0 ≡ x) → Forest parent
+separate-forest long e = record { long = long; down = λ x h. omega (arith, e x h) }
+
+pub separate-step : (l : List ℕ) (n : ℕ) → n < length l → ((x : ℕ) → x < n → getD l x 0 ≡ x) → (x : ℕ) → x < suc n →
+    getD (set l n n) x 0 ≡ x
+separate-step l n h all x k = go (ℕ-discrete x n)
+  where
+    go : Dec (x ≡ n) → getD (set l n n) x 0 ≡ x
+    go (yes e) = ap (λ (z : ℕ). getD (set l n n) z 0) e ∙ stored l n n h ∙ sym e
+    go (no d) = unstored l n n x d ∙ all x (omega arith)
+
+-- The nodes below n are put right below their roots.
+pub record Flat (parent later : List ℕ) (n : ℕ) : Type 0 where
+  pub long : length later ≡ 510
+  pub done : (x : ℕ) → x < n → getD later x 0 ≡ rootOf parent x
+  pub left : (x : ℕ) → n ≤ x → getD later x 0 ≡ getD parent x 0
+
+pub flat-start : {parent : List ℕ} → Forest parent → Flat parent parent 0
+flat-start forest = record { long = forest .long; done = λ x h. absurd (omega arith); left = λ x h. refl }
+
+pub flat-up : {parent later : List ℕ} → Forest parent → (n : ℕ) → n < 510 → Flat parent later n → getD later n 0 ≤ n
+flat-up forest n h f = omega (arith, f .left n (omega arith), forest .down n h)
+
+pub flat-step : {parent later : List ℕ} → Forest parent → (n : ℕ) → n < 510 → Flat parent later n →
+    Flat parent (set later n (getD later (getD later n 0) 0)) (suc n)
+flat-step {parent} {later} forest n small f =
+    record {
+      long = length-set later n (getD later (getD later n 0) 0) ∙ f .long;
+      done = λ x h. done x h (ℕ-discrete x n);
+      left = λ x h. unstored later n (getD later (getD later n 0) 0) x (λ q. omega arith) ∙ f .left x (omega arith);
+    }
+  where
+    up : getD later n 0 ≡ getD parent n 0
+    up = f .left n (omega arith)
+
+    value : Dec (getD parent n 0 < n) → getD later (getD later n 0) 0 ≡ rootOf parent n
+    value (yes l) =
+        ap (λ (z : ℕ). getD later z 0) up ∙ f .done (getD parent n 0) l ∙ root-up forest n small
+    value (no d) =
+        let e : getD parent n 0 ≡ n = omega (arith, forest .down n small) in
+        ap (λ (z : ℕ). getD later z 0) (up ∙ e) ∙ up ∙ e ∙ sym (fixed-root forest n e)
+
+    done : (x : ℕ) → x < suc n → Dec (x ≡ n) → getD (set later n (getD later (getD later n 0) 0)) x 0 ≡ rootOf parent x
+    done x h (yes e) =
+        ap (λ (z : ℕ). getD (set later n (getD later (getD later n 0) 0)) z 0) e ∙
+        stored later n (getD later (getD later n 0) 0) (omega (arith, f .long)) ∙
+        value (decLt (getD parent n 0) n) ∙ ap (rootOf parent) (sym e)
+    done x h (no d) = unstored later n (getD later (getD later n 0) 0) x d ∙ f .done x (omega arith)
+
+-- The way up from x has come to v, whose parent is `up`.
+pub record Climbing (parent₀ : List ℕ) (x : ℕ) (parent : List ℕ) (v up : ℕ) : Type 0 where
+  pub roots : SameRoots parent₀ parent
+  pub small : v < 510
+  pub above : up ≡ getD parent v 0
+  pub on-way : rootOf parent₀ v ≡ rootOf parent₀ x
+
+pub climb-start : {parent : List ℕ} → Forest parent → (x : ℕ) → x < 510 → Climbing parent x parent x (getD parent x 0)
+climb-start forest x h = record { roots = same-here forest; small = h; above = refl; on-way = refl }
+
+module _ {parent₀ : List ℕ} {x : ℕ} {parent : List ℕ} {v up : ℕ} (s : Climbing parent₀ x parent v up) where
+  pub climb-done : v ≤ up → (v ≡ rootOf parent₀ x) × SameRoots parent₀ parent
+  climb-done h =
+      let e : getD parent v 0 ≡ v = omega (arith, s .above, s .roots .forest .down v (s .small)) in
+      (sym (fixed-root (s .roots .forest) v e) ∙ s .roots .same v (s .small) ∙ s .on-way, s .roots)
+
+  module _ (less : up < v) where
+    pub climb-bound : getD parent up 0 < v
+    climb-bound = omega (arith, s .roots .forest .down up (omega (arith, s .small)))
+
+    pub climb-next : Climbing parent₀ x (set parent v (getD parent up 0)) (getD parent up 0)
+        (getD (set parent v (getD parent up 0)) (getD parent up 0) 0)
+    climb-next =
+        record {
+          roots = subst (λ (u : ℕ). SameRoots parent₀ (set parent v (getD parent u 0))) (sym (s .above))
+              (halved (s .roots) v (s .small) (omega (arith, s .above)));
+          small = omega (arith, climb-bound, s .small);
+          above = refl;
+          on-way =
+              sym (s .roots .same (getD parent up 0) (omega (arith, climb-bound, s .small))) ∙
+              root-up (s .roots .forest) up (omega (arith, s .small)) ∙ ap (rootOf parent) (s .above) ∙
+              root-up (s .roots .forest) v (s .small) ∙ s .roots .same v (s .small) ∙ s .on-way;
+        }
+
+    pub climb-next-bound : getD (set parent v (getD parent up 0)) (getD parent up 0) 0 < 510
+    climb-next-bound = omega (arith, climb-next .roots .forest .down (getD parent up 0) (climb-next .small), climb-next .small)

@@ -1,0 +1,51 @@
+// The forest of classes: each node has a parent of no greater number, and the root above a node represents its class.
+
+ghost use Prim.Native.Nat.{ℕ, _<_};
+ghost use lib.ListN.{length, getD};
+ghost use mathlib.Core.Path.{_≡_};
+ghost use Rattle.classes.specs.Forest.{Forest, SameRoots, rootOf};
+
+// Makes each node a class of its own.
+pub fn separate(parent: &mut [u16; 510])
+    requires { ⌜ length (now parent) ≡ 510 ⌝ }
+    ensures { λ _. ⌜ length (now (parent .exit)) ≡ 510 ⌝ }
+    ensures { λ _. ⌜ ((x : ℕ) → x < 510 → getD (now (parent .exit)) x 0 ≡ x) ⌝ }
+{
+    let mut x = 0;
+    while x < 510 {
+        parent[x] = x as u16;
+        x += 1;
+    }
+}
+
+// The root above x. On the way up each second node is moved one step nearer to it.
+pub fn find(parent: &mut [u16; 510], x: usize) -> usize
+    requires { ⌜ Forest (now parent) ⌝ }
+    requires { ⌜ x < 510 ⌝ }
+    ensures { λ r. ⌜ r ≡ rootOf (now (parent .entry)) x ⌝ }
+    ensures { λ r. ⌜ SameRoots (now (parent .entry)) (now (parent .exit)) ⌝ }
+{
+    let mut v = x;
+    let mut up = parent[v] as usize;
+    while up < v {
+        let next = parent[up];
+        parent[v] = next;
+        v = next as usize;
+        up = parent[v] as usize;
+    }
+    v
+}
+
+// Puts each node right below its root.
+pub fn flatten(parent: &mut [u16; 510])
+    requires { ⌜ Forest (now parent) ⌝ }
+    ensures { λ _. ⌜ length (now (parent .exit)) ≡ 510 ⌝ }
+    ensures { λ _. ⌜ ((x : ℕ) → x < 510 → getD (now (parent .exit)) x 0 ≡ rootOf (now (parent .entry)) x) ⌝ }
+{
+    let mut x = 0;
+    while x < 510 {
+        let up = parent[x] as usize;
+        parent[x] = parent[up];
+        x += 1;
+    }
+}

@@ -1,0 +1,222 @@
+-- From the combination by a table of meets to what the call replies. Combinations over an accepted table are one where their meets
+-- agree on its types, and its filled meets are its meets.
+use mathlib.Core.Path.{_≡_, refl, sym, _∙_, ap, ap₂, fun-ext}
+use mathlib.Core.Bool.{Bool, true, false, cond}
+use mathlib.Core.List.{List, [], _∷_, foldr}
+use mathlib.Core.Logic.{_⊎_, inl, inr}
+use Prim.Native.Nat.{ℕ, _-_, _≤_, _<_}
+use native.Mathlib.Omega.{arith}
+use lib.Dec.{eqb}
+use lib.ListN.{length, getD}
+use Rattle.graphs.specs.Label.{Labels}
+use Rattle.graphs.specs.Graph.{Graph, Reached}
+use Rattle.graphs.specs.Rows.{Row, from}
+use Rattle.graphs.specs.Number.{canonical}
+use Rattle.graphs.specs.Unify.{
+  anyOf,
+  Unified,
+  labelBeside,
+  sameBeside,
+  nodesBeside,
+  classLabel,
+  className,
+  classGraph,
+  hasCycle,
+  hasClash,
+  cycle,
+  clash,
+  unified,
+  unification,
+}
+use Rattle.visits.specs.Arrays.{graphOfRows}
+use Rattle.lattice.specs.declared.TableFault.{TableFault}
+use Rattle.lattice.specs.declared.Opened.the-variants as opened
+use Rattle.lattice.specs.Table.{accepted, meet, cell, filled}
+use Rattle.lattice.specs.Reply as table
+use Rattle.lattice.specs.Labels.{typeLabels}
+use Rattle.lattice.proofs.Laws.{Meet, accepted-size, zero-type, top-type, meet-exists}
+use Rattle.lattice.proofs.Residuals.{opened-accepted}
+use Rattle.decode.specs.declared.Graph as declared
+use Rattle.encode.specs.declared.Written.{Written}
+use Rattle.encode.specs.declared.Written.the-variants as outcome
+use Rattle.encode.specs.Encode.{writtenOut}
+use Rattle.record.specs.Read.{reading}
+use Rattle.record.proofs.Accepted.{Rules}
+use Rattle.generalize.proofs.Sides.{graphIn}
+use Rattle.unify.specs.declared.Combined.{Combined}
+use Rattle.unify.specs.Lowered.{MeetsBelow}
+use Rattle.unify.specs.Outcome.{meetsOf, combinedOf, unifiedOut}
+use Rattle.engine.specs.declared.Reply.{Reply}
+use Rattle.engine.specs.declared.Reply.the-variants.{Table}
+use Rattle.engine.specs.Reply.{replyOf, refusing, readBoth}
+use Rattle.engine.specs.Unification.{sameEither, combined, unifiedRows, unifying}
+use Rattle.engine.specs.Pair.{met, meeting, combinedReply}
+use Rattle.engine.proofs.Replies.{Gives, gives-as, table-refused, table-accepted}
+use Rattle.engine.proofs.Readings.{Accepts, SoundIn, accepts-types, accepts-reached, rows-in, both-next, both-same}
+use Rattle.engine.proofs.Tables.{label-known, meets-known}
+
+module _ (n : ℕ) (t : List ℕ) (ok : accepted n t ≡ true) (le : ℕ → ℕ → Bool) (meets joins : ℕ → ℕ → ℕ)
+    (are : (i j : ℕ) → i < n → j < n → meets i j ≡ cell (meet n t i j)) where
+  -- type numbers with meets that are the table's
+  abbrev agreeing : Labels
+  agreeing = record { L = ℕ; le = le; meet = meets; join = joins; top = n - 1; contradiction = λ a. eqb a 0 }
+
+  meet-type : (i j : ℕ) → i < n → j < n → cell (meet n t i j) < n
+  meet-type i j l s =
+      let r : (m : ℕ) × Meet n t i j m = meet-exists n t ok i j l s in
+      let e : cell (meet n t i j) ≡ r .0 = ap cell (r .1 .is) in
+      omega (arith, r .1 .type)
+
+  -- the meet of picked types is one, and a type
+  picked : {N : Type 0} (pick : N → Bool) (label : N → ℕ) → ((x : N) → label x < n) → (xs : List N) →
+      (foldr (λ x a. cond (pick x) (meets (label x) a) a) (n - 1) xs ≡
+      foldr (λ x a. cond (pick x) (cell (meet n t (label x) a)) a) (n - 1) xs) ×
+      (foldr (λ x a. cond (pick x) (cell (meet n t (label x) a)) a) (n - 1) xs < n)
+  picked pick label known [] = (refl, top-type n t ok)
+  picked pick label known (x ∷ xs) =
+      go (pick x)
+      (foldr (λ x a. cond (pick x) (meets (label x) a) a) (n - 1) xs)
+      (foldr (λ x a. cond (pick x) (cell (meet n t (label x) a)) a) (n - 1) xs)
+      (picked pick label known xs)
+    where
+      go : (b : Bool) (a c : ℕ) → (a ≡ c) × (c < n) →
+          (cond b (meets (label x) a) a ≡ cond b (cell (meet n t (label x) c)) c) × (cond b (cell (meet n t (label x) c)) c < n)
+      go true a c (e, l) = (ap (meets (label x)) e ∙ are (label x) c (known x) l, meet-type (label x) c (known x) l)
+      go false a c (e, l) = (e, l)
+
+  module _ {A B : Type 0} (sameA : A → A → Bool) (sameB : B → B → Bool) (g : Graph ℕ A) (gs : List A) (h : Graph ℕ B) (hs : List B)
+      (left : (v : A) → g .label v < n) (right : (w : B) → h .label w < n) where
+    known-beside : (x : A ⊎ B) → labelBeside (g .label) (h .label) x < n
+    known-beside (inl v) = left v
+    known-beside (inr w) = right w
+
+    class-label : (c : A ⊎ B) →
+        classGraph agreeing sameA sameB g gs h hs .label c ≡ classGraph (typeLabels n t) sameA sameB g gs h hs .label c
+    unfolding classGraph classLabel
+    class-label c =
+        picked (λ x. sameBeside sameA sameB (className sameA sameB g gs h hs x) c) (labelBeside (g .label) (h .label)) known-beside
+        (nodesBeside gs hs) .0
+
+    class-graph : classGraph agreeing sameA sameB g gs h hs ≡ classGraph (typeLabels n t) sameA sameB g gs h hs
+    unfolding classGraph
+    class-graph =
+        ap (λ (label : A ⊎ B → ℕ). record {
+          root = classGraph agreeing sameA sameB g gs h hs .root;
+          label = label;
+          link = classGraph agreeing sameA sameB g gs h hs .link;
+        }) (fun-ext class-label)
+
+    same-cycle : hasCycle agreeing sameA sameB g gs h hs ≡ hasCycle (typeLabels n t) sameA sameB g gs h hs
+    unfolding hasCycle classGraph
+    same-cycle = refl
+
+    same-clash : hasClash agreeing sameA sameB g gs h hs ≡ hasClash (typeLabels n t) sameA sameB g gs h hs
+    unfolding hasClash
+    same-clash =
+        ap (λ (label : A ⊎ B → ℕ). anyOf (nodesBeside gs hs) λ x. eqb (label (className sameA sameB g gs h hs x)) 0)
+        (fun-ext class-label)
+
+    -- combinations by meets that agree on the table's types are one
+    pub same-unification : unification agreeing sameA sameB g gs h hs ≡ unification (typeLabels n t) sameA sameB g gs h hs
+    unfolding unification
+    same-unification =
+        ap₂ (λ (b c : Bool). cond b cycle (cond c clash (unified (classGraph agreeing sameA sameB g gs h hs)))) same-cycle same-clash ∙
+        ap (λ (u : Graph ℕ (A ⊎ B)).
+        cond (hasCycle (typeLabels n t) sameA sameB g gs h hs) cycle
+        (cond (hasClash (typeLabels n t) sameA sameB g gs h hs) clash (unified u)))
+        class-graph
+
+-- What combining answers and leaves is the combination's reply and output.
+
+written-reply : (w : Written) → combinedReply (combinedOf w) ≡ replyOf w
+written-reply (outcome.Length l) = refl
+written-reply outcome.TooLarge = refl
+written-reply outcome.NoRoom = refl
+
+combined-gives : (u : Unified ℕ (ℕ ⊎ ℕ)) (out : List ℕ) →
+    Gives (combined u out) (combinedReply (unifiedOut u out .answer)) (unifiedOut u out .output)
+unfolding unifiedOut
+combined-gives cycle out = (refl, refl)
+combined-gives clash out = (refl, refl)
+combined-gives (unified u) out = (written-reply (writtenOut (canonical sameEither u) out .answer), refl)
+
+-- the unification of two graphs by a table of meets
+abbrev byMeets : ℕ → List (List ℕ) → declared.Graph → declared.Graph → Unified ℕ (ℕ ⊎ ℕ)
+byMeets n meets g h = unification (meetsOf n meets) eqb eqb (graphIn g) (from 0 (g .nodes)) (graphIn h) (from 0 (h .nodes))
+
+-- the combination by a table of meets, written
+pub met-as : (n : ℕ) (a b out : List ℕ) (meets : List (List ℕ)) {g h : declared.Graph} → Accepts n a g × Accepts n b h →
+    {answer : Combined} {r : Reply} {new : List ℕ} → answer ≡ unifiedOut (byMeets n meets g h) out .answer →
+    new ≡ unifiedOut (byMeets n meets g h) out .output → r ≡ combinedReply answer → Gives (meeting n meets a b out) r new
+unfolding met
+met-as n a b out meets {g} {h} given answers leaves said =
+    let (replies, left) = combined-gives (byMeets n meets g h) out in
+    gives-as
+    (both-next n a b (λ q. refusing q out) (met n meets out) given ∙
+    ap₂ (λ (k l : ℕ). combined (unification (meetsOf n meets) eqb eqb (graphIn g) (from 0 k) (graphIn h) (from 0 l)) out)
+    (rows-in g) (rows-in h))
+    (said ∙ ap combinedReply answers ∙ replies, leaves ∙ left)
+
+-- What combining asks of two accepted graphs.
+
+pub ready-to-combine : {n : ℕ} {a b : List ℕ} (meets : List (List ℕ)) {g h : declared.Graph} →
+    ((0 < n) × (n ≤ 64)) × MeetsBelow n meets → Accepts n a g × Accepts n b h →
+    ((0 < n) × (n ≤ 64)) ×
+    (MeetsBelow n meets ×
+    (SoundIn g ×
+    (SoundIn h ×
+    (((g .nodes ≤ 255) × (h .nodes ≤ 255)) ×
+    (((v : ℕ) → v < g .nodes → getD (g .types) v 0 < n) ×
+    (((v : ℕ) → v < h .nodes → getD (h .types) v 0 < n) ×
+    (((v : ℕ) → v < g .nodes → Reached (graphIn g) v) × ((v : ℕ) → v < h .nodes → Reached (graphIn h) v))))))))
+ready-to-combine meets (types, below) (one, other) = (
+  types,
+  (
+    below,
+    (
+      one .sound,
+      (
+        other .sound,
+        (
+          (one .small, other .small),
+          (accepts-types one, (accepts-types other, (accepts-reached one, accepts-reached other))),
+        ),
+      ),
+    ),
+  ),
+)
+
+module _ (n : ℕ) (t : List ℕ) (rows : List (List ℕ)) {meets : List (List ℕ)} (ok : accepted n t ≡ true) (long : length rows ≡ 64)
+    (filling : meets ≡ filled n t (meet n t) rows) where
+  -- the combination by the filled meets is that by the table's types
+  met-unified : (out : List ℕ) (g h : List (Row ℕ)) → Rules n g → Rules n h → met n meets out g h ≡ unifiedRows n t out g h
+  unfolding met unifiedRows
+  met-unified out g h left right =
+      ap (λ (u : Unified ℕ (ℕ ⊎ ℕ)). combined u out)
+      (same-unification n t ok eqb (meetsOf n meets .meet) (meetsOf n meets .join)
+      (λ i j l s. meets-known n t rows ok long filling i j l s .0) eqb eqb (graphOfRows g) (from 0 (length g)) (graphOfRows h)
+      (from 0 (length h)) (label-known (zero-type n t ok) left) (label-known (zero-type n t ok) right))
+
+  -- what combining asks of the table
+  pub combinable : ((0 < n) × (n ≤ 64)) × MeetsBelow n meets
+  combinable = ((zero-type n t ok, accepted-size n t ok .1), λ i j l s. meets-known n t rows ok long filling i j l s .1)
+
+module _ (n : ℕ) (t a b out : List ℕ) where
+  pub unifying-refused : (fault : TableFault) → table.opened n t ≡ opened.Refused fault → Gives (unifying n t a b out) (Table fault) out
+  unfolding unifying
+  unifying-refused fault e =
+      gives-as
+      (table-refused (λ r. refusing r out) (readBoth (λ r. refusing r out) (reading n a) (reading n b) (unifiedRows n t out)) fault e)
+      (refl, refl)
+
+  pub unifying-accepted : (rows : List (List ℕ)) {meets : List (List ℕ)} {r : Reply} {new : List ℕ} →
+      table.opened n t ≡ opened.Accepted → length rows ≡ 64 → meets ≡ filled n t (meet n t) rows →
+      Gives (meeting n meets a b out) r new → Gives (unifying n t a b out) r new
+  unfolding unifying
+  unifying-accepted rows {meets} e long filling h =
+      gives-as
+      (table-accepted (λ r. refusing r out) (readBoth (λ r. refusing r out) (reading n a) (reading n b) (unifiedRows n t out)) e ∙
+      sym
+      (both-same n a b (λ r. refusing r out) (met n meets out) (unifiedRows n t out)
+      (met-unified n t rows (opened-accepted n t opened.Accepted (sym e) refl) long filling out)))
+      h

@@ -1,0 +1,21 @@
+-- The exported call answers the code of what the engine replies, and leaves the output that the engine leaves.
+use Rattle.library.specs.Code.{codeOf}
+use mathlib.Core.Path.{ap, _∙_}
+use borrow.Author.Needs.{needs}
+use Rattle.library.proofs.record_unify.Statement.{statement}
+use Rattle.library.proofs.record_unify.Tie as tie
+
+unify-requires : tie.Need-unify-requires
+unify-requires c κs = search needs
+
+code-requires : tie.Need-code-requires
+code-requires c κs = search needs
+
+same-length : tie.Need-same-length
+same-length c = search needs
+
+returns : tie.Need-returns
+returns c = (c .code .ensures ∙ ap codeOf (c .before .before .before .unify .ensures .0), c .before .before .before .unify .ensures .1)
+
+pub record-unify-spec : {M : Type 1} → statement M
+record-unify-spec = tie.close (tie.spec unify-requires code-requires same-length returns)

@@ -1,0 +1,8 @@
+-- Laws of unification.
+pub mod Copying
+pub mod Lowering
+pub mod Filling
+pub mod Laying
+pub mod Sides
+pub mod Sharing
+pub mod Result
