@@ -5,7 +5,7 @@ use mathlib.Core.Path.{_≡_, refl, sym, _∙_, ap, ap₂, subst}
 use mathlib.Core.Bool.{Bool, true, false, cond}
 use mathlib.Core.List.{List}
 use mathlib.Core.Logic.{_⊎_, inl, inr, ⊎-elim}
-use Prim.Native.Nat.{ℕ, zero, suc, _+_, _-_, _*_, _≤_, _<_}
+use Prim.Native.Nat.{ℕ, suc, _+_, _-_, _*_, _≤_, _<_}
 use native.Mathlib.Decide.{decLt, ℕ-discrete}
 use native.Mathlib.Omega.{arith}
 use borrow.Author.Tests.{eq-eqb, ne-eqb}
@@ -267,15 +267,6 @@ module _ {nodes second : ℕ} {start₀ end₀ features₀ targets₀ parent sta
     module _ {features′ targets′ left′ right′ : List ℕ} {at top : ℕ}
         (m : Merged (getD start lo 0) (getD end lo 0) (getD start hi 0) (getD end hi 0) features targets left right used (count - 1)
         features′ targets′ left′ right′ at top) where
-      abbrev parent′ : List ℕ
-      parent′ = set parent hi lo
-
-      abbrev start′ : List ℕ
-      start′ = set start lo used
-
-      abbrev end′ : List ℕ
-      end′ = set end lo at
-
       forest′ : Forest (set parent hi lo)
       forest′ = hung-forest (s .forest) lo hi less (small hi hi-in) (found .2) (found .3)
 

@@ -5,7 +5,7 @@ pub mod forest;
 pub mod rows;
 
 use crate::rows::Reach;
-ghost use Prim.Native.Nat.{ℕ, _+_, _≤_, _<_};
+ghost use Prim.Native.Nat.{_+_, _≤_, _<_};
 ghost use lib.ListN.{length, getD};
 ghost use mathlib.Core.Path.{_≡_};
 ghost use Rattle.classes.specs.Merge.{Span};

@@ -1,6 +1,6 @@
 // The merge of two rows into one. Where both have a feature, their targets make a pair of nodes that are to be joined.
 
-ghost use Prim.Native.Nat.{ℕ, _+_, _≤_, _<_};
+ghost use Prim.Native.Nat.{_+_, _≤_};
 ghost use lib.ListN.{length};
 ghost use mathlib.Core.Path.{_≡_};
 ghost use Rattle.classes.specs.Merge.{Merged, Span, featureAt};

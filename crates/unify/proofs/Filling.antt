@@ -2,11 +2,11 @@
 use mathlib.Core.Path.{_≡_, sym, _∙_, ap, subst}
 use mathlib.Core.Bool.{Bool, true, false, cond}
 use mathlib.Core.List.{List}
-use Prim.Native.Nat.{ℕ, zero, suc, _+_, _-_, _≤_, _<_}
+use Prim.Native.Nat.{ℕ, suc, _+_, _-_, _≤_, _<_}
 use native.Mathlib.Decide.{decLt, ℕ-discrete}
 use native.Mathlib.Numerals.{add-one}
 use native.Mathlib.Omega.{arith}
-use borrow.Author.Tests.{eq-eqb, ne-eqb}
+use borrow.Author.Tests.{eq-eqb}
 use lib.Dec.{eqb}
 use lib.ListN.{length, getD, set, length-set}
 use Rattle.classes.specs.Classes.{At, rowLength, sumTo}
@@ -64,9 +64,6 @@ fill-start {nodes} {class} {start} {end} first features targets first-long featu
 
 module _ {nodes : ℕ} {class start end pf pt : List ℕ} (given : Fillable nodes class start end pf pt) {first features targets : List ℕ}
     {links x : ℕ} (s : Filling nodes class start end pf pt first features targets links x) (more : x < nodes) where
-  len : ℕ → ℕ
-  len = rowLength (λ y. getD class y 0) start end
-
   ends : (getD start x 0 + rowLength (λ y. getD class y 0) start end x ≡ rowEnd class start end x) × (rowEnd class start end x ≤ getD end x 0)
   ends = row-end-is class start end x (given .rising x more .0)
 

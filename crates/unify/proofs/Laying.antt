@@ -6,7 +6,6 @@ use Prim.Native.Nat.{ℕ, zero, suc, _+_, _-_, _≤_, _<_}
 use native.Mathlib.Decide.{decLt}
 use native.Mathlib.Omega.{arith}
 use borrow.Author.Tests.{eq-eqb}
-use lib.Dec.{eqb}
 use lib.ListN.{length, getD}
 use Rattle.visits.proofs.Colours.{ends}
 use Rattle.classes.specs.Merge.{Span}
@@ -29,12 +28,6 @@ target-small shape k h = omega (arith, shape .within k h, shape .small)
 
 module _ {N : ℕ} {a-first a-features a-targets : List ℕ} (a : Shape N a-first a-features a-targets) {M : ℕ}
     {b-first b-features b-targets : List ℕ} (b : Shape M b-first b-features b-targets) where
-  abbrev La : ℕ
-  La = getD a-first N 0
-
-  abbrev Lb : ℕ
-  Lb = getD b-first M 0
-
   pub lay-beside : {pf₀ pt₀ pf₁ pt₁ pf pt start₀ end₀ start₁ end₁ start end : List ℕ} →
       LinksCopied a-features a-targets (getD a-first N 0) 0 0 pf₀ pt₀ pf₁ pt₁ →
       LinksCopied b-features b-targets (getD b-first M 0) (getD a-first N 0) N pf₁ pt₁ pf pt →

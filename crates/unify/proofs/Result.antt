@@ -1,6 +1,6 @@
 -- The graph of the classes in the arrays is alike with the one that unification defines, by the classes of one node; so it has
 -- the same cycles, labels and written form, and what is answered is what the definition says.
-use mathlib.Core.Path.{_≡_, refl, sym, _∙_, ap, ap₂, subst}
+use mathlib.Core.Path.{_≡_, refl, sym, _∙_, ap, ap₂}
 use mathlib.Core.Bool.{Bool, true, false, cond, _||_}
 use mathlib.Core.List.{List, [], _∷_, _++_, map, foldr, List·Memᴰ, List·Memᴰ·head, List·Memᴰ·tail}
 use mathlib.Core.Logic.{_⊎_, inl, inr}
@@ -32,7 +32,7 @@ use Rattle.graphs.specs.Unify.{
 }
 use Rattle.graphs.proofs.Walk.{none-some, some-injective, snoc-induction, follow-start, follow-last, walk-snoc}
 use Rattle.graphs.proofs.Lists.{from-member, from-range, tells-eqb}
-use Rattle.graphs.proofs.Search.{true-false, not-true, anyOf-true, anyOf-finds}
+use Rattle.graphs.proofs.Search.{not-true, anyOf-true, anyOf-finds}
 use Rattle.graphs.proofs.Form.Bisimilar.{Alike, absent, present, Bisimilar}
 use Rattle.graphs.proofs.Form.Invariant.{bisimilar-canonical}
 use Rattle.graphs.proofs.Unification.Beside.{
@@ -47,7 +47,6 @@ use Rattle.graphs.proofs.Unification.Beside.{
 }
 use Rattle.graphs.proofs.Unification.ClassGraph.{classLink-source, classLink-of, name-classes, name-related}
 use Rattle.graphs.proofs.Unification.Deep.{deep-walk, walk-deep, loop-walk}
-use Rattle.visits.specs.Arrays as arrays
 use Rattle.visits.specs.Arrays.{rowsOf, graphOfRows, Reaches, one, more, TargetsFirst}
 use Rattle.visits.proofs.VisitRows.{link-known}
 use Rattle.visits.proofs.Places.{label-at, link-at, link-place}

@@ -1,8 +1,8 @@
 -- The two graphs in their arrays, and their nodes side by side by number: those of the second come after those of the first. A link
 -- of a node is a place of its number's span.
 use mathlib.Core.Path.{_≡_, refl, sym, _∙_, ap, subst}
-use mathlib.Core.List.{List, [], _++_, _∷_}
-use mathlib.Core.Logic.{_↔_, _⊎_, inl, inr}
+use mathlib.Core.List.{List}
+use mathlib.Core.Logic.{_⊎_, inl, inr}
 use mathlib.Core.Option.{some}
 use Prim.Native.Nat.{ℕ, suc, _+_, _-_, _≤_, _<_}
 use native.Mathlib.Decide.{decLt}
@@ -103,9 +103,6 @@ module _ {a b : declared.Graph} (left : Held a) (right : Held b) where
 
   module _ {start end pf pt : List ℕ}
       (s : Beside (a .nodes) (a .first) (a .features) (a .targets) (b .nodes) (b .first) (b .features) (b .targets) start end pf pt) where
-    abbrev La : ℕ
-    La = getD (a .first) (a .nodes) 0
-
     a-inside : (v k : ℕ) → v < a .nodes → k < getD (a .first) (suc v) 0 → k < getD (a .first) (a .nodes) 0
     a-inside v k i h = omega (arith, ends (left .sound .shaped .laid) v i)
 

@@ -1,6 +1,6 @@
 // Two graphs side by side: the links of one after those of the other, each node's as a span of places.
 
-ghost use Prim.Native.Nat.{ℕ, suc, _+_, _≤_, _<_};
+ghost use Prim.Native.Nat.{ℕ, _≤_, _<_};
 ghost use lib.ListN.{length, getD};
 ghost use mathlib.Core.Path.{_≡_};
 ghost use Rattle.unify.specs.Rows.{LinksCopied, SpansCopied};

@@ -26,95 +26,72 @@ abbrev μ-loop : tie.MeasureT-loop
 μ-loop nodes second class₀ start₀ end₀ features₀ targets₀ links left₀ right₀ used₀ count₀ class start end features targets left right used count =
     4098 * rootCount nodes class + count
 
--- src/lib.rt:67:5
 separate-requires : tie.Need-separate-requires Inv-loop μ-loop
 separate-requires c κs = search needs
 
--- src/lib.rt:68:16
 cast-right : tie.Need-cast-right Inv-loop μ-loop
 cast-right c = search needs
 
--- src/lib.rt:68:5
 array-write-right : tie.Need-array-write-right Inv-loop μ-loop
 array-write-right c = search needs
 
--- src/lib.rt:71:5
 loop-holds : tie.Need-loop-holds Inv-loop μ-loop
 loop-holds c = let st = c .before .before in join-start (st .pre .0) (st .pre .1 .0 .0) (st .pre .1 .0 .1) (st .pre .1 .1) _ (replicate 4097 0) (replicate 4097 0) (c .separate .ensures .0) (c .separate .ensures .1) (length-replicate {A = ℕ} 4097 0) (length-replicate {A = ℕ} 4097 0) (getD-replicate {A = ℕ} 4097 0 0 0 (omega arith))
 
--- src/lib.rt:72:9
 sub-count : tie.Need-sub-count Inv-loop μ-loop
 sub-count c = search needs
 
--- src/lib.rt:73:37
 mul-find : tie.Need-mul-find Inv-loop μ-loop
 mul-find c = search needs
 
--- src/lib.rt:73:37
 array-read-find : tie.Need-array-read-find Inv-loop μ-loop
 array-read-find c = search needs
 
--- src/lib.rt:73:37
 cast-find : tie.Need-cast-find Inv-loop μ-loop
 cast-find c = omega (arith, left-small (c .before .before .loop .inv) (c .before .loop-test .taken))
 
--- src/lib.rt:73:13
 find-requires : tie.Need-find-requires Inv-loop μ-loop
 find-requires c κs = (c .before .before .loop .inv .forest, left-small (c .before .before .loop .inv) (c .before .loop-test .taken))
 
--- src/lib.rt:74:37
 mul-find-2 : tie.Need-mul-find-2 Inv-loop μ-loop
 mul-find-2 c = search needs
 
--- src/lib.rt:74:37
 array-read-find-2 : tie.Need-array-read-find-2 Inv-loop μ-loop
 array-read-find-2 c = search needs
 
--- src/lib.rt:74:37
 cast-find-2 : tie.Need-cast-find-2 Inv-loop μ-loop
 cast-find-2 c = omega (arith, right-small (c .before .before .before .before .loop .inv) (c .before .before .before .loop-test .taken))
 
--- src/lib.rt:74:13
 find-requires-2 : tie.Need-find-requires-2 Inv-loop μ-loop
 find-requires-2 c κs = (c .before .find .ensures .1 .forest, right-small (c .before .before .before .before .loop .inv) (c .before .before .before .loop-test .taken))
 
--- src/lib.rt:76:17
 join-requires : tie.Need-join-requires Inv-loop μ-loop
 join-requires c κs = let s = c .before .before .before .before .before .before .before .before .before .before .before .before .before .loop .inv in let a = round-up (c .before .before .before .before .before .before .before .before .before .before .before .before .before .loop .inv) (c .before .before .before .before .before .before .before .before .before .before .before .before .loop-test .taken) (c .before .before .before .before .before .before .before .before .before .before .find .ensures .0) (c .before .before .before .before .before .before .before .before .before .before .find .ensures .1) (c .before .before .before .before .before .before .before .before .find2 .ensures .0) (c .before .before .before .before .before .before .before .before .find2 .ensures .1) (c .before .before .before .before .before .before .before .if1 .taken) .asks in ((a .0, a .1, c .before .before .before .before .before .before .before .before .find2 .ensures .1 .forest .long, s .rows .start-long, s .rows .end-long), ((s .rows .features-long, s .rows .targets-long), ((s .left-long, s .right-long), (a .2, (a .3, (a .4, a .5))))))
 
--- src/lib.rt:71:5
 loop-less : tie.Need-loop-less Inv-loop μ-loop
 loop-less c = round-up (c .before .before .before .before .before .before .before .before .before .before .before .before .before .before .loop .inv) (c .before .before .before .before .before .before .before .before .before .before .before .before .before .loop-test .taken) (c .before .before .before .before .before .before .before .before .before .before .before .find .ensures .0) (c .before .before .before .before .before .before .before .before .before .before .before .find .ensures .1) (c .before .before .before .before .before .before .before .before .before .find2 .ensures .0) (c .before .before .before .before .before .before .before .before .before .find2 .ensures .1) (c .before .before .before .before .before .before .before .before .if1 .taken) .falls (c .join .ensures)
 
--- src/lib.rt:71:5
 loop-again : tie.Need-loop-again Inv-loop μ-loop
 loop-again c = round-up (c .before .before .before .before .before .before .before .before .before .before .before .before .before .before .loop .inv) (c .before .before .before .before .before .before .before .before .before .before .before .before .before .loop-test .taken) (c .before .before .before .before .before .before .before .before .before .before .before .find .ensures .0) (c .before .before .before .before .before .before .before .before .before .before .before .find .ensures .1) (c .before .before .before .before .before .before .before .before .before .find2 .ensures .0) (c .before .before .before .before .before .before .before .before .before .find2 .ensures .1) (c .before .before .before .before .before .before .before .before .if1 .taken) .goes (c .join .ensures)
 
--- src/lib.rt:80:17
 join-requires-2 : tie.Need-join-requires-2 Inv-loop μ-loop
 join-requires-2 c κs = let s = c .before .before .before .before .before .before .before .before .before .before .before .before .before .before .loop .inv in let a = round-down (c .before .before .before .before .before .before .before .before .before .before .before .before .before .before .loop .inv) (c .before .before .before .before .before .before .before .before .before .before .before .before .before .loop-test .taken) (c .before .before .before .before .before .before .before .before .before .before .before .find .ensures .0) (c .before .before .before .before .before .before .before .before .before .before .before .find .ensures .1) (c .before .before .before .before .before .before .before .before .before .find2 .ensures .0) (c .before .before .before .before .before .before .before .before .before .find2 .ensures .1) (c .before .before .before .before .before .before .before .if2 .taken) .asks in ((a .0, a .1, c .before .before .before .before .before .before .before .before .before .find2 .ensures .1 .forest .long, s .rows .start-long, s .rows .end-long), ((s .rows .features-long, s .rows .targets-long), ((s .left-long, s .right-long), (a .2, (a .3, (a .4, a .5))))))
 
--- src/lib.rt:71:5
 loop-less-2 : tie.Need-loop-less-2 Inv-loop μ-loop
 loop-less-2 c = round-down (c .before .before .before .before .before .before .before .before .before .before .before .before .before .before .before .loop .inv) (c .before .before .before .before .before .before .before .before .before .before .before .before .before .before .loop-test .taken) (c .before .before .before .before .before .before .before .before .before .before .before .before .find .ensures .0) (c .before .before .before .before .before .before .before .before .before .before .before .before .find .ensures .1) (c .before .before .before .before .before .before .before .before .before .before .find2 .ensures .0) (c .before .before .before .before .before .before .before .before .before .before .find2 .ensures .1) (c .before .before .before .before .before .before .before .before .if2 .taken) .falls (c .join2 .ensures)
 
--- src/lib.rt:71:5
 loop-again-2 : tie.Need-loop-again-2 Inv-loop μ-loop
 loop-again-2 c = round-down (c .before .before .before .before .before .before .before .before .before .before .before .before .before .before .before .loop .inv) (c .before .before .before .before .before .before .before .before .before .before .before .before .before .before .loop-test .taken) (c .before .before .before .before .before .before .before .before .before .before .before .before .find .ensures .0) (c .before .before .before .before .before .before .before .before .before .before .before .before .find .ensures .1) (c .before .before .before .before .before .before .before .before .before .before .find2 .ensures .0) (c .before .before .before .before .before .before .before .before .before .before .find2 .ensures .1) (c .before .before .before .before .before .before .before .before .if2 .taken) .goes (c .join2 .ensures)
 
--- src/lib.rt:71:5
 loop-less-3 : tie.Need-loop-less-3 Inv-loop μ-loop
 loop-less-3 c = round-even-less (c .before .before .before .before .before .before .before .loop .inv) (c .before .before .before .before .before .before .loop-test .taken) (c .before .before .before .before .find .ensures .0) (c .before .before .before .before .find .ensures .1) (c .before .before .find2 .ensures .0) (c .before .before .find2 .ensures .1)
 
--- src/lib.rt:71:5
 loop-again-3 : tie.Need-loop-again-3 Inv-loop μ-loop
 loop-again-3 c = round-even (c .before .before .before .before .before .before .before .loop .inv) (c .before .before .before .before .before .before .loop-test .taken) (c .before .before .before .before .find .ensures .0) (c .before .before .before .before .find .ensures .1) (c .before .before .find2 .ensures .0) (c .before .before .find2 .ensures .1) (c .before .if1 .left) (c .if2 .left)
 
--- src/lib.rt:85:5
 flatten-requires : tie.Need-flatten-requires Inv-loop μ-loop
 flatten-requires c κs = c .before .before .loop .inv .forest
 
--- src/lib.rt:50:1
 returns : tie.Need-returns Inv-loop μ-loop
 returns c = let st = c .before .before .before .before .before .before in join-done (c .before .before .before .loop .inv) (st .pre .0) (st .pre .1 .0 .0) (omega (arith, c .before .before .loop-test .left)) (c .flatten .ensures .0) (c .flatten .ensures .1)
 

@@ -4,95 +4,72 @@ use borrow.Author.Needs.{needs}
 use Rattle.classes.proofs.join.Statement.{statement}
 use Rattle.classes.proofs.join.Tie as tie
 
--- src/lib.rt:36:19
 mul-a-start : tie.Need-mul-a-start
 mul-a-start c = search needs
 
--- src/lib.rt:36:19
 element-copy-out-a-start : tie.Need-element-copy-out-a-start
 element-copy-out-a-start c = search needs
 
--- src/lib.rt:36:19
 cast-a-start : tie.Need-cast-a-start
 cast-a-start c = search needs
 
--- src/lib.rt:37:17
 mul-a-end : tie.Need-mul-a-end
 mul-a-end c = search needs
 
--- src/lib.rt:37:17
 element-copy-out-a-end : tie.Need-element-copy-out-a-end
 element-copy-out-a-end c = search needs
 
--- src/lib.rt:37:17
 cast-a-end : tie.Need-cast-a-end
 cast-a-end c = search needs
 
--- src/lib.rt:38:19
 mul-b-start : tie.Need-mul-b-start
 mul-b-start c = search needs
 
--- src/lib.rt:38:19
 element-copy-out-b-start : tie.Need-element-copy-out-b-start
 element-copy-out-b-start c = search needs
 
--- src/lib.rt:38:19
 cast-b-start : tie.Need-cast-b-start
 cast-b-start c = search needs
 
--- src/lib.rt:39:17
 mul-b-end : tie.Need-mul-b-end
 mul-b-end c = search needs
 
--- src/lib.rt:39:17
 element-copy-out-b-end : tie.Need-element-copy-out-b-end
 element-copy-out-b-end c = search needs
 
--- src/lib.rt:39:17
 cast-b-end : tie.Need-cast-b-end
 cast-b-end c = search needs
 
--- src/lib.rt:40:9
 merge-requires : tie.Need-merge-requires
 merge-requires c κs = search needs
 
--- src/lib.rt:43:18
 cast-parent : tie.Need-cast-parent
 cast-parent c = search needs
 
--- src/lib.rt:43:5
 mul-parent : tie.Need-mul-parent
 mul-parent c = search needs
 
--- src/lib.rt:43:5
 element-write-parent : tie.Need-element-write-parent
 element-write-parent c = search needs
 
--- src/lib.rt:44:17
 cast-start : tie.Need-cast-start
 cast-start c = search needs
 
--- src/lib.rt:44:5
 mul-start : tie.Need-mul-start
 mul-start c = search needs
 
--- src/lib.rt:44:5
 element-write-start : tie.Need-element-write-start
 element-write-start c = search needs
 
--- src/lib.rt:45:15
 cast-end : tie.Need-cast-end
 cast-end c = let st = c .before .before .before .before .before .before .before .before .before .before in omega (arith, merged-short (c .before .merge .ensures) (st .pre .1 .1 .1 .0) (st .pre .1 .1 .1 .1 .0), st .pre .1 .1 .1 .1 .1 .0)
 
--- src/lib.rt:45:5
 mul-end : tie.Need-mul-end
 mul-end c = search needs
 
--- src/lib.rt:45:5
 element-write-end : tie.Need-element-write-end
 element-write-end c = search needs
 
--- src/lib.rt:15:1
 returns : tie.Need-returns
 returns c = search needs
 

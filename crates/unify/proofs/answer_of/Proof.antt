@@ -5,27 +5,21 @@ use borrow.Author.Needs.{needs}
 use Rattle.unify.proofs.answer_of.Statement.{statement}
 use Rattle.unify.proofs.answer_of.Tie as tie
 
--- src/lib.rt:107:25
 enum-known-written : tie.Need-enum-known-written
 enum-known-written c = search needs
 
--- src/lib.rt:108:30
 enum-told : tie.Need-enum-told
 enum-told c = search needs
 
--- src/lib.rt:109:28
 enum-told-2 : tie.Need-enum-told-2
 enum-told-2 c = search needs
 
--- src/lib.rt:103:1
 returns : tie.Need-returns
 returns c = ap combinedOf (sym (c .before .written .given .1))
 
--- src/lib.rt:103:1
 returns-2 : tie.Need-returns-2
 returns-2 c = search needs
 
--- src/lib.rt:103:1
 returns-3 : tie.Need-returns-3
 returns-3 c = search needs
 

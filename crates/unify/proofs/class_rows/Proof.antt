@@ -8,63 +8,48 @@ use borrow.Author.Needs.{needs}
 use Rattle.unify.proofs.class_rows.Statement.{statement}
 use Rattle.unify.proofs.class_rows.Tie as tie
 
--- src/lib.rt:55:19
 mul-a-links : tie.Need-mul-a-links
 mul-a-links c = search needs
 
--- src/lib.rt:55:19
 element-copy-out-a-links : tie.Need-element-copy-out-a-links
 element-copy-out-a-links c = search needs
 
--- src/lib.rt:55:19
 cast-a-links : tie.Need-cast-a-links
 cast-a-links c = search needs
 
--- src/lib.rt:56:19
 mul-b-links : tie.Need-mul-b-links
 mul-b-links c = search needs
 
--- src/lib.rt:56:19
 element-copy-out-b-links : tie.Need-element-copy-out-b-links
 element-copy-out-b-links c = search needs
 
--- src/lib.rt:56:19
 cast-b-links : tie.Need-cast-b-links
 cast-b-links c = search needs
 
--- src/lib.rt:57:5
 copy-links-requires : tie.Need-copy-links-requires
 copy-links-requires c κs = let st = c .before .before .before .before in let a = st .pre .0 in let b = st .pre .1 .0 in ((a .short, omega arith, omega arith), (target-small a, (length-replicate {A = ℕ} 36672 0, length-replicate {A = ℕ} 36672 0)))
 
--- src/lib.rt:66:5
 copy-links-requires-2 : tie.Need-copy-links-requires-2
 copy-links-requires-2 c κs = let st = c .before .before .before .before .before .before .before in let a = st .pre .0 in let b = st .pre .1 .0 in ((b .short, a .short, a .small), (target-small b, (c .before .before .copy-links .ensures .features-long ∙ length-replicate {A = ℕ} 36672 0, c .before .before .copy-links .ensures .targets-long ∙ length-replicate {A = ℕ} 36672 0)))
 
--- src/lib.rt:75:5
 copy-spans-requires : tie.Need-copy-spans-requires
 copy-spans-requires c κs = let st = c .before .before .before .before .before .before .before .before .before .before in let a = st .pre .0 in let b = st .pre .1 .0 in ((a .small, omega arith, omega arith), (first-small a, (length-replicate {A = ℕ} 510 0, length-replicate {A = ℕ} 510 0)))
 
--- src/lib.rt:76:5
 copy-spans-requires-2 : tie.Need-copy-spans-requires-2
 copy-spans-requires-2 c κs = let st = c .before .before .before .before .before .before .before .before .before .before .before .before .before in let a = st .pre .0 in let b = st .pre .1 .0 in ((b .small, a .short, a .small), (first-small b, (c .before .before .copy-spans .ensures .start-long ∙ length-replicate {A = ℕ} 510 0, c .before .before .copy-spans .ensures .end-long ∙ length-replicate {A = ℕ} 510 0)))
 
--- src/lib.rt:77:17
 add-nodes : tie.Need-add-nodes
 add-nodes c = let st = c .before .before .before .before .before .before .before .before .before .before .before .before .before .before in let a = st .pre .0 in let b = st .pre .1 .0 in omega (arith, a .small, b .small)
 
--- src/lib.rt:78:17
 add-links : tie.Need-add-links
 add-links c = let st = c .before .before .before .before .before .before .before .before .before .before .before .before .before .before in let a = st .pre .0 in let b = st .pre .1 .0 in omega (arith, a .short, b .short)
 
--- src/lib.rt:79:5
 close-requires : tie.Need-close-requires
 close-requires c κs = let st = c .before .before .before .before .before .before .before .before .before .before .before .before .before .before .before .before .before .before .before in let a = st .pre .0 in let b = st .pre .1 .0 in let s = (lay-beside a b (c .before .before .before .before .before .before .before .before .before .before .before .before .before .before .copy-links .ensures) (c .before .before .before .before .before .before .before .before .before .before .before .copy-links2 .ensures) (c .before .before .before .before .before .before .before .before .copy-spans .ensures) (c .before .before .before .before .before .copy-spans2 .ensures)) in (lay-rows a b s (c .before .before .before .before .before .copy-spans2 .ensures .start-long ∙ c .before .before .before .before .before .before .before .before .copy-spans .ensures .start-long ∙ length-replicate {A = ℕ} 510 0) (c .before .before .before .before .before .copy-spans2 .ensures .end-long ∙ c .before .before .before .before .before .before .before .before .copy-spans .ensures .end-long ∙ length-replicate {A = ℕ} 510 0) (c .before .before .before .before .before .before .before .before .before .before .before .copy-links2 .ensures .features-long ∙ c .before .before .before .before .before .before .before .before .before .before .before .before .before .before .copy-links .ensures .features-long ∙ length-replicate {A = ℕ} 36672 0) (c .before .before .before .before .before .before .before .before .before .before .before .copy-links2 .ensures .targets-long ∙ c .before .before .before .before .before .before .before .before .before .before .before .before .before .before .copy-links .ensures .targets-long ∙ length-replicate {A = ℕ} 36672 0), ((omega (arith, b .laid .nonempty), omega (arith, a .short, b .short), st .pre .1 .1 .0), lay-short a b s (c .before .before .before .before .before .copy-spans2 .ensures .start-long ∙ c .before .before .before .before .before .before .before .before .copy-spans .ensures .start-long ∙ length-replicate {A = ℕ} 510 0) (c .before .before .before .before .before .copy-spans2 .ensures .end-long ∙ c .before .before .before .before .before .before .before .before .copy-spans .ensures .end-long ∙ length-replicate {A = ℕ} 510 0) (c .before .before .before .before .before .before .before .before .before .before .before .copy-links2 .ensures .features-long ∙ c .before .before .before .before .before .before .before .before .before .before .before .before .before .before .copy-links .ensures .features-long ∙ length-replicate {A = ℕ} 36672 0) (c .before .before .before .before .before .before .before .before .before .before .before .copy-links2 .ensures .targets-long ∙ c .before .before .before .before .before .before .before .before .before .before .before .before .before .before .copy-links .ensures .targets-long ∙ length-replicate {A = ℕ} 36672 0)))
 
--- src/lib.rt:89:5
 quotient-requires : tie.Need-quotient-requires
 quotient-requires c κs = let st = c .before .before .before .before .before .before .before .before .before .before .before .before .before .before .before .before .before .before .before .before .before .before .before .before .before .before .before .before in let a = st .pre .0 in let b = st .pre .1 .0 in let q = c .before .before .before .before .before .before .before .before .close .ensures in let g = closed-fillable q in (g .few, ((st .pre .1 .1 .1, st .pre .1 .1 .2, st .pre .1 .1 .3), (class-small q, (g .rising, (g .within, g .short)))))
 
--- src/lib.rt:32:1
 returns : tie.Need-returns
 returns c = let st = c .before .before .before .before .before .before .before .before .before .before .before .before .before .before .before .before .before .before .before .before .before .before .before .before .before .before .before .before .before in let a = st .pre .0 in let b = st .pre .1 .0 in record { start = _; end = _; pool-features = _; pool-targets = _; start′ = _; end′ = _; pool-features′ = _; pool-targets′ = _; used = _; beside = (lay-beside a b (c .before .before .before .before .before .before .before .before .before .before .before .before .before .before .before .before .before .before .before .before .before .before .before .before .copy-links .ensures) (c .before .before .before .before .before .before .before .before .before .before .before .before .before .before .before .before .before .before .before .before .before .copy-links2 .ensures) (c .before .before .before .before .before .before .before .before .before .before .before .before .before .before .before .before .before .before .copy-spans .ensures) (c .before .before .before .before .before .before .before .before .before .before .before .before .before .before .before .copy-spans2 .ensures)); closed = c .before .before .before .before .before .before .before .before .before .close .ensures; rows = c .quotient .ensures }
 

@@ -11,63 +11,48 @@ Inv-loop parent₀ x v₀ up₀ parent v up = Climbing parent₀ x parent v up
 abbrev μ-loop : tie.MeasureT-loop
 μ-loop parent₀ x v₀ up₀ parent v up = v
 
--- src/forest.rt:29:18
 mul-up : tie.Need-mul-up Inv-loop μ-loop
 mul-up c = search needs
 
--- src/forest.rt:29:18
 element-copy-out-up : tie.Need-element-copy-out-up Inv-loop μ-loop
 element-copy-out-up c = search needs
 
--- src/forest.rt:29:18
 cast-up : tie.Need-cast-up Inv-loop μ-loop
 cast-up c = omega (arith, c .before .pre .0 .down (c .before .args .x) (c .before .pre .1))
 
--- src/forest.rt:30:5
 loop-holds : tie.Need-loop-holds Inv-loop μ-loop
 loop-holds c = climb-start (c .before .pre .0) (c .before .args .x) (c .before .pre .1)
 
--- src/forest.rt:31:20
 mul-next : tie.Need-mul-next Inv-loop μ-loop
 mul-next c = search needs
 
--- src/forest.rt:31:20
 element-copy-out-next : tie.Need-element-copy-out-next Inv-loop μ-loop
 element-copy-out-next c = search needs
 
--- src/forest.rt:32:9
 mul-parent : tie.Need-mul-parent Inv-loop μ-loop
 mul-parent c = search needs
 
--- src/forest.rt:32:9
 element-write-parent : tie.Need-element-write-parent Inv-loop μ-loop
 element-write-parent c = search needs
 
--- src/forest.rt:33:13
 cast-v : tie.Need-cast-v Inv-loop μ-loop
 cast-v c = let l = c .before .before in omega (arith, climb-bound (l .loop .inv) (c .before .loop-test .taken), l .loop .inv .small)
 
--- src/forest.rt:34:14
 mul-up-2 : tie.Need-mul-up-2 Inv-loop μ-loop
 mul-up-2 c = let l = c .before .before in omega (arith, climb-bound (l .loop .inv) (c .before .loop-test .taken), l .loop .inv .small)
 
--- src/forest.rt:34:14
 element-copy-out-up-2 : tie.Need-element-copy-out-up-2 Inv-loop μ-loop
 element-copy-out-up-2 c = let l = c .before .before in climb-next (l .loop .inv) (c .before .loop-test .taken) .small
 
--- src/forest.rt:34:14
 cast-up-2 : tie.Need-cast-up-2 Inv-loop μ-loop
 cast-up-2 c = let l = c .before .before .before in omega (arith, climb-next-bound (l .loop .inv) (c .before .before .loop-test .taken))
 
--- src/forest.rt:30:5
 loop-less : tie.Need-loop-less Inv-loop μ-loop
 loop-less c = let l = c .before .before .before in climb-bound (l .loop .inv) (c .before .before .loop-test .taken)
 
--- src/forest.rt:30:5
 loop-again : tie.Need-loop-again Inv-loop μ-loop
 loop-again c = let l = c .before .before .before in climb-next (l .loop .inv) (c .before .before .loop-test .taken)
 
--- src/forest.rt:22:1
 returns : tie.Need-returns Inv-loop μ-loop
 returns c = climb-done (c .before .loop .inv) (c .loop-test .left)
 

@@ -1,7 +1,7 @@
 use native.Mathlib.Numerals.{add-one}
 use borrow.Author.Needs.{needs}
 -- `flatten` meets its contract: nodes before x are right below their roots.
-use Prim.Native.Nat.{ℕ, _-_, _≤_}
+use Prim.Native.Nat.{_-_, _≤_}
 use native.Mathlib.Omega.{arith}
 use Rattle.classes.proofs.Roots.{Flat, flat-start, flat-up, flat-step}
 use Rattle.classes.proofs.forest.flatten.Statement.{statement}
@@ -13,51 +13,39 @@ Inv-loop parent₀ x₀ parent x = Flat parent₀ parent x × (x ≤ 510)
 abbrev μ-loop : tie.MeasureT-loop
 μ-loop parent₀ x₀ parent x = 510 - x
 
--- src/forest.rt:46:5
 loop-holds : tie.Need-loop-holds Inv-loop μ-loop
 loop-holds c = (flat-start (c .pre), omega arith)
 
--- src/forest.rt:47:18
 mul-up : tie.Need-mul-up Inv-loop μ-loop
 mul-up c = search needs
 
--- src/forest.rt:47:18
 element-copy-out-up : tie.Need-element-copy-out-up Inv-loop μ-loop
 element-copy-out-up c = search needs
 
--- src/forest.rt:47:18
 cast-up : tie.Need-cast-up Inv-loop μ-loop
 cast-up c = let l = c .before .before in omega (arith, flat-up (l .before .pre) (l .loop .x) (c .before .loop-test .taken) (l .loop .inv .0), c .before .loop-test .taken)
 
--- src/forest.rt:48:21
 mul-parent : tie.Need-mul-parent Inv-loop μ-loop
 mul-parent c = let l = c .before .before in omega (arith, flat-up (l .before .pre) (l .loop .x) (c .before .loop-test .taken) (l .loop .inv .0), c .before .loop-test .taken)
 
--- src/forest.rt:48:21
 element-copy-out-parent : tie.Need-element-copy-out-parent Inv-loop μ-loop
 element-copy-out-parent c = let l = c .before .before in omega (arith, flat-up (l .before .pre) (l .loop .x) (c .before .loop-test .taken) (l .loop .inv .0), c .before .loop-test .taken)
 
--- src/forest.rt:48:9
 mul-parent-2 : tie.Need-mul-parent-2 Inv-loop μ-loop
 mul-parent-2 c = search needs
 
--- src/forest.rt:48:9
 element-write-parent : tie.Need-element-write-parent Inv-loop μ-loop
 element-write-parent c = search needs
 
--- src/forest.rt:49:9
 add-x : tie.Need-add-x Inv-loop μ-loop
 add-x c = search needs
 
--- src/forest.rt:46:5
 loop-less : tie.Need-loop-less Inv-loop μ-loop
 loop-less c = search needs
 
--- src/forest.rt:46:5
 loop-again : tie.Need-loop-again Inv-loop μ-loop
 loop-again c = let l = c .before .before .before in (rw (add-one (l .loop .x)) (flat-step (l .before .pre) (l .loop .x) (c .before .before .loop-test .taken) (l .loop .inv .0)), omega (arith, c .before .before .loop-test .taken))
 
--- src/forest.rt:40:1
 returns : tie.Need-returns Inv-loop μ-loop
 returns c = let i = c .before .loop .inv in (i .0 .long, λ x h. i .0 .done x (omega (arith, c .loop-test .left)))
 

@@ -15,35 +15,27 @@ Inv-loop parent₀ x₀ parent x = (length parent ≡ 510) × (x ≤ 510) × ((y
 abbrev μ-loop : tie.MeasureT-loop
 μ-loop parent₀ x₀ parent x = 510 - x
 
--- src/forest.rt:15:5
 loop-holds : tie.Need-loop-holds Inv-loop μ-loop
 loop-holds c = search needs
 
--- src/forest.rt:16:21
 cast-parent : tie.Need-cast-parent Inv-loop μ-loop
 cast-parent c = search needs
 
--- src/forest.rt:16:9
 mul-parent : tie.Need-mul-parent Inv-loop μ-loop
 mul-parent c = search needs
 
--- src/forest.rt:16:9
 element-write-parent : tie.Need-element-write-parent Inv-loop μ-loop
 element-write-parent c = search needs
 
--- src/forest.rt:17:9
 add-x : tie.Need-add-x Inv-loop μ-loop
 add-x c = search needs
 
--- src/forest.rt:15:5
 loop-less : tie.Need-loop-less Inv-loop μ-loop
 loop-less c = search needs
 
--- src/forest.rt:15:5
 loop-again : tie.Need-loop-again Inv-loop μ-loop
 loop-again c = let l = c .before in (length-set (l .loop .parent) (l .loop .x) (l .loop .x) ∙ l .loop .inv .0, omega (arith, c .loop-test .taken), rw (add-one (l .loop .x)) (separate-step (l .loop .parent) (l .loop .x) (omega (arith, l .loop .inv .0, c .loop-test .taken)) (l .loop .inv .2)))
 
--- src/forest.rt:9:1
 returns : tie.Need-returns Inv-loop μ-loop
 returns c = let i = c .before .loop .inv in (i .0, λ x h. i .2 x (omega (arith, c .loop-test .left)))
 

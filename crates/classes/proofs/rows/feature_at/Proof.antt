@@ -6,15 +6,12 @@ use borrow.Author.Needs.{needs}
 use Rattle.classes.proofs.rows.feature_at.Statement.{statement}
 use Rattle.classes.proofs.rows.feature_at.Tie as tie
 
--- src/rows.rt:20:16
 element-copy-out-result : tie.Need-element-copy-out-result
 element-copy-out-result c = search needs
 
--- src/rows.rt:20:9
 returns : tie.Need-returns
 returns c = sym (ap (λ (t : Bool). cond t (getD (c .before .before .args .features .now) (c .before .before .args .k) 0) 64) (lt-ltb (c .before .before .args .k) (c .before .before .args .end) (c .before .if1 .taken)))
 
--- src/rows.rt:15:1
 returns-2 : tie.Need-returns-2
 returns-2 c = sym (ap (λ (t : Bool). cond t (getD (c .before .args .features .now) (c .before .args .k) 0) 64) (le-ltb (c .before .args .k) (c .before .args .end) (c .if1 .left)))
 

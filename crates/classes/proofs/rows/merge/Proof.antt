@@ -25,175 +25,132 @@ abbrev μ-loop : tie.MeasureT-loop
 μ-loop features₀ targets₀ left₀ right₀ a-start a-end b-start b-end used count i₀ j₀ at₀ top₀ features targets left right i j at top =
     (a-end + b-end) - (i + j)
 
--- src/rows.rt:49:5
 loop-holds : tie.Need-loop-holds Inv-loop μ-loop
 loop-holds c = merge-start _ _ _ _ _ _ _ _ _ _ (c .pre .1 .1 .0 .rising) (c .pre .1 .1 .1 .0 .rising)
 
--- src/rows.rt:49:11
 add-loop : tie.Need-add-loop Inv-loop μ-loop
 add-loop c = search needs
 
--- src/rows.rt:49:19
 add-loop-2 : tie.Need-add-loop-2 Inv-loop μ-loop
 add-loop-2 c = search needs
 
--- src/rows.rt:50:13
 feature-at-requires : tie.Need-feature-at-requires Inv-loop μ-loop
 feature-at-requires c κs = search needs
 
--- src/rows.rt:51:13
 feature-at-requires-2 : tie.Need-feature-at-requires-2 Inv-loop μ-loop
 feature-at-requires-2 c κs = search needs
 
--- src/rows.rt:53:13
 element-write-features : tie.Need-element-write-features Inv-loop μ-loop
 element-write-features c = let st = c .before .before .before .before .before .before .before in left-in _ _ _ _ _ _ _ _ _ _ (c .before .before .before .before .before .before .loop .inv) (st .pre .0 .0) (st .pre .0 .1) (st .pre .1 .1 .0) (st .pre .1 .1 .1 .0) (st .pre .1 .1 .1 .1 .0) (c .before .before .before .feature-at .ensures) (c .before .feature-at2 .ensures) (c .if1 .taken) .1
 
--- src/rows.rt:54:27
 mul-targets : tie.Need-mul-targets Inv-loop μ-loop
 mul-targets c = search needs
 
--- src/rows.rt:54:27
 element-copy-out-targets : tie.Need-element-copy-out-targets Inv-loop μ-loop
 element-copy-out-targets c = search needs
 
--- src/rows.rt:54:13
 mul-targets-2 : tie.Need-mul-targets-2 Inv-loop μ-loop
 mul-targets-2 c = search needs
 
--- src/rows.rt:54:13
 element-write-targets : tie.Need-element-write-targets Inv-loop μ-loop
 element-write-targets c = let st = c .before .before .before .before .before .before .before .before in left-in _ _ _ _ _ _ _ _ _ _ (c .before .before .before .before .before .before .before .loop .inv) (st .pre .0 .0) (st .pre .0 .1) (st .pre .1 .1 .0) (st .pre .1 .1 .1 .0) (st .pre .1 .1 .1 .1 .0) (c .before .before .before .before .feature-at .ensures) (c .before .before .feature-at2 .ensures) (c .before .if1 .taken) .1
 
--- src/rows.rt:55:13
 add-at : tie.Need-add-at Inv-loop μ-loop
 add-at c = search needs
 
--- src/rows.rt:56:13
 add-i : tie.Need-add-i Inv-loop μ-loop
 add-i c = search needs
 
--- src/rows.rt:49:5
 loop-less : tie.Need-loop-less Inv-loop μ-loop
 loop-less c = search needs
 
--- src/rows.rt:49:5
 loop-again : tie.Need-loop-again Inv-loop μ-loop
 loop-again c = let st = c .before .before .before .before .before .before .before .before in merge-left _ _ _ _ _ _ _ _ _ _ (c .before .before .before .before .before .before .before .loop .inv) (st .pre .0 .0) (st .pre .0 .1) (st .pre .1 .1 .0) (st .pre .1 .1 .1 .0) (st .pre .1 .1 .1 .1 .0) (c .before .before .before .before .feature-at .ensures) (c .before .before .feature-at2 .ensures) (c .before .if1 .taken)
 
--- src/rows.rt:58:13
 element-write-features-2 : tie.Need-element-write-features-2 Inv-loop μ-loop
 element-write-features-2 c = let st = c .before .before .before .before .before .before .before .before in right-in _ _ _ _ _ _ _ _ _ _ (c .before .before .before .before .before .before .before .loop .inv) (st .pre .0 .0) (st .pre .0 .1) (st .pre .1 .1 .0) (st .pre .1 .1 .1 .0) (st .pre .1 .1 .1 .1 .0) (c .before .before .before .before .feature-at .ensures) (c .before .before .feature-at2 .ensures) (c .if2 .taken) .1
 
--- src/rows.rt:59:27
 mul-targets-3 : tie.Need-mul-targets-3 Inv-loop μ-loop
 mul-targets-3 c = search needs
 
--- src/rows.rt:59:27
 element-copy-out-targets-2 : tie.Need-element-copy-out-targets-2 Inv-loop μ-loop
 element-copy-out-targets-2 c = search needs
 
--- src/rows.rt:59:13
 mul-targets-4 : tie.Need-mul-targets-4 Inv-loop μ-loop
 mul-targets-4 c = search needs
 
--- src/rows.rt:59:13
 element-write-targets-2 : tie.Need-element-write-targets-2 Inv-loop μ-loop
 element-write-targets-2 c = let st = c .before .before .before .before .before .before .before .before .before in right-in _ _ _ _ _ _ _ _ _ _ (c .before .before .before .before .before .before .before .before .loop .inv) (st .pre .0 .0) (st .pre .0 .1) (st .pre .1 .1 .0) (st .pre .1 .1 .1 .0) (st .pre .1 .1 .1 .1 .0) (c .before .before .before .before .before .feature-at .ensures) (c .before .before .before .feature-at2 .ensures) (c .before .if2 .taken) .1
 
--- src/rows.rt:60:13
 add-at-2 : tie.Need-add-at-2 Inv-loop μ-loop
 add-at-2 c = search needs
 
--- src/rows.rt:61:13
 add-j : tie.Need-add-j Inv-loop μ-loop
 add-j c = search needs
 
--- src/rows.rt:49:5
 loop-less-2 : tie.Need-loop-less-2 Inv-loop μ-loop
 loop-less-2 c = search needs
 
--- src/rows.rt:49:5
 loop-again-2 : tie.Need-loop-again-2 Inv-loop μ-loop
 loop-again-2 c = let st = c .before .before .before .before .before .before .before .before .before in merge-right _ _ _ _ _ _ _ _ _ _ (c .before .before .before .before .before .before .before .before .loop .inv) (st .pre .0 .0) (st .pre .0 .1) (st .pre .1 .1 .0) (st .pre .1 .1 .1 .0) (st .pre .1 .1 .1 .1 .0) (c .before .before .before .before .before .feature-at .ensures) (c .before .before .before .feature-at2 .ensures) (c .before .if2 .taken)
 
--- src/rows.rt:63:25
 mul-left : tie.Need-mul-left Inv-loop μ-loop
 mul-left c = search needs
 
--- src/rows.rt:63:25
 element-copy-out-left : tie.Need-element-copy-out-left Inv-loop μ-loop
 element-copy-out-left c = search needs
 
--- src/rows.rt:63:13
 mul-left-2 : tie.Need-mul-left-2 Inv-loop μ-loop
 mul-left-2 c = search needs
 
--- src/rows.rt:63:13
 element-write-left : tie.Need-element-write-left Inv-loop μ-loop
 element-write-left c = let st = c .before .before .before .before .before .before .before .before .before in pair-room _ _ _ _ _ _ _ _ _ _ (c .before .before .before .before .before .before .before .before .loop .inv) (st .pre .0 .0) (st .pre .0 .1) (st .pre .1 .1 .0) (st .pre .1 .1 .1 .0) (st .pre .1 .1 .1 .1 .0) (c .before .before .before .before .before .feature-at .ensures) (c .before .before .before .feature-at2 .ensures) (c .before .before .before .before .before .before .before .loop-test .taken) (omega (arith, c .before .if2 .left, c .before .before .if1 .left)) (st .pre .1 .1 .1 .1 .1)
 
--- src/rows.rt:64:26
 mul-right : tie.Need-mul-right Inv-loop μ-loop
 mul-right c = search needs
 
--- src/rows.rt:64:26
 element-copy-out-right : tie.Need-element-copy-out-right Inv-loop μ-loop
 element-copy-out-right c = search needs
 
--- src/rows.rt:64:13
 mul-right-2 : tie.Need-mul-right-2 Inv-loop μ-loop
 mul-right-2 c = search needs
 
--- src/rows.rt:64:13
 element-write-right : tie.Need-element-write-right Inv-loop μ-loop
 element-write-right c = let st = c .before .before .before .before .before .before .before .before .before .before in pair-room _ _ _ _ _ _ _ _ _ _ (c .before .before .before .before .before .before .before .before .before .loop .inv) (st .pre .0 .0) (st .pre .0 .1) (st .pre .1 .1 .0) (st .pre .1 .1 .1 .0) (st .pre .1 .1 .1 .1 .0) (c .before .before .before .before .before .before .feature-at .ensures) (c .before .before .before .before .feature-at2 .ensures) (c .before .before .before .before .before .before .before .before .loop-test .taken) (omega (arith, c .before .before .if2 .left, c .before .before .before .if1 .left)) (st .pre .1 .1 .1 .1 .1)
 
--- src/rows.rt:65:13
 add-top : tie.Need-add-top Inv-loop μ-loop
 add-top c = search needs
 
--- src/rows.rt:66:13
 element-write-features-3 : tie.Need-element-write-features-3 Inv-loop μ-loop
 element-write-features-3 c = let st = c .before .before .before .before .before .before .before .before .before .before in both-in _ _ _ _ _ _ _ _ _ _ (c .before .before .before .before .before .before .before .before .before .loop .inv) (st .pre .0 .0) (st .pre .0 .1) (st .pre .1 .1 .0) (st .pre .1 .1 .1 .0) (st .pre .1 .1 .1 .1 .0) (c .before .before .before .before .before .before .feature-at .ensures) (c .before .before .before .before .feature-at2 .ensures) (c .before .before .before .before .before .before .before .before .loop-test .taken) (omega (arith, c .before .before .if2 .left, c .before .before .before .if1 .left)) .2
 
--- src/rows.rt:67:27
 mul-targets-5 : tie.Need-mul-targets-5 Inv-loop μ-loop
 mul-targets-5 c = search needs
 
--- src/rows.rt:67:27
 element-copy-out-targets-3 : tie.Need-element-copy-out-targets-3 Inv-loop μ-loop
 element-copy-out-targets-3 c = search needs
 
--- src/rows.rt:67:13
 mul-targets-6 : tie.Need-mul-targets-6 Inv-loop μ-loop
 mul-targets-6 c = search needs
 
--- src/rows.rt:67:13
 element-write-targets-3 : tie.Need-element-write-targets-3 Inv-loop μ-loop
 element-write-targets-3 c = let st = c .before .before .before .before .before .before .before .before .before .before .before in both-in _ _ _ _ _ _ _ _ _ _ (c .before .before .before .before .before .before .before .before .before .before .loop .inv) (st .pre .0 .0) (st .pre .0 .1) (st .pre .1 .1 .0) (st .pre .1 .1 .1 .0) (st .pre .1 .1 .1 .1 .0) (c .before .before .before .before .before .before .before .feature-at .ensures) (c .before .before .before .before .before .feature-at2 .ensures) (c .before .before .before .before .before .before .before .before .before .loop-test .taken) (omega (arith, c .before .before .before .if2 .left, c .before .before .before .before .if1 .left)) .2
 
--- src/rows.rt:68:13
 add-at-3 : tie.Need-add-at-3 Inv-loop μ-loop
 add-at-3 c = search needs
 
--- src/rows.rt:69:13
 add-i-2 : tie.Need-add-i-2 Inv-loop μ-loop
 add-i-2 c = search needs
 
--- src/rows.rt:70:13
 add-j-2 : tie.Need-add-j-2 Inv-loop μ-loop
 add-j-2 c = search needs
 
--- src/rows.rt:49:5
 loop-less-3 : tie.Need-loop-less-3 Inv-loop μ-loop
 loop-less-3 c = search needs
 
--- src/rows.rt:49:5
 loop-again-3 : tie.Need-loop-again-3 Inv-loop μ-loop
 loop-again-3 c = let st = c .before .before .before .before .before .before .before .before .before .before .before in let r = pair-room _ _ _ _ _ _ _ _ _ _ (c .before .before .before .before .before .before .before .before .before .before .loop .inv) (st .pre .0 .0) (st .pre .0 .1) (st .pre .1 .1 .0) (st .pre .1 .1 .1 .0) (st .pre .1 .1 .1 .1 .0) (c .before .before .before .before .before .before .before .feature-at .ensures) (c .before .before .before .before .before .feature-at2 .ensures) (c .before .before .before .before .before .before .before .before .before .loop-test .taken) (omega (arith, c .before .before .before .if2 .left, c .before .before .before .before .if1 .left)) (st .pre .1 .1 .1 .1 .1) in merge-both _ _ _ _ _ _ _ _ _ _ (c .before .before .before .before .before .before .before .before .before .before .loop .inv) (st .pre .0 .0) (st .pre .0 .1) (st .pre .1 .1 .0) (st .pre .1 .1 .1 .0) (st .pre .1 .1 .1 .1 .0) (c .before .before .before .before .before .before .before .feature-at .ensures) (c .before .before .before .before .before .feature-at2 .ensures) (c .before .before .before .before .before .before .before .before .before .loop-test .taken) (omega (arith, c .before .before .before .if2 .left, c .before .before .before .before .if1 .left)) (omega (arith, r, (c .before .before .before .before .before .before .before .before .before .before .loop .inv) .merged .left-long, st .pre .1 .0 .0)) (omega (arith, r, (c .before .before .before .before .before .before .before .before .before .before .loop .inv) .merged .right-long, st .pre .1 .0 .1))
 
--- src/rows.rt:26:1
 returns : tie.Need-returns Inv-loop μ-loop
 returns c = merge-done _ _ _ _ _ _ _ _ _ _ (c .before .loop .inv) (c .loop-test .left)
 

@@ -14,63 +14,48 @@ Inv-loop features targets links at shift pool-features₀ pool-targets₀ k₀ p
 abbrev μ-loop : tie.MeasureT-loop
 μ-loop features targets links at shift pool-features₀ pool-targets₀ k₀ pool-features pool-targets k = links - k
 
--- src/beside.rt:24:5
 loop-holds : tie.Need-loop-holds Inv-loop μ-loop
 loop-holds c = (links-start _ _ _ _ _ _, omega arith)
 
--- src/beside.rt:25:33
 element-copy-out-pool-features : tie.Need-element-copy-out-pool-features Inv-loop μ-loop
 element-copy-out-pool-features c = let st = c .before .before in omega (arith, c .loop-test .taken, st .pre .0 .0)
 
--- src/beside.rt:25:23
 add-pool-features : tie.Need-add-pool-features Inv-loop μ-loop
 add-pool-features c = search needs
 
--- src/beside.rt:25:9
 element-write-pool-features : tie.Need-element-write-pool-features Inv-loop μ-loop
 element-write-pool-features c = let l = c .before .before in let st = l .before in omega (arith, c .before .loop-test .taken, st .pre .0 .0, st .pre .0 .1, l .loop .inv .0 .features-long, st .pre .1 .1 .0)
 
--- src/beside.rt:26:32
 mul-pool-targets : tie.Need-mul-pool-targets Inv-loop μ-loop
 mul-pool-targets c = search needs
 
--- src/beside.rt:26:32
 element-copy-out-pool-targets : tie.Need-element-copy-out-pool-targets Inv-loop μ-loop
 element-copy-out-pool-targets c = let st = c .before .before .before in omega (arith, c .before .loop-test .taken, st .pre .0 .0)
 
--- src/beside.rt:26:46
 cast-pool-targets : tie.Need-cast-pool-targets Inv-loop μ-loop
 cast-pool-targets c = search needs
 
--- src/beside.rt:26:32
 add-pool-targets : tie.Need-add-pool-targets Inv-loop μ-loop
 add-pool-targets c = let l = c .before .before .before in let st = l .before in omega (arith, st .pre .1 .0 (l .loop .k) (c .before .before .loop-test .taken), st .pre .0 .2)
 
--- src/beside.rt:26:22
 add-pool-targets-2 : tie.Need-add-pool-targets-2 Inv-loop μ-loop
 add-pool-targets-2 c = search needs
 
--- src/beside.rt:26:9
 mul-pool-targets-2 : tie.Need-mul-pool-targets-2 Inv-loop μ-loop
 mul-pool-targets-2 c = search needs
 
--- src/beside.rt:26:9
 element-write-pool-targets : tie.Need-element-write-pool-targets Inv-loop μ-loop
 element-write-pool-targets c = let l = c .before .before .before in let st = l .before in omega (arith, c .before .before .loop-test .taken, st .pre .0 .0, st .pre .0 .1, l .loop .inv .0 .targets-long, st .pre .1 .1 .1)
 
--- src/beside.rt:27:9
 add-k : tie.Need-add-k Inv-loop μ-loop
 add-k c = search needs
 
--- src/beside.rt:24:5
 loop-less : tie.Need-loop-less Inv-loop μ-loop
 loop-less c = search needs
 
--- src/beside.rt:24:5
 loop-again : tie.Need-loop-again Inv-loop μ-loop
 loop-again c = let l = c .before .before .before in let st = l .before in (links-step (l .loop .inv .0) (omega (arith, c .before .before .loop-test .taken, st .pre .0 .0, st .pre .0 .1, st .pre .1 .1 .0)) (omega (arith, c .before .before .loop-test .taken, st .pre .0 .0, st .pre .0 .1, st .pre .1 .1 .1)), omega (arith, c .before .before .loop-test .taken))
 
--- src/beside.rt:9:1
 returns : tie.Need-returns Inv-loop μ-loop
 returns c = let l = c .before in links-done (l .loop .inv .0) (l .loop .inv .1) (c .loop-test .left)
 

@@ -14,83 +14,63 @@ Inv-loop first nodes at shift start₀ end₀ v₀ start end v =
 abbrev μ-loop : tie.MeasureT-loop
 μ-loop first nodes at shift start₀ end₀ v₀ start end v = nodes - v
 
--- src/beside.rt:46:5
 loop-holds : tie.Need-loop-holds Inv-loop μ-loop
 loop-holds c = (spans-start _ _ _ _ _, omega arith)
 
--- src/beside.rt:47:28
 mul-start : tie.Need-mul-start Inv-loop μ-loop
 mul-start c = search needs
 
--- src/beside.rt:47:28
 element-copy-out-start : tie.Need-element-copy-out-start Inv-loop μ-loop
 element-copy-out-start c = search needs
 
--- src/beside.rt:47:40
 cast-start : tie.Need-cast-start Inv-loop μ-loop
 cast-start c = search needs
 
--- src/beside.rt:47:28
 add-start : tie.Need-add-start Inv-loop μ-loop
 add-start c = let l = c .before .before in let st = l .before in omega (arith, st .pre .1 .0 (l .loop .v) (omega (arith, c .before .loop-test .taken)), st .pre .0 .1)
 
--- src/beside.rt:47:15
 add-start-2 : tie.Need-add-start-2 Inv-loop μ-loop
 add-start-2 c = search needs
 
--- src/beside.rt:47:9
 mul-start-2 : tie.Need-mul-start-2 Inv-loop μ-loop
 mul-start-2 c = search needs
 
--- src/beside.rt:47:9
 element-write-start : tie.Need-element-write-start Inv-loop μ-loop
 element-write-start c = search needs
 
--- src/beside.rt:48:32
 add-end : tie.Need-add-end Inv-loop μ-loop
 add-end c = search needs
 
--- src/beside.rt:48:26
 mul-end : tie.Need-mul-end Inv-loop μ-loop
 mul-end c = search needs
 
--- src/beside.rt:48:26
 element-copy-out-end : tie.Need-element-copy-out-end Inv-loop μ-loop
 element-copy-out-end c = search needs
 
--- src/beside.rt:48:42
 cast-end : tie.Need-cast-end Inv-loop μ-loop
 cast-end c = search needs
 
--- src/beside.rt:48:26
 add-end-2 : tie.Need-add-end-2 Inv-loop μ-loop
 add-end-2 c = let l = c .before .before .before in let st = l .before in omega (arith, st .pre .1 .0 (l .loop .v + 1) (omega (arith, c .before .before .loop-test .taken)), st .pre .0 .1)
 
--- src/beside.rt:48:13
 add-end-3 : tie.Need-add-end-3 Inv-loop μ-loop
 add-end-3 c = search needs
 
--- src/beside.rt:48:9
 mul-end-2 : tie.Need-mul-end-2 Inv-loop μ-loop
 mul-end-2 c = search needs
 
--- src/beside.rt:48:9
 element-write-end : tie.Need-element-write-end Inv-loop μ-loop
 element-write-end c = search needs
 
--- src/beside.rt:49:9
 add-v : tie.Need-add-v Inv-loop μ-loop
 add-v c = search needs
 
--- src/beside.rt:46:5
 loop-less : tie.Need-loop-less Inv-loop μ-loop
 loop-less c = search needs
 
--- src/beside.rt:46:5
 loop-again : tie.Need-loop-again Inv-loop μ-loop
 loop-again c = let l = c .before .before .before in let st = l .before in (spans-step (l .loop .inv .0) (omega (arith, c .before .before .loop-test .taken, st .pre .0, st .pre .1 .1 .0)) (omega (arith, c .before .before .loop-test .taken, st .pre .0, st .pre .1 .1 .1)), omega (arith, c .before .before .loop-test .taken))
 
--- src/beside.rt:32:1
 returns : tie.Need-returns Inv-loop μ-loop
 returns c = let l = c .before in spans-done (l .loop .inv .0) (l .loop .inv .1) (c .loop-test .left)
 

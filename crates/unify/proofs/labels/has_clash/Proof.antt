@@ -19,43 +19,33 @@ Inv-loop nodes class labels x₀ x =
 abbrev μ-loop : tie.MeasureT-loop
 μ-loop nodes class labels x₀ x = nodes - x
 
--- src/labels.rt:48:5
 loop-holds : tie.Need-loop-holds Inv-loop μ-loop
 loop-holds c = (any-start (λ y. eqb (getD (c .args .labels .now) (getD (c .args .class .now) y 0) 0) 0) (c .args .nodes), omega arith)
 
--- src/labels.rt:49:17
 mul-c : tie.Need-mul-c Inv-loop μ-loop
 mul-c c = search needs
 
--- src/labels.rt:49:17
 element-copy-out-c : tie.Need-element-copy-out-c Inv-loop μ-loop
 element-copy-out-c c = search needs
 
--- src/labels.rt:49:17
 cast-c : tie.Need-cast-c Inv-loop μ-loop
 cast-c c = let l = c .before .before in omega (arith, l .before .pre .1 (l .loop .x) (c .before .loop-test .taken))
 
--- src/labels.rt:50:12
 element-copy-out-if1 : tie.Need-element-copy-out-if1 Inv-loop μ-loop
 element-copy-out-if1 c = let l = c .before .before in l .before .pre .1 (l .loop .x) (c .before .loop-test .taken)
 
--- src/labels.rt:51:13
 returns : tie.Need-returns Inv-loop μ-loop
 returns c = let l = c .before .before .before .before in let st = l .before in sym (l .loop .inv .0 ∙ any-here (λ y. eqb (getD (st .args .labels .now) (getD (st .args .class .now) y 0) 0) 0) (l .loop .x) (st .args .nodes) (c .before .before .before .loop-test .taken) (eq-eqb _ 0 (c .if1 .taken)))
 
--- src/labels.rt:53:9
 add-x : tie.Need-add-x Inv-loop μ-loop
 add-x c = search needs
 
--- src/labels.rt:48:5
 loop-less : tie.Need-loop-less Inv-loop μ-loop
 loop-less c = search needs
 
--- src/labels.rt:48:5
 loop-again : tie.Need-loop-again Inv-loop μ-loop
 loop-again c = let l = c .before .before .before .before in let st = l .before in (l .loop .inv .0 ∙ any-next (λ y. eqb (getD (st .args .labels .now) (getD (st .args .class .now) y 0) 0) 0) (l .loop .x) (st .args .nodes) (c .before .before .before .loop-test .taken) (ne-eqb _ 0 (c .if1 .left)), omega (arith, c .before .before .before .loop-test .taken))
 
--- src/labels.rt:42:1
 returns-2 : tie.Need-returns-2 Inv-loop μ-loop
 returns-2 c = let l = c .before in let st = l .before in sym (l .loop .inv .0 ∙ any-end (λ y. eqb (getD (st .args .labels .now) (getD (st .args .class .now) y 0) 0) 0) (l .loop .x) (st .args .nodes) (omega (arith, c .loop-test .left, l .loop .inv .1)))
 

@@ -13,71 +13,54 @@ Inv-loop n meets types nodes class shift labels₀ v₀ labels v =
 abbrev μ-loop : tie.MeasureT-loop
 μ-loop n meets types nodes class shift labels₀ v₀ labels v = v
 
--- src/labels.rt:32:5
 loop-holds : tie.Need-loop-holds Inv-loop μ-loop
 loop-holds c = lower-start _ _ _ _ _ _ _ (c .pre .0 .3) (c .pre .1 .1 .1 .1)
 
--- src/labels.rt:33:9
 sub-v : tie.Need-sub-v Inv-loop μ-loop
 sub-v c = search needs
 
--- src/labels.rt:34:23
 add-c : tie.Need-add-c Inv-loop μ-loop
 add-c c = let l = c .before in omega (arith, l .before .pre .0, l .loop .inv .most)
 
--- src/labels.rt:34:17
 mul-c : tie.Need-mul-c Inv-loop μ-loop
 mul-c c = let l = c .before in omega (arith, l .before .pre .0, l .loop .inv .most)
 
--- src/labels.rt:34:17
 element-copy-out-c : tie.Need-element-copy-out-c Inv-loop μ-loop
 element-copy-out-c c = let l = c .before in omega (arith, l .before .pre .0, l .loop .inv .most, c .loop-test .taken)
 
--- src/labels.rt:34:17
 cast-c : tie.Need-cast-c Inv-loop μ-loop
 cast-c c = let l = c .before .before in omega (arith, l .before .pre .1 .1 .1 .0 (l .loop .v - 1) (omega (arith, l .loop .inv .most, c .before .loop-test .taken)))
 
--- src/labels.rt:35:17
 element-copy-out-i : tie.Need-element-copy-out-i Inv-loop μ-loop
 element-copy-out-i c = let l = c .before .before in omega (arith, l .before .pre .0, l .loop .inv .most, c .before .loop-test .taken)
 
--- src/labels.rt:35:17
 cast-i : tie.Need-cast-i Inv-loop μ-loop
 cast-i c = let l = c .before .before .before in omega (arith, l .before .pre .1 .1 .0 (l .loop .v - 1) (omega (arith, l .loop .inv .most, c .before .before .loop-test .taken)), l .before .pre .0)
 
--- src/labels.rt:36:17
 element-copy-out-j : tie.Need-element-copy-out-j Inv-loop μ-loop
 element-copy-out-j c = let l = c .before .before .before in l .before .pre .1 .1 .1 .0 (l .loop .v - 1) (omega (arith, l .loop .inv .most, c .before .before .loop-test .taken))
 
--- src/labels.rt:36:17
 cast-j : tie.Need-cast-j Inv-loop μ-loop
 cast-j c = let l = c .before .before .before .before in let h : l .loop .v - 1 < l .before .args .nodes = omega (arith, l .loop .inv .most, c .before .before .before .loop-test .taken) in omega (arith, l .loop .inv .below _ (l .before .pre .1 .1 .1 .0 (l .loop .v - 1) h), l .before .pre .0)
 
--- src/labels.rt:37:21
 mul-labels : tie.Need-mul-labels Inv-loop μ-loop
 mul-labels c = let l = c .before .before .before .before in let h : l .loop .v - 1 < l .before .args .nodes = omega (arith, l .loop .inv .most, c .before .before .before .loop-test .taken) in omega (arith, l .before .pre .1 .1 .0 (l .loop .v - 1) h, l .before .pre .0)
 
--- src/labels.rt:37:21
 index-1-labels : tie.Need-index-1-labels Inv-loop μ-loop
 index-1-labels c = let l = c .before .before .before .before in let h : l .loop .v - 1 < l .before .args .nodes = omega (arith, l .loop .inv .most, c .before .before .before .loop-test .taken) in omega (arith, l .before .pre .1 .1 .0 (l .loop .v - 1) h, l .before .pre .0)
 
--- src/labels.rt:37:21
 index-2-labels : tie.Need-index-2-labels Inv-loop μ-loop
 index-2-labels c = let l = c .before .before .before .before in let h : l .loop .v - 1 < l .before .args .nodes = omega (arith, l .loop .inv .most, c .before .before .before .loop-test .taken) in omega (arith, l .loop .inv .below _ (l .before .pre .1 .1 .1 .0 (l .loop .v - 1) h), l .before .pre .0)
 
--- src/labels.rt:37:9
 element-write-labels : tie.Need-element-write-labels Inv-loop μ-loop
 element-write-labels c = let l = c .before .before .before .before .before in let h : l .loop .v - 1 < l .before .args .nodes = omega (arith, l .loop .inv .most, c .before .before .before .before .loop-test .taken) in l .before .pre .1 .1 .1 .0 (l .loop .v - 1) h
 
--- src/labels.rt:32:5
 loop-less : tie.Need-loop-less Inv-loop μ-loop
 loop-less c = search needs
 
--- src/labels.rt:32:5
 loop-again : tie.Need-loop-again Inv-loop μ-loop
 loop-again c = let l = c .before .before .before .before .before in let st = l .before in let h : l .loop .v - 1 < st .args .nodes = omega (arith, l .loop .inv .most, c .before .before .before .before .loop-test .taken) in lower-step (l .loop .inv) (st .pre .1 .0) (c .before .before .before .before .loop-test .taken) (st .pre .1 .1 .0 (l .loop .v - 1) h) (st .pre .1 .1 .1 .0 (l .loop .v - 1) h)
 
--- src/labels.rt:13:1
 returns : tie.Need-returns Inv-loop μ-loop
 returns c = let d = lower-done (c .before .loop .inv) (omega (arith, c .loop-test .left)) in (d .0, (d .1, d .2))
 

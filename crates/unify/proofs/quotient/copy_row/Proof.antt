@@ -14,63 +14,48 @@ Inv-loop class pool-features pool-targets start end at features₀ targets₀ k�
 abbrev μ-loop : tie.MeasureT-loop
 μ-loop class pool-features pool-targets start end at features₀ targets₀ k₀ next₀ features targets k next = end - k
 
--- src/quotient.rt:28:5
 loop-holds : tie.Need-loop-holds Inv-loop μ-loop
 loop-holds c = (row-start _ _ _ _ _ _ _, omega arith, c .pre .0 .0)
 
--- src/quotient.rt:29:17
 mul-w : tie.Need-mul-w Inv-loop μ-loop
 mul-w c = search needs
 
--- src/quotient.rt:29:17
 element-copy-out-w : tie.Need-element-copy-out-w Inv-loop μ-loop
 element-copy-out-w c = search needs
 
--- src/quotient.rt:29:17
 cast-w : tie.Need-cast-w Inv-loop μ-loop
 cast-w c = let l = c .before .before in omega (arith, l .before .pre .1 .0 (l .loop .k) (l .loop .inv .1) (c .before .loop-test .taken))
 
--- src/quotient.rt:30:26
 element-copy-out-features : tie.Need-element-copy-out-features Inv-loop μ-loop
 element-copy-out-features c = search needs
 
--- src/quotient.rt:30:9
 element-write-features : tie.Need-element-write-features Inv-loop μ-loop
 element-write-features c = let l = c .before .before .before in let st = l .before in omega (arith, c .before .before .loop-test .taken, l .loop .inv .0 .counted, st .pre .0 .2, l .loop .inv .0 .features-long, st .pre .1 .1 .0)
 
--- src/quotient.rt:31:25
 mul-targets : tie.Need-mul-targets Inv-loop μ-loop
 mul-targets c = let l = c .before .before .before in omega (arith, l .before .pre .1 .0 (l .loop .k) (l .loop .inv .1) (c .before .before .loop-test .taken))
 
--- src/quotient.rt:31:25
 element-copy-out-targets : tie.Need-element-copy-out-targets Inv-loop μ-loop
 element-copy-out-targets c = let l = c .before .before .before in l .before .pre .1 .0 (l .loop .k) (l .loop .inv .1) (c .before .before .loop-test .taken)
 
--- src/quotient.rt:31:9
 mul-targets-2 : tie.Need-mul-targets-2 Inv-loop μ-loop
 mul-targets-2 c = search needs
 
--- src/quotient.rt:31:9
 element-write-targets : tie.Need-element-write-targets Inv-loop μ-loop
 element-write-targets c = let l = c .before .before .before .before in let st = l .before in omega (arith, c .before .before .before .loop-test .taken, l .loop .inv .0 .counted, st .pre .0 .2, l .loop .inv .0 .targets-long, st .pre .1 .1 .1)
 
--- src/quotient.rt:32:9
 add-next : tie.Need-add-next Inv-loop μ-loop
 add-next c = let l = c .before .before .before .before in let st = l .before in omega (arith, c .before .before .before .loop-test .taken, l .loop .inv .0 .counted, st .pre .0 .2)
 
--- src/quotient.rt:33:9
 add-k : tie.Need-add-k Inv-loop μ-loop
 add-k c = search needs
 
--- src/quotient.rt:28:5
 loop-less : tie.Need-loop-less Inv-loop μ-loop
 loop-less c = search needs
 
--- src/quotient.rt:28:5
 loop-again : tie.Need-loop-again Inv-loop μ-loop
 loop-again c = let l = c .before .before .before .before in let st = l .before in (row-step (l .loop .inv .1) (l .loop .inv .0) (omega (arith, c .before .before .before .loop-test .taken, l .loop .inv .0 .counted, st .pre .0 .2, st .pre .1 .1 .0)) (omega (arith, c .before .before .before .loop-test .taken, l .loop .inv .0 .counted, st .pre .0 .2, st .pre .1 .1 .1)), omega (arith, l .loop .inv .1), omega (arith, c .before .before .before .loop-test .taken))
 
--- src/quotient.rt:11:1
 returns : tie.Need-returns Inv-loop μ-loop
 returns c = let l = c .before in row-done (l .loop .inv .0) (l .loop .inv .2) (c .loop-test .left)
 

@@ -7,47 +7,36 @@ use borrow.Author.Needs.{needs}
 use Rattle.unify.proofs.quotient.end_of_row.Statement.{statement}
 use Rattle.unify.proofs.quotient.end_of_row.Tie as tie
 
--- src/quotient.rt:49:13
 mul-c : tie.Need-mul-c
 mul-c c = search needs
 
--- src/quotient.rt:49:13
 element-copy-out-c : tie.Need-element-copy-out-c
 element-copy-out-c c = search needs
 
--- src/quotient.rt:49:13
 cast-c : tie.Need-cast-c
 cast-c c = search needs
 
--- src/quotient.rt:51:16
 mul-result : tie.Need-mul-result
 mul-result c = search needs
 
--- src/quotient.rt:51:16
 element-copy-out-result : tie.Need-element-copy-out-result
 element-copy-out-result c = search needs
 
--- src/quotient.rt:51:16
 cast-result : tie.Need-cast-result
 cast-result c = search needs
 
--- src/quotient.rt:51:9
 returns : tie.Need-returns
 returns c = let st = c .before .before .before in sym (ap (λ (t : Bool). cond t (getD (st .args .end .now) (st .args .x) 0) (getD (st .args .start .now) (st .args .x) 0)) (eq-eqb (getD (st .args .class .now) (st .args .x) 0) (st .args .x) (c .before .if1 .taken)))
 
--- src/quotient.rt:53:5
 mul-result-2 : tie.Need-mul-result-2
 mul-result-2 c = search needs
 
--- src/quotient.rt:53:5
 element-copy-out-result-2 : tie.Need-element-copy-out-result-2
 element-copy-out-result-2 c = search needs
 
--- src/quotient.rt:53:5
 cast-result-2 : tie.Need-cast-result-2
 cast-result-2 c = search needs
 
--- src/quotient.rt:39:1
 returns-2 : tie.Need-returns-2
 returns-2 c = let st = c .before .before .before in sym (ap (λ (t : Bool). cond t (getD (st .args .end .now) (st .args .x) 0) (getD (st .args .start .now) (st .args .x) 0)) (ne-eqb (getD (st .args .class .now) (st .args .x) 0) (st .args .x) (c .before .if1 .left)))
 
