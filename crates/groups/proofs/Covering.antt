@@ -1,6 +1,6 @@
 -- Laying links of g over links of s: a place of g lies over one place of s, seeking its feature finds that place, and each place more
 -- keeps owners and classes.
-use mathlib.Core.Path.{_≡_, refl, sym, _∙_, ap}
+use mathlib.Core.Path.{_≡_, refl, sym, _∙_, ap, subst}
 use mathlib.Core.List.{List}
 use mathlib.Core.Logic.{_⊎_, inl, inr}
 use Prim.Native.Nat.{ℕ, zero, suc, _+_, _-_, _≤_, _<_}
@@ -83,6 +83,20 @@ module _ {sn : ℕ} {S sf : List ℕ} {gn : ℕ} {G gf gt map : List ℕ} (lying
   pub owner-low : {bound : ℕ} {owner parent : List ℕ} → Grouping sn S sf gn G gf gt map bound owner parent → (j : ℕ) → j < 2048 →
       (getD owner j 0 ≡ 65535 → ⊥) → getD owner j 0 < 255
   owner-low g j h d = entered-low (g .owned j h d)
+
+  -- no place yet
+  pub grouping-start : {owner parent : List ℕ} → length owner ≡ 2048 → ((j : ℕ) → j < 2048 → getD owner j 0 ≡ 65535) → Separate parent →
+      Grouping sn S sf gn G gf gt map (getD G 0 0) owner parent
+  grouping-start long free apart =
+      record {
+        owner-long = long;
+        forest = apart .forest;
+        owned = λ j h d. absurd (d (free j h));
+        covered = λ j z c. absurd (omega (arith, lying .g-start, c .1));
+        tied = λ x y h l e.
+            let z : x ≡ y = sym (apart .alone x h) ∙ e ∙ apart .alone y l in
+            rw z same;
+      }
 
   -- One place more.
 
@@ -258,6 +272,13 @@ pub covering-done : {sn : ℕ} {S sf : List ℕ} {gn : ℕ} {G gf gt map : List 
 covering-done {G = G} {y = y} {k = k} c h =
     let e : getD G (y + 1) 0 ≡ k = omega (arith, c .high) in
     rw e (c .grouping)
+
+-- all places
+pub grouping-end : {sn : ℕ} {S sf : List ℕ} {gn : ℕ} {G gf gt map : List ℕ} {y : ℕ} {owner parent : List ℕ} →
+    Grouping sn S sf gn G gf gt map (getD G y 0) owner parent → y ≤ gn → gn ≤ y → Grouping sn S sf gn G gf gt map (getD G gn 0) owner parent
+grouping-end {sn} {S} {sf} {gn} {G} {gf} {gt} {map} {y} {owner} {parent} g low high =
+    let e : y ≡ gn = omega arith in
+    subst (λ (i : ℕ). Grouping sn S sf gn G gf gt map (getD G i 0) owner parent) e g
 
 -- what is known of the two rows that belong to node y of g
 pub record RowsKnown (sn : ℕ) (S sf : List ℕ) (G gf gt map : List ℕ) (y : ℕ) : Type 0 where

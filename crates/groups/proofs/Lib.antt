@@ -1,3 +1,4 @@
 -- Lemmas that several proofs share.
 pub mod Forests
 pub mod Covering
+pub mod Marking

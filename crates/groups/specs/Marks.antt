@@ -24,6 +24,14 @@ pub record Marks (owner parent : List ℕ) (links : ℕ) (marks : List ℕ) : Ty
   pub long : length marks ≡ 2048
   pub each : (k : ℕ) → k < links → Mark owner parent k (getD marks k 0)
 
+-- The first k places are marked, and `seen` is not 0 at the classes of their owners alone.
+pub record Marking (owner parent : List ℕ) (k : ℕ) (marks seen : List ℕ) : Type 0 where
+  pub marked : Marks owner parent k marks
+  pub long : length seen ≡ 255
+  pub met : (c : ℕ) → c < 255 → (getD seen c 0 ≡ 0 → ⊥) →
+      (j : ℕ) × (j < k) × (getD owner j 0 ≡ 65535 → ⊥) × (root parent (getD owner j 0) ≡ c)
+  pub unmet : (j : ℕ) → j < k → (getD owner j 0 ≡ 65535 → ⊥) → getD seen (root parent (getD owner j 0)) 0 ≡ 0 → ⊥
+
 -- all places of s are marked, by owners and classes that all places of g have part in
 pub record Marked (s-nodes : ℕ) (s-first s-features : List ℕ) (g-nodes : ℕ) (g-first g-features g-targets map : List ℕ)
     (marks : List ℕ) : Type 0 where
