@@ -2,3 +2,4 @@
 pub mod Forests
 pub mod Covering
 pub mod Marking
+pub mod Leading
