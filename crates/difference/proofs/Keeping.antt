@@ -6,6 +6,7 @@ use mathlib.Core.List.{List, [], _∷_, List·Memᴰ, List·Memᴰ·not-nil, Lis
 use mathlib.Core.Logic.{_⊎_, inl, inr, ⊎-elim}
 use Prim.Native.Nat.{ℕ, zero, suc, _+_, _-_, _≤_, _<_}
 use native.Mathlib.Decide.{ℕ-discrete}
+use native.Mathlib.Numerals.{add-one}
 use native.Mathlib.Omega.{arith}
 use lib.ListN.{length, getD, set, length-set}
 use lib.Seq.{getD-set-same, getD-set-other}
@@ -14,8 +15,9 @@ use Rattle.graphs.specs.Large.{Distinct}
 use Rattle.graphs.proofs.Lists.{distinct-bound, from-member}
 use Rattle.graphs.proofs.Search.{true-false}
 use Rattle.lattice.specs.Table.{below}
-use Rattle.visits.specs.Arrays.{Leads as Linking, Reaches, TargetsFirst}
+use Rattle.visits.specs.Arrays.{Linked, Leads as Linking, Reaches, TargetsFirst}
 use Rattle.visits.specs.Promise.{Sorts}
+use Rattle.visits.proofs.Colours.{ends}
 use Rattle.difference.specs.Keeping.{
   Grown,
   Leads,
@@ -430,6 +432,39 @@ module _ {nodes : ℕ} {first targets order : List ℕ} (s : Sorted nodes first 
             ⊎-elim (λ (x : getD keep₀ v 0 ≡ 1). inl x)
             (λ (x : Onward targets marks keep (getD first v 0) (getD first (suc v) 0)). inr (along _ _ x))
             (g .why v h (sym (getD-set-other keep u v 1 0 d) ∙ e))
+
+    -- the same of a row that ends where the next one starts
+    pub left-yes : Onward targets marks keep (getD first (getD order i 0) 0) (getD first (getD order i 0 + 1) 0) →
+        Settled (λ v. s .place v < i + 1) nodes first targets marks keep₀ (set keep (getD order i 0) 1)
+    left-yes o = settled-yes (rw (add-one (getD order i 0)) at o)
+
+    pub left-no : (Onward targets marks keep (getD first (getD order i 0) 0) (getD first (getD order i 0 + 1) 0) → ⊥) →
+        Settled (λ v. s .place v < i + 1) nodes first targets marks keep₀ keep
+    left-no none = settled-no (rw (add-one (getD order i 0)) at none)
+
+-- what is read of a node's row
+pub record NodeKnown (first targets : List ℕ) (v : ℕ) : Type 0 where
+  pub small : v < 255
+  pub inside : v + 1 < length first
+  pub start : getD first v 0 ≤ 2048
+  pub few : getD first (v + 1) 0 ≤ 2048
+  pub aimed : getD first (v + 1) 0 ≤ length targets
+  pub within : (k : ℕ) → k < getD first (v + 1) 0 → getD targets k 0 < 255
+
+pub node-known : {nodes : ℕ} {first targets : List ℕ} → Linked nodes first targets → nodes ≤ 255 → getD first nodes 0 ≤ 2048 → (v : ℕ) →
+    v < nodes → NodeKnown first targets v
+node-known {nodes} {first} {targets} linked small few v h =
+    record {
+      small = omega arith;
+      inside = omega (arith, linked .laid .bounded);
+      start = omega (arith, linked .laid .rising v h, end);
+      few = omega (arith, ap (λ (i : ℕ). getD first i 0) (add-one v), end);
+      aimed = omega (arith, ap (λ (i : ℕ). getD first i 0) (add-one v), end, linked .laid .aimed);
+      within = λ k l. omega (arith, linked .within k (omega (arith, ap (λ (i : ℕ). getD first i 0) (add-one v), end)));
+    }
+  where
+    end : getD first (suc v) 0 ≤ getD first nodes 0
+    end = ends (linked .laid) v h
 
 pub settled-start : {nodes : ℕ} {first targets order marks keep : List ℕ} (s : Sorted nodes first targets order) → length keep ≡ 255 →
     Settled (λ v. s .place v < 0) nodes first targets marks keep keep

@@ -1,3 +1,4 @@
 -- Lemmas that several proofs share.
 pub mod Wanting
 pub mod Keeping
+pub mod Thinning

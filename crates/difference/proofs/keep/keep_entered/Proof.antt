@@ -1,38 +1,35 @@
+use Rattle.difference.proofs.Keeping.{entering-start, entering-done}
+use Rattle.difference.specs.Keeping.{Entering}
+use lib.ListN.{length-replicate, getD-replicate}
+use Prim.Native.Nat.{ℕ, _-_, _≤_}
+use borrow.Author.Needs.{needs}
 use Rattle.difference.proofs.keep.keep_entered.Statement.{statement}
 use Rattle.difference.proofs.keep.keep_entered.Tie as tie
-use Rattle.difference.proofs.keep.keep_entered.Reads as reads
-use Rattle.difference.proofs.keep.keep_entered.Lts as lts
-use Rattle.difference.proofs.keep.keep_one.Reads as keep-one-reads
 
 abbrev Inv-loop : tie.InvT-loop
-Inv-loop marks targets links keep₀ entered₀ k₀ keep entered k = ?
+Inv-loop marks targets links keep₀ entered₀ k₀ keep entered k =
+    (k ≤ links) × Entering marks targets k keep₀ keep entered
 
 abbrev μ-loop : tie.MeasureT-loop
-μ-loop marks targets links keep₀ entered₀ k₀ keep entered k = ?
+μ-loop marks targets links keep₀ entered₀ k₀ keep entered k = links - k
 
--- src/keep.rt:51:5
 loop-holds : tie.Need-loop-holds Inv-loop μ-loop
-loop-holds c = ?
+loop-holds c = (search needs, entering-start (c .before .pre .0 .1) (length-replicate {A = ℕ} 255 0) (λ v h. getD-replicate {A = ℕ} 255 v 0 0 h))
 
--- src/keep.rt:52:9
 keep-one-requires : tie.Need-keep-one-requires Inv-loop μ-loop
-keep-one-requires c κs = ?
+keep-one-requires c κs = ((c .before .before .before .before .before .pre .0 .0, c .before .before .before .loop .inv .1 .entered-long, c .before .before .before .loop .inv .1 .grown .long), (search needs, search needs, c .before .before .before .before .before .pre .1 .2 (c .before .before .before .loop .k) (c .before .before .loop-test .taken)))
 
--- src/keep.rt:53:9
 add-k : tie.Need-add-k Inv-loop μ-loop
-add-k c = ?
+add-k c = search needs
 
--- src/keep.rt:51:5
 loop-less : tie.Need-loop-less Inv-loop μ-loop
-loop-less c = ?
+loop-less c = search needs
 
--- src/keep.rt:51:5
 loop-again : tie.Need-loop-again Inv-loop μ-loop
-loop-again c = ?
+loop-again c = (search needs, c .keep-one .ensures _ (c .before .before .before .before .loop .inv .1))
 
--- src/keep.rt:39:1
 returns : tie.Need-returns Inv-loop μ-loop
-returns c = ?
+returns c = entering-done (c .before .loop .inv .1) (c .before .loop .inv .0) (c .loop-test .left)
 
 pub keep-entered-spec : {M : Type 1} → statement M
 keep-entered-spec =

@@ -1,56 +1,44 @@
+use Rattle.difference.proofs.Keeping.{entering-follows, entering-bare, entering-again, entering-first}
+use native.Mathlib.Omega.{arith}
 use borrow.Author.Needs.{needs}
 use Rattle.difference.proofs.keep.keep_one.Statement.{statement}
 use Rattle.difference.proofs.keep.keep_one.Tie as tie
-use Rattle.difference.proofs.keep.keep_one.Reads as reads
-use Rattle.difference.proofs.keep.keep_one.Lts as lts
 
--- src/keep.rt:22:16
 element-copy-out-mark : tie.Need-element-copy-out-mark
 element-copy-out-mark c = search needs
 
--- src/keep.rt:24:9
 returns : tie.Need-returns
-returns c = ?
+returns c = λ start e. entering-follows _ _ _ e (c .if1 .taken)
 
--- src/keep.rt:26:13
 mul-v : tie.Need-mul-v
 mul-v c = search needs
 
--- src/keep.rt:26:13
 shared-slice-read-v : tie.Need-shared-slice-read-v
 shared-slice-read-v c = search needs
 
--- src/keep.rt:26:13
 cast-v : tie.Need-cast-v
 cast-v c = search needs
 
--- src/keep.rt:27:18
 element-copy-out-before : tie.Need-element-copy-out-before
 element-copy-out-before c = search needs
 
--- src/keep.rt:28:5
 element-write-entered : tie.Need-element-write-entered
 element-write-entered c = search needs
 
--- src/keep.rt:30:9
 element-write-keep : tie.Need-element-write-keep
 element-write-keep c = search needs
 
--- src/keep.rt:31:9
 returns-2 : tie.Need-returns-2
-returns-2 c = ?
+returns-2 c = λ start e. entering-bare _ _ _ e (λ z. omega (arith, c .before .before .before .if1 .left, z)) (c .before .before .before .before .before .pre .1 .2) (c .if2 .taken)
 
--- src/keep.rt:34:9
 element-write-keep-2 : tie.Need-element-write-keep-2
 element-write-keep-2 c = search needs
 
--- src/keep.rt:11:1
 returns-3 : tie.Need-returns-3
-returns-3 c = ?
+returns-3 c = λ start e. entering-again _ _ _ e (λ z. omega (arith, c .before .before .before .before .if1 .left, z)) (c .before .before .before .before .before .before .pre .1 .2) (c .if3 .taken)
 
--- src/keep.rt:11:1
 returns-4 : tie.Need-returns-4
-returns-4 c = ?
+returns-4 c = λ start e. entering-first _ _ _ e (λ z. omega (arith, c .before .before .before .before .if1 .left, z)) (c .before .before .before .before .before .before .pre .1 .2) (λ z. omega (arith, c .before .if2 .left, z)) (λ z. omega (arith, c .if3 .left, z))
 
 pub keep-one-spec : {M : Type 1} → statement M
 keep-one-spec =

@@ -1,54 +1,50 @@
+use Rattle.difference.proofs.Keeping.{untop-start, untop-yes, untop-no, untop-done}
+use Rattle.difference.specs.Keeping.{Grown, Untop}
+use Rattle.lattice.proofs.Every.{refuted, held}
+use Prim.Native.Nat.{_+_, _-_, _≤_}
+use mathlib.Core.Logic.{⊎-elim}
+use mathlib.Core.Path.{sym, subst}
+use native.Mathlib.Omega.{arith}
+use borrow.Author.Needs.{needs}
 use Rattle.difference.proofs.keep.keep_typed.Statement.{statement}
 use Rattle.difference.proofs.keep.keep_typed.Tie as tie
-use Rattle.difference.proofs.keep.keep_typed.Reads as reads
-use Rattle.difference.proofs.keep.keep_typed.Lts as lts
-use Rattle.lattice.proofs.words.is_below.Reads as is-below-reads
 
 abbrev Inv-loop : tie.InvT-loop
-Inv-loop n table nodes types keep₀ v₀ keep v = ?
+Inv-loop n table nodes types keep₀ v₀ keep v =
+    (v ≤ nodes) × Grown (Untop n table types v) keep₀ keep
 
 abbrev μ-loop : tie.MeasureT-loop
-μ-loop n table nodes types keep₀ v₀ keep v = ?
+μ-loop n table nodes types keep₀ v₀ keep v = nodes - v
 
--- src/keep.rt:70:5
 loop-holds : tie.Need-loop-holds Inv-loop μ-loop
-loop-holds c = ?
+loop-holds c = (search needs, untop-start (c .before .args .n) (c .before .args .table .now) (c .before .args .types .now) (c .before .pre .0 .4))
 
--- src/keep.rt:71:17
 element-copy-out-c : tie.Need-element-copy-out-c Inv-loop μ-loop
-element-copy-out-c c = ?
+element-copy-out-c c = search needs
 
--- src/keep.rt:71:17
 cast-c : tie.Need-cast-c Inv-loop μ-loop
-cast-c c = ?
+cast-c c = omega (arith, c .before .before .before .before .pre .1 (c .before .before .loop .v) (c .before .loop-test .taken))
 
--- src/keep.rt:72:45
 sub-is-below : tie.Need-sub-is-below Inv-loop μ-loop
-sub-is-below c = ?
+sub-is-below c = search needs
 
--- src/keep.rt:72:13
 is-below-requires : tie.Need-is-below-requires Inv-loop μ-loop
-is-below-requires c κs = ?
+is-below-requires c κs = (search needs, c .before .before .before .before .pre .1 (c .before .before .loop .v) (c .before .loop-test .taken))
 
--- src/keep.rt:73:13
 element-write-keep : tie.Need-element-write-keep Inv-loop μ-loop
-element-write-keep c = ?
+element-write-keep c = search needs
 
--- src/keep.rt:75:9
 add-v : tie.Need-add-v Inv-loop μ-loop
-add-v c = ?
+add-v c = search needs
 
--- src/keep.rt:70:5
 loop-less : tie.Need-loop-less Inv-loop μ-loop
-loop-less c = ?
+loop-less c = search needs
 
--- src/keep.rt:70:5
 loop-again : tie.Need-loop-again Inv-loop μ-loop
-loop-again c = ?
+loop-again c = ⊎-elim (λ w. (search needs, subst (Grown (Untop (c .before .before .before .before .before .before .args .n) (c .before .before .before .before .before .before .args .table .now) (c .before .before .before .before .before .before .args .types .now) (c .before .before .before .before .loop .v + 1)) (c .before .before .before .before .before .before .args .keep .now)) (sym (w .1)) (untop-yes (c .before .before .before .before .before .before .args .n) (c .before .before .before .before .before .before .args .table .now) (c .before .before .before .before .before .before .args .types .now) (c .before .before .before .before .loop .v) (c .before .before .before .before .loop .inv .1) (search needs) (refuted (c .before .is-below .ensures) (w .0 .taken))))) (λ w. (search needs, subst (Grown (Untop (c .before .before .before .before .before .before .args .n) (c .before .before .before .before .before .before .args .table .now) (c .before .before .before .before .before .before .args .types .now) (c .before .before .before .before .loop .v + 1)) (c .before .before .before .before .before .before .args .keep .now)) (sym (w .1)) (untop-no (c .before .before .before .before .before .before .args .n) (c .before .before .before .before .before .before .args .table .now) (c .before .before .before .before .before .before .args .types .now) (c .before .before .before .before .loop .v) (c .before .before .before .before .loop .inv .1) (held (c .before .is-below .ensures) (w .0 .left))))) (c .if1 .came)
 
--- src/keep.rt:58:1
 returns : tie.Need-returns Inv-loop μ-loop
-returns c = ?
+returns c = untop-done (c .before .before .before .args .n) (c .before .before .before .args .table .now) (c .before .before .before .args .types .now) (c .before .loop .v) (c .before .before .before .args .nodes) (c .before .loop .inv .1) (c .before .loop .inv .0) (c .loop-test .left)
 
 pub keep-typed-spec : {M : Type 1} → statement M
 keep-typed-spec =
