@@ -32,7 +32,7 @@ use Rattle.difference.specs.Keeping.{
   Sorted,
   Settled,
   Why,
-  atRoot,
+  isRoot,
   caused,
   untop,
   onward,
@@ -506,11 +506,11 @@ keeps-all n t nodes first targets marks types start {caused′} {typed′} {keep
     why v h e =
         ⊎-elim (λ (x : getD typed′ v 0 ≡ 1).
         ⊎-elim (λ (y : getD caused′ v 0 ≡ 1).
-        ⊎-elim (λ (z : getD (set start 0 1) v 0 ≡ 1). atRoot (rooted v (wide v h) z)) caused (a .why v (wide v h) y))
+        ⊎-elim (λ (z : getD (set start 0 1) v 0 ≡ 1). isRoot (rooted v (wide v h) z)) caused (a .why v (wide v h) y))
         (λ (y : Untop n t types nodes v). untop (y .1)) (b .why v (wide v h) x)) onward (c .why v h e)
 
     found : (v : ℕ) → v < nodes → Reason v → getD keep v 0 ≡ 1
-    found v h (atRoot e) =
+    found v h (isRoot e) =
         c .kept v (wide v h) (b .kept v (wide v h) (a .kept v (wide v h)
         (ap (λ (i : ℕ). getD (set start 0 1) i 0) e ∙ getD-set-same start 0 1 0 (omega arith))))
     found v h (caused x) = c .kept v (wide v h) (b .kept v (wide v h) (a .found v (wide v h) x))

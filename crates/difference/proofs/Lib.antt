@@ -2,3 +2,4 @@
 pub mod Wanting
 pub mod Keeping
 pub mod Thinning
+pub mod Result

@@ -68,7 +68,7 @@ pub record Settled (done : ℕ → Type 0) (nodes : ℕ) (first targets marks ke
 -- Why a node is kept: it is the root; two groups enter it, or one with nothing of g over it; its wanted type is not top; or a kept
 -- link leaves it.
 pub data Why (n : ℕ) (t : List ℕ) (nodes : ℕ) (first targets marks types keep : List ℕ) (v : ℕ) : Type 0 where
-  atRoot : v ≡ 0 → Why n t nodes first targets marks types keep v
+  isRoot : v ≡ 0 → Why n t nodes first targets marks types keep v
   caused : Cause marks targets (getD first nodes 0) v → Why n t nodes first targets marks types keep v
   untop : below t (n - 1) (getD types v 0) ≡ false → Why n t nodes first targets marks types keep v
   onward : Onward targets marks keep (getD first v 0) (getD first (suc v) 0) → Why n t nodes first targets marks types keep v
