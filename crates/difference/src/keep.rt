@@ -77,12 +77,7 @@ pub fn keep_typed<'a>(
 }
 
 // Whether the link at place k leads its group and enters a kept node.
-pub fn is_kept<'a>(
-    targets: &'a [u16],
-    marks: &'a [u8; 2048],
-    keep: &'a [u8; 255],
-    k: usize,
-) -> bool
+pub fn is_kept<'a>(targets: &'a [u16], marks: &'a [u8; 2048], keep: &'a [u8; 255], k: usize) -> bool
     requires { ⌜ (length (now marks) ≡ 2048) × (length (now keep) ≡ 255) ⌝ }
     requires { ⌜ (k < 2048) × (k < length (now targets)) × (getD (now targets) k 0 < 255) ⌝ }
     ensures { λ r. ⌜ Decides (Stays (now (targets .entry)) (now (marks .entry)) (now (keep .entry)) k) r ⌝ }

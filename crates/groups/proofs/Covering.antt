@@ -10,7 +10,7 @@ use native.Mathlib.Omega.{arith}
 use lib.ListN.{length, getD, set, length-set}
 use lib.Seq.{getD-set-same, getD-set-other}
 use Rattle.subsume.specs.Following.{Sought}
-use Rattle.groups.specs.Classes.{Forest, Separate, Joined, root}
+use Rattle.groups.specs.Classes.{Separate, Joined, root}
 use Rattle.groups.specs.Cover.{Lying, Over, Covers, Tied, same, shared, back, next, Grouping, Owns}
 
 -- At place k of the row of y and place j of its row of s: no place before j has the feature at k, nor a later one.

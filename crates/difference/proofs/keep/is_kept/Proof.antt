@@ -1,8 +1,9 @@
-use Rattle.graphs.proofs.Search.{true-false}
-use borrow.Author.Tests.{eqb-true, eq-eqb}
-use mathlib.Core.Path.{refl}
+-- `is_kept` meets its contract.
 use native.Mathlib.Omega.{arith}
+use mathlib.Core.Path.{refl}
 use borrow.Author.Needs.{needs}
+use borrow.Author.Tests.{eqb-true, eq-eqb}
+use Rattle.graphs.proofs.Search.{true-false}
 use Rattle.difference.proofs.keep.is_kept.Statement.{statement}
 use Rattle.difference.proofs.keep.is_kept.Tie as tie
 

@@ -1,7 +1,8 @@
-use Rattle.difference.proofs.Wanting.{Filling, filling-next}
+-- `clear` meets its contract. The loop's invariant: the types before v have the value.
 use Prim.Native.Nat.{_-_, _≤_}
 use native.Mathlib.Omega.{arith}
 use borrow.Author.Needs.{needs}
+use Rattle.difference.proofs.Wanting.{Filling, filling-next}
 use Rattle.difference.proofs.wanted.clear.Statement.{statement}
 use Rattle.difference.proofs.wanted.clear.Tie as tie
 
