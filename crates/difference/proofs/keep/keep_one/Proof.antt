@@ -30,16 +30,24 @@ element-write-keep : tie.Need-element-write-keep
 element-write-keep c = search needs
 
 returns-2 : tie.Need-returns-2
-returns-2 c = let start = c .before .before .before .before .before in λ old e. entering-bare _ _ _ e (λ z. omega (arith, c .before .before .before .if1 .left, z)) (start .pre .1 .2) (c .if2 .taken)
+returns-2 c =
+    let start = c .before .before .before .before .before in
+    λ old e. entering-bare _ _ _ e (λ z. omega (arith, c .before .before .before .if1 .left, z)) (start .pre .1 .2) (c .if2
+    .taken)
 
 element-write-keep-2 : tie.Need-element-write-keep-2
 element-write-keep-2 c = search needs
 
 returns-3 : tie.Need-returns-3
-returns-3 c = let at-if1 = c .before .before .before .before in let start = c .before .before .before .before .before .before in λ old e. entering-again _ _ _ e (λ z. omega (arith, at-if1 .if1 .left, z)) (start .pre .1 .2) (c .if3 .taken)
+returns-3 c =
+    let at-if1 = c .before .before .before .before in
+    λ old e. entering-again _ _ _ e (λ z. omega (arith, at-if1 .if1 .left, z)) (at-if1 .before .before .pre .1 .2) (c .if3 .taken)
 
 returns-4 : tie.Need-returns-4
-returns-4 c = let at-if1 = c .before .before .before .before in let start = c .before .before .before .before .before .before in λ old e. entering-first _ _ _ e (λ z. omega (arith, at-if1 .if1 .left, z)) (start .pre .1 .2) (λ z. omega (arith, c .before .if2 .left, z)) (λ z. omega (arith, c .if3 .left, z))
+returns-4 c =
+    let at-if1 = c .before .before .before .before in
+    λ old e. entering-first _ _ _ e (λ z. omega (arith, at-if1 .if1 .left, z)) (at-if1 .before .before .pre .1 .2) (λ z. omega
+    (arith, c .before .if2 .left, z)) (λ z. omega (arith, c .if3 .left, z))
 
 pub keep-one-spec : {M : Type 1} → statement M
 keep-one-spec =
