@@ -34,8 +34,7 @@ element-copy-out-if2 c =
     (omega (
       arith,
       root-low (start .pre .1 .1) _ (start .pre .1 .0 .2 (λ e. omega (arith, c .before .if1 .left, e))),
-      c .find
-          .ensures,
+      c .find .ensures,
       (start .pre .1 .0 .2 (λ e. omega (arith, c .before .if1 .left, e))),
     ))
 
@@ -46,8 +45,7 @@ element-write-seen c =
     (omega (
       arith,
       root-low (start .pre .1 .1) _ (start .pre .1 .0 .2 (λ e. omega (arith, at-if1 .if1 .left, e))),
-      c .before
-          .before .find .ensures,
+      c .before .before .find .ensures,
       (start .pre .1 .0 .2 (λ e. omega (arith, at-if1 .if1 .left, e))),
     ))
 
@@ -65,8 +63,7 @@ returns-2 c =
     marking-leads (start .pre .0) (start .pre .1 .0 .1) (λ e. omega (arith, at-if1 .if1 .left, e)) (at-find .find .ensures) (omega (
       arith,
       root-low (start .pre .1 .1) _ (start .pre .1 .0 .2 (λ e. omega (arith, at-if1 .if1 .left, e))),
-      at-find .find
-          .ensures,
+      at-find .find .ensures,
       (start .pre .1 .0 .2 (λ e. omega (arith, at-if1 .if1 .left, e))),
     )) (c .if2 .taken)
 
@@ -79,10 +76,13 @@ returns-3 c =
     (omega (
       arith,
       root-low (start .pre .1 .1) _ (start .pre .1 .0 .2 (λ e. omega (arith, at-if1 .if1 .left, e))),
-      at-find .find
-          .ensures,
+      at-find .find .ensures,
       (start .pre .1 .0 .2 (λ e. omega (arith, at-if1 .if1 .left, e))),
-    )) (λ e. omega (arith, c .if2 .left, e))
+    )) (λ e. omega (
+      arith,
+      c .if2 .left,
+      e,
+    ))
 
 pub mark-one-spec : {M : Type 1} → statement M
 mark-one-spec =

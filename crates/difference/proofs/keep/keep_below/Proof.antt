@@ -35,8 +35,8 @@ cast-v c =
     let start = c .before .before .before .before .before in
     search (
       needs,
-      (node-known (start .pre .0 .1) (start .pre .0 .0) (start .pre .0 .2) _ (order-inside (c .before .before .loop
-          .inv .1 .0) (c .before .loop-test .taken))),
+      (node-known (start .pre .0 .1) (start .pre .0 .0) (start .pre .0 .2) _ (order-inside
+          (c .before .before .loop .inv .1 .0) (c .before .loop-test .taken))),
     )
 
 mul-start : tie.Need-mul-start Inv-loop μ-loop
@@ -44,8 +44,8 @@ mul-start c =
     let start = c .before .before .before .before .before in
     search (
       needs,
-      (node-known (start .pre .0 .1) (start .pre .0 .0) (start .pre .0 .2) _ (order-inside (c .before .before .loop
-          .inv .1 .0) (c .before .loop-test .taken))),
+      (node-known (start .pre .0 .1) (start .pre .0 .0) (start .pre .0 .2) _ (order-inside
+          (c .before .before .loop .inv .1 .0) (c .before .loop-test .taken))),
     )
 
 shared-slice-read-start : tie.Need-shared-slice-read-start Inv-loop μ-loop
@@ -53,8 +53,8 @@ shared-slice-read-start c =
     let start = c .before .before .before .before .before .before in
     search (
       needs,
-      (node-known (start .pre .0 .1) (start .pre .0 .0) (start .pre .0 .2) _ (order-inside (c .before .before .before
-          .loop .inv .1 .0) (c .before .before .loop-test .taken))),
+      (node-known (start .pre .0 .1) (start .pre .0 .0) (start .pre .0 .2) _ (order-inside
+          (c .before .before .before .loop .inv .1 .0) (c .before .before .loop-test .taken))),
     )
 
 cast-start : tie.Need-cast-start Inv-loop μ-loop
@@ -62,8 +62,8 @@ cast-start c =
     let start = c .before .before .before .before .before .before in
     search (
       needs,
-      (node-known (start .pre .0 .1) (start .pre .0 .0) (start .pre .0 .2) _ (order-inside (c .before .before .before
-          .loop .inv .1 .0) (c .before .before .loop-test .taken))),
+      (node-known (start .pre .0 .1) (start .pre .0 .0) (start .pre .0 .2) _ (order-inside
+          (c .before .before .before .loop .inv .1 .0) (c .before .before .loop-test .taken))),
     )
 
 add-end : tie.Need-add-end Inv-loop μ-loop
@@ -71,8 +71,8 @@ add-end c =
     let start = c .before .before .before .before .before .before in
     search (
       needs,
-      (node-known (start .pre .0 .1) (start .pre .0 .0) (start .pre .0 .2) _ (order-inside (c .before .before .before
-          .loop .inv .1 .0) (c .before .before .loop-test .taken))),
+      (node-known (start .pre .0 .1) (start .pre .0 .0) (start .pre .0 .2) _ (order-inside
+          (c .before .before .before .loop .inv .1 .0) (c .before .before .loop-test .taken))),
     )
 
 mul-end : tie.Need-mul-end Inv-loop μ-loop
@@ -80,8 +80,8 @@ mul-end c =
     let start = c .before .before .before .before .before .before in
     search (
       needs,
-      (node-known (start .pre .0 .1) (start .pre .0 .0) (start .pre .0 .2) _ (order-inside (c .before .before .before
-          .loop .inv .1 .0) (c .before .before .loop-test .taken))),
+      (node-known (start .pre .0 .1) (start .pre .0 .0) (start .pre .0 .2) _ (order-inside
+          (c .before .before .before .loop .inv .1 .0) (c .before .before .loop-test .taken))),
     )
 
 shared-slice-read-end : tie.Need-shared-slice-read-end Inv-loop μ-loop
@@ -90,8 +90,8 @@ shared-slice-read-end c =
     let start = turn .before .before .before in
     search (
       needs,
-      (node-known (start .pre .0 .1) (start .pre .0 .0) (start .pre .0 .2) _ (order-inside (turn .loop .inv .1 .0) (c
-          .before .before .before .loop-test .taken))),
+      (node-known (start .pre .0 .1) (start .pre .0 .0) (start .pre .0 .2) _ (order-inside (turn .loop .inv .1 .0)
+          (c .before .before .before .loop-test .taken))),
     )
 
 cast-end : tie.Need-cast-end Inv-loop μ-loop
@@ -100,8 +100,8 @@ cast-end c =
     let start = turn .before .before .before in
     search (
       needs,
-      (node-known (start .pre .0 .1) (start .pre .0 .0) (start .pre .0 .2) _ (order-inside (turn .loop .inv .1 .0) (c
-          .before .before .before .loop-test .taken))),
+      (node-known (start .pre .0 .1) (start .pre .0 .0) (start .pre .0 .2) _ (order-inside (turn .loop .inv .1 .0)
+          (c .before .before .before .loop-test .taken))),
     )
 
 is-left-requires : tie.Need-is-left-requires Inv-loop μ-loop
@@ -126,8 +126,8 @@ element-write-keep c =
     let start = test .before .before .before .before in
     search (
       needs,
-      (node-known (start .pre .0 .1) (start .pre .0 .0) (start .pre .0 .2) _ (order-inside (test .before .loop .inv
-          .1 .0) (test .loop-test .taken))),
+      (node-known (start .pre .0 .1) (start .pre .0 .0) (start .pre .0 .2) _ (order-inside
+          (test .before .loop .inv .1 .0) (test .loop-test .taken))),
     )
 
 add-i : tie.Need-add-i Inv-loop μ-loop
@@ -146,18 +146,18 @@ loop-again c =
       (
         (turn .loop .inv .1 .0),
         subst (Settled (λ x. (turn .loop .inv .1 .0) .place x < turn .loop .i +
-            1) (start .args .nodes) (start .args .first .now) (start .args .targets .now) (start .args .marks .now) (start .args .keep
-            .now)) (sym (w .1)) (left-yes (turn .loop .inv .1 .0) (test .loop-test .taken) (start .pre .0 .0) (turn .loop .inv .1 .1) (c
-            .before .is-left .ensures .yes-stands (w .0 .taken))),
+            1) (start .args .nodes) (start .args .first .now) (start .args .targets .now) (start .args .marks .now)
+            (start .args .keep .now)) (sym (w .1)) (left-yes (turn .loop .inv .1 .0) (test .loop-test .taken) (start .pre .0 .0)
+            (turn .loop .inv .1 .1) (c .before .is-left .ensures .yes-stands (w .0 .taken))),
       ),
     )) (λ w. (
       search needs,
       (
         (turn .loop .inv .1 .0),
-        subst (Settled (λ x.
-            (turn .loop .inv .1 .0) .place x < turn .loop .i + 1) (start .args .nodes) (start .args .first .now) (start .args .targets
-            .now) (start .args .marks .now) (start .args .keep .now)) (sym (w .1)) (left-no (turn .loop .inv .1 .0) (test .loop-test
-            .taken) (start .pre .0 .0) (turn .loop .inv .1 .1) (c .before .is-left .ensures .no-stands (w .0 .left))),
+        subst (Settled (λ x. (turn .loop .inv .1 .0) .place x < turn .loop .i + 1) (start .args .nodes)
+            (start .args .first .now) (start .args .targets .now) (start .args .marks .now) (start .args .keep .now)) (sym (w .1))
+            (left-no (turn .loop .inv .1 .0) (test .loop-test .taken) (start .pre .0 .0) (turn .loop .inv .1 .1)
+            (c .before .is-left .ensures .no-stands (w .0 .left))),
       ),
     )) (c .if1 .came)
 

@@ -29,8 +29,7 @@ keep-one-requires c κs =
       (
         search needs,
         search needs,
-        start
-            .pre .1 .2 (turn .loop .k) (c .before .before .loop-test .taken),
+        start .pre .1 .2 (turn .loop .k) (c .before .before .loop-test .taken),
       ),
     )
 

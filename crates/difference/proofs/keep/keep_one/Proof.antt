@@ -32,8 +32,8 @@ element-write-keep c = search needs
 returns-2 : tie.Need-returns-2
 returns-2 c =
     let start = c .before .before .before .before .before in
-    λ old e. entering-bare _ _ _ e (λ z. omega (arith, c .before .before .before .if1 .left, z)) (start .pre .1 .2) (c .if2
-    .taken)
+    λ old e. entering-bare _ _ _ e (λ z. omega (arith, c .before .before .before .if1 .left, z)) (start .pre .1 .2)
+    (c .if2 .taken)
 
 element-write-keep-2 : tie.Need-element-write-keep-2
 element-write-keep-2 c = search needs

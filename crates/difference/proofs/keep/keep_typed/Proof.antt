@@ -20,8 +20,8 @@ abbrev μ-loop : tie.MeasureT-loop
 loop-holds : tie.Need-loop-holds Inv-loop μ-loop
 loop-holds c = (
   search needs,
-  untop-start (c .before .args .n) (c .before .args .table .now) (c .before .args .types .now) (c .before .pre .0
-      .4),
+  untop-start (c .before .args .n) (c .before .args .table .now) (c .before .args .types .now)
+      (c .before .pre .0 .4),
 )
 
 element-copy-out-c : tie.Need-element-copy-out-c Inv-loop μ-loop
@@ -55,22 +55,23 @@ loop-again c =
     let start = turn .before .before in
     ⊎-elim (λ w. (
       search needs,
-      subst (Grown (Untop (start .args .n) (start .args .table .now) (start .args .types .now) (turn
-          .loop .v + 1)) (start .args .keep .now)) (sym (w .1)) (untop-yes (start .args .n) (start .args .table .now) (start .args
-          .types .now) (turn .loop .v) (turn .loop .inv .1) (search needs) (refuted (c .before .is-below .ensures) (w .0 .taken))),
-    )) (λ
-    w. (
+      subst (Grown (Untop (start .args .n) (start .args .table .now) (start .args .types .now)
+          (turn .loop .v + 1)) (start .args .keep .now)) (sym (w .1)) (untop-yes (start .args .n) (start .args .table .now)
+          (start .args .types .now) (turn .loop .v) (turn .loop .inv .1) (search needs) (refuted (c .before .is-below .ensures)
+          (w .0 .taken))),
+    )) (λ w. (
       search needs,
-      subst (Grown (Untop (start .args .n) (start .args .table .now) (start .args .types .now) (turn .loop .v +
-          1)) (start .args .keep .now)) (sym (w .1)) (untop-no (start .args .n) (start .args .table .now) (start .args .types .now)
-          (turn .loop .v) (turn .loop .inv .1) (held (c .before .is-below .ensures) (w .0 .left))),
+      subst (Grown (Untop (start .args .n) (start .args .table .now)
+          (start .args .types .now) (turn .loop .v + 1)) (start .args .keep .now)) (sym (w .1)) (untop-no (start .args .n)
+          (start .args .table .now) (start .args .types .now) (turn .loop .v) (turn .loop .inv .1) (held (c .before .is-below .ensures)
+          (w .0 .left))),
     )) (c .if1 .came)
 
 returns : tie.Need-returns Inv-loop μ-loop
 returns c =
     let start = c .before .before .before in
-    untop-done (start .args .n) (start .args .table .now) (start .args .types .now) (c .before .loop .v) (start .args .nodes) (c
-    .before .loop .inv .1) (c .before .loop .inv .0) (c .loop-test .left)
+    untop-done (start .args .n) (start .args .table .now) (start .args .types .now) (c .before .loop .v) (start .args .nodes)
+    (c .before .loop .inv .1) (c .before .loop .inv .0) (c .loop-test .left)
 
 pub keep-typed-spec : {M : Type 1} → statement M
 keep-typed-spec =

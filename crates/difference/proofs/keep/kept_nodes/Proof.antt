@@ -26,8 +26,7 @@ keep-entered-requires c κs =
       (start .pre .0 .4, length-set {A = ℕ} (start .args .keep .now) 0 1 ∙ start .pre .0 .5),
       (
         start .pre .1 .1 .1 .0 .1,
-        start
-            .pre .1 .1 .1 .0 .0 .laid .aimed,
+        start .pre .1 .1 .1 .0 .0 .laid .aimed,
         λ k h. omega (arith, start .pre .1 .1 .1 .0 .0 .within k h, start .pre .0 .2),
       ),
     )
@@ -36,8 +35,7 @@ keep-typed-requires : tie.Need-keep-typed-requires
 keep-typed-requires c κs =
     let start = c .before .before .before .before .before .before .before in (
       (start .pre .0 .0, start .pre .0 .1, start .pre .0 .2, start .pre .0 .3, c .before .keep-entered .ensures .long),
-      start .pre
-          .1 .1 .0,
+      start .pre .1 .1 .0,
     )
 
 has-cycle-requires : tie.Need-has-cycle-requires
@@ -51,12 +49,11 @@ keep-below-requires c κs =
       (
         (
           start .pre .0 .4,
-          at-has-cycle .has-cycle
-              .ensures .1,
+          at-has-cycle .has-cycle .ensures .1,
           at-has-cycle .before .before .keep-typed .ensures .long,
         ),
-        sorted-from (at-has-cycle .has-cycle .ensures .0)
-            (start .pre .1 .1 .1 .1),
+        sorted-from
+            (at-has-cycle .has-cycle .ensures .0) (start .pre .1 .1 .1 .1),
       ),
     )
 
@@ -64,10 +61,10 @@ returns : tie.Need-returns
 returns c =
     let at-keep-typed = c .before .before .before .before .before in
     let start = at-keep-typed .before .before .before .before .before .before .before .before in
-    keeps-all (start .args .n) (start .args .table .now) (start .args .nodes) (start .args .first .now) (start .args .targets
-    .now) (start .args .marks .now) (start .args .types .now) (start .args .keep .now) (start .pre .0 .2) (start .pre .0 .5)
-    (start .pre .1 .0) (at-keep-typed .before .before .keep-entered .ensures) (at-keep-typed .keep-typed .ensures) (c .keep-below
-    .ensures)
+    keeps-all (start .args .n) (start .args .table .now) (start .args .nodes) (start .args .first .now)
+    (start .args .targets .now) (start .args .marks .now) (start .args .types .now) (start .args .keep .now) (start .pre .0 .2)
+    (start .pre .0 .5) (start .pre .1 .0) (at-keep-typed .before .before .keep-entered .ensures)
+    (at-keep-typed .keep-typed .ensures) (c .keep-below .ensures)
 
 pub kept-nodes-spec : {M : Type 1} → statement M
 kept-nodes-spec =

@@ -26,8 +26,7 @@ is-kept-requires c κs =
       (
         search (needs, start .pre .1 .1),
         search (needs, start .pre .1 .0 .aimed),
-        start .pre
-            .1 .0 .within (c .before .loop .k) (c .before .loop .inv .0) (c .loop-test .taken),
+        start .pre .1 .0 .within (c .before .loop .k) (c .before .loop .inv .0) (c .loop-test .taken),
       ),
     )
 
@@ -82,13 +81,13 @@ loop-again c =
       search needs,
       search needs,
       thin-as (w .3) (w .4) (w .5) (thin-more (turn .loop .inv .2) (start .pre .1 .0)
-          (turn .loop .inv .0) (c .before .before .loop-test .taken) (start .pre .1 .1) (c .before .is-kept .ensures .yes-stands (w .0
-          .taken))),
+          (turn .loop .inv .0) (c .before .before .loop-test .taken) (start .pre .1 .1) (c .before .is-kept .ensures .yes-stands
+          (w .0 .taken))),
     )) (λ w. (
       search needs,
       search needs,
-      thin-as (w .1) (w .2) (w .3) (thin-stay (turn .loop .inv .2) (c .before
-          .is-kept .ensures .no-stands (w .0 .left))),
+      thin-as (w .1) (w .2) (w .3) (thin-stay (turn .loop .inv .2)
+          (c .before .is-kept .ensures .no-stands (w .0 .left))),
     )) (c .if1 .came)
 
 returns : tie.Need-returns Inv-loop μ-loop

@@ -28,12 +28,11 @@ mul-start c =
     search (
       needs,
       (row-span (start .pre .0) (start .pre .1 .0 .0) (c .before .loop .v) (c .loop-test .taken)),
-      row-end (start
-          .pre .0) (c .before .loop .v) (c .loop-test .taken),
+      row-end
+          (start .pre .0) (c .before .loop .v) (c .loop-test .taken),
       start .pre .1 .0 .0,
       start .pre .1 .0 .1,
-      start .pre .0 .shaped .laid
-          .bounded,
+      start .pre .0 .shaped .laid .bounded,
     )
 
 shared-slice-read-start : tie.Need-shared-slice-read-start Inv-loop μ-loop
@@ -43,12 +42,11 @@ shared-slice-read-start c =
     search (
       needs,
       (row-span (start .pre .0) (start .pre .1 .0 .0) (turn .loop .v) (c .before .loop-test .taken)),
-      row-end (start
-          .pre .0) (turn .loop .v) (c .before .loop-test .taken),
+      row-end
+          (start .pre .0) (turn .loop .v) (c .before .loop-test .taken),
       start .pre .1 .0 .0,
       start .pre .1 .0 .1,
-      start .pre .0 .shaped .laid
-          .bounded,
+      start .pre .0 .shaped .laid .bounded,
     )
 
 cast-start : tie.Need-cast-start Inv-loop μ-loop
@@ -58,12 +56,11 @@ cast-start c =
     search (
       needs,
       (row-span (start .pre .0) (start .pre .1 .0 .0) (turn .loop .v) (c .before .loop-test .taken)),
-      row-end (start
-          .pre .0) (turn .loop .v) (c .before .loop-test .taken),
+      row-end
+          (start .pre .0) (turn .loop .v) (c .before .loop-test .taken),
       start .pre .1 .0 .0,
       start .pre .1 .0 .1,
-      start .pre .0 .shaped .laid
-          .bounded,
+      start .pre .0 .shaped .laid .bounded,
     )
 
 add-end : tie.Need-add-end Inv-loop μ-loop
@@ -73,12 +70,11 @@ add-end c =
     search (
       needs,
       (row-span (start .pre .0) (start .pre .1 .0 .0) (turn .loop .v) (c .before .loop-test .taken)),
-      row-end (start
-          .pre .0) (turn .loop .v) (c .before .loop-test .taken),
+      row-end
+          (start .pre .0) (turn .loop .v) (c .before .loop-test .taken),
       start .pre .1 .0 .0,
       start .pre .1 .0 .1,
-      start .pre .0 .shaped .laid
-          .bounded,
+      start .pre .0 .shaped .laid .bounded,
     )
 
 mul-end : tie.Need-mul-end Inv-loop μ-loop
@@ -88,12 +84,11 @@ mul-end c =
     search (
       needs,
       (row-span (start .pre .0) (start .pre .1 .0 .0) (turn .loop .v) (c .before .loop-test .taken)),
-      row-end (start
-          .pre .0) (turn .loop .v) (c .before .loop-test .taken),
+      row-end
+          (start .pre .0) (turn .loop .v) (c .before .loop-test .taken),
       start .pre .1 .0 .0,
       start .pre .1 .0 .1,
-      start .pre .0 .shaped .laid
-          .bounded,
+      start .pre .0 .shaped .laid .bounded,
     )
 
 shared-slice-read-end : tie.Need-shared-slice-read-end Inv-loop μ-loop
@@ -104,8 +99,8 @@ shared-slice-read-end c =
     search (
       needs,
       (row-span (start .pre .0) (start .pre .1 .0 .0) (turn .loop .v) (test .loop-test .taken)),
-      row-end (start .pre
-          .0) (turn .loop .v) (test .loop-test .taken),
+      row-end
+          (start .pre .0) (turn .loop .v) (test .loop-test .taken),
       start .pre .1 .0 .0,
       start .pre .1 .0 .1,
       start .pre .0 .shaped .laid .bounded,
@@ -119,8 +114,8 @@ cast-end c =
     search (
       needs,
       (row-span (start .pre .0) (start .pre .1 .0 .0) (turn .loop .v) (test .loop-test .taken)),
-      row-end (start .pre
-          .0) (turn .loop .v) (test .loop-test .taken),
+      row-end
+          (start .pre .0) (turn .loop .v) (test .loop-test .taken),
       start .pre .1 .0 .0,
       start .pre .1 .0 .1,
       start .pre .0 .shaped .laid .bounded,
@@ -133,12 +128,12 @@ keep-row-requires c κs =
     let start = turn .before .before .before .before .before in (
       (start .pre .1 .1 .0 .0, start .pre .1 .1 .0 .1, turn .loop .inv .1 .fs-long, turn .loop .inv .1 .ts-long),
       (
-        (row-span (start
-            .pre .0) (start .pre .1 .0 .0) (turn .loop .v) (test .loop-test .taken)),
+        (row-span
+            (start .pre .0) (start .pre .1 .0 .0) (turn .loop .v) (test .loop-test .taken)),
         omega (
           arith,
-          row-end (start .pre .0) (turn .loop
-              .v) (test .loop-test .taken),
+          row-end (start .pre .0)
+              (turn .loop .v) (test .loop-test .taken),
           start .pre .1 .0 .1,
         ),
         turn .loop .inv .1 .short,
@@ -156,8 +151,7 @@ cast-kept-first c =
       arith,
       c .keep-row .ensures .short,
       row-end (start .pre .0) (test .before .loop .v) (test .loop-test .taken),
-      start
-          .pre .1 .0 .1,
+      start .pre .1 .0 .1,
     )
 
 mul-kept-first : tie.Need-mul-kept-first Inv-loop μ-loop
@@ -168,8 +162,8 @@ mul-kept-first c =
     search (
       needs,
       (row-span (start .pre .0) (start .pre .1 .0 .0) (turn .loop .v) (test .loop-test .taken)),
-      row-end (start .pre
-          .0) (turn .loop .v) (test .loop-test .taken),
+      row-end
+          (start .pre .0) (turn .loop .v) (test .loop-test .taken),
       start .pre .1 .0 .0,
       start .pre .1 .0 .1,
       start .pre .0 .shaped .laid .bounded,
@@ -183,8 +177,8 @@ element-write-kept-first c =
     search (
       needs,
       (row-span (start .pre .0) (start .pre .1 .0 .0) (turn .loop .v) (test .loop-test .taken)),
-      row-end (start .pre
-          .0) (turn .loop .v) (test .loop-test .taken),
+      row-end
+          (start .pre .0) (turn .loop .v) (test .loop-test .taken),
       start .pre .1 .0 .0,
       start .pre .1 .0 .1,
       start .pre .0 .shaped .laid .bounded,
@@ -198,8 +192,8 @@ loop-again c =
     let test = c .before .before .before .before .before in
     let start = test .before .before .before .before .before .before in (
       search needs,
-      rows-next (start .pre .0) (test .loop-test .taken) (start .pre .1 .0 .0) (test .before .loop .inv .1) (c
-          .keep-row .ensures),
+      rows-next (start .pre .0) (test .loop-test .taken) (start .pre .1 .0 .0) (test .before .loop .inv .1)
+          (c .keep-row .ensures),
     )
 
 returns : tie.Need-returns Inv-loop μ-loop

@@ -75,8 +75,8 @@ cast-q c =
     let start = turn .before .before .before .before .before .before in
     search (
       needs,
-      turn-known (start .pre .0) (turn .loop .inv .1) (c .before .before .before .loop-test .taken) (turn .loop .inv
-          .0),
+      turn-known (start .pre .0) (turn .loop .inv .1) (c .before .before .before .loop-test .taken)
+          (turn .loop .inv .0),
     )
 
 mul-met : tie.Need-mul-met Inv-loop μ-loop
@@ -85,8 +85,8 @@ mul-met c =
     let start = turn .before .before .before .before .before .before in
     search (
       needs,
-      turn-known (start .pre .0) (turn .loop .inv .1) (c .before .before .before .loop-test .taken) (turn .loop .inv
-          .0),
+      turn-known (start .pre .0) (turn .loop .inv .1) (c .before .before .before .loop-test .taken)
+          (turn .loop .inv .0),
     )
 
 index-1-met : tie.Need-index-1-met Inv-loop μ-loop
@@ -95,8 +95,8 @@ index-1-met c =
     let start = turn .before .before .before .before .before .before in
     search (
       needs,
-      turn-known (start .pre .0) (turn .loop .inv .1) (c .before .before .before .loop-test .taken) (turn .loop .inv
-          .0),
+      turn-known (start .pre .0) (turn .loop .inv .1) (c .before .before .before .loop-test .taken)
+          (turn .loop .inv .0),
     )
 
 index-2-met : tie.Need-index-2-met Inv-loop μ-loop
@@ -105,8 +105,8 @@ index-2-met c =
     let start = turn .before .before .before .before .before .before in
     search (
       needs,
-      turn-known (start .pre .0) (turn .loop .inv .1) (c .before .before .before .loop-test .taken) (turn .loop .inv
-          .0),
+      turn-known (start .pre .0) (turn .loop .inv .1) (c .before .before .before .loop-test .taken)
+          (turn .loop .inv .0),
     )
 
 element-write-met : tie.Need-element-write-met Inv-loop μ-loop

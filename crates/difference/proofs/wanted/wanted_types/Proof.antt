@@ -52,8 +52,7 @@ cast-q c =
     omega (
       arith,
       (at-meet-over .meet-over .ensures .known (c .before .before .loop .v) (c .before .loop-test .taken)),
-      start .pre
-          .0 .few,
+      start .pre .0 .few,
     )
 
 residual-requires : tie.Need-residual-requires Inv-loop μ-loop
@@ -63,8 +62,7 @@ residual-requires c κs =
     let start = turn .before .before .before .before .before .before .before .before in (
       start .pre .0 .few,
       (start .pre .1 .1 .0 .1 (turn .loop .v) (test .loop-test .taken)),
-      (turn .before .before .meet-over
-          .ensures .known (turn .loop .v) (test .loop-test .taken)),
+      (turn .before .before .meet-over .ensures .known (turn .loop .v) (test .loop-test .taken)),
     )
 
 element-write-types : tie.Need-element-write-types Inv-loop μ-loop
@@ -84,9 +82,9 @@ loop-again c =
     let turn = test .before in
     let start = turn .before .before .before .before .before .before .before .before in (
       search needs,
-      wants-next (start .pre .0) (start .pre .1 .0) (turn .before .before .meet-over .ensures) (test .loop-test
-          .taken) (start .pre .1 .1 .0 .1 (turn .loop .v) (test .loop-test .taken)) (turn .loop .inv .1) (c .residual .ensures (start
-          .args .table .now) (start .pre .0 .ok) (turn .before .read-words .ensures)),
+      wants-next (start .pre .0) (start .pre .1 .0) (turn .before .before .meet-over .ensures)
+          (test .loop-test .taken) (start .pre .1 .1 .0 .1 (turn .loop .v) (test .loop-test .taken)) (turn .loop .inv .1)
+          (c .residual .ensures (start .args .table .now) (start .pre .0 .ok) (turn .before .read-words .ensures)),
     )
 
 returns : tie.Need-returns Inv-loop μ-loop

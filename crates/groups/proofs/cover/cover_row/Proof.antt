@@ -125,14 +125,16 @@ seek-requires c κs =
 
 mul-own : tie.Need-mul-own Inv-loop μ-loop
 mul-own c =
-    let start = c .before .before .before .before .before .before .before .before .before .before .before .before .before .before
-    .before .before .before in
+    let start =
+    c .before .before .before .before .before .before .before .before .before .before .before .before .before .before .before .before .before
+    in
     search (needs, rows-known (start .pre .0) (start .args .y) (start .pre .1 .0))
 
 shared-slice-read-own : tie.Need-shared-slice-read-own Inv-loop μ-loop
 shared-slice-read-own c =
-    let start = c .before .before .before .before .before .before .before .before .before .before .before .before .before .before
-    .before .before .before .before in
+    let start =
+    c .before .before .before .before .before .before .before .before .before .before .before .before .before .before .before .before .before .before
+    in
     search (needs, rows-known (start .pre .0) (start .args .y) (start .pre .1 .0))
 
 own-requires : tie.Need-own-requires Inv-loop μ-loop
@@ -148,8 +150,8 @@ own-requires c κs =
           (
             place-within (start .pre .0) (start .pre .1 .0)
                 (turn .loop .inv) (test .loop-test .taken) (at-seek .seek .ensures),
-            target-low (start .pre .0) (start .pre .1 .0) (turn .loop
-                .inv) (test .loop-test .taken) (at-seek .seek .ensures),
+            target-low (start .pre .0) (start .pre .1 .0)
+                (turn .loop .inv) (test .loop-test .taken) (at-seek .seek .ensures),
           ),
           owner-low (start .pre .0) (turn .loop .inv .grouping) _
               (place-within (start .pre .0) (start .pre .1 .0) (turn .loop .inv) (test .loop-test .taken) (at-seek .seek .ensures)),
@@ -159,23 +161,26 @@ own-requires c κs =
 
 add-k : tie.Need-add-k Inv-loop μ-loop
 add-k c =
-    let start = c .before .before .before .before .before .before .before .before .before .before .before .before .before .before
-    .before .before .before .before .before in
+    let start =
+    c .before .before .before .before .before .before .before .before .before .before .before .before .before .before .before .before .before .before .before
+    in
     search (needs, rows-known (start .pre .0) (start .args .y) (start .pre .1 .0))
 
 loop-less : tie.Need-loop-less Inv-loop μ-loop
 loop-less c =
-    let start = c .before .before .before .before .before .before .before .before .before .before .before .before .before .before
-    .before .before .before .before .before in
+    let start =
+    c .before .before .before .before .before .before .before .before .before .before .before .before .before .before .before .before .before .before .before
+    in
     search (needs, rows-known (start .pre .0) (start .args .y) (start .pre .1 .0))
 
 loop-again : tie.Need-loop-again Inv-loop μ-loop
 loop-again c =
     let at-seek = c .before .before .before .before in
-    let start = at-seek .before .before .before .before .before .before .before .before .before .before .before .before .before
-    .before .before in
-    covering-next (start .pre .0) (start .pre .1 .0) (at-seek .before .before .before .loop .inv) (at-seek .before .before
-    .loop-test .taken) (at-seek .seek .ensures) (c .own .ensures)
+    let start =
+    at-seek .before .before .before .before .before .before .before .before .before .before .before .before .before .before .before
+    in
+    covering-next (start .pre .0) (start .pre .1 .0) (at-seek .before .before .before .loop .inv)
+    (at-seek .before .before .loop-test .taken) (at-seek .seek .ensures) (c .own .ensures)
 
 returns : tie.Need-returns Inv-loop μ-loop
 returns c = covering-done (c .before .loop .inv) (c .loop-test .left)
