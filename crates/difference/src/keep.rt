@@ -157,6 +157,7 @@ pub fn kept_nodes<'a>(
     keep[0] = 1;
     keep_entered(marks, targets, first[nodes] as usize, keep);
     keep_typed(n, table, nodes, types, keep);
+    // there is no cycle: the order alone is wanted
     let mut order = [0u16; 510];
     visits::acyclic::has_cycle(nodes, first, targets, &mut order);
     keep_below(nodes, first, targets, marks, &order, keep)

@@ -36,7 +36,7 @@ pub fn keep_row<'a>(
     links
 }
 
-// The rows with the kept links. Of the types the contract alone makes use.
+// The rows with the kept links; answers how many links there are. Of the types the contract alone makes use.
 pub fn kept_links<'a>(
     nodes: usize,
     types: &'a [u8],
