@@ -1,0 +1,46 @@
+-- `own` meets its contract: the first node becomes the owner, later ones join its class.
+use native.Mathlib.Omega.{arith}
+use mathlib.Core.Path.{refl}
+use borrow.Author.Needs.{needs}
+use Rattle.groups.proofs.cover.own.Statement.{statement}
+use Rattle.groups.proofs.cover.own.Tie as tie
+
+mul-x : tie.Need-mul-x
+mul-x c = search needs
+
+element-copy-out-x : tie.Need-element-copy-out-x
+element-copy-out-x c = search needs
+
+mul-owner : tie.Need-mul-owner
+mul-owner c = search needs
+
+element-write-owner : tie.Need-element-write-owner
+element-write-owner c = search needs
+
+cast-join : tie.Need-cast-join
+cast-join c = omega (arith, c .before .before .before .pre .1 .1 .1 (λ e. omega (arith, c .before .if1 .left, e)))
+
+join-requires : tie.Need-join-requires
+join-requires c κs =
+    let start = c .before .before .before in
+    (start .pre .1 .0, (start .pre .1 .1 .1 (λ e. omega (arith, c .before .if1 .left, e)), start .pre .1 .1 .0 .1))
+
+returns : tie.Need-returns
+returns c = record { first = λ e. (refl, refl); later = λ d. absurd (d (c .if1 .taken)) }
+
+returns-2 : tie.Need-returns-2
+returns-2 c =
+    record { first = λ e. absurd (omega (arith, c .before .before .if1 .left, e)); later = λ d. (refl, c .join .ensures) }
+
+pub own-spec : {M : Type 1} → statement M
+own-spec =
+    tie.close
+    (tie.spec
+    mul-x
+    element-copy-out-x
+    mul-owner
+    element-write-owner
+    cast-join
+    join-requires
+    returns
+    returns-2)
