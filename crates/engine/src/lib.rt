@@ -58,9 +58,7 @@ pub fn rewrite(n: usize, table: &[u8], bytes: &[u8], out: &mut [u8]) -> Reply
     ensures { λ r. ⌜ r ≡ rewriting n (now (table .entry)) (now (bytes .entry)) (now (out .entry)) .reply ⌝ }
     ensures { λ r. ⌜ now (out .exit) ≡ rewriting n (now (table .entry)) (now (bytes .entry)) (now (out .entry)) .output ⌝ }
 {
-    let mut meets = [[0u8; 64]; 64];
-    let mut joins = [[0u8; 64]; 64];
-    let opened = lattice::open_table(n, table, &mut meets, &mut joins);
+    let opened = lattice::accept(n, table);
     match opened {
         Opened::Refused(fault) => Reply::Table(fault),
         Opened::Accepted => rewrite_over(n, bytes, out),
@@ -106,9 +104,7 @@ fn reply_of(written: Written) -> Reply
 pub fn order(n: usize, table: &[u8], first: &[u8], second: &[u8]) -> Reply
     ensures { λ r. ⌜ r ≡ ordering n (now (table .entry)) (now (first .entry)) (now (second .entry)) ⌝ }
 {
-    let mut meets = [[0u8; 64]; 64];
-    let mut joins = [[0u8; 64]; 64];
-    let opened = lattice::open_table(n, table, &mut meets, &mut joins);
+    let opened = lattice::accept(n, table);
     match opened {
         Opened::Refused(fault) => Reply::Table(fault),
         Opened::Accepted => order_over(n, table, first, second),
@@ -142,9 +138,8 @@ pub fn generalize(n: usize, table: &[u8], first: &[u8], second: &[u8], out: &mut
     ensures { λ r. ⌜ r ≡ generalizing n (now (table .entry)) (now (first .entry)) (now (second .entry)) (now (out .entry)) .reply ⌝ }
     ensures { λ r. ⌜ now (out .exit) ≡ generalizing n (now (table .entry)) (now (first .entry)) (now (second .entry)) (now (out .entry)) .output ⌝ }
 {
-    let mut meets = [[0u8; 64]; 64];
     let mut joins = [[0u8; 64]; 64];
-    let opened = lattice::open_table(n, table, &mut meets, &mut joins);
+    let opened = lattice::open_joins(n, table, &mut joins);
     match opened {
         Opened::Refused(fault) => Reply::Table(fault),
         Opened::Accepted => generalize_over(n, &joins, first, second, out),
@@ -179,8 +174,7 @@ pub fn unify(n: usize, table: &[u8], first: &[u8], second: &[u8], out: &mut [u8]
     ensures { λ r. ⌜ now (out .exit) ≡ unifying n (now (table .entry)) (now (first .entry)) (now (second .entry)) (now (out .entry)) .output ⌝ }
 {
     let mut meets = [[0u8; 64]; 64];
-    let mut joins = [[0u8; 64]; 64];
-    let opened = lattice::open_table(n, table, &mut meets, &mut joins);
+    let opened = lattice::open_meets(n, table, &mut meets);
     match opened {
         Opened::Refused(fault) => Reply::Table(fault),
         Opened::Accepted => unify_over(n, &meets, first, second, out),

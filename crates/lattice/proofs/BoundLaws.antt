@@ -1,17 +1,21 @@
 -- The type whose word is the common part of the words of a and b is their bound: in the words of the types below each type
--- the greatest lower bound, in those of the types above the least upper bound.
-use Prim.Native.Nat.{ℕ, _*_, _<_, _≤_}
-use mathlib.Core.Path.{_≡_, sym, _∙_}
+-- the greatest lower bound, in those of the types above the least upper bound. And where every two types have a bound on one
+-- side, every two have a bound on the other, since there are a least and a greatest type.
+use Prim.Native.Nat.{ℕ, zero, suc, _*_, _-_, _<_, _≤_}
+use mathlib.Core.Path.{_≡_, refl, sym, ap, subst, _∙_}
 use mathlib.Core.Bool.{Bool, true, false, _&&_}
 use mathlib.Core.List.{List}
+use mathlib.Core.Option.{Option, some}
+use mathlib.Core.Logic.{⊎-elim}
+use native.Mathlib.Nat.{not-suc-le-zero, eq-or-lt-of-le}
 use native.Mathlib.Omega.{arith}
 use lib.ListN.{length, getD}
 use lib.Dec.{eqb}
-use lib.Bits.{bitAnd}
+use lib.Bits.{bitAnd, and-comm, and-self}
 use borrow.Author.Tests.{eq-eqb, eqb-true}
-use Rattle.lattice.specs.Table.{every, last, implies, isMeet, isJoin, meet, join}
-use Rattle.lattice.specs.Words.{word, related, Words, holder, wordBound}
-use Rattle.lattice.proofs.Every.{and-left, and-right, and-both, implies-at, implies-from, every-at, every-all, same-test, last-same}
+use Rattle.lattice.specs.Table.{every, last, implies, found, isMeet, isJoin, meet, join}
+use Rattle.lattice.specs.Words.{word, related, Words, holder, wordBound, allFound}
+use Rattle.lattice.proofs.Every.{and-left, and-right, and-both, implies-at, implies-from, every-at, every-all, same-test, last-same, last-passes, last-found, found-some, true-not-false, below-or-not, below-suc}
 use Rattle.lattice.proofs.WordLaws.{word-same, word-bits, word-and}
 use Rattle.lattice.proofs.OrderLaws.{Side, Ordered, side}
 
@@ -55,11 +59,104 @@ module _ (n : ℕ) (rel : ℕ → ℕ → Bool) (ws : List ℕ) (few : n ≤ 64)
   unfolding holder
   bound-found a b la lb = last-same _ _ n λ c lc. bound-test a b c la lb lc
 
-module _ (n : ℕ) (t ws : List ℕ) (few : n ≤ 64) (full : length t ≡ 8 * n) (o : Ordered n t) where
-  pub meet-found : Words n t false ws → (a b : ℕ) → a < n → b < n → wordBound n ws a b ≡ meet n t a b
-  unfolding meet isMeet
-  meet-found words a b la lb = bound-found n (related t false) ws few (side n t false full o) words a b la lb
+-- It is enough to test each type with those numbered before it: two types have one bound in either order, and a type is its own.
+module _ (n : ℕ) (ws : List ℕ) where
+  pub pairs-found : every n (λ a. every a (λ b. found (wordBound n ws a b))) ≡ allFound n (wordBound n ws)
+  unfolding allFound holder
+  pairs-found =
+      let test : ℕ → ℕ → Bool = λ a b. found (wordBound n ws a b) in
+      same-test (every n (λ a. every a (test a))) (every n (λ a. every n (test a)))
+      (λ h.
+      let before : (a b : ℕ) → a < n → b < a → test a b ≡ true = λ a b l s. every-at (test a) a b (every-at (λ i. every i (test i)) n a h l) s in
+      every-all _ n λ a l.
+      every-all _ n λ b s.
+      ⊎-elim (before a b l)
+      (λ r.
+      ⊎-elim
+      (λ (e : a ≡ b).
+      last-found (λ c. eqb (getD ws c 0) (bitAnd (getD ws a 0) (getD ws b 0))) n a l
+      (eq-eqb _ _ (sym (and-self (getD ws a 0)) ∙ ap (λ (i : ℕ). bitAnd (getD ws a 0) (getD ws i 0)) e)))
+      (λ q. ap (λ (w : ℕ). found (holder n ws w)) (and-comm (getD ws a 0) (getD ws b 0)) ∙ before b a s q)
+      (eq-or-lt-of-le r))
+      (below-or-not b a))
+      λ h.
+      every-all _ n λ a l.
+      every-all _ a λ b s. every-at (test a) n b (every-at (λ i. every n (test i)) n a h l) (omega arith)
 
-  pub join-found : Words n t true ws → (a b : ℕ) → a < n → b < n → wordBound n ws a b ≡ join n t a b
-  unfolding join isJoin
-  join-found words a b la lb = bound-found n (related t true) ws few (side n t true full o) words a b la lb
+-- Bounds on one side give those on the other: of a and b, the bound of all types that have both on their side.
+module _ (n : ℕ) (rel : ℕ → ℕ → Bool) (laws : Side n rel) (end : ℕ) (type : end < n) (all : (i : ℕ) → i < n → rel end i ≡ true)
+    (bounds : (a b : ℕ) → a < n → b < n → found (last n (isBound n rel a b)) ≡ true) where
+  bound-of : (a b : ℕ) → a < n → b < n
+      → (c : ℕ) × (c < n) × (rel a c ≡ true) × (rel b c ≡ true) × ((d : ℕ) → d < n → rel a d ≡ true → rel b d ≡ true → rel c d ≡ true)
+  bound-of a b la lb =
+      let r : (c : ℕ) × (last n (isBound n rel a b) ≡ some c) = found-some (last n (isBound n rel a b)) (bounds a b la lb) in
+      let c : ℕ = r .0 in
+      let passes : (c < n) × (isBound n rel a b c ≡ true) = last-passes (isBound n rel a b) n c (r .1) in
+      let own : rel a c && rel b c ≡ true = and-left (rel a c && rel b c) _ (passes .1) in
+      let most : every n (λ d. implies (rel a d && rel b d) (rel c d)) ≡ true = and-right (rel a c && rel b c) _ (passes .1) in (
+        c,
+        passes .0,
+        and-left (rel a c) (rel b c) own,
+        and-right (rel a c) (rel b c) own,
+        λ d l e f. implies-at (rel a d && rel b d) (rel c d) (every-at _ n d most l) (and-both (rel a d) (rel b d) e f),
+      )
+
+  -- a type that has a and b on its side, and is on the side of those before k that have
+  common : (a b : ℕ) → a < n → b < n → (k : ℕ) → k ≤ n
+      → (c : ℕ) × (c < n) × (rel c a ≡ true) × (rel c b ≡ true) × ((d : ℕ) → d < k → rel d a ≡ true → rel d b ≡ true → rel d c ≡ true)
+  common a b la lb zero l = (end, type, all a la, all b lb, λ d r. absurd (not-suc-le-zero r))
+  common a b la lb (suc k) l = go (common a b la lb k (omega arith)) (rel k a && rel k b) refl where
+    go : (c : ℕ) × (c < n) × (rel c a ≡ true) × (rel c b ≡ true) × ((d : ℕ) → d < k → rel d a ≡ true → rel d b ≡ true → rel d c ≡ true)
+        → (s : Bool) → (rel k a && rel k b) ≡ s
+        → (c : ℕ) × (c < n) × (rel c a ≡ true) × (rel c b ≡ true)
+        × ((d : ℕ) → d < suc k → rel d a ≡ true → rel d b ≡ true → rel d c ≡ true)
+    go (c, lc, ca, cb, under) true e =
+        let (m, lm, cm, km, most) = bound-of c k lc l in (
+          m,
+          lm,
+          most a la ca (and-left (rel k a) (rel k b) e),
+          most b lb cb (and-right (rel k a) (rel k b) e),
+          λ d r f g.
+              below-suc r (λ q. subst (λ (i : ℕ). rel i m ≡ true) (sym q) km)
+              (λ s. laws .chain d c m (omega arith) lc lm (under d s f g) cm),
+        )
+    go (c, lc, ca, cb, under) false e = (
+      c,
+      lc,
+      ca,
+      cb,
+      λ d r f g.
+          below-suc r
+          (λ q.
+          absurd (true-not-false (rel d a && rel d b) (and-both (rel d a) (rel d b) f g) (ap (λ (i : ℕ). rel i a && rel i b) q ∙ e)))
+          (λ s. under d s f g),
+    )
+
+  other-found : (a b : ℕ) → a < n → b < n → found (last n (isBound n (λ i j. rel j i) a b)) ≡ true
+  other-found a b la lb =
+      let (c, lc, ca, cb, under) = common a b la lb n (omega arith) in
+      last-found (isBound n (λ i j. rel j i) a b) n c lc
+      (and-both (rel c a && rel c b) _ (and-both (rel c a) (rel c b) ca cb)
+      (every-all _ n λ d l.
+      implies-from (rel d a && rel d b) (rel d c) λ e. under d l (and-left (rel d a) (rel d b) e) (and-right (rel d a) (rel d b) e)))
+
+-- the bound of one side: the join above, the meet below
+abbrev pub sideBound : ℕ → List ℕ → Bool → ℕ → ℕ → Option ℕ
+sideBound n t true = join n t
+sideBound n t false = meet n t
+
+module _ (n : ℕ) (t : List ℕ) (full : length t ≡ 8 * n) (o : Ordered n t) where
+  pub bound-same : (up : Bool) (ws : List ℕ) → n ≤ 64 → Words n t up ws → (a b : ℕ) → a < n → b < n
+      → wordBound n ws a b ≡ sideBound n t up a b
+  unfolding meet isMeet join isJoin
+  bound-same true ws few words a b la lb = bound-found n (related t true) ws few (side n t true full o) words a b la lb
+  bound-same false ws few words a b la lb = bound-found n (related t false) ws few (side n t false full o) words a b la lb
+
+  -- where every two types have a bound on one side, every two have one on the other
+  pub other-side : (up other : Bool) → 0 < n → ((a b : ℕ) → a < n → b < n → found (sideBound n t up a b) ≡ true)
+      → (a b : ℕ) → a < n → b < n → found (sideBound n t other a b) ≡ true
+  unfolding meet isMeet join isJoin
+  other-side true true l h = h
+  other-side false false l h = h
+  other-side false true l h = other-found n (related t false) (side n t false full o) (n - 1) (omega arith) (o .top) h
+  other-side true false l h = other-found n (related t true) (side n t true full o) 0 l (o .bottom) h

@@ -23,11 +23,6 @@ pub and-both : (a b : Bool) → a ≡ true → b ≡ true → a && b ≡ true
 and-both true b g h = h
 and-both false b g h = g
 
--- a conjunction with a false part is false
-pub and-fails-right : (a b : Bool) → b ≡ false → a && b ≡ false
-and-fails-right true b h = h
-and-fails-right false b h = refl
-
 -- four tests that passed leave the fifth to decide
 pub fifth-decides : {a b c d e : Bool} → a ≡ true → b ≡ true → c ≡ true → d ≡ true → e ≡ (a && b && c && d && e)
 fifth-decides f g h k = rw (f, g, h, k)

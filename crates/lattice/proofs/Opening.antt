@@ -1,21 +1,21 @@
--- From what the parts of `open_table` answer to what it answers: the size, the order, and the bounds with the filled tables.
+-- From what the parts of opening answer to what it answers: the size, the order, and the bounds with the filled table.
 use Prim.Native.Nat.{ℕ, _*_, _<_, _≤_}
 use mathlib.Core.Path.{_≡_, sym, _∙_}
-use mathlib.Core.Bool.{Bool, true, false, cond, not, _&&_}
+use mathlib.Core.Bool.{Bool, true, false, cond, _&&_}
 use mathlib.Core.List.{List}
+use mathlib.Core.Option.{Option}
 use native.Mathlib.Omega.{arith}
 use lib.ListN.{length, getD}
 use lib.Dec.{leb, eqb}
-use borrow.Author.Tests.{le-leb, lt-leb, leb-true, eq-eqb, ne-eqb, eqb-true, not-true, not-false}
+use borrow.Author.Tests.{le-leb, lt-leb, leb-true, eqb-true}
 use Rattle.lattice.specs.declared.TableFault.the-variants.{Size, Order, Bounds}
-use Rattle.lattice.specs.declared.Opened.{Opened}
 use Rattle.lattice.specs.declared.Opened.the-variants.{Accepted, Refused}
 use Rattle.lattice.specs.Table.{every, found, sized, ordered, bounded, meet, join, boundRow, overwrite, filled}
 use Rattle.lattice.specs.Reply.{opened, Opening}
 use Rattle.lattice.specs.Words.{related, Words, turned, wordBound, allFound, rowOrdered, Sided}
-use Rattle.lattice.proofs.Every.{and-left, and-right, and-both, and-fails-right, every-at, every-all, same-test}
-use Rattle.lattice.proofs.OrderLaws.{Ordered, ordered-facts, rows-ordered, Side, side, sided, turned-words}
-use Rattle.lattice.proofs.BoundLaws.{meet-found, join-found}
+use Rattle.lattice.proofs.Every.{and-left, and-right, and-both, every-at, every-all, same-test}
+use Rattle.lattice.proofs.OrderLaws.{Ordered, facts-ordered, rows-facts, rows-ordered, side, sided, turned-words}
+use Rattle.lattice.proofs.BoundLaws.{sideBound, bound-same, other-side}
 use Rattle.lattice.proofs.Rows.{overwrite-same, found-same}
 
 pub size-low : (n : ℕ) (t : List ℕ) → n < 2 → sized n t ≡ false
@@ -26,13 +26,10 @@ pub size-high : (n : ℕ) (t : List ℕ) → 64 < n → sized n t ≡ false
 unfolding sized
 size-high n t h = rw (le-leb 2 n (omega arith), lt-leb n 64 h)
 
-pub size-other : (n : ℕ) (t : List ℕ) → (length t ≡ 8 * n → ⊥) → sized n t ≡ false
+-- a number of types that is right leaves the length to decide
+pub size-length : (n : ℕ) (t : List ℕ) → 2 ≤ n → n ≤ 64 → eqb (length t) (8 * n) ≡ sized n t
 unfolding sized
-size-other n t h = and-fails-right (leb 2 n && leb n 64) (eqb (length t) (8 * n)) (ne-eqb (length t) (8 * n) h)
-
-pub size-right : (n : ℕ) (t : List ℕ) → 2 ≤ n → n ≤ 64 → length t ≡ 8 * n → sized n t ≡ true
-unfolding sized
-size-right n t a b e = rw (le-leb 2 n a, le-leb n 64 b, eq-eqb (length t) (8 * n) e)
+size-length n t a b = rw (le-leb 2 n a, le-leb n 64 b)
 
 -- what a size that is right says
 pub size-facts : (n : ℕ) (t : List ℕ) → sized n t ≡ true → (2 ≤ n) × (n ≤ 64) × (length t ≡ 8 * n)
@@ -44,82 +41,76 @@ size-facts n t h =
       eqb-true (length t) (8 * n) (and-right (leb 2 n && leb n 64) (eqb (length t) (8 * n)) h),
     )
 
--- every two types have a meet, and every two a join: every two have both
-pub found-bounded : (n : ℕ) (t : List ℕ) → allFound n (meet n t) && allFound n (join n t) ≡ bounded n t
-unfolding allFound bounded
-found-bounded n t =
-    let m : ℕ → ℕ → Bool = λ a b. found (meet n t a b) in
-    let j : ℕ → ℕ → Bool = λ a b. found (join n t a b) in
-    let ms : Bool = every n (λ a. every n (m a)) in
-    let js : Bool = every n (λ a. every n (j a)) in
-    same-test (ms && js) (every n (λ a. every n (λ b. m a b && j a b)))
-    (λ h.
-    every-all _ n λ a l.
-    every-all _ n λ b s.
-    and-both (m a b) (j a b) (every-at _ n b (every-at _ n a (and-left ms js h) l) s)
-    (every-at _ n b (every-at _ n a (and-right ms js h) l) s))
-    λ h.
-    and-both ms js
-    (every-all _ n λ a l. every-all _ n λ b s. and-left (m a b) (j a b) (every-at _ n b (every-at _ n a h l) s))
-    (every-all _ n λ a l. every-all _ n λ b s. and-right (m a b) (j a b) (every-at _ n b (every-at _ n a h l) s))
+-- refused by size or by order
+module _ (n : ℕ) (t : List ℕ) where
+  pub answer-size : sized n t ≡ false → Refused Size ≡ opened n t
+  unfolding opened
+  answer-size h = rw h
 
-module _ (n : ℕ) (t : List ℕ) (meets joins : List (List ℕ)) where
-  -- refused by size: nothing is changed
-  pub refuse-size : sized n t ≡ false → Opening n t (Refused Size) meets meets joins joins
-  unfolding opened filled
-  refuse-size h = record { answers = rw h; meets-hold = rw h; joins-hold = rw h }
+  unordered : (down : List ℕ) → sized n t ≡ true → Words n t false down → every n (rowOrdered n down) ≡ false → ordered n t ≡ false
+  unordered down s words h = sym (rows-ordered n t down (size-facts n t s .1) words) ∙ h
 
-  -- refused by order: nothing is changed
-  pub refuse-order : (down : List ℕ) → sized n t ≡ true → n ≤ 64 → Words n t false down → every n (rowOrdered n down) ≡ false
-      → Opening n t (Refused Order) meets meets joins joins
-  unfolding opened filled
-  refuse-order down s few words h =
-      let o : ordered n t ≡ false = sym (rows-ordered n t down few words) ∙ h in
-      record { answers = rw (s, o); meets-hold = rw (s, o); joins-hold = rw (s, o) }
+  pub answer-order : (down : List ℕ) → sized n t ≡ true → Words n t false down → every n (rowOrdered n down) ≡ false
+      → Refused Order ≡ opened n t
+  unfolding opened
+  answer-order down s words h = rw (s, unordered down s words h)
 
--- the words of both sides of an order
+  -- nothing is changed
+  module _ (bound : ℕ → ℕ → Option ℕ) (rows : List (List ℕ)) where
+    pub opening-size : sized n t ≡ false → Opening n t bound (Refused Size) rows rows
+    unfolding filled
+    opening-size h = record { answers = answer-size h; holds = rw h }
+
+    pub opening-order : (down : List ℕ) → sized n t ≡ true → Words n t false down → every n (rowOrdered n down) ≡ false
+        → Opening n t bound (Refused Order) rows rows
+    unfolding filled
+    opening-order down s words h = record { answers = answer-order down s words h; holds = rw (s, unordered down s words h) }
+
+-- an order: its words, and the answer by whether all bounds of one side were found
 module _ (n : ℕ) (t down : List ℕ) (s : sized n t ≡ true) (words : Words n t false down) (order : every n (rowOrdered n down) ≡ true) where
-  opened-side : (up : Bool) → Side n (related t up)
-  opened-side up =
-      let f : (2 ≤ n) × (n ≤ 64) × (length t ≡ 8 * n) = size-facts n t s in
-      side n t up (f .2) (ordered-facts n t (sym (rows-ordered n t down (f .1) words) ∙ order))
+  facts : Ordered n t
+  facts = rows-facts n t down (size-facts n t s .1) words order
 
-  pub down-sided : Sided n down
-  down-sided = sided n (related t false) down (size-facts n t s .1) (opened-side false) words
+  pub up-words : (up : List ℕ) → ((i : ℕ) → i < n → getD up i 0 ≡ turned n down i) → Words n t true up
+  up-words up made = turned-words n t down up (size-facts n t s .1) (size-facts n t s .2) words made
 
-  pub up-sided : (up : List ℕ) → ((i : ℕ) → i < n → getD up i 0 ≡ turned n down i) → Sided n up
-  up-sided up made =
-      let f : (2 ≤ n) × (n ≤ 64) × (length t ≡ 8 * n) = size-facts n t s in
-      sided n (related t true) up (f .1) (opened-side true) (turned-words n t down up (f .1) (f .2) words made)
+  module _ (up : Bool) (ws : List ℕ) (made : Words n t up ws) where
+    pub side-sided : Sided n ws
+    side-sided = sided n (related t up) ws (size-facts n t s .1) (side n t up (size-facts n t s .2) facts) made
 
--- an order: the answer goes by whether all bounds were found, and the tables hold them
-module _ (n : ℕ) (t down up : List ℕ) (meets₀ meets joins₀ joins : List (List ℕ)) (met joined : Bool) (s : sized n t ≡ true)
-    (words : Words n t false down) (made : (i : ℕ) → i < n → getD up i 0 ≡ turned n down i) (order : every n (rowOrdered n down) ≡ true)
-    (m : (met ≡ allFound n (wordBound n down)) × (meets ≡ overwrite n (boundRow n (wordBound n down)) meets₀))
-    (j : (joined ≡ allFound n (wordBound n up)) × (joins ≡ overwrite n (boundRow n (wordBound n up)) joins₀)) where
-  answer : (r : Opened) → cond (met && joined) Accepted (Refused Bounds) ≡ r → Opening n t r meets₀ meets joins₀ joins
-  unfolding opened filled
-  answer r e =
-      let f : (2 ≤ n) × (n ≤ 64) × (length t ≡ 8 * n) = size-facts n t s in
-      let o : ordered n t ≡ true = sym (rows-ordered n t down (f .1) words) ∙ order in
-      let facts : Ordered n t = ordered-facts n t o in
-      let same : (a b : ℕ) → a < n → b < n → wordBound n down a b ≡ meet n t a b = meet-found n t down (f .1) (f .2) facts words in
-      let same′ : (a b : ℕ) → a < n → b < n → wordBound n up a b ≡ join n t a b =
-      join-found n t up (f .1) (f .2) facts (turned-words n t down up (f .1) (f .2) words made) in
-      let all : met ≡ allFound n (meet n t) = m .0 ∙ found-same n _ _ same in
-      let all′ : joined ≡ allFound n (join n t) = j .0 ∙ found-same n _ _ same′ in
-      let b : met && joined ≡ bounded n t = rw (all, all′) (found-bounded n t) in
-      record {
-        answers = rw (s, o, ← b) (sym e);
-        meets-hold = rw (s, o) (m .1 ∙ overwrite-same n _ _ same meets₀);
-        joins-hold = rw (s, o) (j .1 ∙ overwrite-same n _ _ same′ joins₀);
-      }
+    same : (a b : ℕ) → a < n → b < n → wordBound n ws a b ≡ sideBound n t up a b
+    same = bound-same n t (size-facts n t s .2) facts up ws (size-facts n t s .1) made
 
-  pub no-meet : not met ≡ true → Opening n t (Refused Bounds) meets₀ meets joins₀ joins
-  no-meet h = answer (Refused Bounds) (rw (not-true met h))
+    -- every two types have a bound on the side exactly when they have a meet and a join
+    side-bounded : allFound n (wordBound n ws) ≡ bounded n t
+    unfolding allFound bounded
+    side-bounded =
+        let f : (2 ≤ n) × (n ≤ 64) × (length t ≡ 8 * n) = size-facts n t s in
+        found-same n (wordBound n ws) (sideBound n t up) same ∙
+        same-test _ _
+        (λ h.
+        let all : (a b : ℕ) → a < n → b < n → found (sideBound n t up a b) ≡ true =
+        λ a b l r. every-at _ n b (every-at _ n a h l) r in
+        every-all _ n λ a l.
+        every-all _ n λ b r.
+        and-both (found (meet n t a b)) (found (join n t a b))
+        (other-side n t (f .2) facts up false (omega (arith, f .0)) all a b l r)
+        (other-side n t (f .2) facts up true (omega (arith, f .0)) all a b l r))
+        λ h. every-all _ n λ a l. every-all _ n λ b r. both up a b (every-at _ n b (every-at _ n a h l) r)
+      where
+        both : (up : Bool) (a b : ℕ) → found (meet n t a b) && found (join n t a b) ≡ true → found (sideBound n t up a b) ≡ true
+        both true a b = and-right (found (meet n t a b)) (found (join n t a b))
+        both false a b = and-left (found (meet n t a b)) (found (join n t a b))
 
-  pub no-join : not met ≡ false → not joined ≡ true → Opening n t (Refused Bounds) meets₀ meets joins₀ joins
-  no-join g h = answer (Refused Bounds) (rw (not-false met g, not-true joined h))
+    pub answer-found : (b : Bool) → allFound n (wordBound n ws) ≡ b → cond b Accepted (Refused Bounds) ≡ opened n t
+    unfolding opened
+    answer-found b e = rw (s, facts-ordered n t facts, ← side-bounded, e)
 
-  pub accept : not met ≡ false → not joined ≡ false → Opening n t Accepted meets₀ meets joins₀ joins
-  accept g h = answer Accepted (rw (not-false met g, not-false joined h))
+    pub opening-found : (b : Bool) (rows₀ rows : List (List ℕ)) → allFound n (wordBound n ws) ≡ b
+        → rows ≡ overwrite n (boundRow n (wordBound n ws)) rows₀ → Opening n t (sideBound n t up) (cond b Accepted (Refused Bounds)) rows₀ rows
+    unfolding filled
+    opening-found b rows₀ rows e f =
+        record {
+          answers = answer-found b e;
+          holds = rw (s, facts-ordered n t facts) (f ∙ overwrite-same n _ _ same rows₀);
+        }

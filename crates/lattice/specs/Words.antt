@@ -1,5 +1,5 @@
--- What the parts of `open_table` and `admits_differences` answer, in words. Nothing here is needed to read the contracts of
--- those two: their proofs show that these tests on words decide what `Table` defines.
+-- What the parts of opening and of `admits_differences` answer, in words. Nothing here is needed to read the contracts of
+-- those calls: their proofs show that these tests on words decide what `Table` defines.
 use Prim.Native.Nat.{ℕ, zero, suc, _+_, _*_, _-_, _/_, _%_, _^_, _<_}
 use mathlib.Core.Path.{_≡_}
 use mathlib.Core.Bool.{Bool, true, false, _&&_}

@@ -1,10 +1,10 @@
-// The type lattice of a table (document 01, "Type table"). Opening a table accepts it, or refuses it by 1, 2 or 3, and fills
-// two lent tables with the meets and the joins. The order is kept as words: word i of a side has bit j where type j stands
-// on that side of type i, below it or above it.
+// The type lattice of a table (document 01, "Type table"). Opening a table accepts it, or refuses it by 1, 2 or 3; where the
+// caller needs the meets or the joins, a table that it lends is filled with them. The order is kept as words: word i of a side
+// has bit j where type j stands on that side of type i, below it or above it.
 ghost use mathlib.Core.Path.{_≡_};
 ghost use mathlib.Core.Bool.{_&&_};
-ghost use Rattle.lattice.specs.Table.{accepted, admits};
-ghost use Rattle.lattice.specs.Reply.{Opening};
+ghost use Rattle.lattice.specs.Table.{accepted, admits, meet, join};
+ghost use Rattle.lattice.specs.Reply.{opened, Opening, OpeningBoth};
 
 mod bounds;
 pub mod differences;
@@ -22,22 +22,46 @@ pub enum Opened {
     Refused(TableFault),
 }
 
-// What document 01 returns for a table; `meets` and `joins` are filled once the rows are an order.
-pub fn open_table(
-    n: usize,
-    table: &[u8],
-    meets: &mut [[u8; 64]; 64],
-    joins: &mut [[u8; 64]; 64],
-) -> Opened
-    ensures { λ r. ⌜ Opening n (now (table .entry)) r (now (meets .entry)) (now (meets .exit)) (now (joins .entry)) (now (joins .exit)) ⌝ }
+// What document 01 returns for a table. No join is sought: where every two types have a meet, every two have a join, the meet
+// of all types above both.
+pub fn accept(n: usize, table: &[u8]) -> Opened
+    ensures { λ r. ⌜ r ≡ opened n (now (table .entry)) ⌝ }
 {
-    if n < 2 {
+    if !order::is_sized(n, table) {
         return Opened::Refused(TableFault::Size);
     }
-    if 64 < n {
+    let down = words::read_words(n, table);
+    if !order::is_ordered(n, &down) {
+        return Opened::Refused(TableFault::Order);
+    }
+    if !bounds::are_bounded(n, &down, false) {
+        return Opened::Refused(TableFault::Bounds);
+    }
+    Opened::Accepted
+}
+
+// The same; `meets` is filled once the rows are an order.
+pub fn open_meets(n: usize, table: &[u8], meets: &mut [[u8; 64]; 64]) -> Opened
+    ensures { λ r. ⌜ Opening n (now (table .entry)) (meet n (now (table .entry))) r (now (meets .entry)) (now (meets .exit)) ⌝ }
+{
+    if !order::is_sized(n, table) {
         return Opened::Refused(TableFault::Size);
     }
-    if table.len() != 8 * n {
+    let down = words::read_words(n, table);
+    if !order::is_ordered(n, &down) {
+        return Opened::Refused(TableFault::Order);
+    }
+    if !bounds::fill(n, &down, false, meets) {
+        return Opened::Refused(TableFault::Bounds);
+    }
+    Opened::Accepted
+}
+
+// The same with the joins alone: where every two types have a join, every two have a meet.
+pub fn open_joins(n: usize, table: &[u8], joins: &mut [[u8; 64]; 64]) -> Opened
+    ensures { λ r. ⌜ Opening n (now (table .entry)) (join n (now (table .entry))) r (now (joins .entry)) (now (joins .exit)) ⌝ }
+{
+    if !order::is_sized(n, table) {
         return Opened::Refused(TableFault::Size);
     }
     let down = words::read_words(n, table);
@@ -45,24 +69,30 @@ pub fn open_table(
         return Opened::Refused(TableFault::Order);
     }
     let up = words::turn_words(n, &down);
-    let all_meet = bounds::fill(n, &down, false, meets);
-    let all_join = bounds::fill(n, &up, true, joins);
-    if !all_meet {
-        return Opened::Refused(TableFault::Bounds);
-    }
-    if !all_join {
+    if !bounds::fill(n, &up, true, joins) {
         return Opened::Refused(TableFault::Bounds);
     }
     Opened::Accepted
+}
+
+// The same with both tables.
+pub fn open_table(
+    n: usize,
+    table: &[u8],
+    meets: &mut [[u8; 64]; 64],
+    joins: &mut [[u8; 64]; 64],
+) -> Opened
+    ensures { λ r. ⌜ OpeningBoth n (now (table .entry)) r (now (meets .entry)) (now (meets .exit)) (now (joins .entry)) (now (joins .exit)) ⌝ }
+{
+    open_meets(n, table, meets);
+    open_joins(n, table, joins)
 }
 
 // Whether the table is accepted and admits differences.
 pub fn admits_differences(n: usize, table: &[u8]) -> bool
     ensures { λ r. ⌜ r ≡ (accepted n (now (table .entry)) && admits n (now (table .entry))) ⌝ }
 {
-    let mut meets = [[0u8; 64]; 64];
-    let mut joins = [[0u8; 64]; 64];
-    let answer = open_table(n, table, &mut meets, &mut joins);
+    let answer = accept(n, table);
     let Opened::Accepted = answer else {
         return false;
     };

@@ -1,9 +1,22 @@
-// The tests of refusal 2: the rows are an order, 0 is the least type and n - 1 the greatest.
+// The tests of refusals 1 and 2: the size is right; the rows are an order, 0 is the least type and n - 1 the greatest.
 ghost use mathlib.Core.Path.{_≡_};
 ghost use Prim.Native.Nat.{_<_, _≤_};
 ghost use lib.ListN.{getD};
-ghost use Rattle.lattice.specs.Table.{every, implies};
+ghost use Rattle.lattice.specs.Table.{every, implies, sized};
 ghost use Rattle.lattice.specs.Words.{bit, pairOrdered, rowOrdered};
+
+// Whether n is 2 to 64 and the table has 8 bytes for each type.
+pub fn is_sized(n: usize, table: &[u8]) -> bool
+    ensures { λ r. ⌜ r ≡ sized n (now (table .entry)) ⌝ }
+{
+    if n < 2 {
+        return false;
+    }
+    if 64 < n {
+        return false;
+    }
+    table.len() == 8 * n
+}
 
 // Of a type j below type i: whether all that is below j is below i, and i is below j only if they are one type.
 pub fn is_pair_ordered(down: &[u64; 64], i: usize, j: usize) -> bool

@@ -6,8 +6,8 @@ use Rattle.engine.proofs.CommonParts.{generalizing-refused, generalizin
 use Rattle.engine.proofs.generalize.Statement.{statement}
 use Rattle.engine.proofs.generalize.Tie as tie
 
-open-table-requires : tie.Need-open-table-requires
-open-table-requires c κs = search needs
+open-joins-requires : tie.Need-open-joins-requires
+open-joins-requires c κs = search needs
 
 enum-known-opened : tie.Need-enum-known-opened
 enum-known-opened c = search needs
@@ -17,29 +17,29 @@ enum-told c = search needs
 
 generalize-over-requires : tie.Need-generalize-over-requires
 generalize-over-requires c κs =
-    let start = c .before .before .before .before .before .before .before .before .before .before .before in
-    few-types (start .args .n) (start .args .table .now) _ (c .before .before .before .before .open-table .ensures .answers) (c .before .before .enum-told .given .1)
+    let start = c .before .before .before .before .before .before .before .before .before .before in
+    few-types (start .args .n) (start .args .table .now) _ (c .before .before .before .before .open-joins .ensures .answers) (c .before .before .enum-told .given .1)
 
 returns : tie.Need-returns
 returns c =
-    let start = c .before .before .before .before .before .before .before .before .before .before in
+    let start = c .before .before .before .before .before .before .before .before .before in
     generalizing-refused (start .args .n) (start .args .table .now) (start .args .first .now) (start .args .second .now) (start .args .out .now) _
-    (sym (c .before .before .before .open-table .ensures .answers) ∙ c .before .opened .given .1)
+    (sym (c .before .before .before .open-joins .ensures .answers) ∙ c .before .opened .given .1)
 
 same-length : tie.Need-same-length
 same-length c = search needs
 
 returns-2 : tie.Need-returns-2
 returns-2 c =
-    let start = c .before .before .before .before .before .before .before .before .before .before .before .before .before .before in
+    let start = c .before .before .before .before .before .before .before .before .before .before .before .before .before in
     generalizing-accepted (start .args .n) (start .args .table .now) (start .args .first .now) (start .args .second .now) (start .args .out .now) _
-    (sym (c .before .before .before .before .before .before .before .open-table .ensures .answers) ∙ c .before .before .before .before .before .enum-told .given .1) refl (c .before .before .before .before .before .before .before .open-table .ensures .joins-hold) (c .before .before .generalize-over .ensures)
+    (sym (c .before .before .before .before .before .before .before .open-joins .ensures .answers) ∙ c .before .before .before .before .before .enum-told .given .1) refl (c .before .before .before .before .before .before .before .open-joins .ensures .holds) (c .before .before .generalize-over .ensures)
 
 pub generalize-spec : {M : Type 1} → statement M
 generalize-spec =
     tie.close
     (tie.spec
-    open-table-requires
+    open-joins-requires
     enum-known-opened
     enum-told
     generalize-over-requires

@@ -4,8 +4,8 @@ use borrow.Author.Needs.{needs}
 use Rattle.engine.proofs.rewrite.Statement.{statement}
 use Rattle.engine.proofs.rewrite.Tie as tie
 
-open-table-requires : tie.Need-open-table-requires
-open-table-requires c κs = search needs
+accept-requires : tie.Need-accept-requires
+accept-requires c κs = search needs
 
 enum-known-opened : tie.Need-enum-known-opened
 enum-known-opened c = search needs
@@ -18,24 +18,24 @@ rewrite-over-requires c κs = search needs
 
 returns : tie.Need-returns
 returns c =
-    let start = c .before .before .before .before .before .before .before .before .before in
+    let start = c .before .before .before .before .before .before .before in
     rewriting-refused (start .args .n) (start .args .table .now) (start .args .bytes .now) (start .args .out .now) _
-    (sym (c .before .before .before .open-table .ensures .answers) ∙ c .before .opened .given .1)
+    (sym (c .before .before .before .accept .ensures) ∙ c .before .opened .given .1)
 
 same-length : tie.Need-same-length
 same-length c = search needs
 
 returns-2 : tie.Need-returns-2
 returns-2 c =
-    let start = c .before .before .before .before .before .before .before .before .before .before .before .before in
+    let start = c .before .before .before .before .before .before .before .before .before .before in
     rewriting-accepted (start .args .n) (start .args .table .now) (start .args .bytes .now) (start .args .out .now)
-    (sym (c .before .before .before .before .before .before .open-table .ensures .answers) ∙ c .before .before .before .before .enum-told .given .1) (c .before .before .rewrite-over .ensures)
+    (sym (c .before .before .before .before .before .before .accept .ensures) ∙ c .before .before .before .before .enum-told .given .1) (c .before .before .rewrite-over .ensures)
 
 pub rewrite-spec : {M : Type 1} → statement M
 rewrite-spec =
     tie.close
     (tie.spec
-    open-table-requires
+    accept-requires
     enum-known-opened
     enum-told
     rewrite-over-requires

@@ -6,8 +6,8 @@ use Rattle.engine.proofs.Combinations.{combinable, unifying-refused, un
 use Rattle.engine.proofs.unify.Statement.{statement}
 use Rattle.engine.proofs.unify.Tie as tie
 
-open-table-requires : tie.Need-open-table-requires
-open-table-requires c κs = search needs
+open-meets-requires : tie.Need-open-meets-requires
+open-meets-requires c κs = search needs
 
 enum-known-opened : tie.Need-enum-known-opened
 enum-known-opened c = search needs
@@ -17,31 +17,31 @@ enum-told c = search needs
 
 unify-over-requires : tie.Need-unify-over-requires
 unify-over-requires c κs =
-    let start = c .before .before .before .before .before .before .before .before .before .before .before in
+    let start = c .before .before .before .before .before .before .before .before .before .before in
     combinable (start .args .n) (start .args .table .now) _
-    (opened-accepted (start .args .n) (start .args .table .now) _ (c .before .before .before .before .open-table .ensures .answers) (c .before .before .enum-told .given .1))
-    refl (c .before .before .before .before .open-table .ensures .meets-hold)
+    (opened-accepted (start .args .n) (start .args .table .now) _ (c .before .before .before .before .open-meets .ensures .answers) (c .before .before .enum-told .given .1))
+    refl (c .before .before .before .before .open-meets .ensures .holds)
 
 returns : tie.Need-returns
 returns c =
-    let start = c .before .before .before .before .before .before .before .before .before .before in
+    let start = c .before .before .before .before .before .before .before .before .before in
     unifying-refused (start .args .n) (start .args .table .now) (start .args .first .now) (start .args .second .now) (start .args .out .now) _
-    (sym (c .before .before .before .open-table .ensures .answers) ∙ c .before .opened .given .1)
+    (sym (c .before .before .before .open-meets .ensures .answers) ∙ c .before .opened .given .1)
 
 same-length : tie.Need-same-length
 same-length c = search needs
 
 returns-2 : tie.Need-returns-2
 returns-2 c =
-    let start = c .before .before .before .before .before .before .before .before .before .before .before .before .before .before in
+    let start = c .before .before .before .before .before .before .before .before .before .before .before .before .before in
     unifying-accepted (start .args .n) (start .args .table .now) (start .args .first .now) (start .args .second .now) (start .args .out .now) _
-    (sym (c .before .before .before .before .before .before .before .open-table .ensures .answers) ∙ c .before .before .before .before .before .enum-told .given .1) refl (c .before .before .before .before .before .before .before .open-table .ensures .meets-hold) (c .before .before .unify-over .ensures)
+    (sym (c .before .before .before .before .before .before .before .open-meets .ensures .answers) ∙ c .before .before .before .before .before .enum-told .given .1) refl (c .before .before .before .before .before .before .before .open-meets .ensures .holds) (c .before .before .unify-over .ensures)
 
 pub unify-spec : {M : Type 1} → statement M
 unify-spec =
     tie.close
     (tie.spec
-    open-table-requires
+    open-meets-requires
     enum-known-opened
     enum-told
     unify-over-requires

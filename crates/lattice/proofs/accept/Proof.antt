@@ -1,0 +1,70 @@
+-- `accept` meets its contract: where every two types have a meet, the table is accepted.
+use mathlib.Core.Bool.{true, false}
+use borrow.Author.Needs.{needs}
+use Rattle.lattice.proofs.Every.{refuted, held}
+use Rattle.lattice.proofs.Opening.{size-facts, answer-size, answer-order, side-sided, answer-found}
+use Rattle.lattice.proofs.accept.Statement.{statement}
+use Rattle.lattice.proofs.accept.Tie as tie
+
+is-sized-requires : tie.Need-is-sized-requires
+is-sized-requires c κs = search needs
+
+returns : tie.Need-returns
+returns c =
+    let start = c .before .before .before in
+    answer-size (start .args .n) (start .args .table .now) (refuted (c .before .is-sized .ensures) (c .if1 .taken))
+
+read-words-requires : tie.Need-read-words-requires
+read-words-requires c κs = size-facts _ _ (held (c .before .is-sized .ensures) (c .if1 .left)) .1
+
+is-ordered-requires : tie.Need-is-ordered-requires
+is-ordered-requires c κs = size-facts _ _ (held (c .before .before .before .is-sized .ensures) (c .before .before .if1 .left)) .1
+
+returns-2 : tie.Need-returns-2
+returns-2 c =
+    let start = c .before .before .before .before .before .before .before in
+    answer-order (start .args .n) (start .args .table .now) _ (held (c .before .before .before .before .before .is-sized .ensures) (c .before .before .before .before .if1 .left))
+    (c .before .before .before .read-words .ensures)
+    (refuted (c .before .is-ordered .ensures) (c .if2 .taken))
+
+are-bounded-requires : tie.Need-are-bounded-requires
+are-bounded-requires c κs =
+    let tested = c .before in
+    let start = tested .before .before .before .before .before .before .before in
+    let size = held (tested .before .before .before .before .before .is-sized .ensures) (tested .before .before .before .before .if1 .left) in
+    let words = tested .before .before .before .read-words .ensures in
+    let order = held (tested .before .is-ordered .ensures) (tested .if2 .left) in
+    (size-facts _ _ size .1, side-sided (start .args .n) (start .args .table .now) _ size words order false _ words)
+
+returns-3 : tie.Need-returns-3
+returns-3 c =
+    let tested = c .before .before .before in
+    let start = tested .before .before .before .before .before .before .before in
+    let size = held (tested .before .before .before .before .before .is-sized .ensures) (tested .before .before .before .before .if1 .left) in
+    let words = tested .before .before .before .read-words .ensures in
+    let order = held (tested .before .is-ordered .ensures) (tested .if2 .left) in
+    answer-found (start .args .n) (start .args .table .now) _ size words order false _ words false
+    (refuted (c .before .are-bounded .ensures) (c .if3 .taken))
+
+returns-4 : tie.Need-returns-4
+returns-4 c =
+    let tested = c .before .before .before in
+    let start = tested .before .before .before .before .before .before .before in
+    let size = held (tested .before .before .before .before .before .is-sized .ensures) (tested .before .before .before .before .if1 .left) in
+    let words = tested .before .before .before .read-words .ensures in
+    let order = held (tested .before .is-ordered .ensures) (tested .if2 .left) in
+    answer-found (start .args .n) (start .args .table .now) _ size words order false _ words true
+    (held (c .before .are-bounded .ensures) (c .if3 .left))
+
+pub accept-spec : {M : Type 1} → statement M
+accept-spec =
+    tie.close
+    (tie.spec
+    is-sized-requires
+    returns
+    read-words-requires
+    is-ordered-requires
+    returns-2
+    are-bounded-requires
+    returns-3
+    returns-4)
