@@ -36,7 +36,8 @@ use Rattle.engine.proofs.Readings.{Accepts, accepts-rules, both-next}
 use Rattle.engine.proofs.Replies.{table-refused, table-accepted}
 
 module _ (n : ℕ) (t : List ℕ) (s g : List (Row ℕ)) (rules : Rules n g) where
-  short : (p : List ℕ) (v : ℕ) → walk (graphOfRows g) p ≡ some v → length p < length g
+  -- a walk is shorter than the rows
+  pub short : (p : List ℕ) (v : ℕ) → walk (graphOfRows g) p ≡ some v → length p < length g
   short p v e =
       omega (
         arith,

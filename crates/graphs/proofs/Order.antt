@@ -52,18 +52,18 @@ module _ (𝓛 : Labels) {A B : Type 0} (sameA : A → A → Bool) (sameB : B �
     (s : Graph (𝓛 .L) A) (g : Graph (𝓛 .L) B) (narrow : (v w : B) (f : ℕ) → Reached g v → g .link v f ≡ some w → f < 64) (k : ℕ)
     (short : (p : List ℕ) (v : B) → walk g p ≡ some v → length p < k) where
   -- both walks along one path
-  Together : A × B → Type 0
+  abbrev pub Together : A × B → Type 0
   Together x = (p : List ℕ) × (walk s p ≡ some (x .0)) × (walk g p ≡ some (x .1))
 
-  listed-together : (x : A × B) → List·Memᴰ x (meetings s g k) → Together x
-  unfolding Together generalization
+  pub listed-together : (x : A × B) → List·Memᴰ x (meetings s g k) → Together x
+  unfolding generalization
   listed-together x m =
       let (p, e) = within-reached (generalization 𝓛 s g .link) k (some (s .root, g .root)) x m in
       let (a, b) = both-some (walk s p) (walk g p) (sym (product-walk 𝓛 s g p) ∙ e) in
       (p, a, b)
 
-  together-listed : (x : A × B) → Together x → List·Memᴰ x (meetings s g k)
-  unfolding Together generalization
+  pub together-listed : (x : A × B) → Together x → List·Memᴰ x (meetings s g k)
+  unfolding generalization
   together-listed x (p, a, b) =
       reached-within (generalization 𝓛 s g .link) k (some (s .root, g .root)) p x small (short p (x .1) b) (product-walk 𝓛 s g p ∙ joined)
     where
@@ -104,7 +104,7 @@ module _ (𝓛 : Labels) {A B : Type 0} (sameA : A → A → Bool) (sameB : B �
         and-true (𝓛 .le (s .label (x .0)) (g .label (x .1))) (allOf features λ f. there (g .link (x .1) f) (s .link (x .0) f)) (fits x t) .0
 
     link-fits : (x : A × B) → Together x → (f : ℕ) (w : B) → g .link (x .1) f ≡ some w → (v : A) × (s .link (x .0) f ≡ some v)
-    unfolding fitsAt Together
+    unfolding fitsAt
     link-fits x t f w l =
         there-some (g .link (x .1) f) (s .link (x .0) f)
         (allOf-true features (λ f. there (g .link (x .1) f) (s .link (x .0) f))
@@ -112,7 +112,6 @@ module _ (𝓛 : Labels) {A B : Type 0} (sameA : A → A → Bool) (sameB : B �
         f (mem-features f (narrow (x .1) w f (t .0, t .2) l))) l
 
     both-walk : (p : List ℕ) (w : B) → walk g p ≡ some w → (v : A) × (walk s p ≡ some v)
-    unfolding Together
     both-walk p =
         snoc-induction (λ q. (w : B) → walk g q ≡ some w → (v : A) × (walk s q ≡ some v))
         (λ w h. (s .root, follow-nil (s .link) (some (s .root))))
@@ -124,7 +123,6 @@ module _ (𝓛 : Labels) {A B : Type 0} (sameA : A → A → Bool) (sameB : B �
         p
 
     subsumes-below : Below 𝓛 s g
-    unfolding Together
     subsumes-below =
         record {
           paths = λ p w h. let (v, m) = both-walk p w h in (v, m, label-fits (v, w) (p, m, h));
@@ -138,7 +136,7 @@ module _ (𝓛 : Labels) {A B : Type 0} (sameA : A → A → Bool) (sameB : B �
 
   module _ (b : Below 𝓛 s g) where
     below-fits : (x : A × B) → Together x → fitsAt 𝓛 sameA sameB s g x ≡ true
-    unfolding fitsAt Together
+    unfolding fitsAt
     below-fits x (p, hs, hg) =
         true-and (𝓛 .le (s .label (x .0)) (g .label (x .1))) (allOf features λ f. there (g .link (x .1) f) (s .link (x .0) f))
         (let (v, h, l) = b .paths p (x .1) hg in
@@ -148,7 +146,6 @@ module _ (𝓛 : Labels) {A B : Type 0} (sameA : A → A → Bool) (sameB : B �
         (λ w l. let (v, h, _) = b .paths (p ++ (f ∷ [])) w (walk-snoc g p f hg ∙ l) in (v, sym (walk-snoc s p f hs) ∙ h))))
 
     below-shares : (x y : A × B) → Together x → Together y → sharesAt 𝓛 sameA sameB s g x y ≡ true
-    unfolding Together
     below-shares x y (p, hs, hg) (q, is, ig) = go (sameB (x .1) (y .1)) refl
       where
         go : (t : Bool) → sameB (x .1) (y .1) ≡ t → (not t || sameA (x .0) (y .0)) ≡ true
