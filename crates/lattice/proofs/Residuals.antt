@@ -83,7 +83,7 @@ module _ (n : ℕ) (t ws : List ℕ) (ok : accepted n t ≡ true) (words : Words
       (implies-at (meetBelow n t p q d) (below t d c) (every-at _ n d most l))) ∙
       sym tests)
 
-  residual-found : (p q : ℕ) → p < n → q < n → wordResidual n ws p q ≡ residual n t p q
+  pub residual-found : (p q : ℕ) → p < n → q < n → wordResidual n ws p q ≡ residual n t p q
   unfolding holder residual
   residual-found p q lp lq = last-same _ _ n λ c lc. residual-test p q c lp lq lc
 

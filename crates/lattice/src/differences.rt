@@ -1,8 +1,12 @@
 // Whether an accepted table admits differences: the types whose meet with q is below p are those below one type.
 ghost use mathlib.Core.Path.{_≡_};
 ghost use Prim.Native.Nat.{_<_, _≤_};
-ghost use Rattle.lattice.specs.Table.{every, found};
-ghost use Rattle.lattice.specs.Words.{word, wordMeetBelow, wordResidual, allFound};
+ghost use mathlib.Core.Bool.{true, false};
+ghost use mathlib.Core.List.{List};
+ghost use Prim.Native.Nat.{ℕ};
+ghost use Rattle.lattice.specs.Table.{every, found, accepted, cell};
+ghost use Rattle.lattice.specs.Table.{residual as residualOf};
+ghost use Rattle.lattice.specs.Words.{word, Words, wordMeetBelow, wordResidual, allFound};
 
 // Whether the meet of d and q is below p: what is below both is below p.
 pub fn is_meet_below(down: &[u64; 64], p: usize, q: usize, d: usize) -> bool
@@ -26,6 +30,15 @@ pub fn residual_word(n: usize, down: &[u64; 64], p: usize, q: usize) -> u64
         d += 1;
     }
     word
+}
+
+// The residual of p by q in an accepted table with these words, document 01's wanted type; 64 where there is none.
+pub fn residual(n: usize, down: &[u64; 64], p: usize, q: usize) -> u8
+    requires { ⌜ (n ≤ 64) × (p < n) × (q < n) ⌝ }
+    ensures { λ r. ⌜ ((t : List ℕ) → accepted n t ≡ true → Words n t false (now (down .entry)) → r ≡ cell (residualOf n t p q)) ⌝ }
+{
+    let word = residual_word(n, down, p, q);
+    super::bounds::find_word(n, down, word)
 }
 
 // Whether p has a residual by every type below n.

@@ -7,7 +7,7 @@ ghost use Rattle.lattice.specs.Table.{accepted, admits};
 ghost use Rattle.lattice.specs.Reply.{Opening};
 
 mod bounds;
-mod differences;
+pub mod differences;
 mod order;
 pub mod words;
 

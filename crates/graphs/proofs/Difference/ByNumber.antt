@@ -11,10 +11,10 @@ use Rattle.graphs.specs.Difference.{Link, StrictOrder, byNumber}
 use Rattle.graphs.proofs.Difference.Select.{both-true, true-both, either-true, true-left, true-right}
 
 -- l comes before m
-abbrev Before : Link ℕ → Link ℕ → Type 0
+abbrev pub Before : Link ℕ → Link ℕ → Type 0
 Before l m = (l .0 < m .0) ⊎ ((l .0 ≡ m .0) × (l .1 < m .1))
 
-by-number : (l m : Link ℕ) → (byNumber l m ≡ true) ↔ Before l m
+pub by-number : (l m : Link ℕ) → (byNumber l m ≡ true) ↔ Before l m
 unfolding byNumber
 by-number l m = (
   λ e.

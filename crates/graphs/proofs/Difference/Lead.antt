@@ -33,7 +33,7 @@ module _ {𝓛 : Labels} {A B : Type 0} {sameA : A → A → Bool} {sameB : B �
   enters-at : (v : A) (z : B) (l : Link A) → over z ≡ v → Enters g over z l → Into s v l
   enters-at v z l o t = subst (λ u. Into s u l) o (enters-into map z l t)
 
-  grouped-into : (v : A) {l m : Link A} → Grouped g over v l m → Into s v l ↔ Into s v m
+  pub grouped-into : (v : A) {l m : Link A} → Grouped g over v l m → Into s v l ↔ Into s v m
   grouped-into v (touching {l} {m} z o a b) = (λ _. enters-at v z m o b, λ _. enters-at v z l o a)
   grouped-into v alike = (λ i. i, λ i. i)
   grouped-into v (flip j) = let e = grouped-into v j in (e .1, e .0)

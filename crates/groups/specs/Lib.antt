@@ -1,0 +1,4 @@
+-- Classes of nodes, links of g over links of s, and the marks of the links that lead their groups.
+pub mod Classes
+pub mod Cover
+pub mod Marks
