@@ -1,100 +1,182 @@
--- What the replies of the calls mean, for an accepted table and accepted records: theorems about the definitions that the calls are
--- proved equal to. The order answers yes exactly where the first graph is below the second. The common part is the least graph of any
--- size above both, whatever its size; what is written of it is read again as that graph, and the order's own answers agree.
-use mathlib.Core.Path.{_≡_, refl, _∙_, ap}
-use mathlib.Core.Bool.{Bool, true, false, cond}
+-- The three demands on the calls, one theorem for each sentence, about the definitions that the calls are proved equal to: `rewriting`,
+-- `ordering`, `generalizing`, `unifying` and `differing`. What the statements say stands in those definitions and in `Demand`; the proofs
+-- are cited. n and t are the table, out is the output lent; a and b are the records.
+use mathlib.Core.Path.{_≡_, refl}
+use mathlib.Core.Bool.{Bool, true, false}
 use mathlib.Core.List.{List}
-use mathlib.Core.Logic.{_↔_}
+use mathlib.Core.Logic.{_↔_, _⊎_}
 use Prim.Native.Nat.{ℕ}
-use native.Mathlib.Omega.{arith}
 use lib.Dec.{eqb}
-use lib.ListN.{length, take}
-use Rattle.graphs.specs.Graph.{Below}
+use lib.ListN.{take}
+use Rattle.graphs.specs.Graph.{Graph, Tells, Below, SameMeaning}
 use Rattle.graphs.specs.Rows.{Row}
-use Rattle.graphs.specs.Order.{subsumes}
-use Rattle.graphs.proofs.Search.{true-false}
-use Rattle.lattice.specs.Table as table
+use Rattle.graphs.specs.Unify as unify
+use Rattle.lattice.specs.declared.Opened.the-variants.{Accepted}
+use Rattle.lattice.specs.Table.{admits}
 use Rattle.lattice.specs.Reply.{opened}
-use Rattle.lattice.specs.Labels.{typeLabels, LeastOfAnySize}
+use Rattle.lattice.specs.Labels.{typeLabels, OfAnySize, LeastOfAnySize, GreatestOfAnySize, IsCombination, TypeClash}
 use Rattle.lattice.proofs.Residuals.{opened-accepted}
-use Rattle.lattice.proofs.AnySize.{generalization-least, same-least}
+use Rattle.lattice.proofs.AnySize.{combination-greatest}
 use Rattle.record.specs.Read.{reading, accepted, graphOfRows}
-use Rattle.record.proofs.Accepted.{accepted-rules}
-use Rattle.record.proofs.Theorems.{accepted-of-any-size}
 use Rattle.generalize.specs.Pairs.{samePair}
-use Rattle.generalize.proofs.Sides.{tells-pair}
-use Rattle.engine.specs.declared.Reply.the-variants.{Length, Yes, No}
-use Rattle.engine.specs.Reply.{ordered, ordering, generalized, generalizing}
-use Rattle.engine.specs.Demand.{Given, Writes, common, CommonPart}
-use Rattle.engine.proofs.Orders.{order-test}
-use Rattle.engine.proofs.Results.{result-writes}
+use Rattle.engine.specs.declared.Reply.the-variants.{Length, Yes, No, Cycle, Clash, TooLarge, NotBelow, NotAdmitted}
+use Rattle.engine.specs.Reply.{rewriting, ordering, generalizing}
+use Rattle.engine.specs.Unification.{unifying}
+use Rattle.engine.specs.Difference.{differing}
+use Rattle.engine.specs.Demand.{
+  Given,
+  Leaves,
+  Writes,
+  Rewritten,
+  common,
+  CommonPart,
+  NoneBelow,
+  Combination,
+  remainder,
+  Restores,
+  Difference,
+}
+use Rattle.engine.proofs.Demanded.Output as Output
+use Rattle.engine.proofs.Demanded.Meaning as Meaning
+use Rattle.engine.proofs.Demanded.Order as Order
+use Rattle.engine.proofs.Demanded.CommonPart as Common
+use Rattle.engine.proofs.Demanded.Combination as Combined
+use Rattle.engine.proofs.Demanded.Difference as Differed
+
+-- Demand 1: what is handed in determines the reply and each byte of the output. Each call's promise is an equation with its definition.
+-- Whatever is handed in, a refusal leaves the output as it was; beside a length the first bytes are a record, accepted when it is read and
+-- its own written form, and the others are unchanged.
+
+module _ (n : ℕ) (t out : List ℕ) where
+  pub rewriting-leaves : (bytes : List ℕ) → Leaves n out (rewriting n t bytes out)
+  rewriting-leaves bytes = Output.rewriting-leaves n t out bytes
+
+  pub generalizing-leaves : (a b : List ℕ) → Leaves n out (generalizing n t a b out)
+  generalizing-leaves a b = Output.generalizing-leaves n t out a b
+
+  pub unifying-leaves : (a b : List ℕ) → Leaves n out (unifying n t a b out)
+  unifying-leaves a b = Output.unifying-leaves n t out a b
+
+  pub differing-leaves : (a b : List ℕ) → Leaves n out (differing n t a b out)
+  differing-leaves a b = Output.differing-leaves n t out a b
+
+  -- 11 is no reply of rewriting or of the difference: what they write is no larger than an accepted record.
+  pub rewriting-never-large : (bytes : List ℕ) → rewriting n t bytes out .reply ≡ TooLarge → ⊥
+  rewriting-never-large bytes = Output.rewriting-small n t out bytes
+
+  pub differing-never-large : (a b : List ℕ) → differing n t a b out .reply ≡ TooLarge → ⊥
+  differing-never-large a b = Output.differing-small n t out a b
+
+-- Demand 2: bytes and meaning.
+
+-- Rewriting an accepted record gives 8 and a length exactly where they are due.
+module _ (n : ℕ) (t a : List ℕ) (rows : List (Row ℕ)) (opens : opened n t ≡ Accepted) (reads : reading n a ≡ accepted rows) (out : List ℕ) where
+  pub rewriting-written : Writes n t eqb (graphOfRows rows) out (rewriting n t a out)
+  rewriting-written = Meaning.rewriting-writes n t a rows opens reads out
+
+  -- What is written is accepted, is its own written form and means the same.
+  pub rewriting-means : (l : ℕ) → rewriting n t a out .reply ≡ Length l → Rewritten n t a rows (take l (rewriting n t a out .output))
+  rewriting-means = Meaning.written-again n t a rows opens reads out
 
 module _ (n : ℕ) (t a b : List ℕ) (s g : List (Row ℕ)) (given : Given n t a b s g) where
-  ordering-is : ordering n t a b ≡ ordered n t s g
-  unfolding ordering
-  ordering-is = rw (given .opens, given .first, given .second)
+  -- Two accepted records mean the same exactly when rewriting gives equal bytes,
+  pub meaning-bytes : (out : List ℕ) (l m : ℕ) → rewriting n t a out .reply ≡ Length l → rewriting n t b out .reply ≡ Length m →
+      SameMeaning (typeLabels n t) (graphOfRows s) (graphOfRows g) ↔
+      (take l (rewriting n t a out .output) ≡ take m (rewriting n t b out .output))
+  meaning-bytes = Meaning.bytes-exact n t a b s g given
 
-  test : (subsumes (typeLabels n t) eqb eqb (graphOfRows s) (graphOfRows g) (length g) ≡ true) ↔
-      Below (typeLabels n t) (graphOfRows s) (graphOfRows g)
-  test = order-test n t s g (accepted-rules n b g (given .second))
+  -- exactly when it gives the same reply and output, whatever is lent,
+  pub meaning-rewriting : SameMeaning (typeLabels n t) (graphOfRows s) (graphOfRows g) ↔
+      ((out : List ℕ) → rewriting n t a out ≡ rewriting n t b out)
+  meaning-rewriting = Meaning.meaning-exact n t a b s g given
 
-  -- The order answers yes exactly where the first graph is below the second, and no exactly where it is not.
+  -- and exactly when each is below the other.
+  pub meaning-order : ((ordering n t a b ≡ Yes) × (ordering n t b a ≡ Yes)) ↔ SameMeaning (typeLabels n t) (graphOfRows s) (graphOfRows g)
+  meaning-order = Meaning.order-both-ways n t a b s g given
+
+-- Demand 3, the order: yes exactly where the first graph is below the second, and no exactly where it is not.
+
+module _ (n : ℕ) (t a b : List ℕ) (s g : List (Row ℕ)) (given : Given n t a b s g) where
   pub order-exact : ((ordering n t a b ≡ Yes) ↔ Below (typeLabels n t) (graphOfRows s) (graphOfRows g)) ×
       ((ordering n t a b ≡ No) ↔ (Below (typeLabels n t) (graphOfRows s) (graphOfRows g) → ⊥))
-  unfolding ordered
-  order-exact = go (subsumes (typeLabels n t) eqb eqb (graphOfRows s) (graphOfRows g) (length g)) refl
-    where
-      go : (c : Bool) → subsumes (typeLabels n t) eqb eqb (graphOfRows s) (graphOfRows g) (length g) ≡ c →
-          ((ordering n t a b ≡ Yes) ↔ Below (typeLabels n t) (graphOfRows s) (graphOfRows g)) ×
-          ((ordering n t a b ≡ No) ↔ (Below (typeLabels n t) (graphOfRows s) (graphOfRows g) → ⊥))
-      go true e =
-          let is : ordering n t a b ≡ Yes = ordering-is ∙ ap (λ (c : Bool). cond c Yes No) e in (
-            (λ _. test .0 e, λ _. is),
-            (λ q. let z : _≡_ {A = ℕ} 0 1 = cc in absurd (omega arith), λ none. absurd (none (test .0 e))),
-          )
-      go false e =
-          let is : ordering n t a b ≡ No = ordering-is ∙ ap (λ (c : Bool). cond c Yes No) e in (
-            (λ q. let z : _≡_ {A = ℕ} 0 1 = cc in absurd (omega arith), λ below. true-false (test .1 below) e),
-            (λ _ below. true-false (test .1 below) e, λ _. is),
-          )
+  order-exact = Order.order-exact n t a b s g given
 
-module _ (n : ℕ) (t a b : List ℕ) (s g : List (Row ℕ)) (given : Given n t a b s g) where
-  accepts : table.accepted n t ≡ true
-  accepts = opened-accepted n t (opened n t) refl (given .opens)
+-- Demand 3, the common part.
 
+module _ (n : ℕ) (t a b : List ℕ) (g h : List (Row ℕ)) (given : Given n t a b g h) where
   -- There always is a least graph of any size above both: the common part, also where it is too large to be written.
-  pub common-part-exists : LeastOfAnySize n t (graphOfRows s) (graphOfRows g) (common n t s g)
-  common-part-exists =
-      generalization-least n t accepts (graphOfRows s) (graphOfRows g) (accepted-of-any-size n a s (given .first) t)
-      (accepted-of-any-size n b g (given .second) t)
+  pub common-part-exists : LeastOfAnySize n t (graphOfRows g) (graphOfRows h) (common n t g h)
+  common-part-exists = Common.common-part-exists n t a b g h given
 
   module _ (out : List ℕ) where
-    -- The call refuses by 11 and 8 exactly where they are due, and leaves the output as it was; else it writes the common part.
-    pub common-part-written : Writes n t samePair (common n t s g) out (generalizing n t a b out)
-    unfolding generalizing generalized
-    common-part-written =
-        rw (given .opens, given .first, given .second) (result-writes n t samePair tells-pair (common n t s g) (common-part-exists .of-any-size) out)
+    -- The call refuses by 11 and 8 exactly where they are due; else it writes the common part.
+    pub common-part-written : Writes n t samePair (common n t g h) out (generalizing n t a b out)
+    common-part-written = Common.common-part-written n t a b g h given out
 
     -- What is written is the least graph above both, and the order agrees.
-    pub common-part : (l : ℕ) → generalizing n t a b out .reply ≡ Length l →
-        CommonPart n t a b s g (take l (generalizing n t a b out .output))
-    common-part l q =
-        let wrote = common-part-written .wrote l q in
-        let bytes : List ℕ = take l (generalizing n t a b out .output) in
-        let form : List (Row ℕ) = wrote .form in
-        let reads : reading n bytes ≡ accepted form = wrote .reads in
-        let least : LeastOfAnySize n t (graphOfRows s) (graphOfRows g) (graphOfRows form) =
-        same-least n t accepts (graphOfRows s) (graphOfRows g) (common n t s g) (graphOfRows form) (wrote .means) common-part-exists in
-        record {
-          form = form;
-          reads = reads;
-          least = least;
-          first-below = order-exact n t a bytes s form (record { opens = given .opens; first = given .first; second = reads }) .0 .1 (least .left);
-          second-below = order-exact n t b bytes g form (record { opens = given .opens; first = given .second; second = reads }) .0 .1
-              (least .right);
-          below-upper = λ c m upper x y.
-              order-exact n t bytes c form m (record { opens = given .opens; first = reads; second = upper }) .0 .1
-              (least .least (graphOfRows m) (accepted-of-any-size n c m upper t)
-              (order-exact n t a c s m (record { opens = given .opens; first = given .first; second = upper }) .0 .0 x)
-              (order-exact n t b c g m (record { opens = given .opens; first = given .second; second = upper }) .0 .0 y));
-        }
+    pub common-part : (l : ℕ) → generalizing n t a b out .reply ≡ Length l → CommonPart n t a b g h (take l (generalizing n t a b out .output))
+    common-part = Common.common-part n t a b g h given out
+
+-- Demand 3, the combination.
+
+-- "Order and combination of such graphs go by the same rules, over paths": of graphs of any size, what the classes of paths give is the
+-- greatest graph of any size below both.
+pub combination-over-paths : (n : ℕ) (t : List ℕ) → opened n t ≡ Accepted → {A B C : Type 0} (g : Graph ℕ A) (h : Graph ℕ B) (u : Graph ℕ C) →
+    OfAnySize n t g → OfAnySize n t h → OfAnySize n t u → IsCombination n t g h u → GreatestOfAnySize n t g h u
+combination-over-paths n t opens g h u a b =
+    combination-greatest n t (opened-accepted n t (opened n t) refl opens) g h a b u
+
+module _ (n : ℕ) (t a b : List ℕ) (g h : List (Row ℕ)) (given : Given n t a b g h) (out : List ℕ) where
+  -- 9 exactly where a class reaches itself,
+  pub combination-cycle : (unifying n t a b out .reply ≡ Cycle) ↔ unify.Cycle (typeLabels n t) (graphOfRows g) (graphOfRows h)
+  combination-cycle = Combined.cycle-exact n t a b g h given out
+
+  -- 10 exactly where none does and the meet of a class is type 0,
+  pub combination-clash : (unifying n t a b out .reply ≡ Clash) ↔
+      ((unify.Cycle (typeLabels n t) (graphOfRows g) (graphOfRows h) → ⊥) × TypeClash n t (graphOfRows g) (graphOfRows h))
+  combination-clash = Combined.clash-exact n t a b g h given out
+
+  -- and one of them exactly where no graph of any size lies below both.
+  pub combination-none : ((unifying n t a b out .reply ≡ Cycle) ⊎ (unifying n t a b out .reply ≡ Clash)) ↔ NoneBelow n t g h
+  combination-none = Combined.none-exact n t a b g h given out
+
+  -- Else the classes of paths give a graph, the greatest of any size below both, also where it is too large to be written.
+  pub combination-exists : ((unifying n t a b out .reply ≡ Cycle) ⊎ (unifying n t a b out .reply ≡ Clash) → ⊥) →
+      (u : Graph ℕ (ℕ ⊎ ℕ)) × IsCombination n t (graphOfRows g) (graphOfRows h) u × GreatestOfAnySize n t (graphOfRows g) (graphOfRows h) u
+  combination-exists = Combined.exists n t a b g h given out
+
+  -- Of whatever such graph, the call refuses by 11 and 8 exactly where they are due; else it writes it.
+  pub combination-written : {C : Type 0} (same : C → C → Bool) → Tells same → (u : Graph ℕ C) →
+      GreatestOfAnySize n t (graphOfRows g) (graphOfRows h) u → Writes n t same u out (unifying n t a b out)
+  combination-written same tells u best = Combined.greatest-writes n t a b g h given out same tells u best
+
+  -- What is written is the greatest graph below both, and the order agrees.
+  pub combination : (l : ℕ) → unifying n t a b out .reply ≡ Length l → Combination n t a b g h (take l (unifying n t a b out .output))
+  combination = Combined.written-combination n t a b g h given out
+
+-- Demand 3, the difference of a, the general record, and b, the specific one.
+
+module _ (n : ℕ) (t a b : List ℕ) (g s : List (Row ℕ)) (given : Given n t a b g s) where
+  -- Where the table admits differences and s is below g, the difference restores s with g and nothing more general does.
+  pub difference-restores : admits n t ≡ true → Below (typeLabels n t) (graphOfRows s) (graphOfRows g) →
+      Restores n t (remainder n t g s) (graphOfRows g) (graphOfRows s)
+  difference-restores = Differed.remainder-restores n t a b g s given
+
+  module _ (out : List ℕ) where
+    -- 13 exactly where the table does not admit differences,
+    pub difference-not-admitted : (differing n t a b out .reply ≡ NotAdmitted) ↔ (admits n t ≡ false)
+    difference-not-admitted = Differed.not-admitted-exact n t a b g s given out
+
+    -- 12 exactly where it does and s is not below g,
+    pub difference-not-below : (differing n t a b out .reply ≡ NotBelow) ↔
+        ((admits n t ≡ true) × (Below (typeLabels n t) (graphOfRows s) (graphOfRows g) → ⊥))
+    difference-not-below = Differed.not-below-exact n t a b g s given out
+
+    -- and else 8 exactly where it is due, and the call writes the difference.
+    pub difference-written : admits n t ≡ true → Below (typeLabels n t) (graphOfRows s) (graphOfRows g) →
+        Writes n t eqb (remainder n t g s) out (differing n t a b out)
+    difference-written = Differed.remainder-writes n t a b g s given out
+
+    -- What is written restores b byte for byte when it is combined with a, nothing more general does, and the order agrees.
+    pub difference : (l : ℕ) → differing n t a b out .reply ≡ Length l → Difference n t a b g s (take l (differing n t a b out .output))
+    difference = Differed.written-difference n t a b g s given out

@@ -5,4 +5,5 @@ pub mod Tables
 pub mod Orders
 pub mod CommonParts
 pub mod Results
+pub mod Demanded
 pub mod Demands

@@ -8,27 +8,35 @@ use mathlib.Core.Option.{some}
 use Prim.Native.Nat.{ℕ, _≤_, _<_}
 use native.Mathlib.Omega.{arith}
 use borrow.Author.Tests.{leb-true, leb-false}
-use lib.Dec.{leb}
+use lib.Dec.{leb, eqb}
 use lib.ListN.{length, take, drop}
 use lib.Seq.{take-append-seam, drop-append-seam}
 use Rattle.graphs.specs.Graph.{Graph, Tells, Reached}
 use Rattle.graphs.specs.Rows.{Row}
 use Rattle.graphs.specs.Number.{Canonical, canonical, manyNodes, manyLinks, written}
 use Rattle.graphs.proofs.Form.Large.{canonical-many-nodes, canonical-many-links, canonical-fits}
+use Rattle.lattice.specs.declared.Opened.the-variants.{Accepted}
+use Rattle.lattice.specs.Reply.{opened}
 use Rattle.lattice.specs.Labels.{OfAnySize}
 use Rattle.encode.specs.declared.Written.the-variants as outcome
 use Rattle.encode.specs.Encode.{encoded, fitted, writtenOut}
-use Rattle.record.specs.Read.{reading}
+use Rattle.record.specs.Read.{reading, accepted, graphOfRows}
 use Rattle.record.proofs.Rewritten.{written-injective}
 use Rattle.record.proofs.Theorems.{written-reads}
 use Rattle.engine.specs.declared.Reply.{Reply}
 use Rattle.engine.specs.declared.Reply.the-variants.{Length, NoRoom, TooLarge}
-use Rattle.engine.specs.Reply.{Result, refusing, resultOf}
+use Rattle.engine.specs.Reply.{Result, refusing, resultOf, rewriting}
 use Rattle.engine.specs.Demand.{Large, Wrote, Writes}
 
 -- a graph as a call's result
 abbrev pub resultFor : {C : Type 0} → (C → C → Bool) → Graph ℕ C → List ℕ → Result
 resultFor same k out = resultOf (writtenOut (canonical same k) out)
+
+-- rewriting an accepted record writes its graph
+pub rewriting-is : (n : ℕ) (t bytes : List ℕ) (rows : List (Row ℕ)) → opened n t ≡ Accepted → reading n bytes ≡ accepted rows → (out : List ℕ) →
+    rewriting n t bytes out ≡ resultFor eqb (graphOfRows rows) out
+unfolding rewriting
+rewriting-is n t bytes rows opens reads out = rw (opens, reads)
 
 -- a record and what follows it in the output
 abbrev holding : List ℕ → List ℕ → Result

@@ -1,29 +1,48 @@
--- What is demanded of the calls beyond their replies, over an accepted table and accepted records: which result a graph of any size
--- gives, and what the record of a common part is among all graphs of any size.
+-- What is demanded of the calls beyond their replies, over an accepted table and accepted records: what stands in the output, which
+-- result a graph of any size gives, and what the records of a common part, a combination and a difference are among all graphs of any size.
 use mathlib.Core.Path.{_≡_}
 use mathlib.Core.Bool.{Bool}
 use mathlib.Core.List.{List}
 use mathlib.Core.Logic.{_↔_, _⊎_}
+use mathlib.Core.Option.{some}
 use Prim.Native.Nat.{ℕ, _≤_, _<_}
+use lib.Dec.{eqb}
 use lib.ListN.{length, take, drop}
-use Rattle.graphs.specs.Graph.{Graph, SameMeaning}
+use Rattle.graphs.specs.Graph.{Graph, Tells, Below, SameMeaning}
 use Rattle.graphs.specs.Rows.{Row}
 use Rattle.graphs.specs.Number.{canonical, written}
 use Rattle.graphs.specs.Large.{ManyNodes, ManyLinks}
 use Rattle.graphs.specs.Generalize.{generalization}
 use Rattle.lattice.specs.declared.Opened.the-variants.{Accepted}
 use Rattle.lattice.specs.Reply.{opened}
-use Rattle.lattice.specs.Labels.{typeLabels, LeastOfAnySize}
+use Rattle.lattice.specs.Labels.{typeLabels, OfAnySize, LeastOfAnySize, GreatestOfAnySize, IsCombination}
 use Rattle.encode.specs.Encode.{encoded}
 use Rattle.record.specs.Read.{reading, accepted, graphOfRows}
-use Rattle.engine.specs.declared.Reply.the-variants.{Length, Yes, NoRoom, TooLarge}
-use Rattle.engine.specs.Reply.{Result, ordering}
+use Rattle.engine.specs.declared.Reply.the-variants.{Length, Yes, No, NoRoom, TooLarge}
+use Rattle.engine.specs.Reply.{Result, refusal, ordering, rewriting}
+use Rattle.engine.specs.Unification.{unifying}
+use Rattle.engine.specs.Difference.{numbered, differenceRows}
 
 -- An accepted table, and two accepted records with their rows.
 pub record Given (n : ℕ) (t a b : List ℕ) (s g : List (Row ℕ)) : Type 0 where
   pub opens : opened n t ≡ Accepted
   pub first : reading n a ≡ accepted s
   pub second : reading n b ≡ accepted g
+
+-- The bytes are a record that is accepted when it is read, and is its own written form.
+pub record WrittenRecord (n : ℕ) (bytes : List ℕ) : Type 0 where
+  pub form : List (Row ℕ)
+  pub reads : reading n bytes ≡ accepted form
+  pub own : canonical eqb (graphOfRows form) ≡ written form
+  pub bytes-are : bytes ≡ encoded form
+
+-- What a call to which an output is lent leaves in it: on a refusal what it was; beside a length "its first bytes are the record, the
+-- others unchanged", and the length is the record's.
+pub record Leaves (n : ℕ) (out : List ℕ) (r : Result) : Type 0 where
+  pub refused : (k : ℕ) → refusal (r .reply) ≡ some k → r .output ≡ out
+  pub holds : (l : ℕ) → r .reply ≡ Length l → WrittenRecord n (take l (r .output))
+  pub length-is : (l : ℕ) → r .reply ≡ Length l → length (take l (r .output)) ≡ l
+  pub others : (l : ℕ) → r .reply ≡ Length l → drop l (r .output) ≡ drop l out
 
 -- What is answered beside a length: the first bytes of the output are the record of the graph, the others unchanged, and reading
 -- them gives a graph of the same meaning.
@@ -55,6 +74,15 @@ pub record Writes (n : ℕ) (t : List ℕ) {C : Type 0} (same : C → C → Bool
   pub unchanged : (r .reply ≡ TooLarge) ⊎ (r .reply ≡ NoRoom) → r .output ≡ out
   pub wrote : (l : ℕ) → r .reply ≡ Length l → Wrote n t same k out l (r .output)
 
+-- What stands in the output beside a length of rewriting the record a: a record that means the same and is its own written form, so
+-- that rewriting it gives what rewriting a gives, and where there is room its own bytes.
+pub record Rewritten (n : ℕ) (t a : List ℕ) (rows : List (Row ℕ)) (bytes : List ℕ) : Type 0 where
+  pub is-written : WrittenRecord n bytes
+  pub means : SameMeaning (typeLabels n t) (graphOfRows rows) (graphOfRows (is-written .form))
+  pub again : (room : List ℕ) → rewriting n t bytes room ≡ rewriting n t a room
+  pub same-bytes : (room : List ℕ) → length bytes ≤ length room →
+      (rewriting n t bytes room .reply ≡ Length (length bytes)) × (take (length bytes) (rewriting n t bytes room .output) ≡ bytes)
+
 -- the common part of two graphs, of whatever size
 abbrev pub common : ℕ → List ℕ → List (Row ℕ) → List (Row ℕ) → Graph ℕ (ℕ × ℕ)
 common n t s g = generalization (typeLabels n t) (graphOfRows s) (graphOfRows g)
@@ -69,3 +97,53 @@ pub record CommonPart (n : ℕ) (t a b : List ℕ) (s g : List (Row ℕ)) (bytes
   pub second-below : ordering n t b bytes ≡ Yes
   pub below-upper : (c : List ℕ) (m : List (Row ℕ)) → reading n c ≡ accepted m → ordering n t a c ≡ Yes → ordering n t b c ≡ Yes →
       ordering n t bytes c ≡ Yes
+
+-- no graph of any size lies below both
+abbrev pub NoneBelow : ℕ → List ℕ → List (Row ℕ) → List (Row ℕ) → Type 1
+NoneBelow n t g h =
+    (C : Type 0) (k : Graph ℕ C) → OfAnySize n t k → Below (typeLabels n t) k (graphOfRows g) → Below (typeLabels n t) k (graphOfRows h) → ⊥
+
+-- What stands in the output beside a length of the combination: a record that is read as what the classes of paths give, and this is the
+-- greatest graph of any size below both. The order's own answers agree: it is below both records, and above every accepted record that
+-- is below both.
+pub record Combination (n : ℕ) (t a b : List ℕ) (g h : List (Row ℕ)) (bytes : List ℕ) : Type 1 where
+  pub form : List (Row ℕ)
+  pub reads : reading n bytes ≡ accepted form
+  pub classes : IsCombination n t (graphOfRows g) (graphOfRows h) (graphOfRows form)
+  pub greatest : GreatestOfAnySize n t (graphOfRows g) (graphOfRows h) (graphOfRows form)
+  pub below-first : ordering n t bytes a ≡ Yes
+  pub below-second : ordering n t bytes b ≡ Yes
+  pub above-lower : (c : List ℕ) (m : List (Row ℕ)) → reading n c ≡ accepted m → ordering n t c a ≡ Yes → ordering n t c b ≡ Yes →
+      ordering n t c bytes ≡ Yes
+
+-- "strictly more general when s is not above g": e lies above d, and d not above e
+abbrev pub MoreGeneral : ℕ → List ℕ → {A B : Type 0} → Graph ℕ A → Graph ℕ B → Type 0
+MoreGeneral n t e d = Below (typeLabels n t) d e × (Below (typeLabels n t) e d → ⊥)
+
+-- the difference of g and s, for s below g, with s numbered as written
+abbrev pub remainder : ℕ → List ℕ → List (Row ℕ) → List (Row ℕ) → Graph ℕ ℕ
+remainder n t g s = differenceRows n t g (numbered (canonical eqb (graphOfRows s)))
+
+-- d, combined with g, restores s, and nothing more general does: whatever graph of any size is strictly more general than d, what it
+-- combines to with g, the greatest graph of any size below both, is strictly more general than s. There is one, where the nodes of that
+-- graph are told apart.
+pub record Restores (n : ℕ) (t : List ℕ) (d g s : Graph ℕ ℕ) : Type 1 where
+  pub of-any-size : OfAnySize n t d
+  pub restores : GreatestOfAnySize n t d g s
+  pub most-general : {E C : Type 0} (e : Graph ℕ E) → OfAnySize n t e → MoreGeneral n t e d → (u : Graph ℕ C) →
+      GreatestOfAnySize n t e g u → MoreGeneral n t u s
+  pub combines : {E : Type 0} (same : E → E → Bool) → Tells same → (e : Graph ℕ E) → OfAnySize n t e → MoreGeneral n t e d →
+      (u : Graph ℕ (E ⊎ ℕ)) × GreatestOfAnySize n t e g u
+
+-- What stands in the output beside a length of the difference of the records a and b: a record that is read as such a graph. Combined
+-- with a, from either side, it gives the written record of b byte for byte, whatever the output; and the order's own answers agree:
+-- every accepted record that is strictly more general gives, combined with a, a record that is strictly more general than b.
+pub record Difference (n : ℕ) (t a b : List ℕ) (g s : List (Row ℕ)) (bytes : List ℕ) : Type 1 where
+  pub form : List (Row ℕ)
+  pub reads : reading n bytes ≡ accepted form
+  pub restores : Restores n t (graphOfRows form) (graphOfRows g) (graphOfRows s)
+  pub combined-first : (out : List ℕ) → unifying n t bytes a out ≡ rewriting n t b out
+  pub combined-second : (out : List ℕ) → unifying n t a bytes out ≡ rewriting n t b out
+  pub more-general : (c : List ℕ) (m : List (Row ℕ)) → reading n c ≡ accepted m → ordering n t bytes c ≡ Yes →
+      ordering n t c bytes ≡ No → (out : List ℕ) (l : ℕ) → unifying n t c a out .reply ≡ Length l →
+      (ordering n t b (take l (unifying n t c a out .output)) ≡ Yes) × (ordering n t (take l (unifying n t c a out .output)) b ≡ No)

@@ -87,18 +87,22 @@ module _ {L A B : Type 0} (s : Graph L A) (g : Graph L B) where
   carry-links to c v w f r l =
       sym (walk-snoc s (r .0) f (c (r .0) v (r .1))) ∙ c (r .0 ++ (f ∷ [])) w (walk-snoc g (r .0) f (r .1) ∙ l)
 
+-- Where a graph is below g, a map that carries the walks of g to it is a node map.
+pub carries-map : {𝓛 : Labels} {A B : Type 0} {s : Graph (𝓛 .L) A} {g : Graph (𝓛 .L) B} → Below 𝓛 s g → (to : B → A) →
+    Carries to g s → NodeMap 𝓛 s g to
+carries-map {s = s} {g} b to c =
+    record {
+      root = carry-root s g to c;
+      links = carry-links s g to c;
+      labels = λ v r. below-labels b (r .0) (to v) v (c (r .0) v (r .1)) (r .1);
+    }
+
 -- Where it is decided which nodes of g are reached, a graph below g has a node map.
 pub below-map : {𝓛 : Labels} {A B : Type 0} {s : Graph (𝓛 .L) A} {g : Graph (𝓛 .L) B} → Below 𝓛 s g →
     ((v : B) → Dec (Reached g v)) → (to : B → A) × NodeMap 𝓛 s g to
 below-map {s = s} {g} b decide =
-    let (to, c) = carry s g (λ p v e. (b .paths p v e .0, b .paths p v e .1)) (b .corefers) decide in (
-      to,
-      record {
-        root = carry-root s g to c;
-        links = carry-links s g to c;
-        labels = λ v r. below-labels b (r .0) (to v) v (c (r .0) v (r .1)) (r .1);
-      },
-    )
+    let (to, c) = carry s g (λ p v e. (b .paths p v e .0, b .paths p v e .1)) (b .corefers) decide in
+    (to, carries-map b to c)
 
 -- Membership in a list is decided by a test that tells elements apart.
 pub member-decided : {A : Type 0} (same : A → A → Bool) → Tells same → (v : A) (l : List A) → Dec (List·Memᴰ v l)

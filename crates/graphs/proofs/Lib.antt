@@ -4,6 +4,7 @@ pub mod Lists
 pub mod Rows
 pub mod Below
 pub mod Finite
+pub mod Decided
 pub mod Product
 pub mod Order
 pub mod Form

@@ -1,7 +1,7 @@
 -- Graphs whose labels are numbers, and graphs whose labels are types of an accepted table. The first are what records state, the
 -- second what the theory of graphs speaks of. `lift` and `lower` only change labels, so the two graphs have one root, the same
--- links and the same paths; where every label is below n, order, equal meaning, written forms, generalization and unification of
--- the one are those of the other.
+-- links and the same paths; where every label is below n, order, equal meaning, written forms, generalization, unification and
+-- difference of the one are those of the other.
 use Prim.Native.Nat.{ℕ, _-_, _<_}
 use mathlib.Core.Path.{_≡_, refl, sym, ap, ap₂, subst, _∙_, fun-ext}
 use mathlib.Core.Bool.{Bool, true, false, cond}
@@ -15,6 +15,24 @@ use Rattle.graphs.specs.Map.{NodeMap, Exact}
 use Rattle.graphs.specs.Number.{canonical}
 use Rattle.graphs.specs.Generalize.{both, generalization}
 use Rattle.graphs.specs.Unify.{cycle, clash, unified, labelBeside, sameBeside, nodesBeside, classLabel, className, classGraph, hasCycle, hasClash, unification, anyOf}
+use Rattle.graphs.specs.Difference.{
+  Link,
+  difference,
+  keptLink,
+  keeps,
+  keptItself,
+  leaders,
+  lead,
+  groupOf,
+  spread,
+  touch,
+  bare,
+  covers,
+  incoming,
+  differ,
+  meetWhere,
+  meetOver,
+}
 use Rattle.graphs.proofs.Below.{exact-same, same-sym, same-trans, walk-map}
 use Rattle.graphs.proofs.Finite.{same-any-size}
 use Rattle.graphs.proofs.Form.Invariant.{same-canonical}
@@ -31,6 +49,14 @@ lower g = relabel (λ x. x .0) g
 onward-same : {A : Type 0} (o : Option A) → o ≡ onward (λ v. v) o
 onward-same none = refl
 onward-same (some v) = refl
+
+-- labels that a test picks, met along a list
+meets-folded : (𝓛 : Labels) {B : Type 0} (test : B → Bool) (label : B → 𝓛 .L) (ys : List B) →
+    meetWhere 𝓛 test label ys ≡ foldr (λ y a. cond (test y) (𝓛 .meet (label y) a) a) (𝓛 .top) ys
+unfolding meetWhere
+meets-folded 𝓛 test label [] = refl
+meets-folded 𝓛 test label (y ∷ ys) =
+    ap (λ (a : 𝓛 .L). cond (test y) (𝓛 .meet (label y) a) a) (meets-folded 𝓛 test label ys)
 
 module _ (n : ℕ) (t : List ℕ) (ok : accepted n t ≡ true) where
   abbrev raw : Labels
@@ -284,3 +310,23 @@ module _ (n : ℕ) (t : List ℕ) (ok : accepted n t ≡ true) where
         go true c = refl
         go false true = refl
         go false false = ap unified class-graph
+
+  -- Difference.
+
+  module _ {A B : Type 0} (sameA : A → A → Bool) (g : Graph ℕ B) (gs : List B) (over : B → A) where
+    -- the meet of all numbers over a node is that of the types
+    pub meetOver-number : ((w : B) → List·Memᴰ w gs → g .label w < n) → (v : A) →
+        meetOver raw sameA g gs over v ≡ meetOver law sameA (lift g) gs over v .0
+    unfolding meetOver
+    meetOver-number right v =
+        meets-folded raw (λ y. sameA (over y) v) (g .label) gs ∙
+        meets-number (λ y. sameA (over y) v) (g .label) (lift g .label) gs (λ w m. typed-number n t ok (g .label w) (right w m)) ∙
+        sym (ap (λ (x : TypeBelow n). x .0) (meets-folded law (λ y. sameA (over y) v) (lift g .label) gs))
+
+  module _ {A B : Type 0} (sameA : A → A → Bool) (sameB : B → B → Bool) (earlier : Link A → Link A → Bool) (s : Graph ℕ A) (ss : List A)
+      (g : Graph ℕ B) (gs : List B) (over : B → A) (wanted : A → TypeBelow n) where
+    -- the difference by numbers is that by types, lowered
+    pub difference-lower : difference raw sameA sameB earlier s ss g gs over (λ v. wanted v .0) ≡
+        lower (difference law sameA sameB earlier (lift s) ss (lift g) gs over wanted)
+    unfolding difference keptLink keeps keptItself leaders lead groupOf spread touch bare covers incoming differ
+    difference-lower = refl

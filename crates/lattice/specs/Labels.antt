@@ -1,10 +1,16 @@
 -- The types of a table as labels of graphs: numbers below n with the order, meets and joins of the table, n - 1 as top and 0 as the
--- contradiction (document 01, "Type table"); graphs of any size over a table, and bounds among them.
+-- contradiction (document 01, "Type table"); graphs of any size over a table, bounds among them, and what combines
+-- two of them over paths.
 use Prim.Native.Nat.{ℕ, _-_, _<_}
+use mathlib.Core.Path.{_≡_}
+use mathlib.Core.Bool.{true}
 use mathlib.Core.List.{List}
+use mathlib.Core.Logic.{_↔_}
+use mathlib.Core.Option.{some}
 use lib.Dec.{eqb}
 use Rattle.graphs.specs.Label.{Labels}
-use Rattle.graphs.specs.Graph.{Graph, Reached, Below, AnySize}
+use Rattle.graphs.specs.Graph.{Graph, walk, Reached, Corefer, Below, AnySize}
+use Rattle.graphs.specs.Unify.{Joined, UnderClass}
 use Rattle.lattice.specs.Table.{below, meet, join, cell}
 
 abbrev pub typeLabels : ℕ → List ℕ → Labels
@@ -43,3 +49,18 @@ pub record GreatestOfAnySize (n : ℕ) (t : List ℕ) {A B C : Type 0} (g : Grap
   pub right : Below (typeLabels n t) k h
   pub greatest : {D : Type 0} (m : Graph ℕ D) → OfAnySize n t m → Below (typeLabels n t) m g → Below (typeLabels n t) m h →
       Below (typeLabels n t) m k
+
+module _ (n : ℕ) (t : List ℕ) {A B : Type 0} (g : Graph ℕ A) (h : Graph ℕ B) where
+  -- "A class has the meet of all types in it": the greatest of the table's n types below each.
+  pub record TypesMeet (p : List ℕ) (a : ℕ) : Type 0 where
+    pub under : UnderClass (typeLabels n t) g h p a
+    pub greatest : (b : ℕ) → b < n → UnderClass (typeLabels n t) g h p b → below t b a ≡ true
+
+  -- "Combination": the paths of u and which of them share are those of the classes, and so are its types.
+  pub record IsCombination {C : Type 0} (u : Graph ℕ C) : Type 0 where
+    pub corefers : (p q : List ℕ) → Corefer u p q ↔ Joined g h p q
+    pub types : (p : List ℕ) (x : C) → walk u p ≡ some x → TypesMeet p (u .label x)
+
+  -- "A clash is a class whose meet is type 0."
+  abbrev pub TypeClash : Type 0
+  TypeClash = (p : List ℕ) × Joined g h p p × TypesMeet p 0

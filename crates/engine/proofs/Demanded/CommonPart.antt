@@ -1,0 +1,63 @@
+-- The common part is the least graph of any size above both, whatever its size; what is written of it is read again as that graph, and
+-- the order's own answers agree.
+use mathlib.Core.Path.{_≡_, refl}
+use mathlib.Core.Bool.{true}
+use mathlib.Core.List.{List}
+use Prim.Native.Nat.{ℕ}
+use lib.ListN.{take}
+use Rattle.graphs.specs.Rows.{Row}
+use Rattle.lattice.specs.Table as table
+use Rattle.lattice.specs.Reply.{opened}
+use Rattle.lattice.specs.Labels.{LeastOfAnySize}
+use Rattle.lattice.proofs.Residuals.{opened-accepted}
+use Rattle.lattice.proofs.AnySize.{generalization-least, same-least}
+use Rattle.record.specs.Read.{reading, accepted, graphOfRows}
+use Rattle.record.proofs.Theorems.{accepted-of-any-size}
+use Rattle.generalize.specs.Pairs.{samePair}
+use Rattle.generalize.proofs.Sides.{tells-pair}
+use Rattle.engine.specs.declared.Reply.the-variants.{Length}
+use Rattle.engine.specs.Reply.{generalized, generalizing}
+use Rattle.engine.specs.Demand.{Given, Writes, common, CommonPart}
+use Rattle.engine.proofs.Results.{result-writes}
+use Rattle.engine.proofs.Demanded.Order.{order-exact}
+
+module _ (n : ℕ) (t a b : List ℕ) (s g : List (Row ℕ)) (given : Given n t a b s g) where
+  pub accepts : table.accepted n t ≡ true
+  accepts = opened-accepted n t (opened n t) refl (given .opens)
+
+  -- There always is a least graph of any size above both: the common part, also where it is too large to be written.
+  pub common-part-exists : LeastOfAnySize n t (graphOfRows s) (graphOfRows g) (common n t s g)
+  common-part-exists =
+      generalization-least n t accepts (graphOfRows s) (graphOfRows g) (accepted-of-any-size n a s (given .first) t)
+      (accepted-of-any-size n b g (given .second) t)
+
+  module _ (out : List ℕ) where
+    -- The call refuses by 11 and 8 exactly where they are due, and leaves the output as it was; else it writes the common part.
+    pub common-part-written : Writes n t samePair (common n t s g) out (generalizing n t a b out)
+    unfolding generalizing generalized
+    common-part-written =
+        rw (given .opens, given .first, given .second) (result-writes n t samePair tells-pair (common n t s g) (common-part-exists .of-any-size) out)
+
+    -- What is written is the least graph above both, and the order agrees.
+    pub common-part : (l : ℕ) → generalizing n t a b out .reply ≡ Length l →
+        CommonPart n t a b s g (take l (generalizing n t a b out .output))
+    common-part l q =
+        let wrote = common-part-written .wrote l q in
+        let bytes : List ℕ = take l (generalizing n t a b out .output) in
+        let form : List (Row ℕ) = wrote .form in
+        let reads : reading n bytes ≡ accepted form = wrote .reads in
+        let least : LeastOfAnySize n t (graphOfRows s) (graphOfRows g) (graphOfRows form) =
+        same-least n t accepts (graphOfRows s) (graphOfRows g) (common n t s g) (graphOfRows form) (wrote .means) common-part-exists in
+        record {
+          form = form;
+          reads = reads;
+          least = least;
+          first-below = order-exact n t a bytes s form (record { opens = given .opens; first = given .first; second = reads }) .0 .1 (least .left);
+          second-below = order-exact n t b bytes g form (record { opens = given .opens; first = given .second; second = reads }) .0 .1
+              (least .right);
+          below-upper = λ c m upper x y.
+              order-exact n t bytes c form m (record { opens = given .opens; first = reads; second = upper }) .0 .1
+              (least .least (graphOfRows m) (accepted-of-any-size n c m upper t)
+              (order-exact n t a c s m (record { opens = given .opens; first = given .first; second = upper }) .0 .0 x)
+              (order-exact n t b c g m (record { opens = given .opens; first = given .second; second = upper }) .0 .0 y));
+        }

@@ -1,0 +1,231 @@
+-- The difference: 13 and 12 exactly where they are due, never 11; what is written of it restores the specific record byte for byte when it
+-- is combined with the general one, and nothing more general does.
+use mathlib.Core.Path.{_≡_, refl, sym, _∙_, ap, ap₂, subst}
+use mathlib.Core.Bool.{Bool, true, false, cond}
+use mathlib.Core.List.{List}
+use mathlib.Core.Logic.{_↔_}
+use Prim.Native.Nat.{ℕ}
+use native.Mathlib.Omega.{arith}
+use lib.Dec.{eqb}
+use lib.ListN.{length, take}
+use Rattle.graphs.specs.Graph.{Graph, Below, SameMeaning}
+use Rattle.graphs.specs.Rows.{Row}
+use Rattle.graphs.specs.Number.{canonical, written}
+use Rattle.graphs.specs.Order.{subsumes}
+use Rattle.graphs.proofs.Lists.{tells-eqb}
+use Rattle.graphs.proofs.Search.{true-false, not-true}
+use Rattle.graphs.proofs.Below.{same-refl, same-sym}
+use Rattle.lattice.specs.Table as table
+use Rattle.lattice.specs.Reply.{opened}
+use Rattle.lattice.specs.Labels.{typeLabels}
+use Rattle.lattice.proofs.Residuals.{opened-accepted}
+use Rattle.lattice.proofs.Relabel.{same-below-left, same-below-right}
+use Rattle.lattice.proofs.Transfer.{same-of-any-size}
+use Rattle.lattice.proofs.AnySize.{same-greatest, greatest-sides}
+use Rattle.encode.specs.Encode.{Outcome, encoded, writtenOut}
+use Rattle.record.specs.Read.{reading, accepted, graphOfRows}
+use Rattle.record.proofs.Accepted.{Rules, accepted-rules}
+use Rattle.record.proofs.Theorems.{accepted-of-any-size, accepted-fits, written-accepted}
+use Rattle.engine.specs.declared.Reply.the-variants as replies
+use Rattle.engine.specs.Reply.{Result, refusal, refusing, resultOf}
+use Rattle.engine.specs.Unification.{unifying}
+use Rattle.engine.specs.Difference.{numbered, differenceRows, differed, differedRows, differing}
+use Rattle.engine.specs.Demand.{Given, Large, Writes, MoreGeneral, remainder, Restores, Difference}
+use Rattle.engine.proofs.Orders.{order-test}
+use Rattle.engine.proofs.Results.{resultFor, rewriting-is, result-writes}
+use Rattle.engine.proofs.Demanded.Order.{order-exact}
+use Rattle.engine.proofs.Demanded.Combination.{other-refusal, greatest-result, written-combination}
+use Rattle.engine.proofs.Demanded.Remainder.{rows-small, rows-restore}
+
+-- 13, then 12, else what writing answers
+abbrev chosen : Bool → Bool → Outcome → List ℕ → Result
+chosen admitted lies o out =
+    cond admitted (cond lies (resultOf o) (refusing replies.NotBelow out)) (refusing replies.NotAdmitted out)
+
+module _ (o : Outcome) (out : List ℕ) where
+  chosen-admitted : (x y : Bool) → (chosen x y o out .reply ≡ replies.NotAdmitted) ↔ (x ≡ false)
+  chosen-admitted false y = (λ _. refl, λ _. refl)
+  chosen-admitted true false = (λ q. let z : _≡_ {A = ℕ} 0 1 = cc in absurd (omega arith), λ q. true-false refl q)
+  chosen-admitted true true = (
+    λ q. absurd (other-refusal (o .answer) 13 (ap refusal q) (λ z. omega arith) (λ z. omega arith)),
+    λ q. true-false refl q,
+  )
+
+  chosen-below : (x y : Bool) → (chosen x y o out .reply ≡ replies.NotBelow) ↔ ((x ≡ true) × (y ≡ false))
+  chosen-below false y = (λ q. let z : _≡_ {A = ℕ} 0 1 = cc in absurd (omega arith), λ (q, _). true-false q refl)
+  chosen-below true false = (λ _. (refl, refl), λ _. refl)
+  chosen-below true true = (
+    λ q. absurd (other-refusal (o .answer) 12 (ap refusal q) (λ z. omega arith) (λ z. omega arith)),
+    λ (_, q). true-false refl q,
+  )
+
+module _ (n : ℕ) (t a b : List ℕ) (g s : List (Row ℕ)) (given : Given n t a b g s) where
+  accepts : table.accepted n t ≡ true
+  accepts = opened-accepted n t (opened n t) refl (given .opens)
+
+  general-rules : Rules n g
+  general-rules = accepted-rules n a g (given .first)
+
+  -- s in written form
+  abbrev form : List (Row ℕ)
+  form = accepted-fits n b s (given .second) .0
+
+  form-is : canonical eqb (graphOfRows s) ≡ written form
+  form-is = accepted-fits n b s (given .second) .1
+
+  form-reads : (reading n (encoded form) ≡ accepted form) ×
+      (canonical eqb (graphOfRows form) ≡ written form) ×
+      SameMeaning (typeLabels n t) (graphOfRows s) (graphOfRows form)
+  form-reads = written-accepted n t b s (given .second) form form-is
+
+  means : SameMeaning (typeLabels n t) (graphOfRows s) (graphOfRows form)
+  means = form-reads .2
+
+  remainder-is : remainder n t g s ≡ differenceRows n t g form
+  remainder-is = ap (λ c. differenceRows n t g (numbered c)) form-is
+
+  -- whether s, numbered as written, is below g
+  abbrev lies : Bool
+  lies = subsumes (typeLabels n t) eqb eqb (graphOfRows (numbered (canonical eqb (graphOfRows s)))) (graphOfRows g) (length g)
+
+  lies-exact : (lies ≡ true) ↔ Below (typeLabels n t) (graphOfRows s) (graphOfRows g)
+  lies-exact =
+      subst
+      (λ (rows : List (Row ℕ)). (subsumes (typeLabels n t) eqb eqb (graphOfRows rows) (graphOfRows g) (length g) ≡ true) ↔
+      Below (typeLabels n t) (graphOfRows s) (graphOfRows g))
+      (sym (ap numbered form-is)) (
+        λ q. same-below-left (same-sym means) (order-test n t form g general-rules .0 q),
+        λ x. order-test n t form g general-rules .1 (same-below-left means x),
+      )
+
+  -- Where s is below g and the table admits differences, the difference restores s, and nothing more general does.
+  module _ (differ : table.admits n t ≡ true) (below : Below (typeLabels n t) (graphOfRows s) (graphOfRows g)) where
+    form-below : Below (typeLabels n t) (graphOfRows form) (graphOfRows g)
+    form-below = same-below-left means below
+
+    form-rules : Rules n form
+    form-rules = accepted-rules n (encoded form) form (form-reads .0)
+
+    pub remainder-small : Large (remainder n t g s) → ⊥
+    remainder-small =
+        subst (λ (k : Graph ℕ ℕ). Large k → ⊥) (sym remainder-is) (rows-small n t accepts g form general-rules form-rules form-below differ)
+
+    pub remainder-restores : Restores n t (remainder n t g s) (graphOfRows g) (graphOfRows s)
+    remainder-restores =
+        let made = rows-restore n t accepts g form general-rules form-rules form-below differ in
+        subst (λ (k : Graph ℕ ℕ). Restores n t k (graphOfRows g) (graphOfRows s)) (sym remainder-is)
+        (record {
+          of-any-size = made .of-any-size;
+          restores =
+              same-greatest n t accepts (differenceRows n t g form) (graphOfRows g) (graphOfRows form) (differenceRows n t g form) (graphOfRows s)
+              (same-refl (differenceRows n t g form)) (same-sym means) (made .restores);
+          most-general = λ e c more u best.
+              let (x, y) = made .most-general e c more u best in
+              (same-below-left (same-sym means) x, λ z. y (same-below-right means z));
+          combines = made .combines;
+        })
+
+  -- what means the same restores the same
+  restores-again : (d : Graph ℕ ℕ) (again : List (Row ℕ)) → SameMeaning (typeLabels n t) d (graphOfRows again) →
+      Restores n t d (graphOfRows g) (graphOfRows s) → Restores n t (graphOfRows again) (graphOfRows g) (graphOfRows s)
+  restores-again d again same made =
+      record {
+        of-any-size = same-of-any-size n t accepts d (graphOfRows again) same (made .of-any-size);
+        restores = same-greatest n t accepts d (graphOfRows g) (graphOfRows s) (graphOfRows again) (graphOfRows s) same (same-refl (graphOfRows s))
+            (made .restores);
+        most-general = λ e c more. made .most-general e c (as-general e more);
+        combines = λ test tells e c more. made .combines test tells e c (as-general e more);
+      }
+    where
+      as-general : {E : Type 0} (e : Graph ℕ E) → MoreGeneral n t e (graphOfRows again) → MoreGeneral n t e d
+      as-general e (above, strict) = (same-below-left (same-sym same) above, λ z. strict (same-below-right same z))
+
+  module _ (out : List ℕ) where
+    differing-is : differing n t a b out ≡ chosen (table.admits n t) lies (writtenOut (canonical eqb (remainder n t g s)) out) out
+    unfolding differing differedRows differed
+    differing-is = rw (given .opens, given .first, given .second)
+
+    -- 13 exactly where the table does not admit differences
+    pub not-admitted-exact : (differing n t a b out .reply ≡ replies.NotAdmitted) ↔ (table.admits n t ≡ false)
+    not-admitted-exact =
+        subst (λ (r : Result). (r .reply ≡ replies.NotAdmitted) ↔ (table.admits n t ≡ false)) (sym differing-is)
+        (chosen-admitted (writtenOut (canonical eqb (remainder n t g s)) out) out (table.admits n t) lies)
+
+    -- 12 exactly where it does, and s is not below g
+    pub not-below-exact : (differing n t a b out .reply ≡ replies.NotBelow) ↔
+        ((table.admits n t ≡ true) × (Below (typeLabels n t) (graphOfRows s) (graphOfRows g) → ⊥))
+    not-below-exact =
+        let (there, back) =
+        subst (λ (r : Result). (r .reply ≡ replies.NotBelow) ↔ ((table.admits n t ≡ true) × (lies ≡ false))) (sym differing-is)
+        (chosen-below (writtenOut (canonical eqb (remainder n t g s)) out) out (table.admits n t) lies) in (
+          λ q. let (x, y) = there q in (x, λ z. true-false (lies-exact .1 z) y),
+          λ (x, y). back (x, not-true lies (λ z. y (lies-exact .0 z))),
+        )
+
+    -- the three results: 13, 12, or what is written where neither is due
+    pub data Told : Type 0 where
+      not-admitted : differing n t a b out ≡ refusing replies.NotAdmitted out → Told
+      not-below : differing n t a b out ≡ refusing replies.NotBelow out → Told
+      differs : table.admits n t ≡ true → Below (typeLabels n t) (graphOfRows s) (graphOfRows g) → Told
+
+    pub difference-told : Told
+    difference-told = go (table.admits n t) lies refl refl
+      where
+        go : (x y : Bool) → table.admits n t ≡ x → lies ≡ y → Told
+        go false y p q = not-admitted (differing-is ∙ ap (λ (z : Bool). chosen z lies (writtenOut (canonical eqb (remainder n t g s)) out) out) p)
+        go true false p q =
+            not-below (differing-is ∙ ap₂ (λ (z w : Bool). chosen z w (writtenOut (canonical eqb (remainder n t g s)) out) out) p q)
+        go true true p q = differs p (lies-exact .0 q)
+
+    module _ (differ : table.admits n t ≡ true) (below : Below (typeLabels n t) (graphOfRows s) (graphOfRows g)) where
+      -- then the difference is what the call writes
+      pub remainder-result : differing n t a b out ≡ resultFor eqb (remainder n t g s) out
+      remainder-result =
+          differing-is ∙
+          ap₂ (λ (x y : Bool). chosen x y (writtenOut (canonical eqb (remainder n t g s)) out) out) differ (lies-exact .1 below)
+
+      pub remainder-writes : Writes n t eqb (remainder n t g s) out (differing n t a b out)
+      remainder-writes =
+          subst (Writes n t eqb (remainder n t g s) out) (sym remainder-result)
+          (result-writes n t eqb tells-eqb (remainder n t g s) (remainder-restores differ below .of-any-size) out)
+
+    -- What is written restores b with a, byte for byte, and nothing more general does.
+    pub written-difference : (l : ℕ) → differing n t a b out .reply ≡ replies.Length l →
+        Difference n t a b g s (take l (differing n t a b out .output))
+    written-difference l q = go difference-told
+      where
+        go : Told → Difference n t a b g s (take l (differing n t a b out .output))
+        go (not-admitted e) = let z : _≡_ {A = ℕ} 0 1 = cc (q, ap (λ (r : Result). r .reply) e) in absurd (omega arith)
+        go (not-below e) = let z : _≡_ {A = ℕ} 0 1 = cc (q, ap (λ (r : Result). r .reply) e) in absurd (omega arith)
+        go (differs differ below) =
+            let wrote = remainder-writes differ below .wrote l q in
+            let bytes : List ℕ = take l (differing n t a b out .output) in
+            let again : List (Row ℕ) = wrote .form in
+            let reads : reading n bytes ≡ accepted again = wrote .reads in
+            let restores : Restores n t (graphOfRows again) (graphOfRows g) (graphOfRows s) =
+            restores-again (remainder n t g s) again (wrote .means) (remainder-restores differ below) in
+            record {
+              form = again;
+              reads = reads;
+              restores = restores;
+              combined-first = λ room.
+                  greatest-result n t bytes a again g (record { opens = given .opens; first = reads; second = given .first }) room eqb tells-eqb
+                  (graphOfRows s) (restores .restores) ∙
+                  sym (rewriting-is n t b s (given .opens) (given .second) room);
+              combined-second = λ room.
+                  greatest-result n t a bytes g again (record { opens = given .opens; first = given .first; second = reads }) room eqb tells-eqb
+                  (graphOfRows s) (greatest-sides n t accepts (graphOfRows again) (graphOfRows g) (graphOfRows s) (restores .restores)) ∙
+                  sym (rewriting-is n t b s (given .opens) (given .second) room);
+              more-general = λ c m read x y room k w.
+                  let higher = order-exact n t bytes c again m (record { opens = given .opens; first = reads; second = read }) .0 .0 x in
+                  let strict = order-exact n t c bytes m again (record { opens = given .opens; first = read; second = reads }) .1 .0 y in
+                  let found = written-combination n t c a m g (record { opens = given .opens; first = read; second = given .first }) room k w in
+                  let (over, not-under) =
+                  restores .most-general (graphOfRows m) (accepted-of-any-size n c m read t) (higher, strict) (graphOfRows (found .form))
+                  (found .greatest) in (
+                    order-exact n t b (take k (unifying n t c a room .output)) s (found .form)
+                        (record { opens = given .opens; first = given .second; second = found .reads }) .0 .1 over,
+                    order-exact n t (take k (unifying n t c a room .output)) b (found .form) s
+                        (record { opens = given .opens; first = found .reads; second = given .second }) .1 .1 not-under,
+                  );
+            }

@@ -1,0 +1,114 @@
+-- Meaning and bytes: accepted records mean the same exactly when rewriting gives equal bytes, and exactly when each is below the other;
+-- what rewriting writes means the same and is its own written form.
+use mathlib.Core.Path.{_≡_, refl, sym, _∙_, ap, subst}
+use mathlib.Core.List.{List}
+use mathlib.Core.Logic.{_↔_}
+use Prim.Native.Nat.{ℕ}
+use native.Mathlib.Omega.{arith}
+use lib.Dec.{eqb}
+use lib.ListN.{length, take}
+use Rattle.graphs.specs.Graph.{SameMeaning}
+use Rattle.graphs.specs.Rows.{Row}
+use Rattle.graphs.specs.Number.{Canonical, canonical, written}
+use Rattle.graphs.proofs.Lists.{tells-eqb}
+use Rattle.graphs.proofs.Below.{same-sym}
+use Rattle.graphs.proofs.Form.Invariant.{same-canonical}
+use Rattle.lattice.specs.declared.Opened.the-variants.{Accepted}
+use Rattle.lattice.specs.Reply.{opened}
+use Rattle.lattice.specs.Labels.{typeLabels}
+use Rattle.lattice.proofs.Residuals.{opened-accepted}
+use Rattle.lattice.proofs.AnySize.{below-both}
+use Rattle.encode.specs.Encode.{encoded, writtenOut}
+use Rattle.record.specs.Read.{reading, accepted, graphOfRows}
+use Rattle.record.proofs.Rewritten.{written-injective, form-again}
+use Rattle.record.proofs.Theorems.{accepted-of-any-size, accepted-fits}
+use Rattle.record.proofs.Theorems as record-theorems
+use Rattle.engine.specs.declared.Reply.the-variants.{Length, Yes}
+use Rattle.engine.specs.Reply.{Result, resultOf, ordering, rewriting}
+use Rattle.engine.specs.Demand.{Given, Writes, Rewritten}
+use Rattle.engine.proofs.Results.{rewriting-is, result-writes}
+use Rattle.engine.proofs.Demanded.Order.{order-exact}
+use Rattle.engine.proofs.Demanded.Output.{rewriting-small}
+
+module _ (n : ℕ) (t a : List ℕ) (rows : List (Row ℕ)) (opens : opened n t ≡ Accepted) (reads : reading n a ≡ accepted rows) (out : List ℕ) where
+  -- rewriting refuses an accepted record by 8 alone, exactly where it is due
+  pub rewriting-writes : Writes n t eqb (graphOfRows rows) out (rewriting n t a out)
+  rewriting-writes =
+      subst (Writes n t eqb (graphOfRows rows) out) (sym (rewriting-is n t a rows opens reads out))
+      (result-writes n t eqb tells-eqb (graphOfRows rows) (accepted-of-any-size n a rows reads t) out)
+
+module _ (n : ℕ) (t a b : List ℕ) (s g : List (Row ℕ)) (given : Given n t a b s g) where
+  -- equal meaning is the same reply and output
+  same-rewriting : SameMeaning (typeLabels n t) (graphOfRows s) (graphOfRows g) → (out : List ℕ) → rewriting n t a out ≡ rewriting n t b out
+  same-rewriting m out =
+      rewriting-is n t a s (given .opens) (given .first) out ∙
+      ap (λ (c : Canonical ℕ). resultOf (writtenOut c out))
+      (same-canonical (typeLabels n t) eqb eqb tells-eqb tells-eqb (graphOfRows s) (graphOfRows g) m) ∙
+      sym (rewriting-is n t b g (given .opens) (given .second) out)
+
+  -- equal bytes, whatever the output
+  pub bytes-exact : (out : List ℕ) (l m : ℕ) → rewriting n t a out .reply ≡ Length l → rewriting n t b out .reply ≡ Length m →
+      SameMeaning (typeLabels n t) (graphOfRows s) (graphOfRows g) ↔
+      (take l (rewriting n t a out .output) ≡ take m (rewriting n t b out .output))
+  bytes-exact out l m p q =
+      let first = rewriting-writes n t a s (given .opens) (given .first) out .wrote l p in
+      let second = rewriting-writes n t b g (given .opens) (given .second) out .wrote m q in
+      let (there, back) =
+      record-theorems.meaning-exact n t a b s g (given .first) (given .second) (first .form) (second .form) (first .fits) (second .fits) in (
+        λ same. first .bytes ∙ there same ∙ sym (second .bytes),
+        λ e. back (sym (first .bytes) ∙ e ∙ second .bytes),
+      )
+
+  -- and so for all outputs at once
+  pub meaning-exact : SameMeaning (typeLabels n t) (graphOfRows s) (graphOfRows g) ↔
+      ((out : List ℕ) → rewriting n t a out ≡ rewriting n t b out)
+  meaning-exact = (same-rewriting, λ all. go all (accepted-fits n a s (given .first)))
+    where
+      go : ((out : List ℕ) → rewriting n t a out ≡ rewriting n t b out) → (form : List (Row ℕ)) × (canonical eqb (graphOfRows s) ≡ written form) →
+          SameMeaning (typeLabels n t) (graphOfRows s) (graphOfRows g)
+      go all (form, e) =
+          let room : List ℕ = encoded form in
+          let writes = rewriting-writes n t a s (given .opens) (given .first) room in
+          let p : rewriting n t a room .reply ≡ Length (length (encoded form)) =
+          writes .fits (length (encoded form)) .1 (
+            λ large. rewriting-small n t room a (writes .too-large .1 large),
+            (form, e, (refl, omega arith)),
+          ) in
+          bytes-exact room (length (encoded form)) (length (encoded form)) p (ap (λ (r : Result). r .reply) (sym (all room)) ∙ p) .1
+          (ap (λ (r : Result). take (length (encoded form)) (r .output)) (all room))
+
+  -- "Graphs of equal meaning, and no others, are below each other."
+  pub order-both-ways : ((ordering n t a b ≡ Yes) × (ordering n t b a ≡ Yes)) ↔ SameMeaning (typeLabels n t) (graphOfRows s) (graphOfRows g)
+  order-both-ways =
+      let accepts = opened-accepted n t (opened n t) refl (given .opens) in
+      let (there, back) =
+      below-both n t accepts (graphOfRows s) (graphOfRows g) (accepted-of-any-size n a s (given .first) t) (accepted-of-any-size n b g (given .second) t) in
+      let one = order-exact n t a b s g given .0 in
+      let other = order-exact n t b a g s (record { opens = given .opens; first = given .second; second = given .first }) .0 in (
+        λ (x, y). back (one .0 x, other .0 y),
+        λ m. let (x, y) = there m in (one .1 x, other .1 y),
+      )
+
+-- What rewriting writes.
+module _ (n : ℕ) (t a : List ℕ) (rows : List (Row ℕ)) (opens : opened n t ≡ Accepted) (reads : reading n a ≡ accepted rows) (out : List ℕ) where
+  pub written-again : (l : ℕ) → rewriting n t a out .reply ≡ Length l → Rewritten n t a rows (take l (rewriting n t a out .output))
+  written-again l q =
+      let wrote = rewriting-writes n t a rows opens reads out .wrote l q in
+      let bytes : List ℕ = take l (rewriting n t a out .output) in
+      let own : canonical eqb (graphOfRows (wrote .form)) ≡ written (wrote .form) =
+      form-again n t eqb tells-eqb (graphOfRows rows) (accepted-of-any-size n a rows reads t) (wrote .form) (wrote .fits) in
+      record {
+        is-written = record { form = wrote .form; reads = wrote .reads; own = own; bytes-are = wrote .bytes };
+        means = wrote .means;
+        again = same-rewriting n t bytes a (wrote .form) rows (record { opens = opens; first = wrote .reads; second = reads }) (same-sym (wrote .means));
+        same-bytes = λ room enough.
+            let writes = rewriting-writes n t bytes (wrote .form) opens (wrote .reads) room in
+            let size : length (encoded (wrote .form)) ≡ length bytes = ap length (sym (wrote .bytes)) in
+            let p : rewriting n t bytes room .reply ≡ Length (length bytes) =
+            writes .fits (length bytes) .1 (
+              λ large. rewriting-small n t room bytes (writes .too-large .1 large),
+              (wrote .form, own, (size, omega arith)),
+            ) in
+            let twice = writes .wrote (length bytes) p in
+            (p, twice .bytes ∙ ap encoded (written-injective (sym (twice .fits) ∙ own)) ∙ sym (wrote .bytes));
+      }

@@ -1,0 +1,212 @@
+-- What the calls leave in the output, whatever is handed in: a refusal leaves it as it was, and beside a length stands a record that is
+-- accepted when it is read. And 11 is no reply of the difference or of rewriting.
+use mathlib.Core.Path.{_≡_, refl, sym, _∙_, ap, subst}
+use mathlib.Core.Bool.{Bool}
+use mathlib.Core.List.{List}
+use mathlib.Core.Logic.{inl, inr, ⊎-elim}
+use mathlib.Core.Option.{some}
+use Prim.Native.Nat.{ℕ}
+use native.Mathlib.Omega.{arith}
+use lib.Dec.{eqb}
+use lib.ListN.{length}
+use Rattle.graphs.specs.Graph.{Graph, Tells}
+use Rattle.graphs.specs.Rows.{Row}
+use Rattle.graphs.proofs.Lists.{tells-eqb}
+use Rattle.lattice.specs.declared.TableFault.{TableFault}
+use Rattle.lattice.specs.declared.Opened.{Opened}
+use Rattle.lattice.specs.declared.Opened.the-variants as opened
+use Rattle.lattice.specs.Reply as table
+use Rattle.lattice.specs.Labels.{OfAnySize}
+use Rattle.encode.specs.Encode.{encoded}
+use Rattle.record.specs.declared.GraphFault.{GraphFault}
+use Rattle.record.specs.Read.{Reading, refused, accepted, reading, graphNumber, graphOfRows}
+use Rattle.record.proofs.Nodes.{few-nodes, few-links}
+use Rattle.record.proofs.Accepted.{rules-linked, accepted-rules}
+use Rattle.record.proofs.Rewritten.{written-injective, form-again}
+use Rattle.record.proofs.Theorems.{accepted-of-any-size}
+use Rattle.generalize.specs.Pairs.{samePair}
+use Rattle.generalize.proofs.Sides.{tells-pair}
+use Rattle.engine.specs.declared.Side.{Side}
+use Rattle.engine.specs.declared.Side.the-variants.{First, Second}
+use Rattle.engine.specs.declared.Reply.{Reply}
+use Rattle.engine.specs.declared.Reply.the-variants as replies
+use Rattle.engine.specs.Reply.{Result, refusal, refusing, checked, readBoth, rewritten, rewriting, generalizing, generalized}
+use Rattle.engine.specs.Unification.{sameEither, unifiedRows, unifying}
+use Rattle.engine.specs.Difference.{differedRows, differing}
+use Rattle.engine.specs.Demand.{Given, Leaves, Large, common, remainder}
+use Rattle.engine.proofs.Results.{resultFor, result-writes}
+use Rattle.engine.proofs.Demanded.CommonPart.{common-part-exists}
+use Rattle.engine.proofs.Demanded.Combination.{refused-cycle, refused-clash, written, tells-either, combination-told}
+use Rattle.engine.proofs.Demanded.Combination as Combined
+use Rattle.engine.proofs.Demanded.Difference.{
+  not-admitted,
+  not-below,
+  differs,
+  difference-told,
+  remainder-result,
+  remainder-restores,
+  remainder-small,
+}
+use Rattle.engine.proofs.Demanded.Difference as Differed
+
+module _ (n : ℕ) (out : List ℕ) where
+  refusing-leaves : (r : Reply) (k : ℕ) → refusal r ≡ some k → Leaves n out (refusing r out)
+  refusing-leaves r k e =
+      record {
+        refused = λ _ _. refl;
+        holds = λ l q. absurd (none l q);
+        length-is = λ l q. absurd (none l q);
+        others = λ l q. absurd (none l q);
+      }
+    where
+      none : (l : ℕ) → r ≡ replies.Length l → ⊥
+      none l q = let z : _≡_ {A = ℕ} 0 1 = cc (e, ap refusal q) in omega arith
+
+  graph-leaves : (t : List ℕ) {C : Type 0} (same : C → C → Bool) → Tells same → (k : Graph ℕ C) → OfAnySize n t k →
+      Leaves n out (resultFor same k out)
+  graph-leaves t same tells k size =
+      let writes = result-writes n t same tells k size out in
+      record {
+        refused = λ i q.
+            ⊎-elim (λ e. writes .unchanged (inl e))
+            (λ more.
+            ⊎-elim (λ e. writes .unchanged (inr e))
+            (λ (l, e). let z : _≡_ {A = ℕ} 0 1 = cc (q, ap refusal e) in absurd (omega arith)) more)
+            (writes .replies);
+        holds = λ l q.
+            let wrote = writes .wrote l q in
+            record {
+              form = wrote .form;
+              reads = wrote .reads;
+              own = form-again n t same tells k size (wrote .form) (wrote .fits);
+              bytes-are = wrote .bytes;
+            };
+        length-is = λ l q.
+            let wrote = writes .wrote l q in
+            let (_, (form, e, (is, _))) = writes .fits l .0 q in
+            ap length (wrote .bytes) ∙ ap (λ (rows : List (Row ℕ)). length (encoded rows)) (written-injective (sym (wrote .fits) ∙ e)) ∙ is;
+        others = λ l q. writes .wrote l q .others;
+      }
+
+  -- What holds of a call: what holds of every refusal of what is handed in, and of accepted records over an accepted table.
+  module _ (t : List ℕ) (P : Result → Type 0) (table-refused : (fault : TableFault) → P (refusing (replies.Table fault) out))
+      (graph-refused : (fault : GraphFault) (side : Side) → P (refusing (replies.Graph fault side) out)) where
+    of-one : (bytes : List ℕ) →
+        ((rows : List (Row ℕ)) → reading n bytes ≡ accepted rows → P (resultFor eqb (graphOfRows rows) out)) →
+        P (rewriting n t bytes out)
+    unfolding rewriting
+    of-one bytes next = go (table.opened n t)
+      where
+        read : (o : Reading) → reading n bytes ≡ o → P (rewritten o out)
+        read (refused fault) e = graph-refused fault First
+        read (accepted rows) e = next rows e
+
+        go : (o : Opened) → P (checked (λ r. refusing r out) o (rewritten (reading n bytes) out))
+        go (opened.Refused fault) = table-refused fault
+        go opened.Accepted = read (reading n bytes) refl
+
+    of-two : (a b : List ℕ) (next : List (Row ℕ) → List (Row ℕ) → Result) → ((g h : List (Row ℕ)) → Given n t a b g h → P (next g h)) →
+        P (checked (λ r. refusing r out) (table.opened n t) (readBoth (λ r. refusing r out) (reading n a) (reading n b) next))
+    of-two a b next holds = go (table.opened n t) refl
+      where
+        read : table.opened n t ≡ opened.Accepted → (o i : Reading) → reading n a ≡ o → reading n b ≡ i →
+            P (readBoth (λ r. refusing r out) o i next)
+        read e (refused fault) i x y = graph-refused fault First
+        read e (accepted g) (refused fault) x y = graph-refused fault Second
+        read e (accepted g) (accepted h) x y = holds g h (record { opens = e; first = x; second = y })
+
+        go : (o : Opened) → table.opened n t ≡ o →
+            P (checked (λ r. refusing r out) o (readBoth (λ r. refusing r out) (reading n a) (reading n b) next))
+        go (opened.Refused fault) e = table-refused fault
+        go opened.Accepted e = read e (reading n a) (reading n b) refl refl
+
+-- what follows for accepted records over an accepted table
+module _ (n : ℕ) (t a b : List ℕ) {g h : List (Row ℕ)} (given : Given n t a b g h) (out : List ℕ) where
+  unifying-next : unifying n t a b out ≡ unifiedRows n t out g h
+  unfolding unifying
+  unifying-next = rw (given .opens, given .first, given .second)
+
+  differing-next : differing n t a b out ≡ differedRows n t out g h
+  unfolding differing
+  differing-next = rw (given .opens, given .first, given .second)
+
+-- Every refusal leaves the output as it was, and beside a length stands a record.
+module _ (n : ℕ) (t : List ℕ) (out : List ℕ) where
+  table-leaves : (fault : TableFault) → Leaves n out (refusing (replies.Table fault) out)
+  table-leaves fault = refusing-leaves n out (replies.Table fault) (table.tableNumber fault) refl
+
+  graph-fault-leaves : (fault : GraphFault) (side : Side) → Leaves n out (refusing (replies.Graph fault side) out)
+  graph-fault-leaves fault side = refusing-leaves n out (replies.Graph fault side) (graphNumber fault) refl
+
+  pub rewriting-leaves : (bytes : List ℕ) → Leaves n out (rewriting n t bytes out)
+  rewriting-leaves bytes =
+      of-one n out t (Leaves n out) table-leaves graph-fault-leaves bytes
+      (λ rows e. graph-leaves n out t eqb tells-eqb (graphOfRows rows) (accepted-of-any-size n bytes rows e t))
+
+  module _ (a b : List ℕ) where
+    pub generalizing-leaves : Leaves n out (generalizing n t a b out)
+    unfolding generalizing generalized
+    generalizing-leaves =
+        of-two n out t (Leaves n out) table-leaves graph-fault-leaves a b (generalized n t out)
+        (λ g h given. graph-leaves n out t samePair tells-pair (common n t g h) (common-part-exists n t a b g h given .of-any-size))
+
+    pub unifying-leaves : Leaves n out (unifying n t a b out)
+    unfolding unifying
+    unifying-leaves =
+        of-two n out t (Leaves n out) table-leaves graph-fault-leaves a b (unifiedRows n t out)
+        (λ g h given. subst (Leaves n out) (unifying-next n t a b given out) (leaves g h given (combination-told n t a b g h given out)))
+      where
+        leaves : (g h : List (Row ℕ)) (given : Given n t a b g h) → Combined.Told n t a b g h given out → Leaves n out (unifying n t a b out)
+        leaves g h given (refused-cycle e) = subst (Leaves n out) (sym e) (refusing-leaves n out replies.Cycle 9 refl)
+        leaves g h given (refused-clash e) = subst (Leaves n out) (sym e) (refusing-leaves n out replies.Clash 10 refl)
+        leaves g h given (written u is best e) =
+            subst (Leaves n out) (sym e) (graph-leaves n out t sameEither tells-either u (best .of-any-size))
+
+    pub differing-leaves : Leaves n out (differing n t a b out)
+    unfolding differing
+    differing-leaves =
+        of-two n out t (Leaves n out) table-leaves graph-fault-leaves a b (differedRows n t out)
+        (λ g s given. subst (Leaves n out) (differing-next n t a b given out) (leaves g s given (difference-told n t a b g s given out)))
+      where
+        leaves : (g s : List (Row ℕ)) (given : Given n t a b g s) → Differed.Told n t a b g s given out → Leaves n out (differing n t a b out)
+        leaves g s given (not-admitted e) = subst (Leaves n out) (sym e) (refusing-leaves n out replies.NotAdmitted 13 refl)
+        leaves g s given (not-below e) = subst (Leaves n out) (sym e) (refusing-leaves n out replies.NotBelow 12 refl)
+        leaves g s given (differs differ below) =
+            subst (Leaves n out) (sym (remainder-result n t a b g s given out differ below))
+            (graph-leaves n out t eqb tells-eqb (remainder n t g s) (remainder-restores n t a b g s given differ below .of-any-size))
+
+-- 11 does not occur where the result is no larger than an accepted record.
+abbrev NotLarge : Result → Type 0
+NotLarge r = r .reply ≡ replies.TooLarge → ⊥
+
+module _ (n : ℕ) (t : List ℕ) (out : List ℕ) where
+  table-small : (fault : TableFault) → NotLarge (refusing (replies.Table fault) out)
+  table-small fault e = let z : _≡_ {A = ℕ} 0 1 = cc in omega arith
+
+  graph-fault-small : (fault : GraphFault) (side : Side) → NotLarge (refusing (replies.Graph fault side) out)
+  graph-fault-small fault side e = let z : _≡_ {A = ℕ} 0 1 = cc in omega arith
+
+  graph-small : (k : Graph ℕ ℕ) → OfAnySize n t k → (Large k → ⊥) → NotLarge (resultFor eqb k out)
+  graph-small k size small e = small (result-writes n t eqb tells-eqb k size out .too-large .0 e)
+
+  pub rewriting-small : (bytes : List ℕ) → rewriting n t bytes out .reply ≡ replies.TooLarge → ⊥
+  rewriting-small bytes =
+      of-one n out t NotLarge table-small graph-fault-small bytes
+      (λ rows e.
+      let rules = accepted-rules n bytes rows e in
+      graph-small (graphOfRows rows) (accepted-of-any-size n bytes rows e t)
+      (⊎-elim (few-nodes rows (rules-linked rules) (rules .short)) (few-links rows (rules .links))))
+
+  pub differing-small : (a b : List ℕ) → differing n t a b out .reply ≡ replies.TooLarge → ⊥
+  unfolding differing
+  differing-small a b =
+      of-two n out t NotLarge table-small graph-fault-small a b (differedRows n t out)
+      (λ g s given. subst NotLarge (differing-next n t a b given out) (small g s given (difference-told n t a b g s given out)))
+    where
+      small : (g s : List (Row ℕ)) (given : Given n t a b g s) → Differed.Told n t a b g s given out → NotLarge (differing n t a b out)
+      small g s given (not-admitted e) = subst NotLarge (sym e) (λ q. let z : _≡_ {A = ℕ} 0 1 = cc in omega arith)
+      small g s given (not-below e) = subst NotLarge (sym e) (λ q. let z : _≡_ {A = ℕ} 0 1 = cc in omega arith)
+      small g s given (differs differ below) =
+          subst NotLarge (sym (remainder-result n t a b g s given out differ below))
+          (graph-small (remainder n t g s) (remainder-restores n t a b g s given differ below .of-any-size)
+          (remainder-small n t a b g s given differ below))
