@@ -42,11 +42,13 @@ accepts-held e (held, sound) = record { is = e ∙ ap accepted (sym (held .rows-
 pub accepts-rules : {n : ℕ} {bytes : List ℕ} {g : declared.Graph} → Accepts n bytes g → Rules n (rowsIn g)
 accepts-rules {n} {bytes} {g} given = accepted-rules n bytes (rowsIn g) (given .is)
 
+-- the types of an accepted graph are below n
+pub accepts-known : {n : ℕ} {bytes : List ℕ} {g : declared.Graph} → Accepts n bytes g → (v : ℕ) → v < g .nodes → getD (g .types) v 0 < n
+accepts-known {n} given v h = rows-ranged (given .sound .shaped) n (accepts-rules given .ranged) .types-in v h .1
+
 accepts-types : {n : ℕ} {bytes : List ℕ} {g : declared.Graph} → n ≤ 64 → Accepts n bytes g →
     (v : ℕ) → v < g .nodes → getD (g .types) v 0 < 64
-accepts-types {n} few given v h =
-    let (_, known) = rows-ranged (given .sound .shaped) n (accepts-rules given .ranged) .types-in v h in
-    omega arith
+accepts-types few given v h = omega (arith, accepts-known given v h)
 
 -- One record.
 

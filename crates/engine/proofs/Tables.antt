@@ -1,4 +1,4 @@
--- What an accepted table lets graphs go by: labels are types below n, and the filled table of joins gives the joins of the types.
+-- What an accepted table lets graphs go by: labels are types below n, and the filled tables give the meets and the joins of the types.
 -- Graphs that differ in nothing have one written form, whichever labels they were computed with.
 use mathlib.Core.Path.{_≡_, refl, sym, _∙_, ap, subst}
 use mathlib.Core.Bool.{Bool, true}
@@ -14,11 +14,11 @@ use Rattle.graphs.specs.Number.{canonical}
 use Rattle.graphs.proofs.Form.Bisimilar.{Alike, absent, present}
 use Rattle.graphs.proofs.Form.Invariant.{bisimilar-canonical}
 use Rattle.visits.specs.Arrays.{graphOfRows}
-use Rattle.lattice.specs.Table.{accepted, join, cell, filled}
+use Rattle.lattice.specs.Table.{accepted, meet, join, cell, filled}
 use Rattle.lattice.specs.declared.Opened.{Opened}
 use Rattle.lattice.specs.declared.Opened.the-variants.{Accepted}
 use Rattle.lattice.specs.Reply.{opened}
-use Rattle.lattice.proofs.Laws.{accepted-size, joins-cell}
+use Rattle.lattice.proofs.Laws.{accepted-size, meets-cell, joins-cell}
 use Rattle.lattice.proofs.Residuals.{opened-accepted}
 use Rattle.record.proofs.Nodes.{node-row}
 use Rattle.record.proofs.Accepted.{Rules}
@@ -42,6 +42,12 @@ pub joins-known : (n : ℕ) (t : List ℕ) (rows : List (List ℕ)) {joins : Lis
     joins ≡ filled n t (join n t) rows → (a b : ℕ) → a < n → b < n → getD (getD joins a []) b 0 ≡ cell (join n t a b)
 joins-known n t rows ok long filling a b known other =
     ap (λ (table : List (List ℕ)). getD (getD table a []) b 0) filling ∙ sym (ap cell (joins-cell n t ok rows long a b known other .is))
+
+-- a cell of the filled meets is the meet of its types
+pub meets-known : (n : ℕ) (t : List ℕ) (rows : List (List ℕ)) {meets : List (List ℕ)} → accepted n t ≡ true → length rows ≡ 64 →
+    meets ≡ filled n t (meet n t) rows → (a b : ℕ) → a < n → b < n → getD (getD meets a []) b 0 ≡ cell (meet n t a b)
+meets-known n t rows ok long filling a b known other =
+    ap (λ (table : List (List ℕ)). getD (getD table a []) b 0) filling ∙ sym (ap cell (meets-cell n t ok rows long a b known other .is))
 
 alike-self : {A : Type 0} (x : Option A) → Alike (λ v w. v ≡ w) x x
 alike-self none = absent

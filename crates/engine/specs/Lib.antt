@@ -4,3 +4,4 @@ pub mod Pair
 pub mod Demand
 pub mod Unification
 pub mod Difference
+pub mod Renumbering

@@ -13,8 +13,10 @@ ghost use Prim.Native.Nat.{_≤_};
 ghost use Rattle.record.specs.Read.{reading};
 ghost use Rattle.engine.specs.Reply.{replyOf, readBoth, rewriting, rewritten, ordering, ordered, generalizing};
 ghost use Rattle.engine.specs.Pair.{joining};
+ghost use Rattle.engine.specs.Difference.{differing};
 
 mod both;
+mod differences;
 
 // Which of two graphs is refused; a lone graph counts as the first.
 pub enum Side {
@@ -167,5 +169,19 @@ fn generalize_over(
     match verdict {
         PairVerdict::Refused(fault, side) => Reply::Graph(fault, side),
         PairVerdict::Both => reply_of(generalize::generalize(joins, a, b, out)),
+    }
+}
+
+// The difference of the first graph, g, and the second, s, in written form.
+pub fn difference(n: usize, table: &[u8], first: &[u8], second: &[u8], out: &mut [u8]) -> Reply
+    ensures { λ r. ⌜ r ≡ differing n (now (table .entry)) (now (first .entry)) (now (second .entry)) (now (out .entry)) .reply ⌝ }
+    ensures { λ r. ⌜ now (out .exit) ≡ differing n (now (table .entry)) (now (first .entry)) (now (second .entry)) (now (out .entry)) .output ⌝ }
+{
+    let mut meets = [[0u8; 64]; 64];
+    let mut joins = [[0u8; 64]; 64];
+    let opened = lattice::open_table(n, table, &mut meets, &mut joins);
+    match opened {
+        Opened::Refused(fault) => Reply::Table(fault),
+        Opened::Accepted => differences::difference_over(n, table, &meets, first, second, out),
     }
 }
