@@ -18,26 +18,7 @@ use Rattle.lattice.specs.Table.{below}
 use Rattle.visits.specs.Arrays.{Linked, Leads as Linking, Reaches, TargetsFirst}
 use Rattle.visits.specs.Promise.{Sorts}
 use Rattle.visits.proofs.Colours.{ends}
-use Rattle.difference.specs.Keeping.{
-  Grown,
-  Leads,
-  Cause,
-  several,
-  alone,
-  Entering,
-  Untop,
-  Stays,
-  Onward,
-  Decides,
-  Sorted,
-  Settled,
-  Why,
-  isRoot,
-  caused,
-  untop,
-  onward,
-  Keeps,
-}
+use Rattle.difference.specs.Keeping.{Grown, Leads, Cause, several, alone, Entering, Untop, Stays, Onward, Sorted, Settled, Why, isRoot, caused, untop, onward, Keeps}
 
 -- Growing.
 

@@ -2,17 +2,17 @@
 -- in the other, and so the two graphs are alike.
 use mathlib.Core.Path.{_≡_, refl, sym, _∙_, ap, ap₂, subst}
 use mathlib.Core.Bool.{Bool, true, false}
-use mathlib.Core.List.{List, [], _∷_, List·Memᴰ}
-use mathlib.Core.Logic.{_↔_, _⊎_, inl, inr, ⊎-elim}
+use mathlib.Core.List.{List, [], _∷_}
+use mathlib.Core.Logic.{_↔_}
 use mathlib.Core.Option.{Option, none, some}
-use Prim.Native.Nat.{ℕ, zero, suc, _+_, _-_, _≤_, _<_}
-use native.Mathlib.Decide.{ℕ-discrete, decLt}
+use Prim.Native.Nat.{ℕ, zero, suc, _-_, _≤_, _<_}
+use native.Mathlib.Decide.{decLt}
 use native.Mathlib.Omega.{arith}
 use lib.Dec.{eqb}
 use lib.ListN.{length, getD}
 use Rattle.graphs.specs.Graph.{Graph, AnySize, Reached, follow, walk}
 use Rattle.graphs.specs.Map.{NodeMap}
-use Rattle.graphs.specs.Rows.{Row, from}
+use Rattle.graphs.specs.Rows.{from}
 use Rattle.graphs.specs.Number.{canonical}
 use Rattle.graphs.specs.Difference.{Link, difference, lead, meetOver, byNumber}
 use Rattle.graphs.proofs.Walk.{some-injective, none-some, some-unique, snoc-induction, follow-last, reached-link}
@@ -23,11 +23,11 @@ use Rattle.graphs.proofs.Form.Bisimilar.{Alike, absent, present, Bisimilar}
 use Rattle.graphs.proofs.Form.Invariant.{bisimilar-canonical}
 use Rattle.graphs.proofs.Unification.Beside.{Operands}
 use Rattle.graphs.proofs.Difference.Induct.{children-first}
-use Rattle.graphs.proofs.Difference.Laws.{Into, Leader, Enters, Reason, atRoot, twoGroups, bareGroup, ownLabel, keptBelow, Idle}
+use Rattle.graphs.proofs.Difference.Laws.{Leader, Enters, Reason, atRoot, twoGroups, bareGroup, ownLabel, keptBelow, Idle}
 use Rattle.graphs.proofs.Difference.Keeps.{keep, kept, root-kept, keep-reason, keep-idle, kept-links}
 use Rattle.lattice.specs.Table.{below, cell, residual}
 use Rattle.lattice.specs.Labels.{typeLabels}
-use Rattle.visits.specs.Arrays.{Sound, Leads as Linking, Reaches, one, more, rowsOf, graphOfRows}
+use Rattle.visits.specs.Arrays.{Sound, Reaches, one, more, rowsOf, graphOfRows}
 use Rattle.visits.proofs.Colours.{ends}
 use Rattle.visits.proofs.VisitRows.{length-rows, link-known}
 use Rattle.subsume.proofs.Places.{label-at, link-at, link-place}
@@ -36,7 +36,7 @@ use Rattle.groups.specs.Marks.{Marked}
 use Rattle.groups.proofs.Leading.{At, at-one, one-at, at-link, link-stands, at-within, Says, follows-it, leads-covered, leads-bare, mark-says}
 use Rattle.difference.specs.Promise.{wantedType, differenceOf}
 use Rattle.difference.specs.Wanted.{Wants, metFrom}
-use Rattle.difference.specs.Keeping.{Cause, several, alone, Stays, Onward, Why, isRoot, caused, untop, onward, Keeps}
+use Rattle.difference.specs.Keeping.{several, alone, Stays, Why, isRoot, caused, untop, onward, Keeps}
 use Rattle.difference.specs.Thinning.{Rows}
 use Rattle.difference.proofs.Wanting.{meetWhere-same}
 use Rattle.difference.proofs.Thinning.{rows-sound}

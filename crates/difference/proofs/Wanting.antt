@@ -12,8 +12,7 @@ use lib.Seq.{getD-set-same, getD-set-other}
 use Rattle.graphs.specs.Label.{Labels}
 use Rattle.graphs.specs.Rows.{from}
 use Rattle.graphs.specs.Difference.{meetWhere}
-use Rattle.lattice.specs.Table.{accepted, admits, cell, meet, residual}
-use Rattle.lattice.specs.Labels.{typeLabels}
+use Rattle.lattice.specs.Table.{admits, cell, meet, residual}
 use Rattle.lattice.proofs.Laws.{meet-exists, residual-exists}
 use Rattle.difference.specs.Wanted.{Typed, Met, Wants, metFrom}
 
@@ -106,8 +105,8 @@ module _ {n : ℕ} {t : List ℕ} {meets : List (List ℕ)} {sn gn : ℕ} {types
           )
       known v l (no d) = omega (arith, getD-set-other met u v new 0 d, m .known v l)
 
-  pub turn : {y c : ℕ} {met : List ℕ} → Met n t sn types map y c met → 0 < y → y ≤ gn → Turn n types map met (y - 1)
-  turn {y} m h l =
+  pub turn-known : {y c : ℕ} {met : List ℕ} → Met n t sn types map y c met → 0 < y → y ≤ gn → Turn n types map met (y - 1)
+  turn-known {y} m h l =
       let u = typed .mapped (y - 1) (omega arith) in
       record {
         few = typed .few;

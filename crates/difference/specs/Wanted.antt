@@ -7,7 +7,7 @@ use lib.Dec.{eqb}
 use lib.ListN.{length, getD}
 use Rattle.graphs.specs.Rows.{from}
 use Rattle.graphs.specs.Difference.{meetWhere}
-use Rattle.lattice.specs.Table.{accepted, admits, cell, meet, residual}
+use Rattle.lattice.specs.Table.{accepted, cell, meet, residual}
 use Rattle.lattice.specs.Labels.{typeLabels}
 
 -- the table of meets of the types below n

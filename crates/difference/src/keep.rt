@@ -77,12 +77,7 @@ pub fn keep_typed<'a>(
 }
 
 // Whether the link at place k leads its group and enters a kept node.
-pub fn is_kept<'a>(
-    targets: &'a [u16],
-    marks: &'a [u8; 2048],
-    keep: &'a [u8; 255],
-    k: usize,
-) -> bool
+pub fn is_kept<'a>(targets: &'a [u16], marks: &'a [u8; 2048], keep: &'a [u8; 255], k: usize) -> bool
     requires { ⌜ (length (now marks) ≡ 2048) × (length (now keep) ≡ 255) ⌝ }
     requires { ⌜ (k < 2048) × (k < length (now targets)) × (getD (now targets) k 0 < 255) ⌝ }
     ensures { λ r. ⌜ Decides (Stays (now (targets .entry)) (now (marks .entry)) (now (keep .entry)) k) r ⌝ }
@@ -162,6 +157,7 @@ pub fn kept_nodes<'a>(
     keep[0] = 1;
     keep_entered(marks, targets, first[nodes] as usize, keep);
     keep_typed(n, table, nodes, types, keep);
+    // there is no cycle: the order alone is wanted
     let mut order = [0u16; 510];
     visits::acyclic::has_cycle(nodes, first, targets, &mut order);
     keep_below(nodes, first, targets, marks, &order, keep)

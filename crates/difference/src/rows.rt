@@ -1,7 +1,7 @@
 // The rows of the difference: the links that lead their group and enter a kept node.
 
 ghost use mathlib.Core.Path.{_≡_};
-ghost use Prim.Native.Nat.{ℕ, _≤_, _<_};
+ghost use Prim.Native.Nat.{_≤_, _<_};
 ghost use lib.ListN.{length, getD};
 ghost use Rattle.subsume.specs.Following.{Span};
 ghost use Rattle.visits.specs.Arrays.{Sound};
@@ -36,7 +36,7 @@ pub fn keep_row<'a>(
     links
 }
 
-// The rows with the kept links. Of the types the contract alone makes use.
+// The rows with the kept links; answers how many links there are. Of the types the contract alone makes use.
 pub fn kept_links<'a>(
     nodes: usize,
     types: &'a [u8],

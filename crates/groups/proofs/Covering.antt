@@ -10,7 +10,7 @@ use native.Mathlib.Omega.{arith}
 use lib.ListN.{length, getD, set, length-set}
 use lib.Seq.{getD-set-same, getD-set-other}
 use Rattle.subsume.specs.Following.{Sought}
-use Rattle.groups.specs.Classes.{Forest, Separate, Joined, root}
+use Rattle.groups.specs.Classes.{Separate, Joined, root}
 use Rattle.groups.specs.Cover.{Lying, Over, Covers, Tied, same, shared, back, next, Grouping, Owns}
 
 -- At place k of the row of y and place j of its row of s: no place before j has the feature at k, nor a later one.
@@ -281,7 +281,7 @@ grouping-end {sn} {S} {sf} {gn} {G} {gf} {gt} {map} {y} {owner} {parent} g low h
     subst (λ (i : ℕ). Grouping sn S sf gn G gf gt map (getD G i 0) owner parent) e g
 
 -- what is known of the two rows that belong to node y of g
-pub record RowsKnown (sn : ℕ) (S sf : List ℕ) (G gf gt map : List ℕ) (y : ℕ) : Type 0 where
+pub record RowsKnown (S sf G gf gt map : List ℕ) (y : ℕ) : Type 0 where
   pub s-inside : getD map y 0 + 1 < length S
   pub s-rises : getD S (getD map y 0) 0 ≤ getD S (getD map y 0 + 1) 0
   pub s-few : getD S (getD map y 0 + 1) 0 ≤ 2048
@@ -293,7 +293,7 @@ pub record RowsKnown (sn : ℕ) (S sf : List ℕ) (G gf gt map : List ℕ) (y : 
   pub mapped : y < length map
 
 pub rows-known : {sn : ℕ} {S sf : List ℕ} {gn : ℕ} {G gf gt map : List ℕ} → Lying sn S sf gn G gf gt map → (y : ℕ) → y < gn →
-    RowsKnown sn S sf G gf gt map y
+    RowsKnown S sf G gf gt map y
 rows-known {S = S} {G = G} {map = map} lying y h =
     let u = getD map y 0 in
     let hu = lying .mapped y h in

@@ -10,7 +10,7 @@ use native.Mathlib.Decide.{ℕ-discrete, decLt}
 use native.Mathlib.Omega.{arith}
 use lib.Dec.{eqb}
 use lib.ListN.{getD}
-use Rattle.graphs.specs.Graph.{Graph, Reached}
+use Rattle.graphs.specs.Graph.{Graph}
 use Rattle.graphs.specs.Map.{NodeMap}
 use Rattle.graphs.specs.Rows.{from}
 use Rattle.graphs.specs.Difference.{Link, lead, byNumber}
@@ -26,8 +26,7 @@ use Rattle.lattice.specs.Labels.{typeLabels}
 use Rattle.visits.specs.Arrays.{Sound, rowsOf, graphOfRows}
 use Rattle.visits.proofs.Colours.{ends}
 use Rattle.subsume.proofs.Places.{link-at, link-place}
-use Rattle.groups.specs.Classes.{root}
-use Rattle.groups.specs.Cover.{Lying, Over, Covers, Tied, same, shared, back, next, Grouping}
+use Rattle.groups.specs.Cover.{Lying, Covers, Tied, same, shared, back, next, Grouping}
 use Rattle.groups.specs.Marks.{Together, Mark, follows, leads, bare, Marked}
 use Rattle.groups.proofs.Covering.{owner-low}
 
@@ -79,13 +78,16 @@ module _ {nodes : ℕ} {types first fs ts : List ℕ} (sound : Sound nodes types
       go (no x) (yes y) = absurd (omega (arith, earlier-row (m .0) (l .0) k j y (a .inside) (b .high) (a .low)))
       go (no x) (no y) =
           let e : l .0 ≡ m .0 = omega arith in
-          inr (e, omega (
-            arith,
-            features-rise (l .0) (a .inside) (k - suc j) j k (omega arith) (a .low)
-                (omega (arith, ap (λ (v : ℕ). getD first (suc v) 0) e, b .high)),
-            a .feature,
-            b .feature,
-          ))
+          inr (
+            e,
+            omega (
+              arith,
+              features-rise (l .0) (a .inside) (k - suc j) j k (omega arith) (a .low)
+                  (omega (arith, ap (λ (v : ℕ). getD first (suc v) 0) e, b .high)),
+              a .feature,
+              b .feature,
+            ),
+          )
 
   -- a link stands at one place, and at a place one link
   pub at-one : (j k : ℕ) (l : Link ℕ) → At j l → At k l → j ≡ k
@@ -232,8 +234,8 @@ module _ (n : ℕ) (t : List ℕ) {sn : ℕ} {sy S sf st : List ℕ} {gn : ℕ} 
         to-enters = o .to-enters;
         grouped =
             chain (m .grouped)
-                (chain (touching y (sym (m .under)) (m .to-enters) (o .from-enters))
-                (subst (λ v. Joins v (o .from-link) (o .to-link)) (sym (m .under)) (o .grouped)));
+            (chain (touching y (sym (m .under)) (m .to-enters) (o .from-enters))
+            (subst (λ v. Joins v (o .from-link) (o .to-link)) (sym (m .under)) (o .grouped)));
         under = m .under ∙ o .under;
       }))
       (meets d))

@@ -14,7 +14,9 @@ ghost use Rattle.groups.specs.Marks.{Marked, Marking, Marks};
 // The mark of a link that another of its group comes before, of one that leads a group with links of g over it, and of one with
 // nothing of g over it, which is a group alone.
 pub const FOLLOWS: u8 = 0;
+
 pub const LEADS: u8 = 1;
+
 pub const BARE: u8 = 2;
 
 // Marks place k, those before it being marked; `seen` has 1 for each class that one of those is in.
@@ -86,7 +88,17 @@ pub fn mark_links<'a>(
     let mut y = 0;
     while y < g_nodes {
         cover::cover_row(
-            s_nodes, s_first, s_features, g_nodes, g_first, g_features, g_targets, map, y, &mut owner, &mut parent,
+            s_nodes,
+            s_first,
+            s_features,
+            g_nodes,
+            g_first,
+            g_features,
+            g_targets,
+            map,
+            y,
+            &mut owner,
+            &mut parent,
         );
         y += 1;
     }

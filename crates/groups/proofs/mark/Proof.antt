@@ -1,8 +1,9 @@
-use lib.ListN.{length-replicate, getD-replicate}
-use Rattle.groups.proofs.Marking.{marking-start, marks-first}
-use Rattle.groups.specs.Marks.{Marking}
+-- `mark` meets its contract. The loop's invariant: the places before k are marked.
 use Prim.Native.Nat.{ℕ, _-_, _≤_}
 use borrow.Author.Needs.{needs}
+use lib.ListN.{length-replicate, getD-replicate}
+use Rattle.groups.specs.Marks.{Marking}
+use Rattle.groups.proofs.Marking.{marking-start, marks-first}
 use Rattle.groups.proofs.mark.Statement.{statement}
 use Rattle.groups.proofs.mark.Tie as tie
 
@@ -14,10 +15,14 @@ abbrev μ-loop : tie.MeasureT-loop
 μ-loop owner parent links marks₀ seen₀ k₀ marks seen k = links - k
 
 loop-holds : tie.Need-loop-holds Inv-loop μ-loop
-loop-holds c = (search needs, marking-start (c .pre .0 .1) (length-replicate {A = ℕ} 255 0) (λ x h. getD-replicate {A = ℕ} 255 x 0 0 h))
+loop-holds c =
+    (search needs, marking-start (c .pre .0 .1) (length-replicate {A = ℕ} 255 0) (λ x h. getD-replicate {A = ℕ} 255 x 0 0 h))
 
 mark-one-requires : tie.Need-mark-one-requires Inv-loop μ-loop
-mark-one-requires c κs = (c .before .before .before .loop .inv .1, ((c .before .before .before .before .pre .0 .0, search needs, c .before .before .before .before .pre .1 .1 (c .before .before .before .loop .k) (search needs)), c .before .before .before .before .pre .1 .0))
+mark-one-requires c κs =
+    let turn = c .before .before .before in
+    let start = turn .before in
+    (turn .loop .inv .1, ((start .pre .0 .0, search needs, start .pre .1 .1 (turn .loop .k) (search needs)), start .pre .1 .0))
 
 add-k : tie.Need-add-k Inv-loop μ-loop
 add-k c = search needs

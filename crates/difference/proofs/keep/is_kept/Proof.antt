@@ -1,8 +1,9 @@
-use Rattle.graphs.proofs.Search.{true-false}
-use borrow.Author.Tests.{eqb-true, eq-eqb}
-use mathlib.Core.Path.{refl}
+-- `is_kept` meets its contract.
 use native.Mathlib.Omega.{arith}
+use mathlib.Core.Path.{refl}
 use borrow.Author.Needs.{needs}
+use borrow.Author.Tests.{eqb-true, eq-eqb}
+use Rattle.graphs.proofs.Search.{true-false}
 use Rattle.difference.proofs.keep.is_kept.Statement.{statement}
 use Rattle.difference.proofs.keep.is_kept.Tie as tie
 
@@ -25,7 +26,8 @@ element-copy-out-result : tie.Need-element-copy-out-result
 element-copy-out-result c = search needs
 
 returns-2 : tie.Need-returns-2
-returns-2 c = record { yes-stands = λ e. record { leads = (λ z. omega (arith, c .before .before .if1 .left, z)); enters = eqb-true _ _ e }; no-stands = λ e s. true-false (eq-eqb _ _ (s .enters)) e }
+returns-2 c =
+    record { yes-stands = λ e. record { leads = (λ z. omega (arith, c .before .before .if1 .left, z)); enters = eqb-true _ _ e }; no-stands = λ e s. true-false (eq-eqb _ _ (s .enters)) e }
 
 pub is-kept-spec : {M : Type 1} → statement M
 is-kept-spec =

@@ -1,9 +1,10 @@
-use Rattle.difference.proofs.Keeping.{NoneYet, none-next}
-use Rattle.graphs.proofs.Search.{true-false}
+-- `is_left` meets its contract. The loop's invariant: no place before k has a kept link.
 use Prim.Native.Nat.{_-_, _≤_}
-use mathlib.Core.Path.{refl}
 use native.Mathlib.Omega.{arith}
+use mathlib.Core.Path.{refl}
 use borrow.Author.Needs.{needs}
+use Rattle.graphs.proofs.Search.{true-false}
+use Rattle.difference.proofs.Keeping.{NoneYet, none-next}
 use Rattle.difference.proofs.keep.is_left.Statement.{statement}
 use Rattle.difference.proofs.keep.is_left.Tie as tie
 
@@ -18,10 +19,14 @@ loop-holds : tie.Need-loop-holds Inv-loop μ-loop
 loop-holds c = (search needs, λ i low high. absurd (omega arith))
 
 is-kept-requires : tie.Need-is-kept-requires Inv-loop μ-loop
-is-kept-requires c κs = (c .before .before .before .pre .0, (search needs, search needs, c .before .before .before .pre .1 .2 (c .before .loop .k) (c .loop-test .taken)))
+is-kept-requires c κs =
+    let start = c .before .before .before in
+    (start .pre .0, (search needs, search needs, start .pre .1 .2 (c .before .loop .k) (c .loop-test .taken)))
 
 returns : tie.Need-returns Inv-loop μ-loop
-returns c = record { yes-stands = λ e. (c .before .before .before .loop .k, c .before .before .before .loop .inv .0, (c .before .before .loop-test .taken), c .before .is-kept .ensures .yes-stands (c .if1 .taken)); no-stands = λ e. true-false refl e }
+returns c =
+    let turn = c .before .before .before in
+    record { yes-stands = λ e. (turn .loop .k, turn .loop .inv .0, (c .before .before .loop-test .taken), c .before .is-kept .ensures .yes-stands (c .if1 .taken)); no-stands = λ e. true-false refl e }
 
 add-k : tie.Need-add-k Inv-loop μ-loop
 add-k c = search needs
@@ -30,10 +35,12 @@ loop-less : tie.Need-loop-less Inv-loop μ-loop
 loop-less c = search needs
 
 loop-again : tie.Need-loop-again Inv-loop μ-loop
-loop-again c = (search needs, none-next (c .before .before .before .loop .inv .1) (c .before .is-kept .ensures .no-stands (c .if1 .left)))
+loop-again c =
+    (search needs, none-next (c .before .before .before .loop .inv .1) (c .before .is-kept .ensures .no-stands (c .if1 .left)))
 
 returns-2 : tie.Need-returns-2 Inv-loop μ-loop
-returns-2 c = record { yes-stands = λ e. true-false e refl; no-stands = λ e o. c .before .loop .inv .1 (o .0) (o .1) (omega (arith, o .2, c .loop-test .left)) (o .3) }
+returns-2 c =
+    record { yes-stands = λ e. true-false e refl; no-stands = λ e o. c .before .loop .inv .1 (o .0) (o .1) (omega (arith, o .2, c .loop-test .left)) (o .3) }
 
 pub is-left-spec : {M : Type 1} → statement M
 is-left-spec =

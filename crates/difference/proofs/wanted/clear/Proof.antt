@@ -1,7 +1,8 @@
-use Rattle.difference.proofs.Wanting.{Filling, filling-next}
+-- `clear` meets its contract. The loop's invariant: the types before v have the value.
 use Prim.Native.Nat.{_-_, _≤_}
 use native.Mathlib.Omega.{arith}
 use borrow.Author.Needs.{needs}
+use Rattle.difference.proofs.Wanting.{Filling, filling-next}
 use Rattle.difference.proofs.wanted.clear.Statement.{statement}
 use Rattle.difference.proofs.wanted.clear.Tie as tie
 
@@ -28,7 +29,8 @@ loop-again : tie.Need-loop-again Inv-loop μ-loop
 loop-again c = (search needs, filling-next (c .before .loop .inv .1) (search needs))
 
 returns : tie.Need-returns Inv-loop μ-loop
-returns c = (c .before .loop .inv .1 .long, λ v h. c .before .loop .inv .1 .each v (omega (arith, c .loop-test .left)))
+returns c =
+    (c .before .loop .inv .1 .long, λ v h. c .before .loop .inv .1 .each v (omega (arith, c .loop-test .left)))
 
 pub clear-spec : {M : Type 1} → statement M
 clear-spec =

@@ -20,9 +20,9 @@ returns c =
     let n = start .args .n in
     let ws = start .args .down .now in
     λ t ok words.
-        c .find-word .ensures ∙
-        ap (λ (w : ℕ). cell (holder n ws w)) (c .before .residual-word .ensures) ∙
-        ap cell (residual-found n t ws ok words (start .args .p) (start .args .q) (start .pre .1) (start .pre .2))
+    c .find-word .ensures ∙
+    ap (λ (w : ℕ). cell (holder n ws w)) (c .before .residual-word .ensures) ∙
+    ap cell (residual-found n t ws ok words (start .args .p) (start .args .q) (start .pre .1) (start .pre .2))
 
 pub residual-spec : {M : Type 1} → statement M
 residual-spec = tie.close (tie.spec residual-word-requires find-word-requires returns)
