@@ -4,3 +4,4 @@ pub mod FeatureMap
 pub mod Spans
 pub mod Encoding
 pub mod Writing
+pub mod Lengths

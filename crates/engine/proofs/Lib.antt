@@ -3,8 +3,10 @@ pub mod Readings
 pub mod Replies
 pub mod Tables
 pub mod Orders
+pub mod Over
 pub mod CommonParts
 pub mod Combinations
+pub mod Differing
 pub mod Results
 pub mod Demanded
 pub mod Demands

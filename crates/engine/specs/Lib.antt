@@ -4,3 +4,4 @@ pub mod Unification
 pub mod Pair
 pub mod Demand
 pub mod Difference
+pub mod Renumbering

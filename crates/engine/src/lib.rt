@@ -15,9 +15,11 @@ ghost use Rattle.record.specs.Read.{reading};
 ghost use Rattle.unify.specs.Lowered.{MeetsBelow};
 ghost use Rattle.engine.specs.Reply.{replyOf, readBoth, rewriting, rewritten, ordering, ordered, generalizing};
 ghost use Rattle.engine.specs.Unification.{unifying};
+ghost use Rattle.engine.specs.Difference.{differing};
 ghost use Rattle.engine.specs.Pair.{joining, meeting, combinedReply};
 
 mod both;
+mod differences;
 
 // Which of two graphs is refused; a lone graph counts as the first.
 pub enum Side {
@@ -214,5 +216,18 @@ fn combined_reply(combined: Combined) -> Reply
         Combined::Clash => Reply::Clash,
         Combined::TooLarge => Reply::TooLarge,
         Combined::NoRoom => Reply::NoRoom,
+    }
+}
+
+// The difference of the first graph, g, and the second, s, in written form.
+pub fn difference(n: usize, table: &[u8], first: &[u8], second: &[u8], out: &mut [u8]) -> Reply
+    ensures { λ r. ⌜ r ≡ differing n (now (table .entry)) (now (first .entry)) (now (second .entry)) (now (out .entry)) .reply ⌝ }
+    ensures { λ r. ⌜ now (out .exit) ≡ differing n (now (table .entry)) (now (first .entry)) (now (second .entry)) (now (out .entry)) .output ⌝ }
+{
+    let mut meets = [[0u8; 64]; 64];
+    let opened = lattice::open_meets(n, table, &mut meets);
+    match opened {
+        Opened::Refused(fault) => Reply::Table(fault),
+        Opened::Accepted => differences::difference_over(n, table, &meets, first, second, out),
     }
 }

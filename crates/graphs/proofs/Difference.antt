@@ -14,4 +14,5 @@ pub mod Restores
 pub mod MostGeneral
 pub mod Consequences
 pub mod Unique
+pub mod Agree
 pub mod Computed

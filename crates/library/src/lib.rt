@@ -9,6 +9,7 @@ ghost use mathlib.Core.Path.{_≡_};
 ghost use Prim.Native.Nat.{_<_};
 ghost use Rattle.engine.specs.Reply.{rewriting, ordering, generalizing};
 ghost use Rattle.engine.specs.Unification.{unifying};
+ghost use Rattle.engine.specs.Difference.{differing};
 ghost use Rattle.lattice.specs.Reply.{tableNumber};
 ghost use Rattle.record.specs.Read.{graphNumber};
 ghost use Rattle.library.specs.Code.{codeOf, refusalCode, sideNumber};
@@ -58,6 +59,21 @@ pub extern "C" fn record_unify(
     ensures { λ r. ⌜ now (out .exit) ≡ unifying n (now (table .entry)) (now (first .entry)) (now (second .entry)) (now (out .entry)) .output ⌝ }
 {
     code(engine::unify(n, table, first, second, out))
+}
+
+// The difference of the first graph, g, and the second, s, in written form: the code of the reply, and the output that the engine leaves.
+#[no_mangle]
+pub extern "C" fn record_difference(
+    n: usize,
+    table: &[u8],
+    first: &[u8],
+    second: &[u8],
+    out: &mut [u8],
+) -> u64
+    ensures { λ r. ⌜ r ≡ codeOf (differing n (now (table .entry)) (now (first .entry)) (now (second .entry)) (now (out .entry)) .reply) ⌝ }
+    ensures { λ r. ⌜ now (out .exit) ≡ differing n (now (table .entry)) (now (first .entry)) (now (second .entry)) (now (out .entry)) .output ⌝ }
+{
+    code(engine::difference(n, table, first, second, out))
 }
 
 // The number that stands for a reply.

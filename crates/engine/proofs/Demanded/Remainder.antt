@@ -1,24 +1,18 @@
 -- The difference of rows that keep the rules of accepted records, s below g over a table that admits differences: it is the difference
--- that the theory of graphs speaks of, over the table's lattice of types. `over` is a node map, and the wanted types are residuals.
+-- that the theory of graphs speaks of, over the table's lattice of types. The wanted types are residuals.
 use mathlib.Core.Path.{_≡_, refl, sym, _∙_, ap, ap₂, fun-ext, subst}
-use mathlib.Core.Bool.{Bool, true, false, cond}
-use mathlib.Core.List.{List, [], _∷_, List·Memᴰ, List·Memᴰ·head, List·Memᴰ·tail, List·Memᴰ·not-nil, List·Memᴰ·cases-cons}
+use mathlib.Core.Bool.{true}
+use mathlib.Core.List.{List, [], List·Memᴰ}
 use mathlib.Core.Logic.{_↔_, _⊎_, inl, inr, ⊎-elim}
 use mathlib.Core.Option.{some}
 use Prim.Native.Nat.{ℕ, _≤_, _<_}
-use borrow.Author.Tests.{eqb-true, eq-eqb}
 use lib.Dec.{eqb}
 use lib.ListN.{length, getD, List·getD-eq-default}
 use Rattle.graphs.specs.Graph.{Graph, walk, Reached, Below}
-use Rattle.graphs.specs.Map.{NodeMap}
 use Rattle.graphs.specs.Rows.{Row, from}
-use Rattle.graphs.specs.Order.{meetings}
 use Rattle.graphs.specs.Difference.{byNumber, meetOver, difference}
 use Rattle.graphs.proofs.Walk.{some-injective, snoc-induction, follow-nil, follow-last, reached-root, reached-link}
 use Rattle.graphs.proofs.Lists.{tells-eqb}
-use Rattle.graphs.proofs.Search.{true-false}
-use Rattle.graphs.proofs.Below.{carries-map}
-use Rattle.graphs.proofs.Order.{listed-together, together-listed}
 use Rattle.graphs.proofs.Unification.Beside.{Operands}
 use Rattle.graphs.proofs.Difference.ByNumber.{by-number-order}
 use Rattle.graphs.proofs.Difference.Computed.{Setting, residual-setting}
@@ -40,23 +34,9 @@ use Rattle.lattice.proofs.AnySize.{
 use Rattle.record.specs.Read.{graphOfRows}
 use Rattle.record.proofs.Nodes.{node-row, few-nodes, few-links}
 use Rattle.record.proofs.Accepted.{Rules, rules-linked, rules-of-any-size, rules-nodes}
-use Rattle.engine.specs.Difference.{firstAt, over, wanted, differenceRows}
+use Rattle.engine.specs.Difference.{over, wanted, differenceRows}
 use Rattle.engine.specs.Demand.{Large, Restores}
-use Rattle.engine.proofs.Orders.{short}
-
--- the first pair with y stands in the list
-first-listed : (y : ℕ) (xs : List (ℕ × ℕ)) (x : ℕ) → List·Memᴰ (x, y) xs → List·Memᴰ (firstAt y xs, y) xs
-unfolding firstAt
-first-listed y [] x m = absurd (List·Memᴰ·not-nil m)
-first-listed y (z ∷ xs) x m = go (eqb (z .1) y) refl (first-listed y xs x)
-  where
-    go : (b : Bool) → eqb (z .1) y ≡ b → (List·Memᴰ (x, y) xs → List·Memᴰ (firstAt y xs, y) xs) →
-        List·Memᴰ (cond b (z .0) (firstAt y xs), y) (z ∷ xs)
-    go true e later = List·Memᴰ·head (ap₂ {C = ℕ × ℕ} (λ i j. (i, j)) refl (sym (eqb-true (z .1) y e)))
-    go false e later =
-        ⊎-elim
-        (λ (q : _≡_ {A = ℕ × ℕ} (x, y) z). true-false (eq-eqb (z .1) y (sym (ap (λ (i : ℕ × ℕ). i .1) q))) e)
-        (λ i. List·Memᴰ·tail (later i)) (List·Memᴰ·cases-cons m)
+use Rattle.engine.proofs.Over.{over-map}
 
 -- a graph whose links are links of another from the same root reaches no more of it
 fewer-reached : {L A : Type 0} (d s : Graph L A) → d .root ≡ s .root →
@@ -102,24 +82,6 @@ module _ (n : ℕ) (t : List ℕ) (ok : table.accepted n t ≡ true) (g s : List
 
   specific-size : OfAnySize n t (graphOfRows s)
   specific-size = rules-of-any-size n s specific t
-
-  -- "Each path of g leads to one node of s"
-  over-carries : (p : List ℕ) (y : ℕ) → walk (graphOfRows g) p ≡ some y → walk (graphOfRows s) p ≡ some (over s g y)
-  unfolding over
-  over-carries p y e =
-      let small = general-size .any-size .features in
-      let (x, d, _) = below .paths p y e in
-      let listed : List·Memᴰ (x, y) (meetings (graphOfRows s) (graphOfRows g) (length g)) =
-      together-listed (typeLabels n t) eqb eqb tells-eqb tells-eqb (graphOfRows s) (graphOfRows g) small (length g) (short n t s g general)
-      (x, y) (p, d, e) in
-      let (q, c, i) =
-      listed-together (typeLabels n t) eqb eqb tells-eqb tells-eqb (graphOfRows s) (graphOfRows g) small (length g) (short n t s g general)
-      (over s g y, y) (first-listed y (meetings (graphOfRows s) (graphOfRows g) (length g)) x listed) in
-      let (_, j, k) = below .corefers p q (y, e, i) in
-      j ∙ sym k ∙ c
-
-  over-map : NodeMap (typeLabels n t) (graphOfRows s) (graphOfRows g) (over s g)
-  over-map = carries-map below (over s g) over-carries
 
   module _ (differ : table.admits n t ≡ true) where
     -- the wanted types
@@ -173,7 +135,8 @@ module _ (n : ℕ) (t : List ℕ) (ok : table.accepted n t ≡ true) (g s : List
     setting =
         residual-setting (lawful-lattice n t ok) (lawful-residual n t ok differ) operands by-number-order
         (lift-any-size n t ok (graphOfRows s) specific-size)
-        (map-lift n t ok (graphOfRows s) (graphOfRows g) (specific-size .typed) (general-size .typed) (over s g) .0 over-map)
+        (map-lift n t ok (graphOfRows s) (graphOfRows g) (specific-size .typed) (general-size .typed) (over s g) .0
+        (over-map n t g s general below))
 
     -- It is no larger than s, so that it always can be written.
     pub rows-small : Large (differenceRows n t g s) → ⊥

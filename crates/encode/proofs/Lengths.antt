@@ -1,0 +1,46 @@
+-- How long a record is ("The shortest record has 10 bytes, the longest 4,344"), and that an output as long as the longest has room for
+-- every record.
+use mathlib.Core.Path.{_≡_, refl, _∙_, ap}
+use mathlib.Core.Bool.{Bool, cond}
+use mathlib.Core.List.{List, [], _∷_, _++_, map}
+use Prim.Native.Nat.{ℕ, suc, _+_, _*_, _≤_}
+use native.Mathlib.Omega.{arith}
+use borrow.Author.Tests.{le-leb}
+use lib.ListN.{length, drop, length-append, length-map}
+use Rattle.graphs.specs.Rows.{Row, from}
+use Rattle.graphs.specs.Number.{written}
+use Rattle.graphs.specs.Large.{linksIn}
+use Rattle.encode.specs.declared.Written.the-variants as outcome
+use Rattle.encode.specs.Encode.{bitsFrom, encodedRow, encodedRows, encoded, fitted, writtenOut}
+
+row-length : (r : Row ℕ) → length (encodedRow r) ≡ 9 + length (r .1)
+unfolding encodedRow from
+row-length r =
+    ap suc (length-append (map (λ k. bitsFrom (r .1) (8 * k) 8) (from 0 8)) (map (λ l. l .1) (r .1))) ∙
+    omega (arith, length-map (r .1) (λ (l : ℕ × ℕ). l .1))
+
+rows-length : (rows : List (Row ℕ)) → length (encodedRows rows) ≡ 9 * length rows + linksIn rows
+unfolding encodedRows linksIn
+rows-length [] = refl
+rows-length (r ∷ rs) = length-append (encodedRow r) (encodedRows rs) ∙ omega (arith, row-length r, rows-length rs)
+
+-- a byte for the count, nine for each node, one for each link
+pub encoded-length : (rows : List (Row ℕ)) → length (encoded rows) ≡ 1 + 9 * length rows + linksIn rows
+unfolding encoded
+encoded-length rows = omega (arith, rows-length rows)
+
+-- "the longest 4,344"
+pub longest : (rows : List (Row ℕ)) → length rows ≤ 255 → linksIn rows ≤ 2048 → length (encoded rows) ≤ 4344
+longest rows nodes links = omega (arith, encoded-length rows)
+
+-- there is room for it in as many bytes
+pub longest-fits : (rows : List (Row ℕ)) (out : List ℕ) → length rows ≤ 255 → linksIn rows ≤ 2048 → 4344 ≤ length out →
+    writtenOut (written rows) out ≡
+    record { answer = outcome.Length (length (encoded rows)); output = encoded rows ++ drop (length (encoded rows)) out }
+unfolding writtenOut fitted
+longest-fits rows out nodes links room =
+    ap
+    (λ (t : Bool).
+    cond t (record { answer = outcome.Length (length (encoded rows)); output = encoded rows ++ drop (length (encoded rows)) out })
+    (record { answer = outcome.NoRoom; output = out }))
+    (le-leb (length (encoded rows)) (length out) (omega (arith, longest rows nodes links)))

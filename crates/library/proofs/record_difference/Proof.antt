@@ -1,0 +1,21 @@
+-- The exported call answers the code of what the engine replies, and leaves the output that the engine leaves.
+use Rattle.library.specs.Code.{codeOf}
+use mathlib.Core.Path.{ap, _∙_}
+use borrow.Author.Needs.{needs}
+use Rattle.library.proofs.record_difference.Statement.{statement}
+use Rattle.library.proofs.record_difference.Tie as tie
+
+difference-requires : tie.Need-difference-requires
+difference-requires c κs = search needs
+
+code-requires : tie.Need-code-requires
+code-requires c κs = search needs
+
+same-length : tie.Need-same-length
+same-length c = search needs
+
+returns : tie.Need-returns
+returns c = (c .code .ensures ∙ ap codeOf (c .before .before .before .difference .ensures .0), c .before .before .before .difference .ensures .1)
+
+pub record-difference-spec : {M : Type 1} → statement M
+record-difference-spec = tie.close (tie.spec difference-requires code-requires same-length returns)
