@@ -2,22 +2,25 @@
 use mathlib.Core.Path.{_≡_, refl, sym, _∙_, ap}
 use mathlib.Core.Bool.{Bool, true, false, cond}
 use mathlib.Core.List.{List, _++_}
+use mathlib.Core.Logic.{_⊎_}
 use mathlib.Core.Option.{Option, none, some}
 use Prim.Native.Nat.{ℕ, _≤_, _<_}
 use native.Mathlib.Omega.{arith}
 use borrow.Author.Tests.{leb-true}
 use lib.Dec.{eqb, leb}
 use lib.ListN.{length, drop, replicate, length-append, length-replicate, length-take}
-use Rattle.graphs.specs.Rows.{Row}
+use Rattle.graphs.specs.Rows.{Row, from}
 use Rattle.graphs.specs.Number.{Canonical, canonical, manyNodes, manyLinks, written}
 use Rattle.graphs.specs.Order.{subsumes}
 use Rattle.graphs.specs.Generalize.{generalization}
+use Rattle.graphs.specs.Unify.{Unified, cycle, clash, unified, unification}
 use Rattle.graphs.proofs.Walk.{none-some}
 use Rattle.lattice.specs.declared.Opened.{Opened}
 use Rattle.lattice.specs.declared.Opened.the-variants as opened
 use Rattle.lattice.specs.declared.TableFault.{TableFault}
 use Rattle.lattice.specs.declared.TableFault.the-variants as tableFault
 use Rattle.lattice.specs.Reply as table
+use Rattle.lattice.specs.Table.{admits}
 use Rattle.lattice.specs.Labels.{typeLabels}
 use Rattle.record.specs.declared.GraphFault.{GraphFault}
 use Rattle.record.specs.declared.GraphFault.the-variants as graphFault
@@ -30,6 +33,8 @@ use Rattle.engine.specs.declared.Side.the-variants.{First, Second}
 use Rattle.engine.specs.declared.Reply.{Reply}
 use Rattle.engine.specs.declared.Reply.the-variants.{Length, Yes, No, Table, Graph, NoRoom, Cycle, Clash, TooLarge, NotBelow, NotAdmitted}
 use Rattle.engine.specs.Reply.{Result, refusal, checked, refusing, readBoth, resultOf, generalizing, generalized, ordering, ordered}
+use Rattle.engine.specs.Unification.{sameEither, combined, unifiedRows, unifying}
+use Rattle.engine.specs.Difference.{differenceRows, differed, numbered, differedRows, differing}
 use Rattle.request.specs.declared.parse.Operation.{Operation}
 use Rattle.request.specs.declared.parse.Operation.the-variants.{Generalize, Unify, Difference, Order}
 use Rattle.request.specs.Request.{Request}
@@ -79,6 +84,15 @@ written-bounded manyNodes out = refused-bounded TooLarge 11 refl (length out)
 written-bounded manyLinks out = refused-bounded TooLarge 11 refl (length out)
 written-bounded (written rows) out = fitted-bounded (encoded rows) out
 
+cond-bounded : (b : Bool) (x y : Result) (most : ℕ) → Bounded (x .reply) most → Bounded (y .reply) most → Bounded (cond b x y .reply) most
+cond-bounded true x y most h k = h
+cond-bounded false x y most h k = k
+
+combined-bounded : (u : Unified ℕ (ℕ ⊎ ℕ)) (out : List ℕ) → Bounded (combined u out .reply) (length out)
+combined-bounded cycle out = refused-bounded Cycle 9 refl (length out)
+combined-bounded clash out = refused-bounded Clash 10 refl (length out)
+combined-bounded (unified u) out = written-bounded (canonical sameEither u) out
+
 ordered-bounded : (most : ℕ) (b : Bool) → Bounded (cond b Yes No) most
 ordered-bounded most true l e = let z : _≡_ {A = ℕ} 0 1 = cc in absurd (omega arith)
 ordered-bounded most false l e = let z : _≡_ {A = ℕ} 0 1 = cc in absurd (omega arith)
@@ -95,6 +109,22 @@ module _ (n : ℕ) (t a b : List ℕ) where
   generalizing-bounded out = writing-bounded out (generalized n t out) λ g h.
       written-bounded (canonical samePair (generalization (typeLabels n t) (graph.graphOfRows g) (graph.graphOfRows h))) out
 
+  unifying-bounded : (out : List ℕ) → Bounded (unifying n t a b out .reply) (length out)
+  unfolding unifying unifiedRows
+  unifying-bounded out = writing-bounded out (unifiedRows n t out) λ g h.
+      combined-bounded
+      (unification (typeLabels n t) eqb eqb (graph.graphOfRows g) (from 0 (length g)) (graph.graphOfRows h) (from 0 (length h))) out
+
+  differing-bounded : (out : List ℕ) → Bounded (differing n t a b out .reply) (length out)
+  unfolding differing differedRows differed
+  differing-bounded out = writing-bounded out (differedRows n t out) λ g s.
+      let s = numbered (canonical eqb (graph.graphOfRows s)) in
+      cond-bounded (admits n t) (differed n t out g s) (refusing NotAdmitted out) (length out)
+      (cond-bounded (subsumes (typeLabels n t) eqb eqb (graph.graphOfRows s) (graph.graphOfRows g) (length g))
+      (resultOf (writtenOut (canonical eqb (differenceRows n t g s)) out)) (refusing NotBelow out) (length out)
+      (written-bounded (canonical eqb (differenceRows n t g s)) out) (refused-bounded NotBelow 12 refl (length out)))
+      (refused-bounded NotAdmitted 13 refl (length out))
+
   ordering-bounded : (most : ℕ) → Bounded (ordering n t a b) most
   unfolding ordering ordered
   ordering-bounded most = call-good (λ r. r) (λ (r : Reply). Bounded r most) (λ r h. h most) n t a b (ordered n t) λ s g.
@@ -102,8 +132,8 @@ module _ (n : ℕ) (t a b : List ℕ) where
 
   pub answering-bounded : (operation : Operation) (out : List ℕ) → Bounded (answering operation n t a b out .reply) (length out)
   answering-bounded Generalize out = generalizing-bounded out
-  answering-bounded Unify out = generalizing-bounded out
-  answering-bounded Difference out = generalizing-bounded out
+  answering-bounded Unify out = unifying-bounded out
+  answering-bounded Difference out = differing-bounded out
   answering-bounded Order out = ordering-bounded (length out)
 
 answered-bounded : (request : Request) → Bounded (answered request .reply) 4344

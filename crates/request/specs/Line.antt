@@ -8,6 +8,8 @@ use Rattle.engine.specs.declared.Side.the-variants.{First, Second}
 use Rattle.engine.specs.declared.Reply.{Reply}
 use Rattle.engine.specs.declared.Reply.the-variants.{Length, Yes, No, Table, Graph, NoRoom, Cycle, Clash, TooLarge, NotBelow, NotAdmitted}
 use Rattle.engine.specs.Reply.{Result, refusal, side, refusing, generalizing, ordering}
+use Rattle.engine.specs.Unification.{unifying}
+use Rattle.engine.specs.Difference.{differing}
 use Rattle.request.specs.declared.parse.Operation.{Operation}
 use Rattle.request.specs.declared.parse.Operation.the-variants.{Generalize, Unify, Difference, Order}
 use Rattle.request.specs.Request.{Request, requested}
@@ -64,10 +66,8 @@ textOf result = ended (replyText (result .reply) (result .output))
 -- what the call that is asked for answers, and leaves in the output
 abbrev pub answering : Operation → ℕ → List ℕ → List ℕ → List ℕ → List ℕ → Result
 answering Generalize n table first second out = generalizing n table first second out
--- STUB: the combination
-answering Unify n table first second out = generalizing n table first second out
--- STUB: the difference
-answering Difference n table first second out = generalizing n table first second out
+answering Unify n table first second out = unifying n table first second out
+answering Difference n table first second out = differing n table first second out
 answering Order n table first second out = refusing (ordering n table first second) out
 
 -- "It lends as many output bytes as the longest record has"

@@ -33,10 +33,8 @@ fn answer(
 {
     match operation {
         Operation::Generalize => engine::generalize(n, table, first, second, output),
-        // STUB: the combination.
-        Operation::Unify => engine::generalize(n, table, first, second, output),
-        // STUB: the difference.
-        Operation::Difference => engine::generalize(n, table, first, second, output),
+        Operation::Unify => engine::unify(n, table, first, second, output),
+        Operation::Difference => engine::difference(n, table, first, second, output),
         Operation::Order => engine::order(n, table, first, second),
     }
 }

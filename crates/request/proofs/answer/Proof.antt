@@ -14,14 +14,14 @@ generalize-requires c κs = search needs
 enum-told-2 : tie.Need-enum-told-2
 enum-told-2 c = search needs
 
-generalize-requires-2 : tie.Need-generalize-requires-2
-generalize-requires-2 c κs = search needs
+unify-requires : tie.Need-unify-requires
+unify-requires c κs = search needs
 
 enum-told-3 : tie.Need-enum-told-3
 enum-told-3 c = search needs
 
-generalize-requires-3 : tie.Need-generalize-requires-3
-generalize-requires-3 c κs = search needs
+difference-requires : tie.Need-difference-requires
+difference-requires c κs = search needs
 
 enum-told-4 : tie.Need-enum-told-4
 enum-told-4 c = search needs
@@ -43,7 +43,7 @@ same-length-2 c = search needs
 returns-2 : tie.Need-returns-2
 returns-2 c =
     let a = c .before .before .before .before .before .before .before .before .before .before .args in
-    answers-by (a .n) (a .table .now) (a .first .now) (a .second .now) (a .output .now) (c .before .before .before .before .enum-told2 .given .1) (c .before .before .generalize2 .ensures)
+    answers-by (a .n) (a .table .now) (a .first .now) (a .second .now) (a .output .now) (c .before .before .before .before .enum-told2 .given .1) (c .before .before .unify .ensures)
 
 same-length-3 : tie.Need-same-length-3
 same-length-3 c = search needs
@@ -51,7 +51,7 @@ same-length-3 c = search needs
 returns-3 : tie.Need-returns-3
 returns-3 c =
     let a = c .before .before .before .before .before .before .before .before .before .before .args in
-    answers-by (a .n) (a .table .now) (a .first .now) (a .second .now) (a .output .now) (c .before .before .before .before .enum-told3 .given .1) (c .before .before .generalize3 .ensures)
+    answers-by (a .n) (a .table .now) (a .first .now) (a .second .now) (a .output .now) (c .before .before .before .before .enum-told3 .given .1) (c .before .before .difference .ensures)
 
 returns-4 : tie.Need-returns-4
 returns-4 c =
@@ -65,9 +65,9 @@ answer-spec =
     enum-told
     generalize-requires
     enum-told-2
-    generalize-requires-2
+    unify-requires
     enum-told-3
-    generalize-requires-3
+    difference-requires
     enum-told-4
     order-requires
     same-length
