@@ -1,7 +1,7 @@
 -- From what renumbering, the order and the difference promise to what the call replies: s in written form has the rows that renumbering
 -- reads, and the difference along the order's node map is the difference.
 use mathlib.Core.Path.{_≡_, refl, sym, _∙_, ap, subst}
-use mathlib.Core.Bool.{Bool, true, false, cond, _&&_}
+use mathlib.Core.Bool.{Bool, true, false, cond}
 use mathlib.Core.List.{List, [], _++_}
 use Prim.Native.Nat.{ℕ, _≤_, _<_}
 use native.Mathlib.Omega.{arith}

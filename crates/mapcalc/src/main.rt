@@ -1,0 +1,13 @@
+// Reads what is asked for from standard input, and prints the one line that answers it.
+
+use libc::STDIN_FILENO;
+use libc::STDOUT_FILENO;
+
+fn main() {
+    // One byte more than the longest input that is not bad.
+    let mut input = [0u8; 18431];
+    let count = io::read_full(STDIN_FILENO, &mut input);
+    let mut line = [0u8; 8697];
+    let end = request::line(&input[..count], &mut line);
+    io::write_all(STDOUT_FILENO, &line[..end]);
+}

@@ -1,0 +1,182 @@
+-- A record that a reply tells of fits in the output, so every line is short.
+use mathlib.Core.Path.{_≡_, refl, sym, _∙_, ap}
+use mathlib.Core.Bool.{Bool, true, false, cond}
+use mathlib.Core.List.{List, _++_}
+use mathlib.Core.Logic.{_⊎_}
+use mathlib.Core.Option.{Option, none, some}
+use Prim.Native.Nat.{ℕ, _≤_, _<_}
+use native.Mathlib.Omega.{arith}
+use borrow.Author.Tests.{leb-true}
+use lib.Dec.{eqb, leb}
+use lib.ListN.{length, drop, replicate, length-append, length-replicate, length-take}
+use Rattle.graphs.specs.Rows.{Row, from}
+use Rattle.graphs.specs.Number.{Canonical, canonical, manyNodes, manyLinks, written}
+use Rattle.graphs.specs.Order.{subsumes}
+use Rattle.graphs.specs.Generalize.{generalization}
+use Rattle.graphs.specs.Unify.{Unified, cycle, clash, unified, unification}
+use Rattle.graphs.proofs.Walk.{none-some}
+use Rattle.lattice.specs.declared.Opened.{Opened}
+use Rattle.lattice.specs.declared.Opened.the-variants as opened
+use Rattle.lattice.specs.declared.TableFault.{TableFault}
+use Rattle.lattice.specs.declared.TableFault.the-variants as tableFault
+use Rattle.lattice.specs.Reply as table
+use Rattle.lattice.specs.Table.{admits}
+use Rattle.lattice.specs.Labels.{typeLabels}
+use Rattle.record.specs.declared.GraphFault.{GraphFault}
+use Rattle.record.specs.declared.GraphFault.the-variants as graphFault
+use Rattle.record.specs.Read as graph
+use Rattle.encode.specs.Encode.{encoded, fitted, writtenOut}
+use Rattle.encode.specs.declared.Written.the-variants as outcome
+use Rattle.generalize.specs.Pairs.{samePair}
+use Rattle.engine.specs.declared.Side.{Side}
+use Rattle.engine.specs.declared.Side.the-variants.{First, Second}
+use Rattle.engine.specs.declared.Reply.{Reply}
+use Rattle.engine.specs.declared.Reply.the-variants.{Length, Yes, No, Table, Graph, NoRoom, Cycle, Clash, TooLarge, NotBelow, NotAdmitted}
+use Rattle.engine.specs.Reply.{Result, refusal, checked, refusing, readBoth, resultOf, generalizing, generalized, ordering, ordered}
+use Rattle.engine.specs.Unification.{sameEither, combined, unifiedRows, unifying}
+use Rattle.engine.specs.Difference.{differenceRows, differed, numbered, differedRows, differing}
+use Rattle.request.specs.declared.parse.Operation.{Operation}
+use Rattle.request.specs.declared.parse.Operation.the-variants.{Generalize, Unify, Difference, Order}
+use Rattle.request.specs.Request.{Request}
+use Rattle.request.specs.Line.{answered, answering, refusedText, replyText, sideText}
+use Rattle.request.specs.Words.{Bounded, wordsFor}
+use Rattle.request.proofs.Texts.{decimal-short, refused-short, length-hexadecimal}
+
+-- A reply's length fits in the output.
+
+-- a refusal tells of no record
+refused-bounded : (r : Reply) (number : ℕ) → refusal r ≡ some number → (most : ℕ) → Bounded r most
+refused-bounded r number q most l e = absurd (none-some (sym (ap refusal e) ∙ q))
+
+-- what holds of every refusal, and of what a call does over accepted graphs, holds of the call
+module _ {X : Type 0} (refuse : Reply → X) (good : X → Type 0) (refused-good : (r : Reply) → ((most : ℕ) → Bounded r most) → good (refuse r))
+  where
+    checked-good : (o : Opened) (next : X) → good next → good (checked refuse o next)
+    checked-good (opened.Refused fault) next h = refused-good (Table fault) (refused-bounded (Table fault) _ refl)
+    checked-good opened.Accepted next h = h
+
+    both-good : (x y : graph.Reading) (next : List (Row ℕ) → List (Row ℕ) → X) → ((g h : List (Row ℕ)) → good (next g h)) →
+        good (readBoth refuse x y next)
+    both-good (graph.refused fault) y next h = refused-good (Graph fault First) (refused-bounded (Graph fault First) _ refl)
+    both-good (graph.accepted rows) (graph.refused fault) next h = refused-good (Graph fault Second) (refused-bounded (Graph fault Second) _ refl)
+    both-good (graph.accepted rows) (graph.accepted others) next h = h rows others
+
+    call-good : (n : ℕ) (t a b : List ℕ) (next : List (Row ℕ) → List (Row ℕ) → X) → ((g h : List (Row ℕ)) → good (next g h)) →
+        good (checked refuse (table.opened n t) (readBoth refuse (graph.reading n a) (graph.reading n b) next))
+    call-good n t a b next h =
+        checked-good (table.opened n t) (readBoth refuse (graph.reading n a) (graph.reading n b) next)
+        (both-good (graph.reading n a) (graph.reading n b) next h)
+
+fitted-bounded : (bytes out : List ℕ) → Bounded (resultOf (fitted bytes out) .reply) (length out)
+unfolding fitted
+fitted-bounded bytes out = go (leb (length bytes) (length out)) refl
+  where
+    go : (b : Bool) → leb (length bytes) (length out) ≡ b →
+        Bounded (resultOf (cond b
+        (record { answer = outcome.Length (length bytes); output = bytes ++ drop (length bytes) out })
+        (record { answer = outcome.NoRoom; output = out })) .reply) (length out)
+    go true h = λ l e. let same : length bytes ≡ l = cc in omega (arith, leb-true (length bytes) (length out) h)
+    go false h = refused-bounded NoRoom 8 refl (length out)
+
+written-bounded : (c : Canonical ℕ) (out : List ℕ) → Bounded (resultOf (writtenOut c out) .reply) (length out)
+unfolding writtenOut
+written-bounded manyNodes out = refused-bounded TooLarge 11 refl (length out)
+written-bounded manyLinks out = refused-bounded TooLarge 11 refl (length out)
+written-bounded (written rows) out = fitted-bounded (encoded rows) out
+
+cond-bounded : (b : Bool) (x y : Result) (most : ℕ) → Bounded (x .reply) most → Bounded (y .reply) most → Bounded (cond b x y .reply) most
+cond-bounded true x y most h k = h
+cond-bounded false x y most h k = k
+
+combined-bounded : (u : Unified ℕ (ℕ ⊎ ℕ)) (out : List ℕ) → Bounded (combined u out .reply) (length out)
+combined-bounded cycle out = refused-bounded Cycle 9 refl (length out)
+combined-bounded clash out = refused-bounded Clash 10 refl (length out)
+combined-bounded (unified u) out = written-bounded (canonical sameEither u) out
+
+ordered-bounded : (most : ℕ) (b : Bool) → Bounded (cond b Yes No) most
+ordered-bounded most true l e = let z : _≡_ {A = ℕ} 0 1 = cc in absurd (omega arith)
+ordered-bounded most false l e = let z : _≡_ {A = ℕ} 0 1 = cc in absurd (omega arith)
+
+module _ (n : ℕ) (t a b : List ℕ) where
+  -- a call that writes a record
+  writing-bounded : (out : List ℕ) (next : List (Row ℕ) → List (Row ℕ) → Result) →
+      ((g h : List (Row ℕ)) → Bounded (next g h .reply) (length out)) →
+      Bounded (checked (λ r. refusing r out) (table.opened n t) (readBoth (λ r. refusing r out) (graph.reading n a) (graph.reading n b) next) .reply) (length out)
+  writing-bounded out = call-good (λ r. refusing r out) (λ (x : Result). Bounded (x .reply) (length out)) (λ r h. h (length out)) n t a b
+
+  generalizing-bounded : (out : List ℕ) → Bounded (generalizing n t a b out .reply) (length out)
+  unfolding generalizing generalized
+  generalizing-bounded out = writing-bounded out (generalized n t out) λ g h.
+      written-bounded (canonical samePair (generalization (typeLabels n t) (graph.graphOfRows g) (graph.graphOfRows h))) out
+
+  unifying-bounded : (out : List ℕ) → Bounded (unifying n t a b out .reply) (length out)
+  unfolding unifying unifiedRows
+  unifying-bounded out = writing-bounded out (unifiedRows n t out) λ g h.
+      combined-bounded
+      (unification (typeLabels n t) eqb eqb (graph.graphOfRows g) (from 0 (length g)) (graph.graphOfRows h) (from 0 (length h))) out
+
+  differing-bounded : (out : List ℕ) → Bounded (differing n t a b out .reply) (length out)
+  unfolding differing differedRows differed
+  differing-bounded out = writing-bounded out (differedRows n t out) λ g s.
+      let s = numbered (canonical eqb (graph.graphOfRows s)) in
+      cond-bounded (admits n t) (differed n t out g s) (refusing NotAdmitted out) (length out)
+      (cond-bounded (subsumes (typeLabels n t) eqb eqb (graph.graphOfRows s) (graph.graphOfRows g) (length g))
+      (resultOf (writtenOut (canonical eqb (differenceRows n t g s)) out)) (refusing NotBelow out) (length out)
+      (written-bounded (canonical eqb (differenceRows n t g s)) out) (refused-bounded NotBelow 12 refl (length out)))
+      (refused-bounded NotAdmitted 13 refl (length out))
+
+  ordering-bounded : (most : ℕ) → Bounded (ordering n t a b) most
+  unfolding ordering ordered
+  ordering-bounded most = call-good (λ r. r) (λ (r : Reply). Bounded r most) (λ r h. h most) n t a b (ordered n t) λ s g.
+      ordered-bounded most (subsumes (typeLabels n t) eqb eqb (graph.graphOfRows s) (graph.graphOfRows g) (length g))
+
+  pub answering-bounded : (operation : Operation) (out : List ℕ) → Bounded (answering operation n t a b out .reply) (length out)
+  answering-bounded Generalize out = generalizing-bounded out
+  answering-bounded Unify out = unifying-bounded out
+  answering-bounded Difference out = differing-bounded out
+  answering-bounded Order out = ordering-bounded (length out)
+
+answered-bounded : (request : Request) → Bounded (answered request .reply) 4344
+unfolding answered
+answered-bounded q l e =
+    omega (arith, answering-bounded (q .n) (q .table) (q .first) (q .second) (q .operation) (replicate 4344 0) l e, length-replicate {A = ℕ} 4344 0)
+
+-- Every line is short.
+
+table-small : (fault : TableFault) → table.tableNumber fault < 10000
+table-small tableFault.Size = omega arith
+table-small tableFault.Order = omega arith
+table-small tableFault.Bounds = omega arith
+
+graph-small : (fault : GraphFault) → graph.graphNumber fault < 10000
+graph-small graphFault.Malformed = omega arith
+graph-small graphFault.OutOfRange = omega arith
+graph-small graphFault.Cyclic = omega arith
+graph-small graphFault.Unreached = omega arith
+
+side-short : (which : Side) → length (sideText which) ≤ 7
+side-short First = omega arith
+side-short Second = omega arith
+
+reply-short : (reply : Reply) (out : List ℕ) → Bounded reply 4344 → length (replyText reply out) ≤ 8696
+reply-short (Length l) out h = simp (length-append, length-hexadecimal, length-take) (omega (arith, h l refl, decimal-short l (omega (arith, h l refl))))
+reply-short Yes out h = omega arith
+reply-short No out h = omega arith
+reply-short (Table fault) out h = omega (arith, refused-short (table.tableNumber fault) (table-small fault))
+reply-short (Graph fault which) out h =
+    omega (
+      arith,
+      length-append (refusedText (graph.graphNumber fault)) (sideText which),
+      refused-short (graph.graphNumber fault) (graph-small fault),
+      side-short which,
+    )
+reply-short NoRoom out h = omega (arith, refused-short 8 (omega arith))
+reply-short Cycle out h = omega (arith, refused-short 9 (omega arith))
+reply-short Clash out h = omega (arith, refused-short 10 (omega arith))
+reply-short TooLarge out h = omega (arith, refused-short 11 (omega arith))
+reply-short NotBelow out h = omega (arith, refused-short 12 (omega arith))
+reply-short NotAdmitted out h = omega (arith, refused-short 13 (omega arith))
+
+pub words-short : (request : Option Request) → length (wordsFor request) ≤ 8696
+words-short none = omega arith
+words-short (some q) = reply-short (answered q .reply) (answered q .output) (answered-bounded q)

@@ -1,0 +1,88 @@
+-- From what the parts of a line are to what is put: equal replies, calls and requests have equal words.
+use mathlib.Core.Path.{_≡_, refl, sym, _∙_, ap, ap₂, subst}
+use mathlib.Core.List.{List, [], _∷_, _++_}
+use mathlib.Core.Option.{Option, none, some}
+use Prim.Native.Nat.{ℕ, _+_, _≤_}
+use native.Mathlib.Nat.{zero-add}
+use native.Mathlib.Omega.{arith}
+use lib.ListN.{length, drop, set, replicate, length-append}
+use lib.Seq.{sets-eq}
+use Rattle.engine.specs.declared.Side.{Side}
+use Rattle.engine.specs.declared.Reply.{Reply}
+use Rattle.engine.specs.Reply.{Result}
+use Rattle.request.specs.declared.parse.Operation.{Operation}
+use Rattle.request.specs.declared.parse.Parts.{Parts}
+use Rattle.request.specs.Request.{Request, requested}
+use Rattle.request.specs.Parse.{between, requestAt}
+use Rattle.request.specs.Text.{Puts}
+use Rattle.request.specs.Line.{answered, answering, ended, lineFor, lineOf, replyText, sideText, textOf}
+use Rattle.request.specs.Words.{wordsFor}
+use Rattle.request.proofs.Texts.{puts-then, puts-byte}
+use Rattle.request.proofs.Bounds.{words-short}
+
+-- the text of an equal reply
+pub puts-reply : {reply r : Reply} (output : List ℕ) {at next : ℕ} {old new : List ℕ} → reply ≡ r →
+    Puts (replyText r output) at old next new → Puts (replyText reply output) at old next new
+puts-reply output {at} {next} {old} {new} e p = subst (λ (r : Reply). Puts (replyText r output) at old next new) (sym e) p
+
+-- the text of an equal side
+pub puts-side : {which s : Side} {at next : ℕ} {old new : List ℕ} → which ≡ s →
+    Puts (sideText s) at old next new → Puts (sideText which) at old next new
+puts-side {at = at} {next} {old} {new} e p = subst (λ (s : Side). Puts (sideText s) at old next new) (sym e) p
+
+-- a text made of an equal number
+pub puts-number : (text : ℕ → List ℕ) {m n at next : ℕ} {old new : List ℕ} → m ≡ n → Puts (text m) at old next new → Puts (text n) at old next new
+puts-number text {at = at} {next} {old} {new} e p = subst (λ (n : ℕ). Puts (text n) at old next new) e p
+
+-- Calls.
+
+-- a reply and an output are those of a call
+abbrev pub Answers : Operation → ℕ → List ℕ → List ℕ → List ℕ → List ℕ → Reply → List ℕ → Type 0
+Answers operation n t a b out r new = (r ≡ answering operation n t a b out .reply) × (new ≡ answering operation n t a b out .output)
+
+-- the call of an equal operation
+pub answers-by : {operation o : Operation} (n : ℕ) (t a b out : List ℕ) {r : Reply} {new : List ℕ} → operation ≡ o →
+    Answers o n t a b out r new → Answers operation n t a b out r new
+answers-by n t a b out {r} {new} e h = subst (λ (o : Operation). Answers o n t a b out r new) (sym e) h
+
+-- the call on the parts of the input
+pub answered-is : (input : List ℕ) (operation : Operation) (parts : Parts) {t a b : List ℕ} →
+    t ≡ between input (parts .table) → a ≡ between input (parts .first) → b ≡ between input (parts .second) →
+    answering operation (parts .n) t a b (replicate 4344 0) ≡ answered (requestAt input operation parts)
+unfolding answered
+answered-is input operation parts {t} {a} {b} et ea eb =
+    ap (λ (x : List ℕ). answering operation (parts .n) x a b (replicate 4344 0)) et
+    ∙ ap₂ (λ (x y : List ℕ). answering operation (parts .n) (between input (parts .table)) x y (replicate 4344 0)) ea eb
+
+-- the words of an equal result
+pub puts-result : {x y : Result} {r : Reply} {output : List ℕ} {at next : ℕ} {old new : List ℕ} → x ≡ y → r ≡ x .reply → output ≡ x .output →
+    Puts (replyText r output) at old next new → Puts (replyText (y .reply) (y .output)) at old next new
+puts-result {at = at} {next} {old} {new} e er eo p =
+    subst (λ (text : List ℕ). Puts text at old next new) (ap₂ replyText (er ∙ ap (λ (x : Result). x .reply) e) (eo ∙ ap (λ (x : Result). x .output) e)) p
+
+-- the words of an equal request
+pub puts-words : {request q : Option Request} {at next : ℕ} {old new : List ℕ} → request ≡ q →
+    Puts (wordsFor q) at old next new → Puts (wordsFor request) at old next new
+puts-words {at = at} {next} {old} {new} e p = subst (λ (q : Option Request). Puts (wordsFor q) at old next new) (sym e) p
+
+-- The line.
+
+line-is : (request : Option Request) → lineFor request ≡ ended (wordsFor request)
+unfolding textOf
+line-is none = refl
+line-is (some q) = refl
+
+pub line-put : (input : List ℕ) {end : ℕ} {old part : List ℕ} → 8697 ≤ length old → Puts (wordsFor (requested input)) 0 old end part →
+    (end + 1 ≡ length (lineOf input)) × (set part end 10 ≡ lineOf input ++ drop (length (lineOf input)) old)
+unfolding lineOf
+line-put input {end} {old} {part} room p =
+    let words : List ℕ = wordsFor (requested input) in
+    let q : Puts (words ++ (10 ∷ [])) 0 old (end + 1) (set part end 10) = puts-then p (puts-byte end part 10) in
+    let size : length (words ++ (10 ∷ [])) ≡ length words + 1 = length-append words (10 ∷ []) in
+    let short : length words ≤ 8696 = words-short (requested input) in
+    let same : length (words ++ (10 ∷ [])) ≡ length (lineOf input) = ap length (sym (line-is (requested input))) in (
+      omega (arith, q .next-is),
+      q .new-is ∙ sets-eq (words ++ (10 ∷ [])) old 0 (omega arith)
+          ∙ ap (λ (n : ℕ). (words ++ (10 ∷ [])) ++ drop n old) (zero-add (length (words ++ (10 ∷ []))))
+          ∙ ap (λ (l : List ℕ). l ++ drop (length l) old) (sym (line-is (requested input))),
+    )

@@ -1,0 +1,84 @@
+-- The line that answers an input (document 01, "Fittings to check"), in ASCII: "its parts separated by one space".
+use mathlib.Core.List.{List, [], _∷_, _++_}
+use mathlib.Core.Option.{Option, none, some}
+use Prim.Native.Nat.{ℕ}
+use lib.ListN.{take, replicate}
+use Rattle.engine.specs.declared.Side.{Side}
+use Rattle.engine.specs.declared.Side.the-variants.{First, Second}
+use Rattle.engine.specs.declared.Reply.{Reply}
+use Rattle.engine.specs.declared.Reply.the-variants.{Length, Yes, No, Table, Graph, NoRoom, Cycle, Clash, TooLarge, NotBelow, NotAdmitted}
+use Rattle.engine.specs.Reply.{Result, refusal, side, refusing, generalizing, ordering}
+use Rattle.engine.specs.Unification.{unifying}
+use Rattle.engine.specs.Difference.{differing}
+use Rattle.request.specs.declared.parse.Operation.{Operation}
+use Rattle.request.specs.declared.parse.Operation.the-variants.{Generalize, Unify, Difference, Order}
+use Rattle.request.specs.Request.{Request, requested}
+use Rattle.request.specs.Text.{decimal, hexadecimal}
+
+-- `bad input`
+abbrev pub badInput : List ℕ
+badInput = 98 ∷ 97 ∷ 100 ∷ 32 ∷ 105 ∷ 110 ∷ 112 ∷ 117 ∷ 116 ∷ []
+
+-- "`ok`, the length and the record in lower-case hexadecimal"
+abbrev pub okText : ℕ → List ℕ → List ℕ
+okText l bytes = (111 ∷ 107 ∷ 32 ∷ []) ++ decimal l ++ (32 ∷ []) ++ hexadecimal bytes
+
+-- "`refused` with the number"
+abbrev pub refusedText : ℕ → List ℕ
+refusedText number = (114 ∷ 101 ∷ 102 ∷ 117 ∷ 115 ∷ 101 ∷ 100 ∷ 32 ∷ []) ++ decimal number
+
+-- "`first` or `second`"
+abbrev pub sideText : Side → List ℕ
+sideText First = 32 ∷ 102 ∷ 105 ∷ 114 ∷ 115 ∷ 116 ∷ []
+sideText Second = 32 ∷ 115 ∷ 101 ∷ 99 ∷ 111 ∷ 110 ∷ 100 ∷ []
+
+-- "`refused` with the number, and for 4 to 7 `first` or `second`"; no text where there is no number
+abbrev pub refusalText : Option ℕ → Option Side → List ℕ
+refusalText none which = []
+refusalText (some number) none = refusedText number
+refusalText (some number) (some which) = refusedText number ++ sideText which
+
+abbrev pub refusalOf : Reply → List ℕ
+refusalOf reply = refusalText (refusal reply) (side reply)
+
+-- the words of a reply; the record is the output's first bytes
+abbrev pub replyText : Reply → List ℕ → List ℕ
+replyText (Length l) out = okText l (take l out)
+replyText Yes out = 121 ∷ 101 ∷ 115 ∷ []
+replyText No out = 110 ∷ 111 ∷ []
+replyText (Table fault) out = refusalOf (Table fault)
+replyText (Graph fault which) out = refusalOf (Graph fault which)
+replyText NoRoom out = refusalOf NoRoom
+replyText Cycle out = refusalOf Cycle
+replyText Clash out = refusalOf Clash
+replyText TooLarge out = refusalOf TooLarge
+replyText NotBelow out = refusalOf NotBelow
+replyText NotAdmitted out = refusalOf NotAdmitted
+
+-- "prints one line": the words and a line end
+abbrev pub ended : List ℕ → List ℕ
+ended words = words ++ (10 ∷ [])
+
+-- the line of a result
+unfoldable pub textOf : Result → List ℕ
+textOf result = ended (replyText (result .reply) (result .output))
+
+-- what the call that is asked for answers, and leaves in the output
+abbrev pub answering : Operation → ℕ → List ℕ → List ℕ → List ℕ → List ℕ → Result
+answering Generalize n table first second out = generalizing n table first second out
+answering Unify n table first second out = unifying n table first second out
+answering Difference n table first second out = differing n table first second out
+answering Order n table first second out = refusing (ordering n table first second) out
+
+-- "It lends as many output bytes as the longest record has"
+unfoldable pub answered : Request → Result
+answered q = answering (q .operation) (q .n) (q .table) (q .first) (q .second) (replicate 4344 0)
+
+-- "found before any other check, `bad input`"
+abbrev pub lineFor : Option Request → List ℕ
+lineFor none = ended badInput
+lineFor (some request) = textOf (answered request)
+
+-- the line that an input is answered by
+unfoldable pub lineOf : List ℕ → List ℕ
+lineOf input = lineFor (requested input)

@@ -1,0 +1,56 @@
+-- What parsing promises: what is to be read of the input stands at the places that it answers.
+use mathlib.Core.Path.{_≡_}
+use mathlib.Core.List.{List}
+use mathlib.Core.Option.{Option, none, some}
+use Prim.Native.Nat.{ℕ, _-_, _≤_}
+use lib.ListN.{length, take, drop}
+use Rattle.request.specs.declared.parse.Operation.{Operation}
+use Rattle.request.specs.declared.parse.Part.{Part}
+use Rattle.request.specs.declared.parse.Parts.{Parts}
+use Rattle.request.specs.declared.parse.Parsed.{Parsed}
+use Rattle.request.specs.declared.parse.Parsed.the-variants.{Asked, Bad}
+use Rattle.request.specs.declared.parse.Taken.{Taken}
+use Rattle.request.specs.declared.parse.Taken.the-variants as taken
+use Rattle.request.specs.Request.{Request}
+
+-- the bytes of a part
+abbrev pub between : List ℕ → Part → List ℕ
+between input part = take (part .end - part .start) (drop (part .start) input)
+
+-- a part stands in the input
+pub record Inside (input : List ℕ) (part : Part) : Type 0 where
+  pub rising : part .start ≤ part .end
+  pub inside : part .end ≤ length input
+
+-- a record of the input, and the bytes behind it
+abbrev pub recordAt : List ℕ → Taken → Option (List ℕ × List ℕ)
+recordAt input taken.Bad = none
+recordAt input (taken.At part) = some (between input part, drop (part .end) input)
+
+pub record Takes (read : Option (List ℕ × List ℕ)) (input : List ℕ) (answer : Taken) : Type 0 where
+  pub read-is : read ≡ recordAt input answer
+  pub inside : (part : Part) → answer ≡ taken.At part → Inside input part
+
+-- the request whose parts stand in the input
+abbrev pub requestAt : List ℕ → Operation → Parts → Request
+requestAt input operation parts = record {
+  operation = operation;
+  n = parts .n;
+  table = between input (parts .table);
+  first = between input (parts .first);
+  second = between input (parts .second);
+}
+
+abbrev pub requestIn : List ℕ → Parsed → Option Request
+requestIn input Bad = none
+requestIn input (Asked operation parts) = some (requestAt input operation parts)
+
+-- every part stands in the input
+pub record AllInside (input : List ℕ) (parts : Parts) : Type 0 where
+  pub table : Inside input (parts .table)
+  pub first : Inside input (parts .first)
+  pub second : Inside input (parts .second)
+
+pub record Parses (read : Option Request) (input : List ℕ) (answer : Parsed) : Type 0 where
+  pub read-is : read ≡ requestIn input answer
+  pub inside : (operation : Operation) (parts : Parts) → answer ≡ Asked operation parts → AllInside input parts

@@ -1,0 +1,78 @@
+// The line that `mapcalc` prints, made from the bytes of its input.
+
+pub mod parse;
+pub mod reply;
+pub mod text;
+
+use engine::Reply;
+use parse::Operation;
+use parse::Parsed;
+use parse::Parts;
+ghost use mathlib.Core.Path.{_≡_};
+ghost use mathlib.Core.List.{_++_};
+ghost use mathlib.Core.Option.{some};
+ghost use Prim.Native.Nat.{_≤_};
+ghost use lib.ListN.{length, drop};
+ghost use Rattle.request.specs.Request.{requested};
+ghost use Rattle.request.specs.Parse.{AllInside, requestAt};
+ghost use Rattle.request.specs.Text.{Puts};
+ghost use Rattle.request.specs.Line.{answering, lineOf};
+ghost use Rattle.request.specs.Words.{wordsFor};
+
+// What the call that is asked for answers, and leaves in the output.
+fn answer(
+    operation: Operation,
+    n: usize,
+    table: &[u8],
+    first: &[u8],
+    second: &[u8],
+    output: &mut [u8],
+) -> Reply
+    ensures { λ r. ⌜ r ≡ answering operation n (now (table .entry)) (now (first .entry)) (now (second .entry)) (now (output .entry)) .reply ⌝ }
+    ensures { λ r. ⌜ now (output .exit) ≡ answering operation n (now (table .entry)) (now (first .entry)) (now (second .entry)) (now (output .entry)) .output ⌝ }
+{
+    match operation {
+        Operation::Generalize => engine::generalize(n, table, first, second, output),
+        Operation::Unify => engine::unify(n, table, first, second, output),
+        Operation::Difference => engine::difference(n, table, first, second, output),
+        Operation::Order => engine::order(n, table, first, second),
+    }
+}
+
+// The words that answer a request, whose parts stand in the input.
+fn put_answer(operation: Operation, parts: Parts, input: &[u8], out: &mut [u8]) -> usize
+    requires { ⌜ AllInside (now input) parts ⌝ }
+    requires { ⌜ 8696 ≤ length (now out) ⌝ }
+    ensures { λ r. ⌜ Puts (wordsFor (some (requestAt (now (input .entry)) operation parts))) 0 (now (out .entry)) r (now (out .exit)) ⌝ }
+{
+    let n = parts.n;
+    let table = parse::bytes_of(input, parts.table);
+    let first = parse::bytes_of(input, parts.first);
+    let second = parse::bytes_of(input, parts.second);
+    let mut output = [0u8; 4344];
+    let reply = answer(operation, n, table, first, second, &mut output);
+    reply::put_reply(reply, &output, out)
+}
+
+// The line without its end.
+fn put_words(input: &[u8], out: &mut [u8]) -> usize
+    requires { ⌜ 8696 ≤ length (now out) ⌝ }
+    ensures { λ r. ⌜ Puts (wordsFor (requested (now (input .entry)))) 0 (now (out .entry)) r (now (out .exit)) ⌝ }
+{
+    let parsed = parse::parse(input);
+    match parsed {
+        Parsed::Bad => text::put_word(b"bad input", 0, out),
+        Parsed::Asked(operation, parts) => put_answer(operation, parts, input, out),
+    }
+}
+
+// Puts the line that answers the input at the start of the output, and answers its length.
+pub fn line(input: &[u8], out: &mut [u8]) -> usize
+    requires { ⌜ 8697 ≤ length (now out) ⌝ }
+    ensures { λ r. ⌜ r ≡ length (lineOf (now (input .entry))) ⌝ }
+    ensures { λ r. ⌜ now (out .exit) ≡ lineOf (now (input .entry)) ++ drop (length (lineOf (now (input .entry)))) (now (out .entry)) ⌝ }
+{
+    let end = put_words(input, out);
+    out[end] = 10;
+    end + 1
+}
