@@ -42,7 +42,7 @@ impl Call {
     }
 }
 
-pub const CALLS: [Call; 3] = [
+pub const CALLS: [Call; 5] = [
     Call {
         name: "rewrite",
         engine: |x, out| record_engine::rewrite(x.n, &x.table, &x.specific, out).ok(),
@@ -66,6 +66,28 @@ pub const CALLS: [Call; 3] = [
         engine: |x, out| record_engine::generalize(x.n, &x.table, &x.general, &x.other, out).ok(),
         peer: |x, out| peer::generalize(x.n, &x.table, &x.general, &x.other, out).ok(),
         reference: |x, out| length(calls::common_part(x.n, &x.table, &x.general, &x.other, out)),
+    },
+    Call {
+        name: "combination",
+        engine: |x, out| record_engine::unify(x.n, &x.table, &x.general, &x.other, out).ok(),
+        peer: |x, out| peer::unify(x.n, &x.table, &x.general, &x.other, out).ok(),
+        reference: |x, out| length(calls::combination(x.n, &x.table, &x.general, &x.other, out)),
+    },
+    Call {
+        name: "difference",
+        engine: |x, out| {
+            record_engine::difference(x.n, &x.table, &x.general, &x.specific, out).ok()
+        },
+        peer: |x, out| peer::difference(x.n, &x.table, &x.general, &x.specific, out).ok(),
+        reference: |x, out| {
+            length(calls::difference(
+                x.n,
+                &x.table,
+                &x.general,
+                &x.specific,
+                out,
+            ))
+        },
     },
 ];
 

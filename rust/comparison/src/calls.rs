@@ -64,6 +64,40 @@ pub const GENERALIZE: Call = Call {
     },
 };
 
+/// The combination.
+pub const UNIFY: Call = Call {
+    engine: |table, records, output| {
+        let [first, second] = [records[0], records[1]];
+        written(record_engine::unify(
+            table.n,
+            &table.bytes,
+            first,
+            second,
+            output,
+        ))
+    },
+    reference: |table, records, output| {
+        calls::combination(table.n, &table.bytes, records[0], records[1], output)
+    },
+};
+
+/// The difference of the first, which is the general one, and the second.
+pub const DIFFERENCE: Call = Call {
+    engine: |table, records, output| {
+        let [general, specific] = [records[0], records[1]];
+        written(record_engine::difference(
+            table.n,
+            &table.bytes,
+            general,
+            specific,
+            output,
+        ))
+    },
+    reference: |table, records, output| {
+        calls::difference(table.n, &table.bytes, records[0], records[1], output)
+    },
+};
+
 /// The reply of a call of the proved engine that writes a record.
 fn written(result: Result<usize, Refusal>) -> Reply {
     result.map_or_else(refused, Reply::Length)
@@ -90,6 +124,10 @@ fn refused(refusal: Refusal) -> Reply {
             reply::Refusal::Graph(fault, which)
         }
         Refusal::NoRoom => reply::Refusal::ShortOutput,
+        Refusal::Cycle => reply::Refusal::Loop,
+        Refusal::Clash => reply::Refusal::Clash,
         Refusal::TooLarge => reply::Refusal::TooLarge,
+        Refusal::NotBelow => reply::Refusal::NotBelow,
+        Refusal::NotAdmitted => reply::Refusal::NoDifferences,
     })
 }

@@ -4,8 +4,10 @@
 #![warn(missing_docs)]
 
 mod calls;
+pub mod cases;
+pub mod program;
 
-pub use calls::{Call, GENERALIZE, ORDER, REWRITE};
+pub use calls::{Call, DIFFERENCE, GENERALIZE, ORDER, REWRITE, UNIFY};
 
 use reference::random::{TableBytes, Xorshift};
 use reference::record::LONGEST_RECORD;

@@ -1,6 +1,7 @@
 //! The cases of document 01 by the proved engine, over the diamond.
 
-use record_engine::{LONGEST_RECORD, Refusal, generalize, is_below};
+use record_engine::{LONGEST_RECORD, Refusal, difference, generalize, is_below, unify};
+use reference::graph::Graph;
 use reference::notation;
 use reference::random;
 use reference::record;
@@ -80,5 +81,148 @@ fn the_order_of_small_graphs() {
     ] {
         assert!(!below(first, second), "{first} below {second}");
         assert!(!below(second, first), "{second} below {first}");
+    }
+}
+
+#[test]
+fn case_2_a_clash() {
+    assert_eq!(written(unify, "a", "b"), Err(Refusal::Clash));
+}
+
+#[test]
+fn case_3_a_type_on_one_path_holds_on_all_that_share() {
+    let combined = written(unify, P, "top[0: a, 1: top]");
+    assert_eq!(combined, Ok(record_of(R)));
+}
+
+#[test]
+fn case_4_a_clash_by_sharing() {
+    assert_eq!(written(unify, P, "top[0: a, 1: b]"), Err(Refusal::Clash));
+}
+
+#[test]
+fn case_5_a_loop_though_types_clash_too() {
+    let combined = written(unify, P, "top[0: Z a, 1: b[0: Z]]");
+    assert_eq!(combined, Err(Refusal::Cycle));
+}
+
+#[test]
+fn case_7_one_path_of_two_that_share() {
+    assert_eq!(written(difference, P, R), Ok(record_of("top[0: a]")));
+}
+
+#[test]
+fn case_8_sharing_and_type() {
+    assert_eq!(written(difference, Q, R), Ok(record_of(R)));
+}
+
+#[test]
+fn case_9_from_itself_a_lone_top() {
+    for graph in ["top", "a", P, Q, R, "top[0: a[0: X b, 1: X], 1: X]"] {
+        let lone_top = record_of("top");
+        assert_eq!(written(difference, graph, graph), Ok(lone_top), "{graph}");
+    }
+}
+
+#[test]
+fn case_10_not_below() {
+    assert_eq!(written(difference, P, Q), Err(Refusal::NotBelow));
+}
+
+#[test]
+fn case_11_one_link_of_each_group() {
+    let general = "top[0: X top, 1: X, 2: top]";
+    let specific = "top[0: X top, 1: X, 2: X]";
+    let rest = record_of("top[0: X top, 2: X]");
+    assert_eq!(written(difference, general, specific), Ok(rest));
+}
+
+/// What a call answers over a table on two lone nodes.
+fn over(call: Writes, table: &random::TableBytes, first: u8, second: u8) -> Result<usize, Refusal> {
+    let [first, second] = [first, second].map(|node_type| record::write(&Graph::lone(node_type)));
+    let mut output = vec![0; LONGEST_RECORD];
+    call(table.n, &table.bytes, &first, &second, &mut output)
+}
+
+#[test]
+fn case_12_three_middles_admit_no_difference() {
+    let table = random::middles(3);
+    for first in 1..5 {
+        for second in 1..5 {
+            assert_eq!(
+                over(difference, &table, first, second),
+                Err(Refusal::NotAdmitted)
+            );
+        }
+    }
+    assert_eq!(over(generalize, &table, 1, 2), Ok(10));
+}
+
+#[test]
+fn case_13_two_types_without_a_join() {
+    use record_engine::TableFault;
+    let table = random::TableBytes {
+        n: 6,
+        bytes: record_engine::table(&[0x01, 0x03, 0x05, 0x0F, 0x17, 0x3F]),
+    };
+    let refused = Err(Refusal::Table(TableFault::Bounds));
+    assert_eq!(over(generalize, &table, 1, 2), refused);
+    assert_eq!(over(difference, &table, 5, 5), refused);
+}
+
+#[test]
+fn case_14_chains_up_to_and_past_255_nodes() {
+    let table = random::diamond();
+    let second = record::write(&random::chain_graph(128, 1, 3));
+    for (nodes, expected) in [(128, Ok(1 + 9 * 255 + 254)), (129, Err(Refusal::TooLarge))] {
+        let first = record::write(&random::chain_graph(nodes, 0, 3));
+        let mut output = vec![0; LONGEST_RECORD];
+        let combined = unify(table.n, &table.bytes, &first, &second, &mut output);
+        assert_eq!(combined, expected, "{nodes} nodes");
+    }
+}
+
+#[test]
+fn case_15_an_output_one_byte_short() {
+    let table = random::diamond();
+    for (call, first, second) in [
+        (generalize as Writes, P, Q),
+        (unify, P, "top[0: a, 1: top]"),
+        (difference, P, R),
+    ] {
+        let whole = written(call, first, second).expect("a result");
+        let records = [first, second].map(record_of);
+        let mut output = vec![7; whole.len()];
+        let short = &mut output[..whole.len() - 1];
+        let refused = call(table.n, &table.bytes, &records[0], &records[1], short);
+        assert_eq!(refused, Err(Refusal::NoRoom));
+        assert!(output.iter().all(|&byte| byte == 7), "unchanged");
+        let exact = call(table.n, &table.bytes, &records[0], &records[1], &mut output);
+        assert_eq!(exact, Ok(whole.len()));
+        assert_eq!(output, whole);
+    }
+}
+
+#[test]
+fn a_difference_restores_its_graph() {
+    for (general, specific) in [
+        (P, R),
+        (Q, R),
+        (Q, P),
+        ("top", "a[0: X b, 1: X[2: a]]"),
+        ("top[0: top, 2: top[1: top]]", "top[0: X a, 2: b[1: X]]"),
+    ] {
+        let rest = written(difference, general, specific).expect("below");
+        let table = random::diamond();
+        let mut output = vec![0; LONGEST_RECORD];
+        let length = unify(
+            table.n,
+            &table.bytes,
+            &record_of(general),
+            &rest,
+            &mut output,
+        );
+        let length = length.expect("a combination");
+        assert_eq!(output[..length], record_of(specific), "{specific}");
     }
 }

@@ -2,7 +2,7 @@
 //! pairs, unrelated or made from each other by dropping links, raising types and
 //! parting shared nodes; small, large, and damaged, over random and damaged tables.
 
-use comparison::{Call, Comparison, GENERALIZE, ORDER};
+use comparison::{Call, Comparison, DIFFERENCE, GENERALIZE, ORDER, UNIFY};
 use reference::graph::{Graph, Node};
 use reference::random::{self, Shape, TableBytes, Xorshift};
 use reference::record::{self, MOST_LINKS, MOST_NODES};
@@ -96,6 +96,52 @@ fn the_common_part_of_random_pairs() {
 fn the_common_part_of_large_pairs() {
     let compared = compare_large(GENERALIZE, 27);
     compared.assert_replies(&[0, 8, 11], 50);
+}
+
+#[test]
+fn the_combination_of_random_pairs() {
+    let compared = compare_pairs(UNIFY, 31);
+    compared.assert_replies(&[0, 1, 2, 3, 4, 5, 6, 7, 8, 9, 10, 11], 30);
+}
+
+#[test]
+fn the_combination_of_large_pairs() {
+    let compared = compare_large(UNIFY, 33);
+    compared.assert_replies(&[0, 8, 9, 10, 11], 10);
+}
+
+/// Trees of random shape with few features and only tops, so that little merges and
+/// nothing clashes: many combinations have more than 255 nodes.
+#[test]
+fn combinations_of_trees_around_255_nodes() {
+    let mut compared = Comparison::new(UNIFY, 35);
+    let random = &mut Xorshift::new(36);
+    let table = random::diamond();
+    for _ in 0..600 {
+        let shape = Shape {
+            nodes: random.between(100, MOST_NODES),
+            extra_links: random.pick(4),
+            features: (0..*random.choose(&[2, 3, 8])).collect(),
+            spread: *random.choose(&[1, 3, 40]),
+            tops: 4,
+        };
+        let (first, second) = random::unrelated(random, table.n, &shape);
+        let records = [first, second].map(|graph| record::write(&graph));
+        compared.check(&table, &[&records[0], &records[1]]);
+    }
+    compared.assert_replies(&[0, 8, 9, 11], 20);
+}
+
+#[test]
+fn the_difference_of_random_pairs() {
+    let compared = compare_pairs(DIFFERENCE, 37);
+    compared.assert_replies(&[0, 1, 2, 3, 4, 5, 6, 7, 8, 12, 13], 30);
+}
+
+#[test]
+fn the_difference_of_large_pairs() {
+    let compared = compare_large(DIFFERENCE, 39);
+    compared.assert_replies(&[0, 8, 12, 13], 20);
 }
 
 /// What the two graphs of a crossing have beyond their paths to leaves.

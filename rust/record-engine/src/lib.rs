@@ -56,6 +56,30 @@ unsafe extern "C" {
         output: *mut u8,
         output_length: usize,
     ) -> u64;
+
+    fn record_unify(
+        n: usize,
+        table: *const u8,
+        table_length: usize,
+        first: *const u8,
+        first_length: usize,
+        second: *const u8,
+        second_length: usize,
+        output: *mut u8,
+        output_length: usize,
+    ) -> u64;
+
+    fn record_difference(
+        n: usize,
+        table: *const u8,
+        table_length: usize,
+        general: *const u8,
+        general_length: usize,
+        specific: *const u8,
+        specific_length: usize,
+        output: *mut u8,
+        output_length: usize,
+    ) -> u64;
 }
 
 /// Writes a record in its one written form: equal meaning gives equal bytes.
@@ -155,6 +179,95 @@ pub fn generalize(
             first.len(),
             second.as_ptr(),
             second.len(),
+            output.as_mut_ptr(),
+            output.len(),
+        )
+    };
+    length(code)
+}
+
+/// Writes the combination of two records, their unification: sharing is the
+/// smallest equivalence that holds both records' sharing and passes down equal
+/// features, and each class has the meet of its types. It is the greatest graph
+/// below both.
+///
+/// Refused by 1 to 7, then by 9, 10, 11 and 8.
+///
+/// ```
+/// use record_engine::Refusal;
+/// let diamond = record_engine::table(&[0x01, 0x03, 0x05, 0x0F]);
+/// let a = [1, 1, 0, 0, 0, 0, 0, 0, 0, 0];
+/// let b = [1, 2, 0, 0, 0, 0, 0, 0, 0, 0];
+/// let top = [1, 3, 0, 0, 0, 0, 0, 0, 0, 0];
+/// let mut output = [0; record_engine::LONGEST_RECORD];
+/// let length = record_engine::unify(4, &diamond, &a, &top, &mut output)?;
+/// assert_eq!(output[..length], a);
+/// // No type but the contradiction is below both.
+/// let clash = record_engine::unify(4, &diamond, &a, &b, &mut output);
+/// assert_eq!(clash, Err(Refusal::Clash));
+/// # Ok::<(), record_engine::Refusal>(())
+/// ```
+pub fn unify(
+    n: usize,
+    table: &[u8],
+    first: &[u8],
+    second: &[u8],
+    output: &mut [u8],
+) -> Result<usize, Refusal> {
+    // SAFETY: as in `rewrite`.
+    let code = unsafe {
+        record_unify(
+            n,
+            table.as_ptr(),
+            table.len(),
+            first.as_ptr(),
+            first.len(),
+            second.as_ptr(),
+            second.len(),
+            output.as_mut_ptr(),
+            output.len(),
+        )
+    };
+    length(code)
+}
+
+/// Writes the difference of a general record and a specific one below it: combined
+/// with the general record it gives the specific one again, and nothing strictly
+/// more general does.
+///
+/// Refused by 1 to 7, then by 13, 12 and 8.
+///
+/// ```
+/// let diamond = record_engine::table(&[0x01, 0x03, 0x05, 0x0F]);
+/// // Both lead by 0 and 1 to one node, which is top in the general one and 1 in
+/// // the specific one; one of the two links is enough to say so.
+/// let general = [2, 3, 3, 0, 0, 0, 0, 0, 0, 0, 1, 1, 3, 0, 0, 0, 0, 0, 0, 0, 0];
+/// let specific = [2, 3, 3, 0, 0, 0, 0, 0, 0, 0, 1, 1, 1, 0, 0, 0, 0, 0, 0, 0, 0];
+/// let rest = [2, 3, 1, 0, 0, 0, 0, 0, 0, 0, 1, 1, 0, 0, 0, 0, 0, 0, 0, 0];
+/// let mut output = [0; record_engine::LONGEST_RECORD];
+/// let length = record_engine::difference(4, &diamond, &general, &specific, &mut output)?;
+/// assert_eq!(output[..length], rest);
+/// let length = record_engine::unify(4, &diamond, &general, &rest, &mut output)?;
+/// assert_eq!(output[..length], specific);
+/// # Ok::<(), record_engine::Refusal>(())
+/// ```
+pub fn difference(
+    n: usize,
+    table: &[u8],
+    general: &[u8],
+    specific: &[u8],
+    output: &mut [u8],
+) -> Result<usize, Refusal> {
+    // SAFETY: as in `rewrite`.
+    let code = unsafe {
+        record_difference(
+            n,
+            table.as_ptr(),
+            table.len(),
+            general.as_ptr(),
+            general.len(),
+            specific.as_ptr(),
+            specific.len(),
             output.as_mut_ptr(),
             output.len(),
         )

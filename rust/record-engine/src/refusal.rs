@@ -45,13 +45,21 @@ pub enum Refusal {
     Graph(GraphFault, Side),
     /// 8: the result exists and the output is shorter.
     NoRoom,
+    /// 9: combination, a class of shared paths reaches itself.
+    Cycle,
+    /// 10: combination, a class of shared paths has no type, and none reaches itself.
+    Clash,
     /// 11: the result has more than 255 nodes or 2,048 links.
     TooLarge,
+    /// 12: difference, the second record is not below the first.
+    NotBelow,
+    /// 13: difference, the table does not admit it.
+    NotAdmitted,
 }
 
 impl Refusal {
     /// Every refusal.
-    pub const ALL: [Refusal; 13] = [
+    pub const ALL: [Refusal; 17] = [
         Refusal::Table(TableFault::Size),
         Refusal::Table(TableFault::Order),
         Refusal::Table(TableFault::Bounds),
@@ -64,7 +72,11 @@ impl Refusal {
         Refusal::Graph(GraphFault::Unreached, Side::First),
         Refusal::Graph(GraphFault::Unreached, Side::Second),
         Refusal::NoRoom,
+        Refusal::Cycle,
+        Refusal::Clash,
         Refusal::TooLarge,
+        Refusal::NotBelow,
+        Refusal::NotAdmitted,
     ];
 
     /// The number of this refusal in document 01.
@@ -83,7 +95,11 @@ impl Refusal {
             Refusal::Graph(GraphFault::Cyclic, _) => 6,
             Refusal::Graph(GraphFault::Unreached, _) => 7,
             Refusal::NoRoom => 8,
+            Refusal::Cycle => 9,
+            Refusal::Clash => 10,
             Refusal::TooLarge => 11,
+            Refusal::NotBelow => 12,
+            Refusal::NotAdmitted => 13,
         }
     }
 
@@ -107,6 +123,10 @@ impl fmt::Display for Refusal {
             Refusal::Graph(GraphFault::Cyclic, _) => "a node reaches itself",
             Refusal::Graph(GraphFault::Unreached, _) => "the root does not reach a node",
             Refusal::NoRoom => "the output is shorter than the result",
+            Refusal::Cycle => "a class of shared paths reaches itself",
+            Refusal::Clash => "a class of shared paths has no type in common",
+            Refusal::NotBelow => "the second record is not below the first",
+            Refusal::NotAdmitted => "the table does not admit differences",
             Refusal::TooLarge => "the result has more than 255 nodes or 2,048 links",
         };
         write!(formatter, "refused {}", self.number())?;

@@ -1,0 +1,88 @@
+//! The program `mapcalc`: its stored lines, and many random inputs against the
+//! reference, each by a run of the program.
+
+use comparison::cases::cases;
+use comparison::program::{path, run};
+use reference::mapcalc;
+use reference::random::{self, Xorshift};
+use std::collections::BTreeMap;
+use std::thread;
+
+/// A name, an input in hexadecimal and a line, in turn.
+const STORED: &str = include_str!("../cases.txt");
+
+#[test]
+fn the_stored_lines() {
+    let mut lines = STORED.lines();
+    let mut count = 0;
+    for case in cases() {
+        assert_eq!(lines.next(), Some(format!("# {}", case.name).as_str()));
+        let digits: String = case
+            .input
+            .iter()
+            .map(|byte| format!("{byte:02x}"))
+            .collect();
+        assert_eq!(lines.next(), Some(digits.as_str()), "{}", case.name);
+        let line = lines.next().expect("a stored line");
+        assert_eq!(run(&path(), &case.input), line, "{}", case.name);
+        assert_eq!(mapcalc::line(&case.input), line, "{}", case.name);
+        count += 1;
+    }
+    assert_eq!(lines.next(), None);
+    assert!(count >= 80, "{count} cases");
+}
+
+#[test]
+fn every_line_is_stored() {
+    let lines: Vec<&str> = STORED.lines().skip(2).step_by(3).collect();
+    let mut expected = vec!["yes".to_string(), "no".to_string(), "bad input".to_string()];
+    // 8 does not come: the program lends as many bytes as the longest record has.
+    expected.extend([1, 2, 3, 9, 10, 11, 12, 13].map(|number| format!("refused {number}")));
+    for side in ["first", "second"] {
+        expected.extend([4, 5, 6, 7].map(|number| format!("refused {number} {side}")));
+    }
+    for line in expected {
+        assert!(lines.contains(&line.as_str()), "{line}");
+    }
+    assert!(lines.contains(&"ok 20 0203010000000000000001010000000000000000"));
+}
+
+/// The inputs of each thread, and their number together.
+const THREADS: u64 = 4;
+const INPUTS: usize = 52_000;
+
+/// Runs inputs of one seed; gives how often each first word or number came.
+fn compare(seed: u64) -> BTreeMap<String, usize> {
+    let random = &mut Xorshift::new(seed);
+    let mut counts = BTreeMap::new();
+    for _ in 0..INPUTS / THREADS as usize {
+        let input = random::mapcalc_input(random);
+        let line = mapcalc::line(&input);
+        assert_eq!(run(&path(), &input), line, "{input:?}");
+        let kind = match line.strip_prefix("ok") {
+            Some(_) => "ok".to_string(),
+            None => line,
+        };
+        *counts.entry(kind).or_insert(0) += 1;
+    }
+    counts
+}
+
+#[test]
+fn random_requests() {
+    let threads: Vec<_> = (0..THREADS)
+        .map(|thread| thread::spawn(move || compare(60 + thread)))
+        .collect();
+    let mut counts = BTreeMap::new();
+    for thread in threads {
+        for (kind, count) in thread.join().expect("no disagreement") {
+            *counts.entry(kind).or_insert(0) += count;
+        }
+    }
+    for kind in ["ok", "yes", "no", "bad input"] {
+        assert!(counts[kind] >= 1_000, "{counts:?}");
+    }
+    for number in [1, 2, 9, 10, 12, 13] {
+        assert!(counts[&format!("refused {number}")] >= 100, "{counts:?}");
+    }
+}
