@@ -1,47 +1,43 @@
-//! A call's stack stays far under a mebibyte: the deepest record, a chain of 255
-//! nodes, is rewritten on a thread with a stack of 128 KiB.
+//! A call's stack stays under a mebibyte: every call on the deepest and on the
+//! largest records, on a thread with half of that.
 
-use record_engine::rewrite;
+use record_engine::{LONGEST_RECORD, difference, generalize, is_below, rewrite, unify};
+use reference::random;
+use reference::record;
 
-/// The diamond of document 01.
-fn diamond() -> Vec<u8> {
-    let mut table = vec![0; 32];
-    for (row, byte) in [0x01, 0x03, 0x05, 0x0F].into_iter().enumerate() {
-        table[8 * row] = byte;
-    }
-    table
-}
-
-/// A chain of 255 nodes on feature 0, all top.
-fn chain() -> Vec<u8> {
-    let mut record = vec![255];
-    for node in 1..=255u8 {
-        record.push(3);
-        record.extend(if node < 255 {
-            [1, 0, 0, 0, 0, 0, 0, 0]
-        } else {
-            [0; 8]
-        });
-        if node < 255 {
-            record.push(node);
-        }
-    }
-    record
-}
+/// The stack that a call gets here.
+const STACK: usize = 512 << 10;
 
 #[test]
-fn the_deepest_record_needs_little_stack() {
-    let reply = std::thread::Builder::new()
-        .stack_size(128 << 10)
-        .spawn(|| {
-            let record = chain();
-            let mut output = vec![0; 4344];
-            let reply = rewrite(4, &diamond(), &record, &mut output);
-            assert_eq!(&output[..record.len()], &record[..]);
-            reply
+fn the_largest_records_need_little_stack() {
+    let table = random::diamond();
+    // A chain of 255 nodes, and 255 nodes with 8 links from each to the next.
+    let chain = record::write(&random::chain_graph(255, 0, 3));
+    let ladder = record::write(&random::ladder(255, &[0, 9, 18, 27, 36, 45, 54, 63], 3));
+    let lengths = std::thread::Builder::new()
+        .stack_size(STACK)
+        .spawn(move || {
+            let mut output = vec![0; LONGEST_RECORD];
+            let (n, table) = (table.n, &table.bytes);
+            assert_eq!(is_below(n, table, &ladder, &chain), Ok(true));
+            [
+                rewrite(n, table, &chain, &mut output),
+                rewrite(n, table, &ladder, &mut output),
+                generalize(n, table, &ladder, &ladder, &mut output),
+                unify(n, table, &ladder, &ladder, &mut output),
+                unify(n, table, &ladder, &chain, &mut output),
+                difference(n, table, &chain, &ladder, &mut output),
+            ]
         })
         .expect("a thread")
         .join()
         .expect("no panic");
-    assert_eq!(reply, Ok(1 + 9 * 255 + 254));
+    let chain = 1 + 9 * 255 + 254;
+    let ladder = 1 + 9 * 255 + 8 * 254;
+    assert_eq!(
+        lengths[..5],
+        [chain, ladder, ladder, ladder, ladder].map(Ok)
+    );
+    // Each link beside the chain's says that it leads to the same node.
+    assert_eq!(lengths[5], Ok(ladder));
 }

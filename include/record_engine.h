@@ -1,0 +1,98 @@
+/* The record engine for C: five calls on bytes, in the static library
+ * target/staticlib/liblibrary.a, which `rt staticlib library` writes.
+ *
+ * Every call takes a type table: n, the number of types, and its bytes, 8 for each
+ * type. A record or an output is a pointer to its first byte and a length. A
+ * pointer is not null, also where the length is 0. The output overlaps nothing
+ * else that is handed in. The calls keep no pointer, share no state and may run
+ * side by side.
+ *
+ * A call that writes a record answers its length, which is at most
+ * RECORD_LONGEST; the output's first bytes are then the record and its other bytes
+ * are unchanged. On a refusal no byte of the output is changed. Refusals have the
+ * numbers of document 01:
+ *
+ *    1  n is not 2 to 64, or the table's length is not 8 times n
+ *    2  a bit at n or above; no order; 0 not least; n - 1 not greatest
+ *    3  two types without a meet or a join
+ *    4  a record with no nodes, too short, with bytes left over, or more than 2,048 links
+ *    5  a type that is 0 or at least n; a target that is no node
+ *    6  a node reaches itself
+ *    7  a node that the root does not reach
+ *    8  the result exists and the output is shorter
+ *    9  combination: a loop
+ *   10  combination: a clash, and no loop
+ *   11  a result of more than 255 nodes or 2,048 links
+ *   12  difference: the second graph is not below the first
+ *   13  difference: the table does not admit it
+ *
+ * Checks run in the order 1, 2, 3; the first record's 4 to 7; the second's 4 to 7;
+ * then 13, 12, 9, 10, 11, 8.
+ */
+#ifndef RECORD_ENGINE_H
+#define RECORD_ENGINE_H
+
+#include <stddef.h>
+#include <stdint.h>
+
+#ifdef __cplusplus
+extern "C" {
+#endif
+
+/* An output of so many bytes is never too short. */
+#define RECORD_LONGEST 4344
+
+/* What `record_order` answers. */
+#define RECORD_NO (UINT64_C(1) << 33)
+#define RECORD_YES (RECORD_NO + 1)
+
+/* Whether an answer is a refusal; its number; and the record that a refusal by 4 to
+ * 7 tells of, 1 or 2, and 0 for the other refusals. */
+#define RECORD_IS_REFUSED(answer) ((answer) >> 32 == 1)
+#define RECORD_REFUSAL(answer) ((int)((answer) & 255))
+#define RECORD_SIDE(answer) ((int)((answer) >> 8 & 255))
+
+/* Writes a record in its one written form: records of equal meaning, and no others,
+ * give equal bytes. Answers the length, or refuses by 1 to 8; the record counts as
+ * the first. */
+uint64_t record_rewrite(size_t n, const uint8_t *table, size_t table_length,
+                        const uint8_t *record, size_t record_length,
+                        uint8_t *output, size_t output_length);
+
+/* Whether the first record's graph is below the second's: every path of the second
+ * is one of the first, with a type below or equal, and paths that share in the
+ * second share in the first. Answers RECORD_YES or RECORD_NO, or refuses by 1 to 7. */
+uint64_t record_order(size_t n, const uint8_t *table, size_t table_length,
+                      const uint8_t *first, size_t first_length,
+                      const uint8_t *second, size_t second_length);
+
+/* Writes the common part of two records: the paths in both, each with the join of
+ * its two types, two sharing exactly when they share in both. It is the least graph
+ * above both. Answers the length, or refuses by 1 to 7, 11 and 8. */
+uint64_t record_generalize(size_t n, const uint8_t *table, size_t table_length,
+                           const uint8_t *first, size_t first_length,
+                           const uint8_t *second, size_t second_length,
+                           uint8_t *output, size_t output_length);
+
+/* Writes the combination of two records, the greatest graph below both. Answers the
+ * length, or refuses by 1 to 7, by 9 or 10 where no graph is below both, then by 11
+ * and 8. */
+uint64_t record_unify(size_t n, const uint8_t *table, size_t table_length,
+                      const uint8_t *first, size_t first_length,
+                      const uint8_t *second, size_t second_length,
+                      uint8_t *output, size_t output_length);
+
+/* Writes the difference of a general record, the first, and a specific one below it,
+ * the second: combined with the general one it gives the specific one again, byte
+ * for byte in written form, and nothing strictly more general does. Answers the
+ * length, or refuses by 1 to 7, 13, 12 and 8. */
+uint64_t record_difference(size_t n, const uint8_t *table, size_t table_length,
+                           const uint8_t *general, size_t general_length,
+                           const uint8_t *specific, size_t specific_length,
+                           uint8_t *output, size_t output_length);
+
+#ifdef __cplusplus
+}
+#endif
+
+#endif
