@@ -209,7 +209,7 @@ fn a_difference_restores_its_graph() {
         (P, R),
         (Q, R),
         (Q, P),
-        ("top", "a[0: X b, 1: X[2: a]]"),
+        ("top", "a[0: X b[2: a], 1: X]"),
         ("top[0: top, 2: top[1: top]]", "top[0: X a, 2: b[1: X]]"),
     ] {
         let rest = written(difference, general, specific).expect("below");

@@ -101,13 +101,13 @@ fn the_common_part_of_large_pairs() {
 #[test]
 fn the_combination_of_random_pairs() {
     let compared = compare_pairs(UNIFY, 31);
-    compared.assert_replies(&[0, 1, 2, 3, 4, 5, 6, 7, 8, 9, 10, 11], 30);
+    compared.assert_replies(&[0, 1, 2, 3, 4, 5, 6, 7, 8, 9, 10, 11], 10);
 }
 
 #[test]
 fn the_combination_of_large_pairs() {
     let compared = compare_large(UNIFY, 33);
-    compared.assert_replies(&[0, 8, 9, 10, 11], 10);
+    compared.assert_replies(&[0, 8, 9, 10, 11], 5);
 }
 
 /// Trees of random shape with few features and only tops, so that little merges and
@@ -129,7 +129,7 @@ fn combinations_of_trees_around_255_nodes() {
         let records = [first, second].map(|graph| record::write(&graph));
         compared.check(&table, &[&records[0], &records[1]]);
     }
-    compared.assert_replies(&[0, 8, 9, 11], 20);
+    compared.assert_replies(&[0, 8, 11], 200);
 }
 
 #[test]

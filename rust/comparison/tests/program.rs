@@ -29,7 +29,7 @@ fn the_stored_lines() {
         count += 1;
     }
     assert_eq!(lines.next(), None);
-    assert!(count >= 80, "{count} cases");
+    assert!(count >= 75, "{count} cases");
 }
 
 #[test]
