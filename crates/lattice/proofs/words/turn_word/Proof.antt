@@ -1,5 +1,5 @@
 -- `turn_word` meets its contract: the word has the bits from j on, and those before j are still to come.
-use Prim.Native.Nat.{ℕ, _+_, _*_, _≤_, _^_}
+use Prim.Native.Nat.{_+_, _*_, _≤_, _^_}
 use mathlib.Core.Path.{_≡_}
 use lib.ListN.{getD}
 use Rattle.lattice.specs.Words.{word as wordOf, bit, turned}
@@ -26,7 +26,10 @@ mul-word : tie.Need-mul-word Inv-loop μ-loop
 mul-word c =
     let start = c .before .before in
     let turn = c .before .loop in
-    record { fits = twice-fits (start .args .words .now) (start .args .n) (start .args .i) (turn .j) (turn .word) (start .pre .0) (search needs) (turn .inv .1) }
+    record {
+      fits = twice-fits (start .args .words .now) (start .args .n) (start .args .i) (turn .j) (turn .word) (start .pre .0) (search needs)
+          (turn .inv .1);
+    }
 
 mul-word-2 : tie.Need-mul-word-2 Inv-loop μ-loop
 mul-word-2 c = search needs
@@ -41,7 +44,10 @@ add-word : tie.Need-add-word Inv-loop μ-loop
 add-word c =
     let start = c .before .before .before in
     let turn = c .before .before .loop in
-    record { fits = turned-fits (start .args .words .now) (start .args .n) (start .args .i) (turn .j) (turn .word) (start .pre .0) (search needs) (turn .inv .1) }
+    record {
+      fits = turned-fits (start .args .words .now) (start .args .n) (start .args .i) (turn .j) (turn .word) (start .pre .0) (search needs)
+          (turn .inv .1);
+    }
 
 loop-less : tie.Need-loop-less Inv-loop μ-loop
 loop-less c = search needs
@@ -49,8 +55,11 @@ loop-less c = search needs
 loop-again : tie.Need-loop-again Inv-loop μ-loop
 loop-again c =
     let start = c .before .before .before in
-    let turn = c .before .before .loop in
-    (search needs, next-turned (start .args .words .now) (start .args .n) (start .args .i) (turn .j) (turn .word) (start .pre .0) (search needs) (turn .inv .1))
+    let turn = c .before .before .loop in (
+      search needs,
+      next-turned (start .args .words .now) (start .args .n) (start .args .i) (turn .j) (turn .word) (start .pre .0) (search needs)
+          (turn .inv .1),
+    )
 
 returns : tie.Need-returns Inv-loop μ-loop
 unfolding turned
