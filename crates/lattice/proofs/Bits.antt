@@ -7,7 +7,7 @@ use mathlib.Core.List.{List}
 use mathlib.Core.Logic.{⊎-elim}
 use native.Mathlib.Nat.{mod-lt, zero-div, mod-eq-of-lt, two-pow-succ, div-lt-iff-lt-mul, le-div-iff-mul-le, div-eq-of-lt, lt-of-lt-of-le, add-zero, add-suc, add-mul, mul-assoc, mul-comm}
 use native.Mathlib.Omega.{arith}
-use lib.Bits.{bitAnd, bitXor, and-shr, xor-shr, and-mod, xor-mod, xor-add-and, and-le-l}
+use lib.Bits.{bitAnd, bitXor, and-shr, xor-shr, and-mod, xor-mod, xor-add-and, and-le-l, and-step, and-self}
 use lib.Count.{trailingZeros, under, leadingZeros, leading-top}
 use lib.Dec.{eqb}
 use lib.ListN.{getD}
@@ -16,7 +16,7 @@ use borrow.Author.Tests.{eq-eqb, ne-eqb, eqb-true}
 use Rattle.lattice.specs.Table.{every, implies, below}
 use Rattle.lattice.specs.Words.{digit, word, related, bit, without, Inside}
 use Rattle.lattice.proofs.Every.{below-or-not, and-left, and-both, true-not-false, implies-from, every-fails, every-all}
-use Rattle.lattice.proofs.WordLaws.{word-below, word-same, word-bits, word-cut}
+use Rattle.lattice.proofs.WordLaws.{word-below, word-same, word-bits, word-cut, turn-more, turn-fits}
 
 two : 0 < 2
 two = omega arith
@@ -159,6 +159,51 @@ lowest-bit (suc k) w l s = go (w % 2) refl (lowest-bit k (w / 2) (shr-lt k 1 (su
       let f : w / 1 % 2 ≡ 1 = omega (arith, mod-lt w two) in
       (omega arith, eq-eqb _ _ f)
 
+-- a number and the one before it have all bits in common but those up to the lowest standing one
+lowest-and : (k w : ℕ) → w < 2 ^ k → 0 < w → bitAnd w (w - 1) + 2 ^ trailingZeros k w ≡ w
+unfolding trailingZeros
+lowest-and zero w l s = absurd (omega arith)
+lowest-and (suc k) w l s = go (w % 2) refl (lowest-and k (w / 2) (shr-lt k 1 (subst (λ (x : ℕ). w < 2 ^ x) (omega arith) l))) where
+  go : (d : ℕ) → w % 2 ≡ d → (0 < w / 2 → bitAnd (w / 2) (w / 2 - 1) + 2 ^ trailingZeros k (w / 2) ≡ w / 2)
+      → bitAnd w (w - 1) + 2 ^ under d (trailingZeros k (w / 2)) ≡ w
+  go zero e rest =
+      let half : (w - 1) / 2 ≡ w / 2 - 1 = omega arith in
+      let odd : (w - 1) % 2 ≡ 1 = omega arith in
+      let step : bitAnd w (w - 1) ≡ bitAnd (w / 2) (w / 2 - 1) * 2 =
+      and-step w (w - 1) ∙ rw (half, odd, e) (omega arith) in
+      omega (arith, step, rest (omega arith), two-pow-succ (trailingZeros k (w / 2)))
+  go (suc d) e rest =
+      let half : (w - 1) / 2 ≡ w / 2 = omega (arith, mod-lt w two) in
+      let even : (w - 1) % 2 ≡ 0 = omega (arith, mod-lt w two) in
+      let own : w % 2 ≡ 1 = omega (arith, mod-lt w two) in
+      let step : bitAnd w (w - 1) ≡ w / 2 * 2 =
+      and-step w (w - 1) ∙ rw (half, even, own, and-self (w / 2)) (omega arith) in
+      omega (arith, step, own)
+
+-- so their common part is the number with that bit cleared
+pub lowest-cleared : (w : ℕ) → w < 2 ^ 64 → 0 < w → bitAnd w (w - 1) ≡ without w (2 ^ trailingZeros 64 w)
+lowest-cleared w l s =
+    let j : ℕ = trailingZeros 64 w in
+    let lowest : (j < 64) × (bit w j ≡ true) = lowest-bit 64 w l s in
+    let one : bitAnd w (2 ^ j) ≡ 2 ^ j =
+    bits-same 64 (bitAnd w (2 ^ j)) (2 ^ j) (omega (arith, and-le-l w (2 ^ j))) (pow-lt (lowest .0)) λ k r.
+    and-bit w (2 ^ j) k ∙ ap (λ (b : Bool). bit w k && b) (one-bit j k (lowest .0) r) ∙ keep j k (eqb k j) refl (lowest .1) ∙
+    sym (one-bit j k (lowest .0) r) in
+    omega (arith, lowest-and 64 w l s, without-rest w (2 ^ j), one)
+  where
+    pow-lt : {j : ℕ} → j < 64 → 2 ^ j < 2 ^ 64
+    pow-lt {j} r =
+        let most : 2 ^ suc j ≤ 2 ^ 64 = pow-mono r in
+        omega (arith, two-pow-succ j, pow-pos j)
+
+    keep : (j k : ℕ) (b : Bool) → eqb k j ≡ b → bit w j ≡ true → bit w k && eqb k j ≡ eqb k j
+    keep j k true e h = let q : k ≡ j = eqb-true k j e in rw (e, q, h)
+    keep j k false e h = rw e (none (bit w k))
+      where
+        none : (b : Bool) → b && false ≡ false
+        none true = refl
+        none false = refl
+
 -- above the highest standing bit are the leading zeros
 pub highest-bit : (w : ℕ) → w < 2 ^ 64 → 0 < w → (leadingZeros 64 w ≤ 63) × (63 - leadingZeros 64 w < 64) × (bit w (63 - leadingZeros 64 w) ≡ true)
 unfolding bit
@@ -211,6 +256,19 @@ module _ (t : List ℕ) (i k w b : ℕ) (few : k < 8) (e : w ≡ word (8 * k) (r
   byte-fits =
       let l : 8 * (k + 1) ≤ 64 = omega arith in
       subst (λ (x : ℕ). x < 2 ^ 64) (sym next-byte) (lt-of-lt-of-le (word-below (8 * (k + 1)) (related t false i)) (pow-mono l))
+
+-- one bit more of a word that is turned from its highest bit on
+module _ (ws : List ℕ) (n i j w : ℕ) (few : n ≤ 64) (l : 0 < j)
+    (h : word n (λ k. bit (getD ws k 0) i) ≡ w * 2 ^ j + word j (λ k. bit (getD ws k 0) i)) where
+  pub next-turned : word n (λ k. bit (getD ws k 0) i)
+      ≡ (2 * w + getD ws (j - 1) 0 / 2 ^ i % 2) * 2 ^ (j - 1) + word (j - 1) (λ k. bit (getD ws k 0) i)
+  next-turned = turn-more (λ k. bit (getD ws k 0) i) n j w _ l h (bit-digit (getD ws (j - 1) 0) i)
+
+  pub turned-fits : 2 * w + getD ws (j - 1) 0 / 2 ^ i % 2 < 2 ^ 64
+  turned-fits = turn-fits (λ k. bit (getD ws k 0) i) n (j - 1) _ few next-turned
+
+  pub twice-fits : 2 * w < 2 ^ 64
+  twice-fits = omega (arith, turned-fits)
 
 -- Going over the standing bits of w: `left` has those that are not tested yet, and the others passed.
 pub record Passed (w left : ℕ) (p : ℕ → Bool) : Type 0 where

@@ -59,7 +59,11 @@ module _ (n : ℕ) (rel : ℕ → ℕ → Bool) (ws : List ℕ) (few : n ≤ 64)
   unfolding holder
   bound-found a b la lb = last-same _ _ n λ c lc. bound-test a b c la lb lc
 
--- It is enough to test each type with those numbered before it: two types have one bound in either order, and a type is its own.
+-- two types have one bound in either order
+pub bound-turned : (n : ℕ) (ws : List ℕ) (a b : ℕ) → wordBound n ws a b ≡ wordBound n ws b a
+bound-turned n ws a b = ap (holder n ws) (and-comm (getD ws a 0) (getD ws b 0))
+
+-- it is enough to test each type with those numbered before it: a type is its own bound
 module _ (n : ℕ) (ws : List ℕ) where
   pub pairs-found : every n (λ a. every a (λ b. found (wordBound n ws a b))) ≡ allFound n (wordBound n ws)
   unfolding allFound holder
@@ -76,7 +80,7 @@ module _ (n : ℕ) (ws : List ℕ) where
       (λ (e : a ≡ b).
       last-found (λ c. eqb (getD ws c 0) (bitAnd (getD ws a 0) (getD ws b 0))) n a l
       (eq-eqb _ _ (sym (and-self (getD ws a 0)) ∙ ap (λ (i : ℕ). bitAnd (getD ws a 0) (getD ws i 0)) e)))
-      (λ q. ap (λ (w : ℕ). found (holder n ws w)) (and-comm (getD ws a 0) (getD ws b 0)) ∙ before b a s q)
+      (λ q. ap found (bound-turned n ws a b) ∙ before b a s q)
       (eq-or-lt-of-le r))
       (below-or-not b a))
       λ h.

@@ -111,12 +111,12 @@ getD-overwrite (suc k) row rows a l s =
     (eq-or-lt-of-le (le-of-suc-le-suc l))
 
 -- one cell more of a list that is filled from its start, and what is not filled yet
-pub set-more : (f : ℕ → ℕ) (l : List ℕ) (i v : ℕ) → i < length l → ((k : ℕ) → k < i → getD l k 0 ≡ f k) → v ≡ f i
-    → (k : ℕ) → k < i + 1 → getD (set l i v) k 0 ≡ f k
-set-more f l i v s h e =
-    below-more (λ k. getD (set l i v) k 0 ≡ f k) i
-    (λ k r. getD-set-other l i k v 0 (λ q. absurd (omega arith)) ∙ h k r)
-    (getD-set-same l i v 0 s ∙ e)
+pub set-more : {A : Type 0} (d : A) (f : ℕ → A) (l : List A) (i : ℕ) (v : A) → i < length l → ((k : ℕ) → k < i → getD l k d ≡ f k) → v ≡ f i
+    → (k : ℕ) → k < i + 1 → getD (set l i v) k d ≡ f k
+set-more d f l i v s h e =
+    below-more (λ k. getD (set l i v) k d ≡ f k) i
+    (λ k r. getD-set-other l i k v d (λ q. absurd (omega arith)) ∙ h k r)
+    (getD-set-same l i v d s ∙ e)
 
 pub set-rest : (l : List ℕ) (i v : ℕ) → ((k : ℕ) → i ≤ k → k < 64 → getD l k 0 ≡ 0) → (k : ℕ) → i + 1 ≤ k → k < 64 → getD (set l i v) k 0 ≡ 0
 set-rest l i v h k r s = getD-set-other l i k v 0 (λ q. absurd (omega arith)) ∙ h k (omega arith) s

@@ -4,7 +4,7 @@ use Prim.Native.Nat.{ℕ, zero, suc, _+_, _*_, _-_, _/_, _%_, _^_, _<_, _≤_}
 use mathlib.Core.Path.{_≡_, refl, sym, ap, subst, _∙_}
 use mathlib.Core.Bool.{Bool, true, false, _&&_}
 use mathlib.Core.Logic.{⊎-elim}
-use native.Mathlib.Nat.{not-suc-le-zero, eq-or-lt-of-le, le-of-suc-le-suc, two-pow-succ, div-lt-iff-lt-mul}
+use native.Mathlib.Nat.{not-suc-le-zero, eq-or-lt-of-le, le-of-suc-le-suc, two-pow-succ, div-lt-iff-lt-mul, div-le-self, add-mul, mul-add, mul-assoc}
 use native.Mathlib.Numerals.{add-one}
 use native.Mathlib.Omega.{arith}
 use lib.Dec.{leb, lit<}
@@ -145,6 +145,31 @@ bit-set b j w l h = rw h (omega (arith, shifted j l))
 
 pub bit-clear : (b : Bool) (j w : ℕ) → b ≡ false → w ≡ digit b * 2 ^ j + w
 bit-clear b j w h = rw h (omega arith)
+
+-- a word made from its highest bit on: w has the bits from j on
+pub turn-more : (p : ℕ → Bool) (n j w d : ℕ) → 0 < j → word n p ≡ w * 2 ^ j + word j p → digit (p (j - 1)) ≡ d
+    → word n p ≡ (2 * w + d) * 2 ^ (j - 1) + word (j - 1) p
+unfolding word
+turn-more p n zero w d l h e = absurd (not-suc-le-zero l)
+turn-more p n (suc k) w d l h e =
+    let q : suc k - 1 ≡ k = omega arith in
+    let f : digit (p k) ≡ d = ap (λ (m : ℕ). digit (p m)) (sym q) ∙ e in
+    let g : w * 2 ^ suc k ≡ w * 2 ^ k + w * 2 ^ k = ap (λ (x : ℕ). w * x) (two-pow-succ k) ∙ mul-add w (2 ^ k) (2 ^ k) in
+    rw q (h ∙ omega (arith, g, ap (λ (x : ℕ). x * 2 ^ k) f, add-mul (2 * w) d (2 ^ k), mul-assoc 2 w (2 ^ k)))
+
+pub turn-fits : (p : ℕ → Bool) (n j v : ℕ) → n ≤ 64 → word n p ≡ v * 2 ^ j + word j p → v < 2 ^ 64
+turn-fits p n j v few h =
+    let top : word n p / 2 ^ j ≡ v = ap (λ (x : ℕ). x / 2 ^ j) h ∙ high v j (word-below j p) in
+    let most : 2 ^ n ≤ 2 ^ 64 = pow-mono few in
+    omega (arith, top, div-le-self (word n p) (2 ^ j), word-below n p)
+
+pub turn-begin : (v n : ℕ) → v ≡ 0 * 2 ^ n + v
+turn-begin v n = omega arith
+
+pub turn-done : (p : ℕ → Bool) (n j w : ℕ) → j ≤ 0 → word n p ≡ w * 2 ^ j + word j p → w ≡ word n p
+unfolding word
+turn-done p n zero w l h = omega (arith, h)
+turn-done p n (suc j) w l h = absurd (not-suc-le-zero l)
 
 -- a turn and the end of a loop that makes a word
 pub next-word : (p : ℕ → Bool) (k : ℕ) (w v : ℕ) (b : Bool) → w ≡ word k p → b ≡ p k → v ≡ digit b * 2 ^ k + w → v ≡ word (k + 1) p

@@ -1,14 +1,14 @@
 -- What the parts of opening and of `admits_differences` answer, in words. Nothing here is needed to read the contracts of
 -- those calls: their proofs show that these tests on words decide what `Table` defines.
-use Prim.Native.Nat.{ℕ, zero, suc, _+_, _*_, _-_, _/_, _%_, _^_, _<_}
+use Prim.Native.Nat.{ℕ, zero, suc, _+_, _*_, _-_, _/_, _%_, _^_, _<_, _≤_}
 use mathlib.Core.Path.{_≡_}
 use mathlib.Core.Bool.{Bool, true, false, _&&_}
-use mathlib.Core.List.{List}
+use mathlib.Core.List.{List, []}
 use mathlib.Core.Option.{Option}
 use lib.ListN.{getD}
 use lib.Dec.{leb, eqb}
 use lib.Bits.{bitAnd, bitXor}
-use Rattle.lattice.specs.Table.{every, last, implies, below, found}
+use Rattle.lattice.specs.Table.{every, last, implies, below, found, cell}
 
 -- a bit as a number
 abbrev pub digit : Bool → ℕ
@@ -84,6 +84,14 @@ module _ (n : ℕ) (ws : List ℕ) where
   -- where the types strictly below j are those below one type, the types not above j are those below one type
   unfoldable pub wordPrime : ℕ → Bool
   wordPrime j = implies (found (holder (without (getD ws j 0) (2 ^ j)))) (found (holder (without (getD ws (n - 1) 0) (turned n ws j))))
+
+  -- what the rows before row a hold in column a are the bounds with a
+  abbrev pub Before : List (List ℕ) → ℕ → Type 0
+  Before rows a = (k : ℕ) → k < a → getD (getD rows k []) a 0 ≡ cell (wordBound k a)
+
+-- the cells before a are those of column a in the rows, the others 0
+abbrev pub Column : List (List ℕ) → ℕ → List ℕ → Type 0
+Column rows a cells = ((k : ℕ) → k < a → getD cells k 0 ≡ getD (getD rows k []) a 0) × ((k : ℕ) → a ≤ k → k < 64 → getD cells k 0 ≡ 0)
 
 -- every two types have a bound
 unfoldable pub allFound : ℕ → (ℕ → ℕ → Option ℕ) → Bool

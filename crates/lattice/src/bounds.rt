@@ -2,8 +2,11 @@
 // of their words.
 ghost use mathlib.Core.Path.{_≡_};
 ghost use Prim.Native.Nat.{ℕ, _<_, _≤_};
+ghost use mathlib.Core.List.{[]};
+ghost use lib.ListN.{getD};
+ghost use lib.Dec.{ltb};
 ghost use Rattle.lattice.specs.Table.{every, found as foundOf, cell, boundRow, overwrite};
-ghost use Rattle.lattice.specs.Words.{holder, wordBound, allFound, Sided, Inside};
+ghost use Rattle.lattice.specs.Words.{holder, wordBound, Before, Column, allFound, Sided, Inside};
 
 // The type whose word is `word`, or 64 where there is none. It has a bit of its own in the word, so it is sought among the
 // standing bits: at first the lowest for `low`, else the highest, and then from both ends in turn, for tables that are not
@@ -53,15 +56,42 @@ pub struct BoundRow {
     pub found: bool,
 }
 
-// The bounds of type a with every type below n; 0 in the other cells.
-pub fn bound_row(n: usize, words: &[u64; 64], low: bool, a: usize) -> BoundRow
-    requires { ⌜ (a < n) × (n ≤ 64) × Sided n (now words) ⌝ }
-    ensures cells { λ r. ⌜ r .cells ≡ boundRow n (wordBound n (now (words .entry))) a ⌝ }
-    ensures found { λ r. ⌜ r .found ≡ every n (λ b. foundOf (wordBound n (now (words .entry)) a b)) ⌝ }
+// What the rows before row a hold in column a, and whether each of it is a type; 0 in the other cells.
+fn column(a: usize, rows: &[[u8; 64]; 64]) -> BoundRow
+    requires { ⌜ a < 64 ⌝ }
+    ensures cells { λ r. ⌜ Column (now (rows .entry)) a (r .cells) ⌝ }
+    ensures found { λ r. ⌜ r .found ≡ every a (λ k. ltb (getD (getD (now (rows .entry)) k []) a 0) 64) ⌝ }
 {
     let mut cells = [0u8; 64];
     let mut found = true;
     let mut b = 0;
+    while b < a {
+        let held = rows[b][a];
+        if 64 <= held {
+            found = false;
+        }
+        cells[b] = held;
+        b += 1;
+    }
+    BoundRow { cells, found }
+}
+
+// The bounds of type a with every type below n, those with the types before it out of their rows; 0 in the other cells.
+pub fn bound_row(
+    n: usize,
+    words: &[u64; 64],
+    low: bool,
+    a: usize,
+    rows: &[[u8; 64]; 64],
+) -> BoundRow
+    requires { ⌜ (a < n) × (n ≤ 64) × Sided n (now words) × Before n (now words) (now rows) a ⌝ }
+    ensures cells { λ r. ⌜ r .cells ≡ boundRow n (wordBound n (now (words .entry))) a ⌝ }
+    ensures found { λ r. ⌜ r .found ≡ every n (λ b. foundOf (wordBound n (now (words .entry)) a b)) ⌝ }
+{
+    let before = column(a, rows);
+    let mut cells = before.cells;
+    let mut found = before.found;
+    let mut b = a;
     while b < n {
         let c = bound(words, low, a, b);
         if 64 <= c {
@@ -73,20 +103,22 @@ pub fn bound_row(n: usize, words: &[u64; 64], low: bool, a: usize) -> BoundRow
     BoundRow { cells, found }
 }
 
-// Fills the first n rows of the table, and answers whether every two types have a bound.
+// Fills the first n rows of the table, and answers whether every two types have a bound. Of each pair it is sought once.
 pub fn fill(n: usize, words: &[u64; 64], low: bool, table: &mut [[u8; 64]; 64]) -> bool
     requires { ⌜ (n ≤ 64) × Sided n (now words) ⌝ }
     ensures all { λ r. ⌜ r ≡ allFound n (wordBound n (now (words .entry))) ⌝ }
     ensures rows { λ r. ⌜ now (table .exit) ≡ overwrite n (boundRow n (wordBound n (now (words .entry)))) (now (table .entry)) ⌝ }
 {
+    let mut rows = [[0u8; 64]; 64];
     let mut found = true;
     let mut a = 0;
     while a < n {
-        let row = bound_row(n, words, low, a);
+        let row = bound_row(n, words, low, a, &rows);
         if !row.found {
             found = false;
         }
         let cells = row.cells;
+        rows[a] = cells;
         table[a] = cells;
         a += 1;
     }

@@ -44,7 +44,7 @@ pub fn are_pairs_ordered(down: &[u64; 64], i: usize) -> bool
         if !is_pair_ordered(down, i, j) {
             return false;
         }
-        left = super::words::cleared(left, j);
+        left = super::words::without_lowest(left);
     }
     true
 }

@@ -3,6 +3,7 @@
 ghost use mathlib.Core.Path.{_≡_};
 ghost use mathlib.Core.Bool.{true, false};
 ghost use Prim.Native.Nat.{ℕ, _+_, _*_, _^_, _<_, _≤_};
+ghost use lib.Count.{trailingZeros};
 ghost use lib.ListN.{getD};
 ghost use Rattle.lattice.specs.Table.{below};
 ghost use Rattle.lattice.specs.Words.{digit, word, related, Words, bit, without as withoutOf, turned};
@@ -43,10 +44,18 @@ pub fn cleared(word: u64, j: usize) -> u64
     without(word, 1u64 << j)
 }
 
+// The word with its lowest bit cleared.
+pub fn without_lowest(word: u64) -> u64
+    requires { ⌜ 0 < word ⌝ }
+    ensures { λ r. ⌜ r ≡ withoutOf word (2 ^ trailingZeros 64 word) ⌝ }
+{
+    word & (word - 1)
+}
+
 // A standing bit: the lowest for `low`, else the highest.
 pub fn end_bit(word: u64, low: bool) -> usize
     requires { ⌜ 0 < word ⌝ }
-    ensures { λ r. ⌜ (r < 64) × (bit word r ≡ true) ⌝ }
+    ensures { λ r. ⌜ (r < 64) × (bit word r ≡ true) × (low ≡ true → r ≡ trailingZeros 64 word) ⌝ }
 {
     if low {
         u64::trailing_zeros(word) as usize
@@ -109,11 +118,10 @@ pub fn turn_word(n: usize, words: &[u64; 64], i: usize) -> u64
     ensures { λ r. ⌜ r ≡ turned n (now (words .entry)) i ⌝ }
 {
     let mut word = 0u64;
-    let mut j = 0;
-    while j < n {
-        let stands = has_bit(words[j], i);
-        word = with_bit(word, j, stands);
-        j += 1;
+    let mut j = n;
+    while 0 < j {
+        j -= 1;
+        word = 2 * word + (words[j] >> i) % 2;
     }
     word
 }

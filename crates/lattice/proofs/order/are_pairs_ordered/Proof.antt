@@ -1,9 +1,9 @@
 -- `are_pairs_ordered` meets its contract: the pairs of the bits that are cleared are ordered.
-use Prim.Native.Nat.{ℕ}
-use mathlib.Core.Path.{sym, subst}
+use Prim.Native.Nat.{ℕ, _^_}
+use mathlib.Core.Path.{refl, sym, ap, subst, _∙_}
 use native.Mathlib.Omega.{arith}
 use lib.ListN.{getD}
-use Rattle.lattice.specs.Words.{pairOrdered}
+use Rattle.lattice.specs.Words.{without, pairOrdered}
 use Rattle.lattice.proofs.Every.{refuted, held}
 use Rattle.lattice.proofs.Bits.{Passed, pass-begin, pass-fails, pass-next, pass-all, cleared-less}
 use borrow.Author.Needs.{needs}
@@ -40,21 +40,24 @@ returns c =
     (pass-fails {p = test} (c .before .before .before .before .loop .inv) (bit .result) (bit .ensures .0) (bit .ensures .1)
     (refuted {p = test (bit .result)} (c .before .is-pair-ordered .ensures) (c .if1 .taken)))
 
-cleared-requires : tie.Need-cleared-requires Inv-loop μ-loop
-cleared-requires c κs = search needs
+without-lowest-requires : tie.Need-without-lowest-requires Inv-loop μ-loop
+without-lowest-requires c κs = search needs
 
 loop-less : tie.Need-loop-less Inv-loop μ-loop
 loop-less c =
     let bit = c .before .before .before .end-bit in
-    omega (arith, c .cleared .ensures, cleared-less (c .before .before .before .before .before .loop .left) (bit .result) (bit .ensures .0) (bit .ensures .1))
+    let next = c .without-lowest .ensures ∙ ap (λ (j : ℕ). without (c .before .before .before .before .before .loop .left) (2 ^ j)) (sym (bit .ensures .2 refl)) in
+    omega (arith, next, cleared-less (c .before .before .before .before .before .loop .left) (bit .result) (bit .ensures .0) (bit .ensures .1))
 
 loop-again : tie.Need-loop-again Inv-loop μ-loop
 loop-again c =
     let bit = c .before .before .before .end-bit in
+    let turn = c .before .before .before .before .before .loop in
     let start = c .before .before .before .before .before .before .before in
     let test = pairOrdered (start .args .down .now) (start .args .i) in
-    subst (λ (w : ℕ). Passed (getD (start .args .down .now) (start .args .i) 0) w test) (sym (c .cleared .ensures))
-    (pass-next {p = test} (c .before .before .before .before .before .loop .inv) (bit .result) (bit .ensures .0)
+    let next = c .without-lowest .ensures ∙ ap (λ (j : ℕ). without (turn .left) (2 ^ j)) (sym (bit .ensures .2 refl)) in
+    subst (λ (w : ℕ). Passed (getD (start .args .down .now) (start .args .i) 0) w test) (sym next)
+    (pass-next {p = test} (turn .inv) (bit .result) (bit .ensures .0)
     (held {p = test (bit .result)} (c .before .before .is-pair-ordered .ensures) (c .before .if1 .left)))
 
 returns-2 : tie.Need-returns-2 Inv-loop μ-loop
@@ -72,7 +75,7 @@ are-pairs-ordered-spec =
     end-bit-requires
     is-pair-ordered-requires
     returns
-    cleared-requires
+    without-lowest-requires
     loop-less
     loop-again
     returns-2)

@@ -1,5 +1,7 @@
 -- `end_bit` meets its contract: next to the zeros at an end stands a bit.
+use mathlib.Core.Path.{refl}
 use native.Mathlib.Omega.{arith}
+use Rattle.lattice.proofs.Every.{true-not-false}
 use Rattle.lattice.proofs.Bits.{lowest-bit, highest-bit}
 use Rattle.lattice.proofs.words.end_bit.Statement.{statement}
 use Rattle.lattice.proofs.words.end_bit.Tie as tie
@@ -14,12 +16,14 @@ sub-result : tie.Need-sub-result
 sub-result c = omega (arith, highest-bit (c .before .args .word) (c .before .fits .word .fits) (c .before .pre) .0)
 
 returns : tie.Need-returns
-returns c = lowest-bit 64 (c .before .args .word) (c .before .fits .word .fits) (c .before .pre)
+returns c =
+    let lowest = lowest-bit 64 (c .before .args .word) (c .before .fits .word .fits) (c .before .pre) in
+    (lowest .0, lowest .1, λ e. refl)
 
 returns-2 : tie.Need-returns-2
 returns-2 c =
     let highest = highest-bit (c .before .args .word) (c .before .fits .word .fits) (c .before .pre) in
-    (highest .1, highest .2)
+    (highest .1, highest .2, λ e. absurd (true-not-false _ e (c .if1 .left)))
 
 pub end-bit-spec : {M : Type 1} → statement M
 end-bit-spec = tie.close (tie.spec cast-result cast-result-2 sub-result returns returns-2)

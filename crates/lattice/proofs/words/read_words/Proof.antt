@@ -38,7 +38,7 @@ loop-less c = search needs
 loop-again : tie.Need-loop-again Inv-loop μ-loop
 loop-again c =
     let turn = c .before .before .loop in
-    (search needs, search needs, set-more _ (turn .words) (turn .i) _ (search needs) (turn .inv .2) (c .read-word .ensures))
+    (search needs, search needs, set-more _ _ (turn .words) (turn .i) _ (search needs) (turn .inv .2) (c .read-word .ensures))
 
 returns : tie.Need-returns Inv-loop μ-loop
 returns c = λ k l. c .before .loop .inv .2 k (omega arith)

@@ -36,7 +36,7 @@ loop-less c = search needs
 loop-again : tie.Need-loop-again Inv-loop μ-loop
 loop-again c =
     let turn = c .before .before .loop in
-    (search needs, search needs, set-more _ (turn .result) (turn .i) _ (search needs) (turn .inv .2) (c .turn-word .ensures))
+    (search needs, search needs, set-more _ _ (turn .result) (turn .i) _ (search needs) (turn .inv .2) (c .turn-word .ensures))
 
 returns : tie.Need-returns Inv-loop μ-loop
 returns c = λ k l. c .before .loop .inv .2 k (omega arith)
