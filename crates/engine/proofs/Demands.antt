@@ -5,7 +5,7 @@ use mathlib.Core.Path.{_≡_, refl}
 use mathlib.Core.Bool.{Bool, true, false}
 use mathlib.Core.List.{List}
 use mathlib.Core.Logic.{_↔_, _⊎_}
-use Prim.Native.Nat.{ℕ}
+use Prim.Native.Nat.{ℕ, _≤_}
 use lib.Dec.{eqb}
 use lib.ListN.{take}
 use Rattle.graphs.specs.Graph.{Graph, Tells, Below, SameMeaning}
@@ -20,7 +20,7 @@ use Rattle.lattice.proofs.AnySize.{combination-greatest}
 use Rattle.record.specs.Read.{reading, accepted, graphOfRows}
 use Rattle.generalize.specs.Pairs.{samePair}
 use Rattle.engine.specs.declared.Reply.the-variants.{Length, Yes, No, Cycle, Clash, TooLarge, NotBelow, NotAdmitted}
-use Rattle.engine.specs.Reply.{rewriting, ordering, generalizing}
+use Rattle.engine.specs.Reply.{Result, rewriting, ordering, generalizing}
 use Rattle.engine.specs.Unification.{unifying}
 use Rattle.engine.specs.Difference.{differing}
 use Rattle.engine.specs.Demand.{
@@ -59,6 +59,10 @@ module _ (n : ℕ) (t out : List ℕ) where
 
   pub differing-leaves : (a b : List ℕ) → Leaves n out (differing n t a b out)
   differing-leaves a b = Output.differing-leaves n t out a b
+
+  -- "the longest 4,344": a length is at most that, so it is told apart from every other reply's code.
+  pub length-bounded : (r : Result) → Leaves n out r → (l : ℕ) → r .reply ≡ Length l → l ≤ 4344
+  length-bounded = Output.length-bounded n out
 
   -- 11 is no reply of rewriting or of the difference: what they write is no larger than an accepted record.
   pub rewriting-never-large : (bytes : List ℕ) → rewriting n t bytes out .reply ≡ TooLarge → ⊥

@@ -5,10 +5,10 @@ use mathlib.Core.Bool.{Bool}
 use mathlib.Core.List.{List}
 use mathlib.Core.Logic.{inl, inr, ⊎-elim}
 use mathlib.Core.Option.{some}
-use Prim.Native.Nat.{ℕ}
+use Prim.Native.Nat.{ℕ, _≤_}
 use native.Mathlib.Omega.{arith}
 use lib.Dec.{eqb}
-use lib.ListN.{length}
+use lib.ListN.{length, take}
 use Rattle.graphs.specs.Graph.{Graph, Tells}
 use Rattle.graphs.specs.Rows.{Row}
 use Rattle.graphs.proofs.Lists.{tells-eqb}
@@ -18,6 +18,7 @@ use Rattle.lattice.specs.declared.Opened.the-variants as opened
 use Rattle.lattice.specs.Reply as table
 use Rattle.lattice.specs.Labels.{OfAnySize}
 use Rattle.encode.specs.Encode.{encoded}
+use Rattle.encode.proofs.Lengths.{longest}
 use Rattle.record.specs.declared.GraphFault.{GraphFault}
 use Rattle.record.specs.Read.{Reading, refused, accepted, reading, graphNumber, graphOfRows}
 use Rattle.record.proofs.Nodes.{few-nodes, few-links}
@@ -50,6 +51,13 @@ use Rattle.engine.proofs.Demanded.Difference.{
 use Rattle.engine.proofs.Demanded.Difference as Differed
 
 module _ (n : ℕ) (out : List ℕ) where
+  -- the record beside a length is accepted, so it is no longer than the longest
+  pub length-bounded : (r : Result) → Leaves n out r → (l : ℕ) → r .reply ≡ replies.Length l → l ≤ 4344
+  length-bounded r leaves l q =
+      let record-is = leaves .holds l q in
+      let rules = accepted-rules n (take l (r .output)) (record-is .form) (record-is .reads) in
+      omega (arith, leaves .length-is l q, ap length (record-is .bytes-are), longest (record-is .form) (rules .short) (rules .links))
+
   refusing-leaves : (r : Reply) (k : ℕ) → refusal r ≡ some k → Leaves n out (refusing r out)
   refusing-leaves r k e =
       record {
