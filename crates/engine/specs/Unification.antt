@@ -1,5 +1,4 @@
 -- What the call for a combination replies and leaves in the output (document 01, "Combination").
-use mathlib.Core.Bool.{Bool}
 use mathlib.Core.List.{List}
 use mathlib.Core.Logic.{_⊎_}
 use Prim.Native.Nat.{ℕ}
@@ -7,17 +6,14 @@ use lib.Dec.{eqb}
 use lib.ListN.{length}
 use Rattle.graphs.specs.Rows.{Row, from}
 use Rattle.graphs.specs.Number.{canonical}
-use Rattle.graphs.specs.Unify.{Unified, cycle, clash, unified, sameBeside, unification}
+use Rattle.graphs.specs.Unify.{Unified, cycle, clash, unified, unification}
 use Rattle.lattice.specs.Reply.{opened}
 use Rattle.lattice.specs.Labels.{typeLabels}
 use Rattle.encode.specs.Encode.{writtenOut}
 use Rattle.record.specs.Read.{graphOfRows, reading}
+pub use Rattle.unify.specs.Outcome.{sameEither}
 use Rattle.engine.specs.declared.Reply.the-variants.{Cycle, Clash}
 use Rattle.engine.specs.Reply.{Result, resultOf, refusing, checked, readBoth}
-
--- whether two nodes of either graph are one
-abbrev pub sameEither : ℕ ⊎ ℕ → ℕ ⊎ ℕ → Bool
-sameEither = sameBeside eqb eqb
 
 -- a loop, a clash and no loop, or the record in written form
 abbrev pub combined : Unified ℕ (ℕ ⊎ ℕ) → List ℕ → Result

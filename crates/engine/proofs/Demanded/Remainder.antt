@@ -5,9 +5,9 @@ use mathlib.Core.Bool.{true}
 use mathlib.Core.List.{List, [], List·Memᴰ}
 use mathlib.Core.Logic.{_↔_, _⊎_, inl, inr, ⊎-elim}
 use mathlib.Core.Option.{some}
-use Prim.Native.Nat.{ℕ, _≤_, _<_}
+use Prim.Native.Nat.{ℕ}
 use lib.Dec.{eqb}
-use lib.ListN.{length, getD, List·getD-eq-default}
+use lib.ListN.{length}
 use Rattle.graphs.specs.Graph.{Graph, walk, Reached, Below}
 use Rattle.graphs.specs.Rows.{Row, from}
 use Rattle.graphs.specs.Difference.{byNumber, meetOver, difference}
@@ -18,7 +18,6 @@ use Rattle.graphs.proofs.Difference.ByNumber.{by-number-order}
 use Rattle.graphs.proofs.Difference.Computed.{Setting, residual-setting}
 use Rattle.lattice.specs.Table as table
 use Rattle.lattice.specs.Labels.{typeLabels, OfAnySize, GreatestOfAnySize}
-use Rattle.lattice.proofs.Every.{below-or-not}
 use Rattle.lattice.proofs.Laws.{zero-type}
 use Rattle.lattice.proofs.Lawful.{TypeBelow, typed-number, lawful, lawful-lattice, lawful-residual, residual-number}
 use Rattle.lattice.proofs.Transfer.{lift, map-lift, lift-any-size, meetOver-number}
@@ -32,10 +31,11 @@ use Rattle.lattice.proofs.AnySize.{
   below-transitive,
 }
 use Rattle.record.specs.Read.{graphOfRows}
-use Rattle.record.proofs.Nodes.{node-row, few-nodes, few-links}
+use Rattle.record.proofs.Nodes.{few-nodes, few-links}
 use Rattle.record.proofs.Accepted.{Rules, rules-linked, rules-of-any-size, rules-nodes}
 use Rattle.engine.specs.Difference.{over, wanted, differenceRows}
 use Rattle.engine.specs.Demand.{Large, Restores}
+use Rattle.engine.proofs.Tables.{label-known}
 use Rattle.engine.proofs.Over.{over-map}
 
 -- a graph whose links are links of another from the same root reaches no more of it
@@ -67,14 +67,6 @@ fewer-large d s same links (inr (ls, distinct, all, many)) =
       many,
     )
 
--- the labels of rows are types, past their end too
-row-type : (n : ℕ) (rows : List (Row ℕ)) → 0 < n → Rules n rows → (v : ℕ) → graphOfRows rows .label v < n
-row-type n rows some-type rules v = go (below-or-not v (length rows))
-  where
-    go : (v < length rows) ⊎ (length rows ≤ v) → graphOfRows rows .label v < n
-    go (inl h) = rules .ranged (getD rows v (0, [])) (node-row rows v h) .1
-    go (inr h) = subst (λ (r : Row ℕ). r .0 < n) (sym (List·getD-eq-default rows (0, []) h)) some-type
-
 module _ (n : ℕ) (t : List ℕ) (ok : table.accepted n t ≡ true) (g s : List (Row ℕ)) (general : Rules n g) (specific : Rules n s)
     (below : Below (typeLabels n t) (graphOfRows s) (graphOfRows g)) where
   general-size : OfAnySize n t (graphOfRows g)
@@ -94,8 +86,8 @@ module _ (n : ℕ) (t : List ℕ) (ok : table.accepted n t ≡ true) (g s : List
     unfolding wanted
     wanted-number v =
         ap₂ (λ (x y : ℕ). table.cell (table.residual n t x y))
-        (sym (typed-number n t ok (graphOfRows s .label v) (row-type n s (zero-type n t ok) specific v)))
-        (meetOver-number n t ok eqb (graphOfRows g) (from 0 (length g)) (over s g) (λ w _. row-type n g (zero-type n t ok) general w) v) ∙
+        (sym (typed-number n t ok (graphOfRows s .label v) (label-known (zero-type n t ok) specific v)))
+        (meetOver-number n t ok eqb (graphOfRows g) (from 0 (length g)) (over s g) (λ w _. label-known (zero-type n t ok) general w) v) ∙
         sym
         (residual-number n t ok differ (meetOver (lawful n t ok) eqb (lift n t ok (graphOfRows g)) (from 0 (length g)) (over s g) v)
         (lift n t ok (graphOfRows s) .label v))
