@@ -6,6 +6,8 @@ use comparison::program::{path, run};
 use reference::mapcalc;
 use reference::random::{self, Xorshift};
 use std::collections::BTreeMap;
+use std::io::Write;
+use std::process::{Command, Stdio};
 use std::thread;
 
 /// A name, an input in hexadecimal and a line, in turn.
@@ -45,6 +47,28 @@ fn every_line_is_stored() {
         assert!(lines.contains(&line.as_str()), "{line}");
     }
     assert!(lines.contains(&"ok 20 0203010000000000000001010000000000000000"));
+}
+
+#[test]
+fn input_without_end_is_bad() {
+    let mut child = Command::new(path())
+        .stdin(Stdio::piped())
+        .stdout(Stdio::piped())
+        .spawn()
+        .expect("the program");
+    let mut stdin = child.stdin.take().expect("a pipe");
+    // Writes until the program, which reads no further than can matter, has ended.
+    let writer = thread::spawn(move || {
+        let mut blocks = 0;
+        while stdin.write_all(&[1; 4096]).is_ok() {
+            blocks += 1;
+        }
+        blocks
+    });
+    let output = child.wait_with_output().expect("the program ends");
+    assert_eq!(output.stdout, b"bad input\n");
+    // What was taken is the program's 18,431 bytes and what the pipe holds.
+    assert!(writer.join().expect("a writer") < 1_000);
 }
 
 /// The inputs of each thread, and their number together.
