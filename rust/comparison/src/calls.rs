@@ -49,54 +49,33 @@ pub const ORDER: Call = Call {
 
 /// The common part.
 pub const GENERALIZE: Call = Call {
-    engine: |table, records, output| {
-        let [first, second] = [records[0], records[1]];
-        written(record_engine::generalize(
-            table.n,
-            &table.bytes,
-            first,
-            second,
-            output,
-        ))
-    },
-    reference: |table, records, output| {
-        calls::common_part(table.n, &table.bytes, records[0], records[1], output)
-    },
+    engine: |table, records, output| pair(record_engine::generalize, table, records, output),
+    reference: |table, records, output| judged(calls::common_part, table, records, output),
 };
 
 /// The combination.
 pub const UNIFY: Call = Call {
-    engine: |table, records, output| {
-        let [first, second] = [records[0], records[1]];
-        written(record_engine::unify(
-            table.n,
-            &table.bytes,
-            first,
-            second,
-            output,
-        ))
-    },
-    reference: |table, records, output| {
-        calls::combination(table.n, &table.bytes, records[0], records[1], output)
-    },
+    engine: |table, records, output| pair(record_engine::unify, table, records, output),
+    reference: |table, records, output| judged(calls::combination, table, records, output),
 };
 
 /// The difference of the first, which is the general one, and the second.
 pub const DIFFERENCE: Call = Call {
-    engine: |table, records, output| {
-        let [general, specific] = [records[0], records[1]];
-        written(record_engine::difference(
-            table.n,
-            &table.bytes,
-            general,
-            specific,
-            output,
-        ))
-    },
-    reference: |table, records, output| {
-        calls::difference(table.n, &table.bytes, records[0], records[1], output)
-    },
+    engine: |table, records, output| pair(record_engine::difference, table, records, output),
+    reference: |table, records, output| judged(calls::difference, table, records, output),
 };
+
+/// A call of the proved engine on two records.
+type Pair = fn(usize, &[u8], &[u8], &[u8], &mut [u8]) -> Result<usize, Refusal>;
+
+fn pair(call: Pair, table: &TableBytes, records: &[&[u8]], output: &mut [u8]) -> Reply {
+    written(call(table.n, &table.bytes, records[0], records[1], output))
+}
+
+/// The same call of the reference.
+fn judged(call: calls::Call, table: &TableBytes, records: &[&[u8]], output: &mut [u8]) -> Reply {
+    call(table.n, &table.bytes, records[0], records[1], output)
+}
 
 /// The reply of a call of the proved engine that writes a record.
 fn written(result: Result<usize, Refusal>) -> Reply {

@@ -23,8 +23,21 @@ use code::Answer;
 /// The length of the longest record: an output of so many bytes is never too short.
 pub const LONGEST_RECORD: usize = 4344;
 
+/// A call on two records that writes one: each slice is a pointer to its first
+/// byte and a length.
+type WritesPair = unsafe extern "C" fn(
+    n: usize,
+    table: *const u8,
+    table_length: usize,
+    first: *const u8,
+    first_length: usize,
+    second: *const u8,
+    second_length: usize,
+    output: *mut u8,
+    output_length: usize,
+) -> u64;
+
 unsafe extern "C" {
-    // Each slice is a pointer to its first byte and a length.
     fn record_rewrite(
         n: usize,
         table: *const u8,
@@ -73,10 +86,10 @@ unsafe extern "C" {
         n: usize,
         table: *const u8,
         table_length: usize,
-        general: *const u8,
-        general_length: usize,
-        specific: *const u8,
-        specific_length: usize,
+        first: *const u8,
+        first_length: usize,
+        second: *const u8,
+        second_length: usize,
         output: *mut u8,
         output_length: usize,
     ) -> u64;
@@ -169,21 +182,7 @@ pub fn generalize(
     second: &[u8],
     output: &mut [u8],
 ) -> Result<usize, Refusal> {
-    // SAFETY: as in `rewrite`.
-    let code = unsafe {
-        record_generalize(
-            n,
-            table.as_ptr(),
-            table.len(),
-            first.as_ptr(),
-            first.len(),
-            second.as_ptr(),
-            second.len(),
-            output.as_mut_ptr(),
-            output.len(),
-        )
-    };
-    length(code)
+    write_pair(record_generalize, n, table, [first, second], output)
 }
 
 /// Writes the combination of two records, their unification: sharing is the
@@ -214,21 +213,7 @@ pub fn unify(
     second: &[u8],
     output: &mut [u8],
 ) -> Result<usize, Refusal> {
-    // SAFETY: as in `rewrite`.
-    let code = unsafe {
-        record_unify(
-            n,
-            table.as_ptr(),
-            table.len(),
-            first.as_ptr(),
-            first.len(),
-            second.as_ptr(),
-            second.len(),
-            output.as_mut_ptr(),
-            output.len(),
-        )
-    };
-    length(code)
+    write_pair(record_unify, n, table, [first, second], output)
 }
 
 /// Writes the difference of a general record and a specific one below it: combined
@@ -258,21 +243,7 @@ pub fn difference(
     specific: &[u8],
     output: &mut [u8],
 ) -> Result<usize, Refusal> {
-    // SAFETY: as in `rewrite`.
-    let code = unsafe {
-        record_difference(
-            n,
-            table.as_ptr(),
-            table.len(),
-            general.as_ptr(),
-            general.len(),
-            specific.as_ptr(),
-            specific.len(),
-            output.as_mut_ptr(),
-            output.len(),
-        )
-    };
-    length(code)
+    write_pair(record_difference, n, table, [general, specific], output)
 }
 
 /// The bytes of a table of at most 8 types, from the first byte of each row.
@@ -285,6 +256,32 @@ pub fn table(first_bytes: &[u8]) -> Vec<u8> {
         .iter()
         .flat_map(|&byte| [byte, 0, 0, 0, 0, 0, 0, 0])
         .collect()
+}
+
+/// Makes a call on two records.
+fn write_pair(
+    call: WritesPair,
+    n: usize,
+    table: &[u8],
+    records: [&[u8]; 2],
+    output: &mut [u8],
+) -> Result<usize, Refusal> {
+    let [first, second] = records;
+    // SAFETY: as in `rewrite`.
+    let code = unsafe {
+        call(
+            n,
+            table.as_ptr(),
+            table.len(),
+            first.as_ptr(),
+            first.len(),
+            second.as_ptr(),
+            second.len(),
+            output.as_mut_ptr(),
+            output.len(),
+        )
+    };
+    length(code)
 }
 
 /// The answer of a call that writes a record.
