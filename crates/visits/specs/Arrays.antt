@@ -35,6 +35,24 @@ rowsOf nodes types first features targets = rowsFrom types first features target
 abbrev pub graphOfRows : List (Row ℕ) → Graph ℕ ℕ
 graphOfRows rows = graphOf 0 rows
 
+-- a graph's arrays together
+pub record Compressed : Type 0 where
+  pub nodes : ℕ
+  pub types : List ℕ
+  pub first : List ℕ
+  pub features : List ℕ
+  pub targets : List ℕ
+
+abbrev pub lent : ℕ → List ℕ → List ℕ → List ℕ → List ℕ → Compressed
+lent nodes types first features targets =
+    record { nodes = nodes; types = types; first = first; features = features; targets = targets }
+
+abbrev pub rowsIn : Compressed → List (Row ℕ)
+rowsIn g = rowsOf (g .nodes) (g .types) (g .first) (g .features) (g .targets)
+
+abbrev pub graphIn : Compressed → Graph ℕ ℕ
+graphIn g = graphOfRows (rowsIn g)
+
 -- Places for the links of each node, one node's after another's, at most 4,096 of up to 510 nodes.
 pub record Laid (nodes : ℕ) (first targets : List ℕ) : Type 0 where
   pub nonempty : 0 < nodes
