@@ -28,7 +28,7 @@ use Rattle.graphs.specs.Unify.{
   unified,
   unification,
 }
-use Rattle.visits.specs.Arrays.{graphOfRows}
+use Rattle.visits.specs.Arrays.{Compressed, graphOfRows, graphIn}
 use Rattle.lattice.specs.declared.TableFault.{TableFault}
 use Rattle.lattice.specs.declared.Opened.the-variants as opened
 use Rattle.lattice.specs.Table.{accepted, meet, cell, filled}
@@ -36,13 +36,11 @@ use Rattle.lattice.specs.Reply as table
 use Rattle.lattice.specs.Labels.{typeLabels}
 use Rattle.lattice.proofs.Laws.{Meet, accepted-size, zero-type, top-type, meet-exists}
 use Rattle.lattice.proofs.Residuals.{opened-accepted}
-use Rattle.decode.specs.declared.Graph as declared
 use Rattle.encode.specs.declared.Written.{Written}
 use Rattle.encode.specs.declared.Written.the-variants as outcome
 use Rattle.encode.specs.Encode.{writtenOut}
 use Rattle.record.specs.Read.{reading}
 use Rattle.record.proofs.Accepted.{Rules}
-use Rattle.generalize.proofs.Sides.{graphIn}
 use Rattle.unify.specs.declared.Combined.{Combined}
 use Rattle.unify.specs.Lowered.{MeetsBelow}
 use Rattle.unify.specs.Outcome.{meetsOf, combinedOf, unifiedOut}
@@ -141,11 +139,11 @@ combined-gives clash out = (refl, refl)
 combined-gives (unified u) out = (written-reply (writtenOut (canonical sameEither u) out .answer), refl)
 
 -- the unification of two graphs by a table of meets
-abbrev byMeets : ℕ → List (List ℕ) → declared.Graph → declared.Graph → Unified ℕ (ℕ ⊎ ℕ)
+abbrev byMeets : ℕ → List (List ℕ) → Compressed → Compressed → Unified ℕ (ℕ ⊎ ℕ)
 byMeets n meets g h = unification (meetsOf n meets) eqb eqb (graphIn g) (from 0 (g .nodes)) (graphIn h) (from 0 (h .nodes))
 
 -- the combination by a table of meets, written
-pub met-as : (n : ℕ) (a b out : List ℕ) (meets : List (List ℕ)) {g h : declared.Graph} → Accepts n a g × Accepts n b h →
+pub met-as : (n : ℕ) (a b out : List ℕ) (meets : List (List ℕ)) {g h : Compressed} → Accepts n a g × Accepts n b h →
     {answer : Combined} {r : Reply} {new : List ℕ} → answer ≡ unifiedOut (byMeets n meets g h) out .answer →
     new ≡ unifiedOut (byMeets n meets g h) out .output → r ≡ combinedReply answer → Gives (meeting n meets a b out) r new
 unfolding met
@@ -159,7 +157,7 @@ met-as n a b out meets {g} {h} given answers leaves said =
 
 -- What combining asks of two accepted graphs.
 
-pub ready-to-combine : {n : ℕ} {a b : List ℕ} (meets : List (List ℕ)) {g h : declared.Graph} →
+pub ready-to-combine : {n : ℕ} {a b : List ℕ} (meets : List (List ℕ)) {g h : Compressed} →
     ((0 < n) × (n ≤ 64)) × MeetsBelow n meets → Accepts n a g × Accepts n b h →
     ((0 < n) × (n ≤ 64)) ×
     (MeetsBelow n meets ×

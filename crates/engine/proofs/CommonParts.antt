@@ -7,7 +7,7 @@ use lib.ListN.{length}
 use Rattle.graphs.specs.Rows.{Row}
 use Rattle.graphs.specs.Number.{Canonical, canonical}
 use Rattle.graphs.specs.Generalize.{generalization}
-use Rattle.visits.specs.Arrays.{graphOfRows}
+use Rattle.visits.specs.Arrays.{Compressed, graphOfRows, graphIn}
 use Rattle.lattice.specs.declared.TableFault.{TableFault}
 use Rattle.lattice.specs.declared.Opened.the-variants as opened
 use Rattle.lattice.specs.Table.{accepted, join, filled}
@@ -15,13 +15,12 @@ use Rattle.lattice.specs.Reply as table
 use Rattle.lattice.specs.Labels.{typeLabels}
 use Rattle.lattice.proofs.Laws.{zero-type}
 use Rattle.lattice.proofs.Residuals.{opened-accepted}
-use Rattle.decode.specs.declared.Graph as declared
 use Rattle.encode.specs.declared.Written.{Written}
 use Rattle.encode.specs.Encode.{writtenOut}
 use Rattle.record.specs.Read.{reading}
 use Rattle.record.proofs.Accepted.{Rules}
 use Rattle.generalize.specs.Pairs.{joinsOf, samePair}
-use Rattle.generalize.proofs.Sides.{graphIn, tells-pair}
+use Rattle.generalize.proofs.Sides.{tells-pair}
 use Rattle.engine.specs.declared.Reply.{Reply}
 use Rattle.engine.specs.declared.Reply.the-variants.{Table}
 use Rattle.engine.specs.Reply.{resultOf, replyOf, refusing, readBoth, generalized, generalizing}
@@ -31,7 +30,7 @@ use Rattle.engine.proofs.Readings.{Accepts, both-next, both-same}
 use Rattle.engine.proofs.Tables.{label-known, joins-known, canonical-same}
 
 -- the common part by a table of joins, written
-pub joined-as : (n : ℕ) (a b out : List ℕ) (joins : List (List ℕ)) {g h : declared.Graph} → Accepts n a g × Accepts n b h →
+pub joined-as : (n : ℕ) (a b out : List ℕ) (joins : List (List ℕ)) {g h : Compressed} → Accepts n a g × Accepts n b h →
     {w : Written} {r : Reply} {new : List ℕ} →
     w ≡ writtenOut (canonical samePair (generalization (joinsOf joins) (graphIn g) (graphIn h))) out .answer →
     new ≡ writtenOut (canonical samePair (generalization (joinsOf joins) (graphIn g) (graphIn h))) out .output →

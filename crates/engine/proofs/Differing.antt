@@ -2,37 +2,31 @@
 -- reads, and the difference along the order's node map is the difference.
 use mathlib.Core.Path.{_≡_, refl, sym, _∙_, ap, subst}
 use mathlib.Core.Bool.{Bool, true, false, cond}
-use mathlib.Core.List.{List, [], _++_}
+use mathlib.Core.List.{List, []}
 use Prim.Native.Nat.{ℕ, _≤_, _<_}
 use native.Mathlib.Omega.{arith}
 use lib.Dec.{eqb}
-use lib.ListN.{length, getD, take, drop, length-append}
-use lib.Seq.{length-take-le, take-append-seam}
+use lib.ListN.{length, getD}
 use Rattle.graphs.specs.Graph.{AnySize, Reached}
 use Rattle.graphs.specs.Map.{NodeMap}
 use Rattle.graphs.specs.Rows.{Row, from}
-use Rattle.graphs.specs.Number.{Canonical, canonical, written}
+use Rattle.graphs.specs.Number.{canonical}
 use Rattle.graphs.specs.Order.{subsumes}
 use Rattle.graphs.specs.Difference.{byNumber}
 use Rattle.graphs.proofs.Lists.{from-range, tells-eqb}
 use Rattle.graphs.proofs.Below.{map-below}
 use Rattle.graphs.proofs.Difference.Agree.{meetOver-agree, difference-agree}
-use Rattle.visits.specs.Arrays.{graphOfRows}
+use Rattle.visits.specs.Arrays.{Compressed, lent, graphOfRows, rowsIn, graphIn}
 use Rattle.visits.proofs.VisitRows.{length-rows}
 use Rattle.lattice.specs.declared.TableFault.{TableFault}
 use Rattle.lattice.specs.declared.Opened.the-variants as opened
 use Rattle.lattice.specs.Table as types
 use Rattle.lattice.specs.Reply as table
 use Rattle.lattice.specs.Labels.{typeLabels}
-use Rattle.decode.specs.declared.Graph as declared
-use Rattle.decode.specs.Promise.{Held}
 use Rattle.encode.specs.declared.Written.{Written}
-use Rattle.encode.specs.declared.Written.the-variants as outcome
-use Rattle.encode.specs.Encode.{Outcome, encoded, writtenOut}
-use Rattle.encode.proofs.Lengths.{longest-fits}
-use Rattle.record.specs.declared.Verdict.{Verdict}
+use Rattle.encode.specs.Encode.{encoded, writtenOut}
+use Rattle.encode.specs.Renumber.{Renumbers}
 use Rattle.record.specs.Read.{reading}
-use Rattle.record.specs.Promise.{Reads}
 use Rattle.record.proofs.Accepted.{Rules, accepted-rules, rules-of-any-size, rules-fit}
 use Rattle.record.proofs.Rewritten.{form-rules, rules-read}
 use Rattle.subsume.specs.declared.Order.{Order}
@@ -40,90 +34,55 @@ use Rattle.subsume.specs.declared.Order.the-variants as order
 use Rattle.subsume.specs.Promise.{Orders}
 use Rattle.difference.specs.Promise.{wantedType, differenceOf}
 use Rattle.difference.specs.Wanted.{MeetsHeld}
-use Rattle.generalize.proofs.Sides.{rowsIn, graphIn}
 use Rattle.engine.specs.declared.Reply.{Reply}
 use Rattle.engine.specs.declared.Reply.the-variants.{Table, NotBelow, NotAdmitted}
 use Rattle.engine.specs.Reply.{Result, resultOf, replyOf, refusing, readBoth}
 use Rattle.engine.specs.Difference.{over, wanted, differenceRows, differed, numbered, differedRows, differing}
-use Rattle.engine.specs.Renumbering.{Acceptable, Renumbered}
+use Rattle.engine.specs.Renumbering.{Acceptable}
 use Rattle.engine.proofs.Readings.{SoundIn, Accepts, accepts-rules, accepts-types, both-next}
 use Rattle.engine.proofs.Replies.{Gives, gives-as, table-refused, table-accepted}
 use Rattle.engine.proofs.Orders.{order-test}
 use Rattle.engine.proofs.Over.{over-only}
 
 -- the rows of an accepted record are acceptable
-pub accepts-acceptable : {n : ℕ} {bytes : List ℕ} {g : declared.Graph} → Accepts n bytes g → Acceptable n (rowsIn g)
+pub accepts-acceptable : {n : ℕ} {bytes : List ℕ} {g : Compressed} → Accepts n bytes g → Acceptable n (rowsIn g)
 accepts-acceptable {n} {g = g} given = rules-read n (rowsIn g) (accepts-rules given)
 
 -- and graphs with acceptable rows are accepted
-pub both-acceptable : (n : ℕ) (g s : declared.Graph) →
-    SoundIn g × (SoundIn s × (((g .nodes ≤ 255) × (s .nodes ≤ 255)) × (Acceptable n (rowsIn g) × Acceptable n (rowsIn s)))) →
+pub both-acceptable : (n : ℕ) (g s : Compressed) {R : Type 0} →
+    SoundIn g ×
+    (SoundIn s ×
+    (((g .nodes ≤ 255) × (s .nodes ≤ 255)) ×
+    (Acceptable n (rowsIn g) ×
+    (Acceptable n (rowsIn s) × (((getD (g .first) (g .nodes) 0 ≤ 2048) × (getD (s .first) (s .nodes) 0 ≤ 2048)) × R))))) →
     Accepts n (encoded (rowsIn g)) g × Accepts n (encoded (rowsIn s)) s
-both-acceptable n g s (one, (other, (small, (is, too)))) =
-    (record { is = is; small = small .0; sound = one }, record { is = too; small = small .1; sound = other })
+both-acceptable n g s (one, (other, (small, (is, (too, (few, _)))))) = (
+  record { is = is; small = small .0; sound = one; few = few .0 },
+  record { is = too; small = small .1; sound = other; few = few .1 },
+)
 
 -- Renumbering.
 
-module _ (n : ℕ) (g : declared.Graph) (given : Acceptable n (rowsIn g)) where
-  rules : Rules n (rowsIn g)
-  rules = accepted-rules n (encoded (rowsIn g)) (rowsIn g) given
+-- the arrays hold the rows of the written form, whose record is accepted
+pub record Renumbered (n : ℕ) (rows : List (Row ℕ)) (g : Compressed) : Type 0 where
+  pub acceptable : Acceptable n (rowsIn g)
+  pub rows-are : rowsIn g ≡ numbered (canonical eqb (graphOfRows rows))
+  pub small : g .nodes ≤ 255
+  pub sound : SoundIn g
 
-  form : List (Row ℕ)
-  form = rules-fit n (rowsIn g) rules .0
-
-  fits : canonical eqb (graphIn g) ≡ written form
-  unfolding form
-  fits = rules-fit n (rowsIn g) rules .1
-
-  fit-rules : Rules n form
-  fit-rules = form-rules n [] eqb tells-eqb (graphIn g) (rules-of-any-size n (rowsIn g) rules []) form fits
-
-  module _ (out : List ℕ) (room : length out ≡ 4344) where
-    written-as : writtenOut (canonical eqb (graphIn g)) out ≡
-        record { answer = outcome.Length (length (encoded form)); output = encoded form ++ drop (length (encoded form)) out }
-    written-as =
-        ap (λ (c : Canonical ℕ). writtenOut c out) fits ∙ longest-fits form out (fit-rules .short) (fit-rules .links) (omega arith)
-
-    module _ {w : Written} (answers : w ≡ writtenOut (canonical eqb (graphIn g)) out .answer) where
-      answers-length : w ≡ outcome.Length (length (encoded form))
-      answers-length = answers ∙ ap (λ (o : Outcome). o .answer) written-as
-
-      -- the record fits
-      pub not-too-large : w ≡ outcome.TooLarge → ⊥
-      not-too-large e = let z : _≡_ {A = ℕ} 0 1 = cc answers-length in omega arith
-
-      pub not-no-room : w ≡ outcome.NoRoom → ⊥
-      not-no-room e = let z : _≡_ {A = ℕ} 0 1 = cc answers-length in omega arith
-
-      module _ {l : ℕ} (said : w ≡ outcome.Length l) where
-        length-is : l ≡ length (encoded form)
-        length-is =
-            let e : _≡_ {A = Written} (outcome.Length l) (outcome.Length (length (encoded form))) = sym said ∙ answers-length in
-            cc
-
-        module _ {new : List ℕ} (leaves : new ≡ writtenOut (canonical eqb (graphIn g)) out .output) where
-          output-is : new ≡ encoded form ++ drop (length (encoded form)) out
-          output-is = leaves ∙ ap (λ (o : Outcome). o .output) written-as
-
-          -- the record lies in the output
-          pub length-within : l ≤ length new
-          length-within =
-              omega (arith, length-is, ap length output-is, length-append (encoded form) (drop (length (encoded form)) out))
-
-          pub length-counted : l ≡ length (take l new)
-          length-counted = sym (length-take-le l new length-within)
-
-          -- and is read again
-          pub renumbered : {v : Verdict} {h : declared.Graph} → Reads n (take l new) v h → Renumbered n (rowsIn g) h
-          renumbered {h = h} reads =
-              let bytes : take l new ≡ encoded form =
-              ap (λ (k : ℕ). take k new) length-is ∙
-              ap (take (length (encoded form))) output-is ∙
-              take-append-seam (encoded form) (drop (length (encoded form)) out) in
-              let is : Acceptable n form = rules-read n form fit-rules in
-              let (held, sound) = reads .graph form (ap (reading n) bytes ∙ is) in
-              let q : form ≡ numbered (canonical eqb (graphIn g)) = sym (ap numbered fits) in
-              record { acceptable = subst (Acceptable n) q is; held = subst (λ rows. Held rows h) q held; sound = sound }
+pub renumbered : (n : ℕ) (g : Compressed) → Acceptable n (rowsIn g) → {count : ℕ} {types first features targets : List ℕ} →
+    Renumbers (canonical eqb (graphIn g)) count types first features targets → Renumbered n (rowsIn g) (lent count types first features targets)
+renumbered n g given holds =
+    let rules = accepted-rules n (encoded (rowsIn g)) (rowsIn g) given in
+    let (form, fits) = rules-fit n (rowsIn g) rules in
+    let is : Acceptable n form =
+    rules-read n form (form-rules n [] eqb tells-eqb (graphIn g) (rules-of-any-size n (rowsIn g) rules []) form fits) in
+    record {
+      acceptable = subst (Acceptable n) (sym (holds .rows-are form fits)) is;
+      rows-are = holds .rows-are form fits ∙ sym (ap numbered fits);
+      small = holds .small form fits;
+      sound = holds .sound form fits;
+    }
 
 -- The difference along a node map.
 
@@ -143,12 +102,12 @@ module _ (n : ℕ) (t : List ℕ) (s g : List (Row ℕ)) (map : List ℕ) (gener
       (λ y m. lies y (omega (arith, from-range 0 (length g) y m))) v))
 
 -- the nodes of an accepted graph are reached
-accepts-reached : {n : ℕ} {bytes : List ℕ} {g : declared.Graph} → Accepts n bytes g → (v : ℕ) → v < g .nodes → Reached (graphIn g) v
+accepts-reached : {n : ℕ} {bytes : List ℕ} {g : Compressed} → Accepts n bytes g → (v : ℕ) → v < g .nodes → Reached (graphIn g) v
 accepts-reached {g = g} given v h =
     accepts-rules given .reached v (omega (arith, length-rows (g .types) (g .first) (g .features) (g .targets) 0 (g .nodes)))
 
 -- what the difference asks
-pub ready-below : (n : ℕ) (t : List ℕ) {a b : List ℕ} {g s : declared.Graph} (meets : List (List ℕ)) (map : List ℕ) → Accepts n a g → Accepts n b s →
+pub ready-below : (n : ℕ) (t : List ℕ) {a b : List ℕ} {g s : Compressed} (meets : List (List ℕ)) (map : List ℕ) → Accepts n a g → Accepts n b s →
     (types.accepted n t ≡ true) × (types.admits n t ≡ true) × MeetsHeld n t meets →
     NodeMap (typeLabels n t) (graphIn s) (graphIn g) (λ y. getD map y 0) →
     ((types.accepted n t ≡ true) × (types.admits n t ≡ true) × MeetsHeld n t meets) ×
@@ -183,7 +142,7 @@ ready-below n t {s = s} meets map one other opens along = (
   ),
 )
 
-module _ (n : ℕ) (t out : List ℕ) {a : List ℕ} (g s : declared.Graph) (given : Accepts n a g) {answer : Order} {map : List ℕ}
+module _ (n : ℕ) (t out : List ℕ) {a : List ℕ} (g s : Compressed) (given : Accepts n a g) {answer : Order} {map : List ℕ}
     (orders : Orders n t (rowsIn s) (rowsIn g) answer map) where
   abbrev below : Bool
   below = subsumes (typeLabels n t) eqb eqb (graphIn s) (graphIn g) (length (rowsIn g))
@@ -215,7 +174,7 @@ module _ (n : ℕ) (t out : List ℕ) {a : List ℕ} (g s : declared.Graph) (giv
 
 -- Over an accepted table.
 
-module _ (n : ℕ) (t a b out : List ℕ) {g s : declared.Graph} (given : Accepts n a g × Accepts n b s) where
+module _ (n : ℕ) (t a b out : List ℕ) {g s : Compressed} (given : Accepts n a g × Accepts n b s) where
   abbrev replied : Result
   replied = readBoth (λ r. refusing r out) (reading n a) (reading n b) (differedRows n t out)
 
@@ -231,18 +190,14 @@ module _ (n : ℕ) (t a b out : List ℕ) {g s : declared.Graph} (given : Accept
       ap (λ (c : Bool). picked c (numbered (canonical eqb (graphIn s)))) e)
       (refl, refl)
 
-  pub replies-difference : types.admits n t ≡ true → {h : declared.Graph} → Renumbered n (rowsIn s) h → {r : Reply} {new : List ℕ} →
+  pub replies-difference : types.admits n t ≡ true → {h : Compressed} → Renumbered n (rowsIn s) h → {r : Reply} {new : List ℕ} →
       Gives (differed n t out (rowsIn g) (rowsIn h)) r new → Gives replied r new
   unfolding differedRows
   replies-difference e {h} numbers =
       gives-as
       (both-next n a b (λ r. refusing r out) (differedRows n t out) given ∙
       ap (λ (c : Bool). picked c (numbered (canonical eqb (graphIn s)))) e ∙
-      sym (ap (picked true) (numbers .held .rows-are)))
-
--- the renumbered graph is accepted
-pub renumbered-accepts : {n : ℕ} {rows : List (Row ℕ)} {h : declared.Graph} → Renumbered n rows h → Acceptable n (rowsIn h)
-renumbered-accepts {n} numbers = subst (Acceptable n) (sym (numbers .held .rows-are)) (numbers .acceptable)
+      sym (ap (picked true) (numbers .rows-are)))
 
 module _ (n : ℕ) (t a b out : List ℕ) where
   pub differing-refused : (fault : TableFault) → table.opened n t ≡ opened.Refused fault → Gives (differing n t a b out) (Table fault) out

@@ -16,19 +16,17 @@ use Rattle.graphs.proofs.Lists.{tells-eqb}
 use Rattle.graphs.proofs.Below.{map-below}
 use Rattle.graphs.proofs.Finite.{short-paths}
 use Rattle.graphs.proofs.Order.{subsumes-exact}
-use Rattle.visits.specs.Arrays.{graphOfRows}
+use Rattle.visits.specs.Arrays.{Compressed, graphOfRows, rowsIn}
 use Rattle.lattice.specs.declared.TableFault.{TableFault}
 use Rattle.lattice.specs.declared.Opened.the-variants as opened
 use Rattle.lattice.specs.Reply as table
 use Rattle.lattice.specs.Labels.{typeLabels}
-use Rattle.decode.specs.declared.Graph as declared
 use Rattle.record.specs.Read.{reading}
 use Rattle.record.proofs.Nodes.{length-from, reached-listed}
 use Rattle.record.proofs.Accepted.{Rules, rules-linked, rules-of-any-size}
 use Rattle.subsume.specs.declared.Order.{Order}
 use Rattle.subsume.specs.declared.Order.the-variants as order
 use Rattle.subsume.specs.Promise.{Orders}
-use Rattle.generalize.proofs.Sides.{rowsIn}
 use Rattle.engine.specs.declared.Reply.{Reply}
 use Rattle.engine.specs.declared.Reply.the-variants.{Yes, No, Table}
 use Rattle.engine.specs.Reply.{readBoth, ordered, ordering}
@@ -66,7 +64,7 @@ module _ (n : ℕ) (t : List ℕ) (s g : List (Row ℕ)) (rules : Rules n g) whe
         go true q = absurd (orders .no-stands e (order-test .0 q))
 
 -- over an accepted table: yes and no
-module _ (n : ℕ) (t a b : List ℕ) {s g : declared.Graph} (given : Accepts n a s × Accepts n b g) {answer : Order} {map : List ℕ}
+module _ (n : ℕ) (t a b : List ℕ) {s g : Compressed} (given : Accepts n a s × Accepts n b g) {answer : Order} {map : List ℕ}
     (orders : Orders n t (rowsIn s) (rowsIn g) answer map) where
   pub replies-yes : answer ≡ order.Below → Yes ≡ readBoth (λ r. r) (reading n a) (reading n b) (ordered n t)
   replies-yes e =

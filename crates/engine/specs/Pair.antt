@@ -9,9 +9,8 @@ use Rattle.graphs.specs.Rows.{Row, from}
 use Rattle.graphs.specs.Number.{canonical}
 use Rattle.graphs.specs.Generalize.{generalization}
 use Rattle.graphs.specs.Unify.{unification}
-use Rattle.visits.specs.Arrays.{Sound, graphOfRows}
-use Rattle.decode.specs.declared.Graph as declared
-use Rattle.decode.specs.Promise.{Held}
+use Rattle.visits.specs.Arrays.{Sound, graphOfRows, lent}
+use Rattle.decode.specs.Promise.{Sized, Held}
 use Rattle.encode.specs.Encode.{writtenOut}
 use Rattle.record.specs.declared.Verdict.{Verdict}
 use Rattle.record.specs.declared.Verdict.the-variants.{Accepted, Refused}
@@ -32,16 +31,18 @@ use Rattle.engine.specs.Reply.{Result, resultOf, refusing, readBoth}
 -- "first graph 4 to 7; second graph 4 to 7"
 abbrev pub jointVerdict : Verdict → Verdict → PairVerdict
 jointVerdict (Refused fault) second = pair.Refused fault First
-jointVerdict Accepted (Refused fault) = pair.Refused fault Second
-jointVerdict Accepted Accepted = pair.Both
+jointVerdict (Accepted k) (Refused fault) = pair.Refused fault Second
+jointVerdict (Accepted k) (Accepted l) = pair.Both k l
 
 -- the verdict on two records, and beside the acceptance of each its rows
-pub record ReadsBoth (n : ℕ) (a b : List ℕ) (v : PairVerdict) (g h : declared.Graph) : Type 0 where
+pub record ReadsBoth (n : ℕ) (a b : List ℕ) (v : PairVerdict) (types first features targets types₂ first₂ features₂ targets₂ : List ℕ) : Type 0 where
   pub verdict : v ≡ jointVerdict (verdictOf (reading n a)) (verdictOf (reading n b))
-  pub first : (rows : List (Row ℕ)) → reading n a ≡ accepted rows →
-      Held rows g × Sound (g .nodes) (g .types) (g .first) (g .features) (g .targets)
-  pub second : (rows : List (Row ℕ)) → reading n b ≡ accepted rows →
-      Held rows h × Sound (h .nodes) (h .types) (h .first) (h .features) (h .targets)
+  pub one : (rows : List (Row ℕ)) → reading n a ≡ accepted rows →
+      Held rows (lent (length rows) types first features targets) × Sound (length rows) types first features targets
+  pub other : (rows : List (Row ℕ)) → reading n b ≡ accepted rows →
+      Held rows (lent (length rows) types₂ first₂ features₂ targets₂) × Sound (length rows) types₂ first₂ features₂ targets₂
+  pub one-sized : Sized types first features targets
+  pub other-sized : Sized types₂ first₂ features₂ targets₂
 
 -- the common part of two graphs in written form, by a table of joins
 unfoldable pub joined : List (List ℕ) → List ℕ → List (Row ℕ) → List (Row ℕ) → Result

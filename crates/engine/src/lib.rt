@@ -1,7 +1,6 @@
 // The public calls on bytes: a table, one or two records, and an output that the caller lends. Every call answers a `Reply`; on a
 // refusal no byte of the output is written.
 
-use decode::Graph;
 use encode::Written;
 use lattice::Opened;
 use lattice::TableFault;
@@ -42,17 +41,10 @@ pub enum Reply {
     NotAdmitted,
 }
 
-// Whether two records are accepted, else the first refusal and which graph it tells of.
+// Whether two records are accepted, and with how many nodes; else the first refusal and which graph it tells of.
 pub enum PairVerdict {
-    Both,
+    Both(usize, usize),
     Refused(GraphFault, Side),
-}
-
-// Two records read; a graph is of no meaning beside its refusal.
-pub struct Pair {
-    pub verdict: PairVerdict,
-    pub first: Graph,
-    pub second: Graph,
 }
 
 // A record in written form.
@@ -72,22 +64,28 @@ fn rewrite_over(n: usize, bytes: &[u8], out: &mut [u8]) -> Reply
     ensures { λ r. ⌜ r ≡ rewritten (reading n (now (bytes .entry))) (now (out .entry)) .reply ⌝ }
     ensures { λ r. ⌜ now (out .exit) ≡ rewritten (reading n (now (bytes .entry))) (now (out .entry)) .output ⌝ }
 {
-    let reading = record::read(n, bytes);
-    let graph = reading.graph;
-    let verdict = reading.verdict;
+    let mut types = [0u8; 255];
+    let mut first = [0u16; 256];
+    let mut features = [0u8; 2048];
+    let mut targets = [0u16; 2048];
+    let verdict = record::read(
+        n,
+        bytes,
+        &mut types,
+        &mut first,
+        &mut features,
+        &mut targets,
+    );
     match verdict {
         Verdict::Refused(fault) => Reply::Graph(fault, Side::First),
-        Verdict::Accepted => {
-            let nodes = graph.nodes;
-            reply_of(encode::write(
-                nodes,
-                &graph.types,
-                &graph.first,
-                &graph.features,
-                &graph.targets,
-                out,
-            ))
-        }
+        Verdict::Accepted(nodes) => reply_of(encode::write(
+            nodes,
+            &types,
+            &first,
+            &features,
+            &targets,
+            out,
+        )),
     }
 }
 
@@ -118,15 +116,46 @@ fn order_over(n: usize, table: &[u8], first: &[u8], second: &[u8]) -> Reply
     requires { ⌜ n ≤ 64 ⌝ }
     ensures { λ r. ⌜ r ≡ readBoth (λ q. q) (reading n (now (first .entry))) (reading n (now (second .entry))) (ordered n (now (table .entry))) ⌝ }
 {
-    let pair = both::read_both(n, first, second);
-    let s = pair.first;
-    let g = pair.second;
-    let verdict = pair.verdict;
+    let mut s_types = [0u8; 255];
+    let mut s_first = [0u16; 256];
+    let mut s_features = [0u8; 2048];
+    let mut s_targets = [0u16; 2048];
+    let mut g_types = [0u8; 255];
+    let mut g_first = [0u16; 256];
+    let mut g_features = [0u8; 2048];
+    let mut g_targets = [0u16; 2048];
+    let verdict = both::read_both(
+        n,
+        first,
+        second,
+        &mut s_types,
+        &mut s_first,
+        &mut s_features,
+        &mut s_targets,
+        &mut g_types,
+        &mut g_first,
+        &mut g_features,
+        &mut g_targets,
+    );
     match verdict {
         PairVerdict::Refused(fault, side) => Reply::Graph(fault, side),
-        PairVerdict::Both => {
-            let comparison = subsume::subsume(n, table, s, g);
-            let order = comparison.order;
+        PairVerdict::Both(s_nodes, g_nodes) => {
+            let mut map = [subsume::NONE; 255];
+            let order = subsume::subsume(
+                n,
+                table,
+                s_nodes,
+                &s_types,
+                &s_first,
+                &s_features,
+                &s_targets,
+                g_nodes,
+                &g_types,
+                &g_first,
+                &g_features,
+                &g_targets,
+                &mut map,
+            );
             match order {
                 Order::Below => Reply::Yes,
                 Order::NotBelow => Reply::No,
@@ -160,13 +189,43 @@ fn generalize_over(
     ensures { λ r. ⌜ r ≡ joining n (now (joins .entry)) (now (first .entry)) (now (second .entry)) (now (out .entry)) .reply ⌝ }
     ensures { λ r. ⌜ now (out .exit) ≡ joining n (now (joins .entry)) (now (first .entry)) (now (second .entry)) (now (out .entry)) .output ⌝ }
 {
-    let pair = both::read_both(n, first, second);
-    let a = pair.first;
-    let b = pair.second;
-    let verdict = pair.verdict;
+    let mut a_types = [0u8; 255];
+    let mut a_first = [0u16; 256];
+    let mut a_features = [0u8; 2048];
+    let mut a_targets = [0u16; 2048];
+    let mut b_types = [0u8; 255];
+    let mut b_first = [0u16; 256];
+    let mut b_features = [0u8; 2048];
+    let mut b_targets = [0u16; 2048];
+    let verdict = both::read_both(
+        n,
+        first,
+        second,
+        &mut a_types,
+        &mut a_first,
+        &mut a_features,
+        &mut a_targets,
+        &mut b_types,
+        &mut b_first,
+        &mut b_features,
+        &mut b_targets,
+    );
     match verdict {
         PairVerdict::Refused(fault, side) => Reply::Graph(fault, side),
-        PairVerdict::Both => reply_of(generalize::generalize(joins, a, b, out)),
+        PairVerdict::Both(a_nodes, b_nodes) => reply_of(generalize::generalize(
+            joins,
+            a_nodes,
+            &a_types,
+            &a_first,
+            &a_features,
+            &a_targets,
+            b_nodes,
+            &b_types,
+            &b_first,
+            &b_features,
+            &b_targets,
+            out,
+        )),
     }
 }
 
@@ -196,13 +255,44 @@ fn unify_over(
     ensures { λ r. ⌜ r ≡ meeting n (now (meets .entry)) (now (first .entry)) (now (second .entry)) (now (out .entry)) .reply ⌝ }
     ensures { λ r. ⌜ now (out .exit) ≡ meeting n (now (meets .entry)) (now (first .entry)) (now (second .entry)) (now (out .entry)) .output ⌝ }
 {
-    let pair = both::read_both(n, first, second);
-    let a = pair.first;
-    let b = pair.second;
-    let verdict = pair.verdict;
+    let mut a_types = [0u8; 255];
+    let mut a_first = [0u16; 256];
+    let mut a_features = [0u8; 2048];
+    let mut a_targets = [0u16; 2048];
+    let mut b_types = [0u8; 255];
+    let mut b_first = [0u16; 256];
+    let mut b_features = [0u8; 2048];
+    let mut b_targets = [0u16; 2048];
+    let verdict = both::read_both(
+        n,
+        first,
+        second,
+        &mut a_types,
+        &mut a_first,
+        &mut a_features,
+        &mut a_targets,
+        &mut b_types,
+        &mut b_first,
+        &mut b_features,
+        &mut b_targets,
+    );
     match verdict {
         PairVerdict::Refused(fault, side) => Reply::Graph(fault, side),
-        PairVerdict::Both => combined_reply(unify::unify(n, meets, a, b, out)),
+        PairVerdict::Both(a_nodes, b_nodes) => combined_reply(unify::unify(
+            n,
+            meets,
+            a_nodes,
+            &a_types,
+            &a_first,
+            &a_features,
+            &a_targets,
+            b_nodes,
+            &b_types,
+            &b_first,
+            &b_features,
+            &b_targets,
+            out,
+        )),
     }
 }
 
