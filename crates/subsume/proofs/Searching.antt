@@ -4,10 +4,11 @@ use mathlib.Core.Path.{_≡_, refl, sym, _∙_, ap, ap₂}
 use mathlib.Core.Bool.{true, false, true≢false}
 use mathlib.Core.List.{List, [], _∷_, _++_}
 use mathlib.Core.Option.{some}
-use Prim.Native.Nat.{ℕ, zero, suc, _+_, _≤_, _<_}
+use Prim.Native.Nat.{ℕ, suc, _+_, _≤_, _<_}
 use native.Mathlib.Decide.{ℕ-discrete}
 use native.Mathlib.Numerals.{add-one}
 use native.Mathlib.Omega.{arith}
+use borrow.Author.Tests.{eq-eqb}
 use lib.ListN.{length, getD, set, replicate, length-set, length-replicate, getD-replicate}
 use lib.Seq.{getD-set-same, getD-set-other}
 use Rattle.graphs.specs.Graph.{Graph, Below, walk, follow}
@@ -58,18 +59,14 @@ module _ (s g : Graph ℕ ℕ) where
 
 -- The queue holds the root.
 
-unmapped-all : (n : ℕ) → unmapped (replicate n 65535) ≡ n
+unmapped-all : (l : List ℕ) → ((w : ℕ) → w < length l → getD l w 0 ≡ 65535) → unmapped l ≡ length l
 unfolding unmapped
-unmapped-all zero = refl
-unmapped-all (suc n) = ap suc (unmapped-all n)
+unmapped-all [] bare = refl
+unmapped-all (x ∷ l) bare =
+    rw (eq-eqb x 65535 (bare 0 (omega arith))) (ap suc (unmapped-all l λ w h. bare (suc w) (omega arith)))
 
-module _ (map queue : List ℕ) (bare : map ≡ replicate 255 65535) (clear : queue ≡ replicate 255 0) where
-  none-mapped : (w : ℕ) → w < 255 → getD map w 0 ≡ 65535
-  none-mapped w h = ap (λ (l : List ℕ). getD l w 0) bare ∙ getD-replicate {A = ℕ} 255 w 65535 0 h
-
-  map-long : length map ≡ 255
-  map-long = ap length bare ∙ length-replicate {A = ℕ} 255 65535
-
+module _ (map queue : List ℕ) (map-long : length map ≡ 255) (none-mapped : (w : ℕ) → w < 255 → getD map w 0 ≡ 65535)
+    (clear : queue ≡ replicate 255 0) where
   queue-long : length queue ≡ 255
   queue-long = ap length clear ∙ length-replicate {A = ℕ} 255 0
 
@@ -94,7 +91,8 @@ module _ (map queue : List ℕ) (bare : map ≡ replicate 255 65535) (clear : qu
         counted = omega (
           arith,
           unmapped-fall map 0 0 (omega (arith, map-long)) (none-mapped 0 (omega arith)) (λ z. omega arith),
-          ap unmapped bare ∙ unmapped-all 255,
+          unmapped-all map (λ w h. none-mapped w (omega (arith, map-long))),
+          map-long,
         );
         listed = λ i h. let z : i ≡ 0 = omega arith in rw (z, root-queued) (omega arith);
         mapped = λ i h e.
@@ -140,23 +138,23 @@ module _ (t : List ℕ) (ns : ℕ) (sy s1 sf st : List ℕ) (ng : ℕ) (gy g1 gf
 module _ {t : List ℕ} {ns : ℕ} {sy s1 sf st : List ℕ} {ng : ℕ} {gy g1 gf gt : List ℕ}
     (sound : Sound ns sy s1 sf st) (sane : Sound ng gy g1 gf gt) (small : (ns ≤ 255) × (ng ≤ 255)) where
   -- at the root
-  pub searched-start : (map queue : List ℕ) → map ≡ replicate 255 65535 → queue ≡ replicate 255 0 →
-      Searched t ns sy s1 sf st ng gy g1 gf gt (set map 0 0) queue 1 0
-  searched-start map queue bare clear =
+  pub searched-start : (map queue : List ℕ) → length map ≡ 255 → ((w : ℕ) → w < 255 → getD map w 0 ≡ 65535) →
+      queue ≡ replicate 255 0 → Searched t ns sy s1 sf st ng gy g1 gf gt (set map 0 0) queue 1 0
+  searched-start map queue long bare clear =
       record {
-        queued = queue-start map queue bare clear;
+        queued = queue-start map queue long bare clear;
         ahead = omega arith;
-        inside = λ w h d. omega (arith, only-root map queue bare clear w h d, sane .shaped .laid .nonempty);
+        inside = λ w h d. omega (arith, only-root map queue long bare clear w h d, sane .shaped .laid .nonempty);
         image = λ w h d. rw (at w h d) (sound .shaped .laid .nonempty);
         together = λ w h d.
-            let e : w ≡ 0 = only-root map queue bare clear w h d in
+            let e : w ≡ 0 = only-root map queue long bare clear w h d in
             rw (at w h d, e) (together-root (held ns sy s1 sf st) (held ng gy g1 gf gt));
-        rooted = root-mapped map queue bare clear;
+        rooted = root-mapped map queue long bare clear;
         passed = λ i h. absurd (omega arith);
       }
     where
       at : (w : ℕ) → w < 255 → (getD (set map 0 0) w 0 ≡ 65535 → ⊥) → getD (set map 0 0) w 0 ≡ 0
-      at w h d = ap (λ (i : ℕ). getD (set map 0 0) i 0) (only-root map queue bare clear w h d) ∙ root-mapped map queue bare clear
+      at w h d = ap (λ (i : ℕ). getD (set map 0 0) i 0) (only-root map queue long bare clear w h d) ∙ root-mapped map queue long bare clear
 
   module _ {map queue : List ℕ} {count head : ℕ} (f : Searched t ns sy s1 sf st ng gy g1 gf gt map queue count head) where
     -- once all are passed

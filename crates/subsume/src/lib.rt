@@ -1,7 +1,7 @@
 // The order: whether the graph s lies below the graph g (document 01, "Order and results"). A queue over g's nodes; each is
 // mapped to the node of s that the same path leads to.
 
-use decode::Graph;
+ghost use mathlib.Core.Path.{_≡_};
 ghost use Prim.Native.Nat.{ℕ, _+_, _≤_, _<_};
 ghost use lib.ListN.{length, getD};
 ghost use Rattle.visits.specs.Arrays.{Sound, rowsOf};
@@ -11,12 +11,6 @@ ghost use Rattle.subsume.specs.Promise.{Orders};
 pub enum Order {
     Below,
     NotBelow,
-}
-
-// The answer, and beside a yes the node of s that each node of g leads to.
-pub struct Comparison {
-    pub order: Order,
-    pub map: [u16; 255],
 }
 
 // The node that no node is mapped to yet.
@@ -57,6 +51,7 @@ pub fn follow<'a>(
     requires { ⌜ Span (now «g_features») (now «g_targets») (getD (now «g_first») v 0) (getD (now «g_first») (v + 1) 0) ⌝ }
     requires { ⌜ Queued (now map) (now queue) count ⌝ }
     ensures { λ r. ⌜ Follows (now («s_features» .entry)) (now («s_targets» .entry)) (now («g_features» .entry)) (now («g_targets» .entry)) (getD (now («s_first» .entry)) u 0) (getD (now («s_first» .entry)) (u + 1) 0) (getD (now («g_first» .entry)) v 0) (getD (now («g_first» .entry)) (v + 1) 0) (now (map .entry)) (now (queue .entry)) count (now (map .exit)) (now (queue .exit)) r ⌝ }
+    ensures { λ _. ⌜ length (now (map .exit)) ≡ 255 ⌝ }
 {
     let g_end = g_first[v + 1] as usize;
     let s_end = s_first[u + 1] as usize;
@@ -89,16 +84,32 @@ pub fn follow<'a>(
     end
 }
 
-// Whether s lies below g.
-pub fn subsume(n: usize, table: &[u8], s: Graph, g: Graph) -> Comparison
-    requires { ⌜ Sound (s .nodes) (s .types) (s .first) (s .features) (s .targets) ⌝ }
-    requires { ⌜ Sound (g .nodes) (g .types) (g .first) (g .features) (g .targets) ⌝ }
-    requires { ⌜ (s .nodes ≤ 255) × (g .nodes ≤ 255) ⌝ }
-    requires { ⌜ ((v : ℕ) → v < s .nodes → getD (s .types) v 0 < 64) ⌝ }
-    requires { ⌜ ((v : ℕ) → v < g .nodes → getD (g .types) v 0 < 64) ⌝ }
-    ensures { λ r. ⌜ Orders n (now (table .entry)) (rowsOf (s .nodes) (s .types) (s .first) (s .features) (s .targets)) (rowsOf (g .nodes) (g .types) (g .first) (g .features) (g .targets)) (r .order) (r .map) ⌝ }
+// Whether s lies below g. `map` comes in full of NONE; beside a yes it holds the node of s that each node of g leads to. Of `n`
+// and the numbers of nodes the contract alone makes use.
+pub fn subsume<'a>(
+    n: usize,
+    table: &'a [u8],
+    s_nodes: usize,
+    s_types: &'a [u8],
+    s_first: &'a [u16],
+    s_features: &'a [u8],
+    s_targets: &'a [u16],
+    g_nodes: usize,
+    g_types: &'a [u8],
+    g_first: &'a [u16],
+    g_features: &'a [u8],
+    g_targets: &'a [u16],
+    map: &mut [u16; 255],
+) -> Order
+    requires { ⌜ Sound «s_nodes» (now «s_types») (now «s_first») (now «s_features») (now «s_targets») ⌝ }
+    requires { ⌜ Sound «g_nodes» (now «g_types») (now «g_first») (now «g_features») (now «g_targets») ⌝ }
+    requires { ⌜ («s_nodes» ≤ 255) × («g_nodes» ≤ 255) ⌝ }
+    requires { ⌜ ((v : ℕ) → v < «s_nodes» → getD (now «s_types») v 0 < 64) ⌝ }
+    requires { ⌜ ((v : ℕ) → v < «g_nodes» → getD (now «g_types») v 0 < 64) ⌝ }
+    requires { ⌜ (length (now map) ≡ 255) × ((y : ℕ) → y < 255 → getD (now map) y 0 ≡ 65535) ⌝ }
+    ensures { λ r. ⌜ Orders n (now (table .entry)) (rowsOf «s_nodes» (now («s_types» .entry)) (now («s_first» .entry)) (now («s_features» .entry)) (now («s_targets» .entry))) (rowsOf «g_nodes» (now («g_types» .entry)) (now («g_first» .entry)) (now («g_features» .entry)) (now («g_targets» .entry))) r (now (map .exit)) ⌝ }
+    ensures { λ _. ⌜ length (now (map .exit)) ≡ 255 ⌝ }
 {
-    let mut map = [NONE; 255];
     let mut queue = [0u16; 255];
     map[0] = 0;
     let mut count: usize = 1;
@@ -106,37 +117,28 @@ pub fn subsume(n: usize, table: &[u8], s: Graph, g: Graph) -> Comparison
     while head < count {
         let v = queue[head] as usize;
         let u = map[v] as usize;
-        let a = s.types[u] as usize;
-        let b = g.types[v] as usize;
+        let a = s_types[u] as usize;
+        let b = g_types[v] as usize;
         if !lattice::words::is_below(table, a, b) {
-            return Comparison {
-                order: Order::NotBelow,
-                map,
-            };
+            return Order::NotBelow;
         }
         count = follow(
-            &s.first,
-            &s.features,
-            &s.targets,
-            &g.first,
-            &g.features,
-            &g.targets,
+            s_first,
+            s_features,
+            s_targets,
+            g_first,
+            g_features,
+            g_targets,
             v,
             u,
-            &mut map,
+            map,
             &mut queue,
             count,
         );
         if 255 < count {
-            return Comparison {
-                order: Order::NotBelow,
-                map,
-            };
+            return Order::NotBelow;
         }
         head += 1;
     }
-    Comparison {
-        order: Order::Below,
-        map,
-    }
+    Order::Below
 }

@@ -85,9 +85,11 @@ returns : tie.Need-returns Inv-loop μ-loop
 returns c =
     let start = c .before .before .before .before .before .before .before .before .before .before .before .before .before .before .before in
     let turn = c .before .before .before in
-    let sought = c .before .seek .ensures in
-    fails (lacks-end (start .pre .1 .0) (start .pre .1 .1 .0) (turn .before .loop .inv) (turn .loop-test .taken) sought
-    (c .if1 .taken))
+    let sought = c .before .seek .ensures in (
+      fails (lacks-end (start .pre .1 .0) (start .pre .1 .1 .0) (turn .before .loop .inv) (turn .loop-test .taken) sought
+          (c .if1 .taken)),
+      turn .before .loop .inv .followed .queued .map-long,
+    )
 
 shared-slice-read-if2 : tie.Need-shared-slice-read-if2 Inv-loop μ-loop
 shared-slice-read-if2 c = search needs
@@ -96,9 +98,11 @@ returns-2 : tie.Need-returns-2 Inv-loop μ-loop
 returns-2 c =
     let start = c .before .before .before .before .before .before .before .before .before .before .before .before .before .before .before .before .before in
     let turn = c .before .before .before .before .before in
-    let sought = c .before .before .before .seek .ensures in
-    fails (lacks-feature (start .pre .1 .0) (start .pre .1 .1 .0) (turn .before .loop .inv) (turn .loop-test .taken) sought
-    (λ e. omega (arith, c .if2 .taken)) (omega (arith, c .before .before .if1 .left)))
+    let sought = c .before .before .before .seek .ensures in (
+      fails (lacks-feature (start .pre .1 .0) (start .pre .1 .1 .0) (turn .before .loop .inv) (turn .loop-test .taken) sought
+          (λ e. omega (arith, c .if2 .taken)) (omega (arith, c .before .before .if1 .left))),
+      turn .before .loop .inv .followed .queued .map-long,
+    )
 
 mul-w : tie.Need-mul-w Inv-loop μ-loop
 mul-w c = search needs
@@ -171,9 +175,11 @@ returns-3 : tie.Need-returns-3 Inv-loop μ-loop
 returns-3 c =
     let start = c .before .before .before .before .before .before .before .before .before .before .before .before .before .before .before .before .before .before .before .before .before .before in
     let turn = c .before .before .before .before .before .before .before .before .before .before in
-    let sought = c .before .before .before .before .before .before .before .before .seek .ensures in
-    fails (splits-here (start .pre .1 .0) (start .pre .1 .1 .0) (turn .before .loop .inv) (turn .loop-test .taken) sought
-    (omega (arith, c .before .before .before .before .before .before .before .if1 .left)) (omega (arith, c .before .before .before .before .before .if2 .left)) (c .before .if3 .left) (λ e. omega (arith, c .if4 .taken)))
+    let sought = c .before .before .before .before .before .before .before .before .seek .ensures in (
+      fails (splits-here (start .pre .1 .0) (start .pre .1 .1 .0) (turn .before .loop .inv) (turn .loop-test .taken) sought
+          (omega (arith, c .before .before .before .before .before .before .before .if1 .left)) (omega (arith, c .before .before .before .before .before .if2 .left)) (c .before .if3 .left) (λ e. omega (arith, c .if4 .taken))),
+      turn .before .loop .inv .followed .queued .map-long,
+    )
 
 add-k : tie.Need-add-k Inv-loop μ-loop
 add-k c = search needs
@@ -196,7 +202,8 @@ loop-again c =
     (c .if3 .came)
 
 returns-4 : tie.Need-returns-4 Inv-loop μ-loop
-returns-4 c = following-done (c .before .loop .inv) (c .loop-test .left)
+returns-4 c =
+    (following-done (c .before .loop .inv) (c .loop-test .left), c .before .loop .inv .followed .queued .map-long)
 
 pub follow-spec : {M : Type 1} → statement M
 follow-spec =
