@@ -8,11 +8,10 @@ use native.Mathlib.Numerals.{add-one}
 use native.Mathlib.Omega.{arith}
 use lib.ListN.{length, getD, set, take, drop, length-set}
 use lib.Seq.{slice, length-take-le, getD-take, getD-set-same, getD-set-other, ext-getD}
-use Rattle.graphs.specs.Graph.{Graph, Reached}
+use Rattle.graphs.specs.Graph.{Reached}
 use Rattle.graphs.specs.Rows.{target}
 use Rattle.graphs.proofs.Walk.{reached-root, reached-link}
-use Rattle.visits.specs.Arrays.{paired, linksAt}
-use Rattle.decode.specs.declared.Graph as declared
+use Rattle.visits.specs.Arrays.{Compressed, paired, linksAt}
 use Rattle.generalize.specs.Queue.{Marked, Numbered, Adds}
 use Rattle.generalize.proofs.Marking.{mark-root}
 use Rattle.generalize.proofs.Sides.{Held, product, commonIn, product-root, product-link, product-known}
@@ -62,7 +61,7 @@ links-are : (first features targets : List ℕ) (i p q : ℕ) → getD first i 0
 unfolding linksAt
 links-are first features targets i p q e d = ap₂ (λ (s t : ℕ). paired (slice s t features) (slice s t targets)) e d
 
-pub record Building (joins : List (List ℕ)) (a b : declared.Graph) (head count links : ℕ)
+pub record Building (joins : List (List ℕ)) (a b : Compressed) (head count links : ℕ)
     (marks queue types first features targets : List ℕ) : Type 0 where
   pub marked : Marked marks queue count
   pub begun : 0 < count
@@ -91,11 +90,11 @@ pub record Building (joins : List (List ℕ)) (a b : declared.Graph) (head count
       target (linksAt first features targets i) f ≡ none
 
 -- The root's pair is known, and has no row yet.
-pub build-start : (joins : List (List ℕ)) (a b : declared.Graph) → Held a → Held b → (marks queue types first features targets : List ℕ) →
+pub build-start : (joins : List (List ℕ)) {a b : Compressed} → Held a → Held b → (marks queue types first features targets : List ℕ) →
     length marks ≡ 65025 → ((p : ℕ) → p < 65025 → getD marks p 0 ≡ 65535) → length queue ≡ 319 → getD queue 0 0 ≡ 0 →
     length types ≡ 255 → length first ≡ 256 → getD first 0 0 ≡ 0 → length features ≡ 2112 → length targets ≡ 2112 →
     Building joins a b 0 1 0 (set marks 0 0) queue types first features targets
-build-start joins a b left right marks queue types first features targets marks-long clear queue-long root types-long first-long start
+build-start joins {a} {b} left right marks queue types first features targets marks-long clear queue-long root types-long first-long start
     features-long targets-long =
     record {
       marked = mark-root marks queue marks-long queue-long root clear;
@@ -129,7 +128,7 @@ build-start joins a b left right marks queue types first features targets marks-
     first-pair : (i : ℕ) → i < 1 → getD queue i 0 ≡ 0
     first-pair i h = let e : i ≡ 0 = omega arith in ap (λ (n : ℕ). getD queue n 0) e ∙ root
 
-module _ {joins : List (List ℕ)} {a b : declared.Graph} (left : Held a) (right : Held b) {head count links : ℕ}
+module _ {joins : List (List ℕ)} {a b : Compressed} (left : Held a) (right : Held b) {head count links : ℕ}
     {marks queue types first features targets : List ℕ}
     (s : Building joins a b head count links marks queue types first features targets) (next : head < count) (few : count ≤ 255)
     (short : links ≤ 2048) where

@@ -17,11 +17,10 @@ use Rattle.graphs.proofs.Form.Invariant.{bisimilar-canonical}
 use Rattle.graphs.proofs.Form.Large.{canonical-fits}
 use Rattle.graphs.proofs.Lists.{tells-eqb}
 use Rattle.graphs.proofs.Walk.{none-some, some-injective}
-use Rattle.visits.specs.Arrays.{Sound, linksAt, rowsOf, graphOfRows}
+use Rattle.visits.specs.Arrays.{Compressed, Sound, linksAt, rowsOf, graphOfRows}
 use Rattle.visits.proofs.VisitRows.{row-at, link-known}
 use Rattle.encode.specs.Encode.{writtenOut}
 use Rattle.encode.specs.declared.Written.the-variants as outcome
-use Rattle.decode.specs.declared.Graph as declared
 use Rattle.generalize.specs.Pairs.{samePair}
 use Rattle.generalize.specs.Queue.{codeOf, RowAt, Numbered}
 use Rattle.generalize.proofs.Merging.{row-rises, row-target}
@@ -29,7 +28,7 @@ use Rattle.generalize.proofs.Sides.{Held, product, commonIn, product-ro
 use Rattle.generalize.proofs.Building.{Building, pairOf, pair-numbered}
 
 -- A graph with too many nodes or links is not written.
-pub too-large : (joins : List (List ℕ)) {a b : declared.Graph} → Held a → Held b → (old : List ℕ) →
+pub too-large : (joins : List (List ℕ)) {a b : Compressed} → Held a → Held b → (old : List ℕ) →
     ManyNodes (product joins a b) ⊎ ManyLinks (product joins a b) →
     writtenOut (canonical samePair (product joins a b)) old ≡ record { answer = outcome.TooLarge; output = old }
 unfolding writtenOut
@@ -103,7 +102,7 @@ allPlaced queue first fs zero = []
 allPlaced queue first fs (suc m) =
     placed (pairOf (getD queue m 0)) fs (getD first m 0) (getD first (suc m) 0 - getD first m 0) (allPlaced queue first fs m)
 
-module _ {joins : List (List ℕ)} {a b : declared.Graph} (left : Held a) (right : Held b) {head count links : ℕ}
+module _ {joins : List (List ℕ)} {a b : Compressed} (left : Held a) (right : Held b) {head count links : ℕ}
     {marks queue types first features targets : List ℕ}
     (s : Building joins a b head count links marks queue types first features targets) where
   -- pairs at different places are different

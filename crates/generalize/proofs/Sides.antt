@@ -14,27 +14,23 @@ use Rattle.graphs.specs.Rows.{Row, target}
 use Rattle.graphs.specs.Generalize.{both, generalization}
 use Rattle.graphs.proofs.Walk.{none-some}
 use Rattle.graphs.proofs.Product.{both-some}
-use Rattle.visits.specs.Arrays.{Sound, linksAt, rowsOf, graphOfRows}
+use Rattle.visits.specs.Arrays.{Compressed, Sound, lent, linksAt, rowsIn, graphIn}
 use Rattle.visits.proofs.Colours.{ends}
 use Rattle.visits.proofs.VisitRows.{row-at, length-rows, link-known}
-use Rattle.decode.specs.declared.Graph as declared
 use Rattle.generalize.specs.Pairs.{joinsOf, samePair}
 use Rattle.generalize.specs.Queue.{RowAt, common}
 use Rattle.generalize.proofs.Merging.{none-target}
 
--- the rows in the arrays of a graph
-abbrev pub rowsIn : declared.Graph → List (Row ℕ)
-rowsIn g = rowsOf (g .nodes) (g .types) (g .first) (g .features) (g .targets)
-
-abbrev pub graphIn : declared.Graph → Graph ℕ ℕ
-graphIn g = graphOfRows (rowsIn g)
-
 -- arrays that hold a graph of at most 255 nodes
-pub record Held (g : declared.Graph) : Type 0 where
+pub record Held (g : Compressed) : Type 0 where
   pub sound : Sound (g .nodes) (g .types) (g .first) (g .features) (g .targets)
   pub small : g .nodes ≤ 255
 
-module _ {g : declared.Graph} (h : Held g) where
+pub held : {nodes : ℕ} {types first features targets : List ℕ} → Sound nodes types first features targets → nodes ≤ 255 →
+    Held (lent nodes types first features targets)
+held sound small = record { sound = sound; small = small }
+
+module _ {g : Compressed} (h : Held g) where
   held-row : (v : ℕ) → v < g .nodes → getD (rowsIn g) v (0, []) ≡ (getD (g .types) v 0, linksAt (g .first) (g .features) (g .targets) v)
   held-row v i = row-at (g .types) (g .first) (g .features) (g .targets) (g .nodes) 0 v v (omega arith) i
 
@@ -75,13 +71,13 @@ module _ {g : declared.Graph} (h : Held g) where
 
 -- The product.
 
-abbrev pub product : List (List ℕ) → declared.Graph → declared.Graph → Graph ℕ (ℕ × ℕ)
+abbrev pub product : List (List ℕ) → Compressed → Compressed → Graph ℕ (ℕ × ℕ)
 product joins a b = generalization (joinsOf joins) (graphIn a) (graphIn b)
 
-abbrev pub commonIn : declared.Graph → declared.Graph → ℕ → ℕ → ℕ → Option (ℕ × ℕ)
+abbrev pub commonIn : Compressed → Compressed → ℕ → ℕ → ℕ → Option (ℕ × ℕ)
 commonIn a b u v f = common (a .first) (a .features) (a .targets) (b .first) (b .features) (b .targets) u v f
 
-module _ (joins : List (List ℕ)) {a b : declared.Graph} (left : Held a) (right : Held b) where
+module _ (joins : List (List ℕ)) {a b : Compressed} (left : Held a) (right : Held b) where
   pub product-root : product joins a b .root ≡ (0, 0)
   unfolding generalization
   product-root = refl

@@ -1,7 +1,6 @@
 // Generalization, document 01's common part: the pairs of nodes that one path leads to in both graphs, found by a queue, with a
 // mark for each pair.
 
-use decode::Graph;
 use encode::Written;
 ghost use mathlib.Core.Path.{_≡_};
 ghost use Prim.Native.Nat.{ℕ, _≤_, _<_};
@@ -91,14 +90,27 @@ pub fn pair_links<'a>(
 }
 
 // Writes the generalization of two graphs.
-pub fn generalize(joins: &[[u8; 64]; 64], a: Graph, b: Graph, out: &mut [u8]) -> Written
-    requires { ⌜ Sound (a .nodes) (a .types) (a .first) (a .features) (a .targets) ⌝ }
-    requires { ⌜ Sound (b .nodes) (b .types) (b .first) (b .features) (b .targets) ⌝ }
-    requires { ⌜ (a .nodes ≤ 255) × (b .nodes ≤ 255) ⌝ }
-    requires { ⌜ ((v : ℕ) → v < a .nodes → getD (a .types) v 0 < 64) ⌝ }
-    requires { ⌜ ((v : ℕ) → v < b .nodes → getD (b .types) v 0 < 64) ⌝ }
-    ensures { λ r. ⌜ r ≡ writtenOut (canonical samePair (generalization (joinsOf (now (joins .entry))) (graphOfRows (rowsOf (a .nodes) (a .types) (a .first) (a .features) (a .targets))) (graphOfRows (rowsOf (b .nodes) (b .types) (b .first) (b .features) (b .targets))))) (now (out .entry)) .answer ⌝ }
-    ensures { λ r. ⌜ now (out .exit) ≡ writtenOut (canonical samePair (generalization (joinsOf (now (joins .entry))) (graphOfRows (rowsOf (a .nodes) (a .types) (a .first) (a .features) (a .targets))) (graphOfRows (rowsOf (b .nodes) (b .types) (b .first) (b .features) (b .targets))))) (now (out .entry)) .output ⌝ }
+pub fn generalize<'a>(
+    joins: &'a [[u8; 64]; 64],
+    a_nodes: usize,
+    a_types: &'a [u8],
+    a_first: &'a [u16],
+    a_features: &'a [u8],
+    a_targets: &'a [u16],
+    b_nodes: usize,
+    b_types: &'a [u8],
+    b_first: &'a [u16],
+    b_features: &'a [u8],
+    b_targets: &'a [u16],
+    out: &mut [u8],
+) -> Written
+    requires { ⌜ Sound «a_nodes» (now «a_types») (now «a_first») (now «a_features») (now «a_targets») ⌝ }
+    requires { ⌜ Sound «b_nodes» (now «b_types») (now «b_first») (now «b_features») (now «b_targets») ⌝ }
+    requires { ⌜ («a_nodes» ≤ 255) × («b_nodes» ≤ 255) ⌝ }
+    requires { ⌜ ((v : ℕ) → v < «a_nodes» → getD (now «a_types») v 0 < 64) ⌝ }
+    requires { ⌜ ((v : ℕ) → v < «b_nodes» → getD (now «b_types») v 0 < 64) ⌝ }
+    ensures { λ r. ⌜ r ≡ writtenOut (canonical samePair (generalization (joinsOf (now (joins .entry))) (graphOfRows (rowsOf «a_nodes» (now («a_types» .entry)) (now («a_first» .entry)) (now («a_features» .entry)) (now («a_targets» .entry)))) (graphOfRows (rowsOf «b_nodes» (now («b_types» .entry)) (now («b_first» .entry)) (now («b_features» .entry)) (now («b_targets» .entry)))))) (now (out .entry)) .answer ⌝ }
+    ensures { λ r. ⌜ now (out .exit) ≡ writtenOut (canonical samePair (generalization (joinsOf (now (joins .entry))) (graphOfRows (rowsOf «a_nodes» (now («a_types» .entry)) (now («a_first» .entry)) (now («a_features» .entry)) (now («a_targets» .entry)))) (graphOfRows (rowsOf «b_nodes» (now («b_types» .entry)) (now («b_first» .entry)) (now («b_features» .entry)) (now («b_targets» .entry)))))) (now (out .entry)) .output ⌝ }
 {
     // the queue and the links have room for the most that one pair can add
     let mut marks = [CLEAR; 65025];
@@ -115,16 +127,16 @@ pub fn generalize(joins: &[[u8; 64]; 64], a: Graph, b: Graph, out: &mut [u8]) ->
         let pair = queue[head] as usize;
         let u = pair / 255;
         let v = pair % 255;
-        let i = a.types[u] as usize;
-        let j = b.types[v] as usize;
+        let i = a_types[u] as usize;
+        let j = b_types[v] as usize;
         types[head] = joins[i][j];
         let spread = pair_links(
-            &a.first,
-            &a.features,
-            &a.targets,
-            &b.first,
-            &b.features,
-            &b.targets,
+            a_first,
+            a_features,
+            a_targets,
+            b_first,
+            b_features,
+            b_targets,
             u,
             v,
             &mut marks,
