@@ -47,16 +47,15 @@ use Rattle.graphs.proofs.Unification.Beside.{
 }
 use Rattle.graphs.proofs.Unification.ClassGraph.{classLink-source, classLink-of, name-classes, name-related}
 use Rattle.graphs.proofs.Unification.Deep.{deep-walk, walk-deep, loop-walk}
-use Rattle.visits.specs.Arrays.{rowsOf, graphOfRows, Reaches, one, more, TargetsFirst}
+use Rattle.visits.specs.Arrays.{Compressed, rowsOf, graphOfRows, graphIn, Reaches, one, more, TargetsFirst}
 use Rattle.visits.proofs.VisitRows.{link-known}
 use Rattle.visits.proofs.Places.{label-at, link-at, link-place}
-use Rattle.decode.specs.declared.Graph as declared
 use Rattle.encode.specs.Encode.{writtenOut}
 use Rattle.unify.specs.declared.Combined.the-variants as combined
 use Rattle.unify.specs.Lowered.{lowerBy, lowered}
 use Rattle.unify.specs.Outcome.{meetsOf, sameEither, Result, combinedOf, unifiedOut}
 use Rattle.unify.specs.Rows.{Merges}
-use Rattle.unify.proofs.Sides.{graphIn, Held, operands, number, Inside, inside-reached, reached-in, number-in, node-of, link-in}
+use Rattle.unify.proofs.Sides.{Held, operands, number, Inside, inside-reached, reached-in, number-in, node-of, link-in}
 use Rattle.unify.proofs.Sharing.{classOf, one-related, related-one, class-sound, class-link, class-source, leads-own}
 
 -- Lists.
@@ -109,7 +108,7 @@ module _ {L A B : Type 0} (R : A → B → Type 0) (g : Graph L A) (h : Graph L 
       (λ f.
       holds-alike (deep (g .link) k) (deep (h .link) k) (deep-alike k) (g .link v f) (h .link w f) (links v w f r))
 
-module _ (n : ℕ) (meets : List (List ℕ)) {a b : declared.Graph} (left : Held a) (right : Held b) {class first fs ts : List ℕ}
+module _ (n : ℕ) (meets : List (List ℕ)) {a b : Compressed} (left : Held a) (right : Held b) {class first fs ts : List ℕ}
     (m : Merges (a .nodes) (a .first) (a .features) (a .targets) (b .nodes) (b .first) (b .features) (b .targets) class first fs ts) where
   given : Operands eqb eqb (graphIn a) (from 0 (a .nodes)) (graphIn b) (from 0 (b .nodes))
   given = operands left right

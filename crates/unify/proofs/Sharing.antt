@@ -14,15 +14,13 @@ use lib.ListN.{length, getD}
 use Rattle.graphs.specs.Graph.{Graph}
 use Rattle.graphs.proofs.Unification.Related.{roots, back, next, feat, related-constant}
 use Rattle.graphs.proofs.Unification.Beside.{linkBeside, RelatedBeside, leads-related, related-reached}
-use Rattle.visits.specs.Arrays.{Linked, Sound, Leads, rowsOf, graphOfRows}
+use Rattle.visits.specs.Arrays.{Linked, Sound, Leads, Compressed, rowsOf, graphOfRows, graphIn}
 use Rattle.visits.proofs.Places.{link-at, link-place}
-use Rattle.decode.specs.declared.Graph as declared
 use Rattle.classes.specs.Merge.{Span}
 use Rattle.classes.specs.Classes as classes
 use Rattle.classes.specs.Classes.{sumTo, rowLength, At, Same}
 use Rattle.unify.specs.Rows.{Merges}
 use Rattle.unify.proofs.Sides.{
-  graphIn,
   Held,
   number,
   Inside,
@@ -53,7 +51,7 @@ span-one s j k j-low j-high k-low k-high e = go (decLt j k) (decLt k j)
     go (no n) (yes l) = absurd (omega (arith, span-rises s (j - suc k) k j (omega arith) k-low j-high))
     go (no n) (no m) = omega arith
 
-module _ {a b : declared.Graph} (left : Held a) (right : Held b) {class first features targets : List ℕ}
+module _ {a b : Compressed} (left : Held a) (right : Held b) {class first features targets : List ℕ}
     (m : Merges (a .nodes) (a .first) (a .features) (a .targets) (b .nodes) (b .first) (b .features) (b .targets) class first
     features targets) where
   abbrev Alike : ℕ → ℕ → Type 0

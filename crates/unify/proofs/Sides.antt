@@ -8,30 +8,30 @@ use Prim.Native.Nat.{ℕ, suc, _+_, _-_, _≤_, _<_}
 use native.Mathlib.Decide.{decLt}
 use native.Mathlib.Omega.{arith}
 use lib.Dec.{eqb}
-use lib.ListN.{length, getD}
-use Rattle.graphs.specs.Graph.{Graph, onward, follow, walk, Reached}
+use lib.ListN.{getD}
+use Rattle.graphs.specs.Graph.{onward, follow, walk, Reached}
 use Rattle.graphs.specs.Rows.{from}
 use Rattle.graphs.proofs.Walk.{some-injective, onward-some, snoc-induction, follow-last}
 use Rattle.graphs.proofs.Lists.{from-member, from-range, tells-eqb}
 use Rattle.graphs.proofs.Unification.Beside.{linkBeside, ReachedBeside, Lists, Operands}
-use Rattle.visits.specs.Arrays.{Sound, rowsOf, graphOfRows}
+use Rattle.visits.specs.Arrays.{Sound, Compressed, lent, graphIn}
 use Rattle.visits.proofs.Colours.{ends}
 use Rattle.visits.proofs.VisitRows.{link-known}
 use Rattle.visits.proofs.Places.{link-at, link-place}
-use Rattle.decode.specs.declared.Graph as declared
 use Rattle.classes.specs.Classes.{At}
 use Rattle.unify.specs.Rows.{Shape, Beside}
 
-abbrev pub graphIn : declared.Graph → Graph ℕ ℕ
-graphIn g = graphOfRows (rowsOf (g .nodes) (g .types) (g .first) (g .features) (g .targets))
-
 -- Arrays that hold a graph of at most 255 nodes, all reached.
-pub record Held (g : declared.Graph) : Type 0 where
+pub record Held (g : Compressed) : Type 0 where
   pub sound : Sound (g .nodes) (g .types) (g .first) (g .features) (g .targets)
   pub small : g .nodes ≤ 255
   pub reached : (v : ℕ) → v < g .nodes → Reached (graphIn g) v
 
-module _ {g : declared.Graph} (h : Held g) where
+pub held : {nodes : ℕ} {types first features targets : List ℕ} → Sound nodes types first features targets → nodes ≤ 255 →
+    ((v : ℕ) → v < nodes → Reached (graphIn (lent nodes types first features targets)) v) → Held (lent nodes types first features targets)
+held sound small reached = record { sound = sound; small = small; reached = reached }
+
+module _ {g : Compressed} (h : Held g) where
   pub reached-inside : (v : ℕ) → Reached (graphIn g) v → v < g .nodes
   unfolding follow
   reached-inside v (p, e) = go p v e
@@ -54,7 +54,7 @@ module _ {g : declared.Graph} (h : Held g) where
         features = λ v w f r e. link-known (h .sound) v f w (reached-inside v r) e .0;
       }
 
-pub operands : {a b : declared.Graph} → Held a → Held b →
+pub operands : {a b : Compressed} → Held a → Held b →
     Operands eqb eqb (graphIn a) (from 0 (a .nodes)) (graphIn b) (from 0 (b .nodes))
 operands left right =
     record {
@@ -69,7 +69,7 @@ abbrev pub number : ℕ → ℕ ⊎ ℕ → ℕ
 number n (inl v) = v
 number n (inr v) = n + v
 
-module _ {a b : declared.Graph} (left : Held a) (right : Held b) where
+module _ {a b : Compressed} (left : Held a) (right : Held b) where
   -- x is a node of its graph
   abbrev pub Inside : ℕ ⊎ ℕ → Type 0
   Inside (inl v) = v < a .nodes
@@ -166,12 +166,12 @@ module _ {a b : declared.Graph} (left : Held a) (right : Held b) where
           omega (arith, ap (λ (k : ℕ). getD pt k 0) e, s .b-target (j - getD (a .first) (a .nodes) 0) k-in),
         )
 
-pub held-shape : {g : declared.Graph} → Held g → length (g .targets) ≡ 2048 → Shape (g .nodes) (g .first) (g .features) (g .targets)
-held-shape h long =
+pub held-shape : {g : Compressed} → Held g → getD (g .first) (g .nodes) 0 ≤ 2048 → Shape (g .nodes) (g .first) (g .features) (g .targets)
+held-shape h short =
     record {
       laid = h .sound .shaped .laid;
       small = h .small;
-      short = omega (arith, h .sound .shaped .laid .aimed);
+      short = short;
       known = h .sound .shaped .known;
       ascending = h .sound .shaped .ascending;
       within = h .sound .within;

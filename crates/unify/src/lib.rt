@@ -5,7 +5,6 @@ pub mod beside;
 pub mod labels;
 pub mod quotient;
 
-use decode::Graph;
 use encode::Written;
 ghost use mathlib.Core.Path.{_≡_};
 ghost use Prim.Native.Nat.{ℕ, _≤_, _<_};
@@ -111,43 +110,58 @@ fn answer_of(written: Written) -> Combined
 }
 
 // Writes the unification of two graphs over n types.
-pub fn unify(n: usize, meets: &[[u8; 64]; 64], a: Graph, b: Graph, out: &mut [u8]) -> Combined
+pub fn unify<'a>(
+    n: usize,
+    meets: &'a [[u8; 64]; 64],
+    a_nodes: usize,
+    a_types: &'a [u8; 255],
+    a_first: &'a [u16; 256],
+    a_features: &'a [u8; 2048],
+    a_targets: &'a [u16; 2048],
+    b_nodes: usize,
+    b_types: &'a [u8; 255],
+    b_first: &'a [u16; 256],
+    b_features: &'a [u8; 2048],
+    b_targets: &'a [u16; 2048],
+    out: &mut [u8],
+) -> Combined
     requires { ⌜ (0 < n) × (n ≤ 64) ⌝ }
     requires { ⌜ MeetsBelow n (now meets) ⌝ }
-    requires { ⌜ Sound (a .nodes) (a .types) (a .first) (a .features) (a .targets) ⌝ }
-    requires { ⌜ Sound (b .nodes) (b .types) (b .first) (b .features) (b .targets) ⌝ }
-    requires { ⌜ (a .nodes ≤ 255) × (b .nodes ≤ 255) ⌝ }
-    requires { ⌜ ((v : ℕ) → v < a .nodes → getD (a .types) v 0 < n) ⌝ }
-    requires { ⌜ ((v : ℕ) → v < b .nodes → getD (b .types) v 0 < n) ⌝ }
-    requires { ⌜ ((v : ℕ) → v < a .nodes → Reached (graphOfRows (rowsOf (a .nodes) (a .types) (a .first) (a .features) (a .targets))) v) ⌝ }
-    requires { ⌜ ((v : ℕ) → v < b .nodes → Reached (graphOfRows (rowsOf (b .nodes) (b .types) (b .first) (b .features) (b .targets))) v) ⌝ }
-    ensures { λ r. ⌜ r ≡ unifiedOut (unification (meetsOf n (now (meets .entry))) eqb eqb (graphOfRows (rowsOf (a .nodes) (a .types) (a .first) (a .features) (a .targets))) (from 0 (a .nodes)) (graphOfRows (rowsOf (b .nodes) (b .types) (b .first) (b .features) (b .targets))) (from 0 (b .nodes))) (now (out .entry)) .answer ⌝ }
-    ensures { λ r. ⌜ now (out .exit) ≡ unifiedOut (unification (meetsOf n (now (meets .entry))) eqb eqb (graphOfRows (rowsOf (a .nodes) (a .types) (a .first) (a .features) (a .targets))) (from 0 (a .nodes)) (graphOfRows (rowsOf (b .nodes) (b .types) (b .first) (b .features) (b .targets))) (from 0 (b .nodes))) (now (out .entry)) .output ⌝ }
+    requires { ⌜ Sound «a_nodes» (now «a_types») (now «a_first») (now «a_features») (now «a_targets») ⌝ }
+    requires { ⌜ Sound «b_nodes» (now «b_types») (now «b_first») (now «b_features») (now «b_targets») ⌝ }
+    requires { ⌜ («a_nodes» ≤ 255) × («b_nodes» ≤ 255) ⌝ }
+    requires { ⌜ ((v : ℕ) → v < «a_nodes» → getD (now «a_types») v 0 < n) ⌝ }
+    requires { ⌜ ((v : ℕ) → v < «b_nodes» → getD (now «b_types») v 0 < n) ⌝ }
+    requires { ⌜ ((v : ℕ) → v < «a_nodes» → Reached (graphOfRows (rowsOf «a_nodes» (now «a_types») (now «a_first») (now «a_features») (now «a_targets»))) v) ⌝ }
+    requires { ⌜ ((v : ℕ) → v < «b_nodes» → Reached (graphOfRows (rowsOf «b_nodes» (now «b_types») (now «b_first») (now «b_features») (now «b_targets»))) v) ⌝ }
+    requires { ⌜ (getD (now «a_first») «a_nodes» 0 ≤ 2048) × (getD (now «b_first») «b_nodes» 0 ≤ 2048) ⌝ }
+    ensures { λ r. ⌜ r ≡ unifiedOut (unification (meetsOf n (now (meets .entry))) eqb eqb (graphOfRows (rowsOf «a_nodes» (now («a_types» .entry)) (now («a_first» .entry)) (now («a_features» .entry)) (now («a_targets» .entry)))) (from 0 «a_nodes») (graphOfRows (rowsOf «b_nodes» (now («b_types» .entry)) (now («b_first» .entry)) (now («b_features» .entry)) (now («b_targets» .entry)))) (from 0 «b_nodes»)) (now (out .entry)) .answer ⌝ }
+    ensures { λ r. ⌜ now (out .exit) ≡ unifiedOut (unification (meetsOf n (now (meets .entry))) eqb eqb (graphOfRows (rowsOf «a_nodes» (now («a_types» .entry)) (now («a_first» .entry)) (now («a_features» .entry)) (now («a_targets» .entry)))) (from 0 «a_nodes») (graphOfRows (rowsOf «b_nodes» (now («b_types» .entry)) (now («b_first» .entry)) (now («b_features» .entry)) (now («b_targets» .entry)))) (from 0 «b_nodes»)) (now (out .entry)) .output ⌝ }
 {
     let mut class = [0u16; 510];
     let mut first = [0u16; 511];
     let mut features = [0u8; 4096];
     let mut targets = [0u16; 4096];
     class_rows(
-        a.nodes,
-        &a.first,
-        &a.features,
-        &a.targets,
-        b.nodes,
-        &b.first,
-        &b.features,
-        &b.targets,
+        a_nodes,
+        a_first,
+        a_features,
+        a_targets,
+        b_nodes,
+        b_first,
+        b_features,
+        b_targets,
         &mut class,
         &mut first,
         &mut features,
         &mut targets,
     );
-    let nodes = a.nodes + b.nodes;
+    let nodes = a_nodes + b_nodes;
     let mut order = [0u16; 510];
     if visits::acyclic::has_cycle(nodes, &first, &targets, &mut order) {
         return Combined::Cycle;
     }
-    let types = labels::class_labels(n, meets, &a.types, a.nodes, &b.types, b.nodes, &class);
+    let types = labels::class_labels(n, meets, a_types, a_nodes, b_types, b_nodes, &class);
     if labels::has_clash(nodes, &class, &types) {
         return Combined::Clash;
     }
