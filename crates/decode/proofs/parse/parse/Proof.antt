@@ -6,7 +6,6 @@ use lib.ListN.{length-set}
 use lib.Seq.{getD-set-same}
 use borrow.Author.Needs.{needs}
 use denote.Ref.{now}
-use Rattle.decode.specs.Promise.{Sized}
 use Rattle.decode.proofs.Filling.{Filling, Counted, fill-begin, fill-next, parse-none, parse-all, decoded-empty, decoded-zero, decoded-stop, decoded-over}
 use Rattle.decode.proofs.Parsing.{row-untyped}
 use Rattle.decode.proofs.Steps.{byte-taken, byte-ended}
@@ -60,14 +59,15 @@ loop-holds c =
       taken = t;
       some-nodes = c .if1 .left;
       small = omega (arith, t .byte-is, r .before .shared-slice-known .given 0);
-    } in
-    let l : Sized (now (a .args .types)) _ (now (a .args .features)) (now (a .args .targets)) = record {
-      types-long = a .pre .types-long;
-      first-long = length-set (now (a .args .first)) 0 0 ∙ a .pre .first-long;
-      features-long = a .pre .features-long;
-      targets-long = a .pre .targets-long;
-    } in
-    (fill-begin _ _ _ _ _ _ _ n l (getD-set-same (now (a .args .first)) 0 0 0 (omega (arith, a .pre .first-long))), n)
+    } in (
+      fill-begin _ _ _ _ _ _ _ n record {
+        types-long = a .pre .types-long;
+        first-long = length-set (now (a .args .first)) 0 _ ∙ a .pre .first-long;
+        features-long = a .pre .features-long;
+        targets-long = a .pre .targets-long;
+      } (getD-set-same (now (a .args .first)) 0 _ 0 (omega (arith, a .pre .first-long))),
+      n,
+    )
 
 byte-from-requires : tie.Need-byte-from-requires Inv-loop μ-loop
 byte-from-requires c κs = search needs
