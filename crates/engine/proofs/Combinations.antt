@@ -166,7 +166,9 @@ pub ready-to-combine : {n : ℕ} {a b : List ℕ} (meets : List (List ℕ)) {g h
     (((g .nodes ≤ 255) × (h .nodes ≤ 255)) ×
     (((v : ℕ) → v < g .nodes → getD (g .types) v 0 < n) ×
     (((v : ℕ) → v < h .nodes → getD (h .types) v 0 < n) ×
-    (((v : ℕ) → v < g .nodes → Reached (graphIn g) v) × ((v : ℕ) → v < h .nodes → Reached (graphIn h) v))))))))
+    (((v : ℕ) → v < g .nodes → Reached (graphIn g) v) ×
+    (((v : ℕ) → v < h .nodes → Reached (graphIn h) v) ×
+    ((getD (g .first) (g .nodes) 0 ≤ 2048) × (getD (h .first) (h .nodes) 0 ≤ 2048))))))))))
 ready-to-combine meets (types, below) (one, other) = (
   types,
   (
@@ -177,7 +179,10 @@ ready-to-combine meets (types, below) (one, other) = (
         other .sound,
         (
           (one .small, other .small),
-          (accepts-types one, (accepts-types other, (accepts-reached one, accepts-reached other))),
+          (
+            accepts-types one,
+            (accepts-types other, (accepts-reached one, (accepts-reached other, (one .few, other .few)))),
+          ),
         ),
       ),
     ),

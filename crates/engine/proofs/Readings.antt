@@ -4,7 +4,7 @@ use mathlib.Core.Path.{_≡_, refl, sym, _∙_, ap, ap₂, subst}
 use mathlib.Core.List.{List}
 use Prim.Native.Nat.{ℕ, _≤_, _<_}
 use native.Mathlib.Omega.{arith}
-use lib.ListN.{length, getD}
+use lib.ListN.{length, getD, replicate, length-replicate, getD-replicate}
 use Rattle.graphs.specs.Graph.{Reached}
 use Rattle.graphs.specs.Rows.{Row}
 use Rattle.visits.specs.Arrays.{Sound, Compressed, lent, rowsIn, graphIn}
@@ -100,6 +100,24 @@ ready few (one, other) = (
   one .sound,
   (other .sound, ((one .small, other .small), (λ v i. omega (arith, accepts-types one v i), λ v i. omega (arith, accepts-types other v i)))),
 )
+
+-- the map that the order starts from
+abbrev pub Fresh : List ℕ → Type 0
+Fresh map = (length map ≡ 255) × ((y : ℕ) → y < 255 → getD map y 0 ≡ 65535)
+
+pub fresh : Fresh (replicate 255 65535)
+fresh = (length-replicate {A = ℕ} 255 65535, λ y h. getD-replicate {A = ℕ} 255 y 65535 0 h)
+
+-- what the order asks
+pub ready-to-order : {n : ℕ} {a b : List ℕ} {g h : Compressed} → n ≤ 64 → Accepts n a g × Accepts n b h →
+    SoundIn g ×
+    (SoundIn h ×
+    (((g .nodes ≤ 255) × (h .nodes ≤ 255)) ×
+    (((v : ℕ) → v < g .nodes → getD (g .types) v 0 < 64) ×
+    (((v : ℕ) → v < h .nodes → getD (h .types) v 0 < 64) × Fresh (replicate 255 65535)))))
+ready-to-order few given =
+    let (one, (other, (small, (left, right)))) = ready few given in
+    (one, (other, (small, (left, (right, fresh)))))
 
 module _ {n : ℕ} {a b : List ℕ} {v : PairVerdict} {types first features targets types₂ first₂ features₂ targets₂ : List ℕ}
     (reads : ReadsBoth n a b v types first features targets types₂ first₂ features₂ targets₂) where
