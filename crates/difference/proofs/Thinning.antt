@@ -160,15 +160,15 @@ module _ {nodes : ℕ} {types first features targets : List ℕ} (sound : Sound 
   row-end v h = rw (add-one v) (ends (sound .shaped .laid) v h)
 
 module _ {nodes : ℕ} {types first features targets : List ℕ} (sound : Sound nodes types first features targets) {marks keep : List ℕ} where
-  pub rows-start : {first′ fs ts : List ℕ} → length first′ ≡ 256 → length fs ≡ 2048 → length ts ≡ 2048 → getD first′ 0 0 ≡ 0 →
-      Rows features targets marks keep first 0 first′ fs ts 0
-  rows-start a b c e =
+  pub rows-start : (first′ : List ℕ) {fs ts : List ℕ} → length first′ ≡ 256 → length fs ≡ 2048 → length ts ≡ 2048 →
+      Rows features targets marks keep first 0 (set first′ 0 0) fs ts 0
+  rows-start first′ a b c =
       record {
-        first-long = a;
+        first-long = length-set first′ 0 0 ∙ a;
         fs-long = b;
         ts-long = c;
-        start = e;
-        end = e;
+        start = getD-set-same first′ 0 0 0 (omega arith);
+        end = getD-set-same first′ 0 0 0 (omega arith);
         short = omega arith;
         rising = λ u h. absurd (omega arith);
         bounded = λ u h. absurd (omega arith);

@@ -5,13 +5,12 @@ pub mod keep;
 pub mod rows;
 pub mod wanted;
 
-use decode::Graph;
 use encode::Written;
 ghost use mathlib.Core.Path.{_≡_};
 ghost use mathlib.Core.Bool.{true};
 ghost use Prim.Native.Nat.{ℕ, _≤_, _<_};
 ghost use lib.Dec.{eqb};
-ghost use lib.ListN.{getD};
+ghost use lib.ListN.{length, getD};
 ghost use Rattle.graphs.specs.Graph.{AnySize, Reached};
 ghost use Rattle.graphs.specs.Map.{NodeMap};
 ghost use Rattle.graphs.specs.Number.{canonical};
@@ -22,39 +21,52 @@ ghost use Rattle.encode.specs.Encode.{writtenOut};
 ghost use Rattle.difference.specs.Promise.{differenceOf};
 ghost use Rattle.difference.specs.Wanted.{MeetsHeld};
 
-// Writes the difference of g and s; `map` gives the node of s that each node of g leads to.
+// Writes the difference of g and s; `map` gives the node of s that each node of g leads to. `first`, `features` and `targets` are
+// room for the rows of the difference, whatever they hold.
 pub fn difference<'a>(
     n: usize,
     table: &'a [u8],
     meets: &'a [[u8; 64]; 64],
-    g: Graph,
-    s: Graph,
-    map: [u16; 255],
+    g_nodes: usize,
+    g_types: &'a [u8],
+    g_first: &'a [u16],
+    g_features: &'a [u8],
+    g_targets: &'a [u16],
+    s_nodes: usize,
+    s_types: &'a [u8],
+    s_first: &'a [u16],
+    s_features: &'a [u8],
+    s_targets: &'a [u16],
+    map: &'a [u16; 255],
+    first: &mut [u16; 256],
+    features: &mut [u8; 2048],
+    targets: &mut [u16; 2048],
     out: &mut [u8],
 ) -> Written
     requires { ⌜ (accepted n (now table) ≡ true) × (admits n (now table) ≡ true) × MeetsHeld n (now table) (now meets) ⌝ }
-    requires { ⌜ Sound (g .nodes) (g .types) (g .first) (g .features) (g .targets) ⌝ }
-    requires { ⌜ Sound (s .nodes) (s .types) (s .first) (s .features) (s .targets) ⌝ }
-    requires { ⌜ (g .nodes ≤ 255) × (s .nodes ≤ 255) ⌝ }
-    requires { ⌜ ((y : ℕ) → y < g .nodes → getD (g .types) y 0 < n) ⌝ }
-    requires { ⌜ ((v : ℕ) → v < s .nodes → getD (s .types) v 0 < n) ⌝ }
-    requires { ⌜ ((y : ℕ) → y < g .nodes → Reached (graphOfRows (rowsOf (g .nodes) (g .types) (g .first) (g .features) (g .targets))) y) ⌝ }
-    requires { ⌜ ((v : ℕ) → v < s .nodes → Reached (graphOfRows (rowsOf (s .nodes) (s .types) (s .first) (s .features) (s .targets))) v) ⌝ }
-    requires { ⌜ AnySize (typeLabels n (now table)) (graphOfRows (rowsOf (s .nodes) (s .types) (s .first) (s .features) (s .targets))) ⌝ }
-    requires { ⌜ NodeMap (typeLabels n (now table)) (graphOfRows (rowsOf (s .nodes) (s .types) (s .first) (s .features) (s .targets))) (graphOfRows (rowsOf (g .nodes) (g .types) (g .first) (g .features) (g .targets))) (λ y. getD map y 0) ⌝ }
-    ensures { λ r. ⌜ r ≡ writtenOut (canonical eqb (differenceOf n (now (table .entry)) (rowsOf (s .nodes) (s .types) (s .first) (s .features) (s .targets)) (rowsOf (g .nodes) (g .types) (g .first) (g .features) (g .targets)) map)) (now (out .entry)) .answer ⌝ }
-    ensures { λ r. ⌜ now (out .exit) ≡ writtenOut (canonical eqb (differenceOf n (now (table .entry)) (rowsOf (s .nodes) (s .types) (s .first) (s .features) (s .targets)) (rowsOf (g .nodes) (g .types) (g .first) (g .features) (g .targets)) map)) (now (out .entry)) .output ⌝ }
+    requires { ⌜ Sound «g_nodes» (now «g_types») (now «g_first») (now «g_features») (now «g_targets») ⌝ }
+    requires { ⌜ Sound «s_nodes» (now «s_types») (now «s_first») (now «s_features») (now «s_targets») ⌝ }
+    requires { ⌜ («g_nodes» ≤ 255) × («s_nodes» ≤ 255) × (getD (now «s_first») «s_nodes» 0 ≤ 2048) × (length (now map) ≡ 255) ⌝ }
+    requires { ⌜ ((y : ℕ) → y < «g_nodes» → getD (now «g_types») y 0 < n) ⌝ }
+    requires { ⌜ ((v : ℕ) → v < «s_nodes» → getD (now «s_types») v 0 < n) ⌝ }
+    requires { ⌜ ((y : ℕ) → y < «g_nodes» → Reached (graphOfRows (rowsOf «g_nodes» (now «g_types») (now «g_first») (now «g_features») (now «g_targets»))) y) ⌝ }
+    requires { ⌜ ((v : ℕ) → v < «s_nodes» → Reached (graphOfRows (rowsOf «s_nodes» (now «s_types») (now «s_first») (now «s_features») (now «s_targets»))) v) ⌝ }
+    requires { ⌜ AnySize (typeLabels n (now table)) (graphOfRows (rowsOf «s_nodes» (now «s_types») (now «s_first») (now «s_features») (now «s_targets»))) ⌝ }
+    requires { ⌜ NodeMap (typeLabels n (now table)) (graphOfRows (rowsOf «s_nodes» (now «s_types») (now «s_first») (now «s_features») (now «s_targets»))) (graphOfRows (rowsOf «g_nodes» (now «g_types») (now «g_first») (now «g_features») (now «g_targets»))) (λ y. getD (now map) y 0) ⌝ }
+    requires { ⌜ (length (now first) ≡ 256) × (length (now features) ≡ 2048) × (length (now targets) ≡ 2048) ⌝ }
+    ensures { λ r. ⌜ r ≡ writtenOut (canonical eqb (differenceOf n (now (table .entry)) (rowsOf «s_nodes» (now («s_types» .entry)) (now («s_first» .entry)) (now («s_features» .entry)) (now («s_targets» .entry))) (rowsOf «g_nodes» (now («g_types» .entry)) (now («g_first» .entry)) (now («g_features» .entry)) (now («g_targets» .entry))) (now (map .entry)))) (now (out .entry)) .answer ⌝ }
+    ensures { λ r. ⌜ now (out .exit) ≡ writtenOut (canonical eqb (differenceOf n (now (table .entry)) (rowsOf «s_nodes» (now («s_types» .entry)) (now («s_first» .entry)) (now («s_features» .entry)) (now («s_targets» .entry))) (rowsOf «g_nodes» (now («g_types» .entry)) (now («g_first» .entry)) (now («g_features» .entry)) (now («g_targets» .entry))) (now (map .entry)))) (now (out .entry)) .output ⌝ }
 {
     let mut marks = [0u8; 2048];
     groups::mark_links(
-        s.nodes,
-        &s.first,
-        &s.features,
-        g.nodes,
-        &g.first,
-        &g.features,
-        &g.targets,
-        &map,
+        s_nodes,
+        s_first,
+        s_features,
+        g_nodes,
+        g_first,
+        g_features,
+        g_targets,
+        map,
         &mut marks,
     );
     let mut types = [0u8; 255];
@@ -62,38 +74,35 @@ pub fn difference<'a>(
         n,
         table,
         meets,
-        s.nodes,
-        &s.types,
-        g.nodes,
-        &g.types,
-        &map,
+        s_nodes,
+        s_types,
+        g_nodes,
+        g_types,
+        map,
         &mut types,
     );
     let mut keep = [0u8; 255];
     keep::kept_nodes(
         n,
         table,
-        s.nodes,
-        &s.first,
-        &s.targets,
+        s_nodes,
+        s_first,
+        s_targets,
         &marks,
         &types,
         &mut keep,
     );
-    let mut first = [0u16; 256];
-    let mut features = [0u8; 2048];
-    let mut targets = [0u16; 2048];
     rows::kept_links(
-        s.nodes,
-        &s.types,
-        &s.first,
-        &s.features,
-        &s.targets,
+        s_nodes,
+        s_types,
+        s_first,
+        s_features,
+        s_targets,
         &marks,
         &keep,
-        &mut first,
-        &mut features,
-        &mut targets,
+        first,
+        features,
+        targets,
     );
-    encode::write(s.nodes, &types, &first, &features, &targets, out)
+    encode::write(s_nodes, &types, first, features, targets, out)
 }

@@ -53,9 +53,9 @@ pub fn kept_links<'a>(
     requires { ⌜ (nodes ≤ 255) × (getD (now first) nodes 0 ≤ 2048) ⌝ }
     requires { ⌜ (length (now marks) ≡ 2048) × (length (now keep) ≡ 255) ⌝ }
     requires { ⌜ (length (now «kept_first») ≡ 256) × (length (now «kept_features») ≡ 2048) × (length (now «kept_targets») ≡ 2048) ⌝ }
-    requires { ⌜ getD (now «kept_first») 0 0 ≡ 0 ⌝ }
     ensures { λ r. ⌜ Rows (now (features .entry)) (now (targets .entry)) (now (marks .entry)) (now (keep .entry)) (now (first .entry)) nodes (now («kept_first» .exit)) (now («kept_features» .exit)) (now («kept_targets» .exit)) r ⌝ }
 {
+    kept_first[0] = 0;
     let mut links: usize = 0;
     let mut v = 0;
     while v < nodes {

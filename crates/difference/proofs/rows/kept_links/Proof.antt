@@ -14,12 +14,14 @@ Inv-loop nodes types first features targets marks keep kept-first₀ kept-featur
 abbrev μ-loop : tie.MeasureT-loop
 μ-loop nodes types first features targets marks keep kept-first₀ kept-features₀ kept-targets₀ links₀ v₀ kept-first kept-features kept-targets links v = nodes - v
 
+element-write-kept-first : tie.Need-element-write-kept-first Inv-loop μ-loop
+element-write-kept-first c = search needs
+
 loop-holds : tie.Need-loop-holds Inv-loop μ-loop
 loop-holds c =
     let start = c .before .before .before .before in (
       search needs,
-      rows-start (start .pre .0) (start .pre .1 .1 .1 .0 .0) (start .pre .1 .1 .1 .0 .1) (start .pre .1 .1 .1 .0 .2)
-          (start .pre .1 .1 .1 .1),
+      rows-start (start .pre .0) (start .args .kept-first .now) (start .pre .1 .1 .1 .0) (start .pre .1 .1 .1 .1) (start .pre .1 .1 .1 .2),
     )
 
 mul-start : tie.Need-mul-start Inv-loop μ-loop
@@ -169,8 +171,8 @@ mul-kept-first c =
       start .pre .0 .shaped .laid .bounded,
     )
 
-element-write-kept-first : tie.Need-element-write-kept-first Inv-loop μ-loop
-element-write-kept-first c =
+element-write-kept-first-2 : tie.Need-element-write-kept-first-2 Inv-loop μ-loop
+element-write-kept-first-2 c =
     let test = c .before .before .before .before .before in
     let turn = test .before in
     let start = turn .before .before .before .before .before in
@@ -207,6 +209,7 @@ kept-links-spec =
     (tie.spec
     Inv-loop
     μ-loop
+    element-write-kept-first
     loop-holds
     mul-start
     shared-slice-read-start
@@ -219,7 +222,7 @@ kept-links-spec =
     add-v
     cast-kept-first
     mul-kept-first
-    element-write-kept-first
+    element-write-kept-first-2
     loop-less
     loop-again
     returns)
