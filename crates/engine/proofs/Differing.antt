@@ -17,7 +17,6 @@ use Rattle.graphs.proofs.Lists.{from-range, tells-eqb}
 use Rattle.graphs.proofs.Below.{map-below}
 use Rattle.graphs.proofs.Difference.Agree.{meetOver-agree, difference-agree}
 use Rattle.visits.specs.Arrays.{Compressed, lent, graphOfRows, rowsIn, graphIn}
-use Rattle.visits.proofs.VisitRows.{length-rows}
 use Rattle.lattice.specs.declared.TableFault.{TableFault}
 use Rattle.lattice.specs.declared.Opened.the-variants as opened
 use Rattle.lattice.specs.Table as types
@@ -39,7 +38,7 @@ use Rattle.engine.specs.declared.Reply.the-variants.{Table, NotBelow, No
 use Rattle.engine.specs.Reply.{Result, resultOf, replyOf, refusing, readBoth}
 use Rattle.engine.specs.Difference.{over, wanted, differenceRows, differed, numbered, differedRows, differing}
 use Rattle.engine.specs.Renumbering.{Acceptable}
-use Rattle.engine.proofs.Readings.{SoundIn, Accepts, accepts-rules, accepts-types, both-next}
+use Rattle.engine.proofs.Readings.{SoundIn, Accepts, accepts-rules, accepts-types, accepts-reached, both-next}
 use Rattle.engine.proofs.Replies.{Gives, gives-as, table-refused, table-accepted}
 use Rattle.engine.proofs.Orders.{order-test}
 use Rattle.engine.proofs.Over.{over-only}
@@ -101,46 +100,24 @@ module _ (n : ℕ) (t : List ℕ) (s g : List (Row ℕ)) (map : List ℕ) (gener
       (meetOver-agree (typeLabels n t) eqb (graphOfRows g) (from 0 (length g)) (λ y. getD map y 0) (over s g)
       (λ y m. lies y (omega (arith, from-range 0 (length g) y m))) v))
 
--- the nodes of an accepted graph are reached
-accepts-reached : {n : ℕ} {bytes : List ℕ} {g : Compressed} → Accepts n bytes g → (v : ℕ) → v < g .nodes → Reached (graphIn g) v
-accepts-reached {g = g} given v h =
-    accepts-rules given .reached v (omega (arith, length-rows (g .types) (g .first) (g .features) (g .targets) 0 (g .nodes)))
-
 -- what the difference asks
-pub ready-below : (n : ℕ) (t : List ℕ) {a b : List ℕ} {g s : Compressed} (meets : List (List ℕ)) (map : List ℕ) → Accepts n a g → Accepts n b s →
-    (types.accepted n t ≡ true) × (types.admits n t ≡ true) × MeetsHeld n t meets →
-    NodeMap (typeLabels n t) (graphIn s) (graphIn g) (λ y. getD map y 0) →
+pub ready-below : (n : ℕ) (t : List ℕ) {a b : List ℕ} {g s : Compressed} (meets : List (List ℕ)) (map : List ℕ) {R : Type 0} →
+    Accepts n a g → Accepts n b s → (types.accepted n t ≡ true) × (types.admits n t ≡ true) × MeetsHeld n t meets →
+    NodeMap (typeLabels n t) (graphIn s) (graphIn g) (λ y. getD map y 0) → length map ≡ 255 → R →
     ((types.accepted n t ≡ true) × (types.admits n t ≡ true) × MeetsHeld n t meets) ×
     (SoundIn g ×
     (SoundIn s ×
-    (((g .nodes ≤ 255) × (s .nodes ≤ 255)) ×
+    (((g .nodes ≤ 255) × (s .nodes ≤ 255) × (getD (s .first) (s .nodes) 0 ≤ 2048) × (length map ≡ 255)) ×
     (((y : ℕ) → y < g .nodes → getD (g .types) y 0 < n) ×
     (((v : ℕ) → v < s .nodes → getD (s .types) v 0 < n) ×
     (((y : ℕ) → y < g .nodes → Reached (graphIn g) y) ×
     (((v : ℕ) → v < s .nodes → Reached (graphIn s) v) ×
-    (AnySize (typeLabels n t) (graphIn s) × NodeMap (typeLabels n t) (graphIn s) (graphIn g) (λ y. getD map y 0)))))))))
-ready-below n t {s = s} meets map one other opens along = (
-  opens,
-  (
-    one .sound,
-    (
-      other .sound,
-      (
-        (one .small, other .small),
-        (
-          accepts-types one,
-          (
-            accepts-types other,
-            (
-              accepts-reached one,
-              (accepts-reached other, (rules-of-any-size n (rowsIn s) (accepts-rules other) t .any-size, along)),
-            ),
-          ),
-        ),
-      ),
-    ),
-  ),
-)
+    (AnySize (typeLabels n t) (graphIn s) × (NodeMap (typeLabels n t) (graphIn s) (graphIn g) (λ y. getD map y 0) × R)))))))))
+ready-below n t {s = s} meets map one other opens along long room =
+    let sizes = (one .small, (other .small, (other .few, long))) in
+    let whole = rules-of-any-size n (rowsIn s) (accepts-rules other) t .any-size in
+    let reached = (accepts-reached one, (accepts-reached other, (whole, (along, room)))) in
+    (opens, (one .sound, (other .sound, (sizes, (accepts-types one, (accepts-types other, reached))))))
 
 module _ (n : ℕ) (t out : List ℕ) {a : List ℕ} (g s : Compressed) (given : Accepts n a g) {answer : Order} {map : List ℕ}
     (orders : Orders n t (rowsIn s) (rowsIn g) answer map) where
