@@ -15,11 +15,12 @@ use lib.Seq.{slice, sets, sets-eq, length-sets, length-take-le, take-set-le, tak
 use Rattle.graphs.specs.Graph.{onward, andThen}
 use Rattle.graphs.specs.Rows.{Row, from}
 use Rattle.graphs.proofs.Walk.{some-injective, none-some}
-use Rattle.decode.specs.declared.Graph as declared
-use Rattle.visits.specs.Arrays.{Shaped, paired, linksAt, rowsFrom, rowsOf}
+use Rattle.visits.specs.Arrays.{Shaped, lent, paired, linksAt, rowsFrom, rowsOf}
+use Rattle.visits.proofs.VisitRows.{length-rows}
+use Rattle.decode.specs.declared.parse.Parsed.the-variants.{Nodes, Malformed}
 use Rattle.decode.specs.Decode.{Taken, changed, takeTarget, takeLinks, takeRow, takeRows, whole, decoded, bitOf}
 use Rattle.decode.specs.Parse.{Stored}
-use Rattle.decode.specs.Promise.{Parses}
+use Rattle.decode.specs.Promise.{Held, Parses, Sized, parsedOf}
 use Rattle.decode.proofs.Parsing.{after, after-none, after-more, length-map, untaken}
 use Rattle.decode.proofs.Steps.{ByteTaken}
 
@@ -158,10 +159,7 @@ module _ (types first features targets : List ℕ) where
 
 -- The arrays hold v rows with `links` links.
 pub record Filled (types first features targets : List ℕ) (links v : ℕ) : Type 0 where
-  pub types-long : length types ≡ 255
-  pub first-long : length first ≡ 256
-  pub features-long : length features ≡ 2048
-  pub targets-long : length targets ≡ 2048
+  pub sized : Sized types first features targets
   pub start : getD first 0 0 ≡ 0
   pub end : getD first v 0 ≡ links
   pub bounded : (u : ℕ) → u ≤ v → getD first u 0 ≤ links
@@ -185,7 +183,7 @@ module _ {types first features targets : List ℕ} {links v : ℕ} (s : Filled t
   first-kept u h = getD-set-other first (suc v) u (links + length taken) 0 (λ e. omega arith)
 
   first-next : getD newFirst (suc v) 0 ≡ links + length taken
-  first-next = getD-set-same first (suc v) (links + length taken) 0 (omega (arith, s .first-long))
+  first-next = getD-set-same first (suc v) (links + length taken) 0 (omega (arith, s .sized .first-long))
 
   feature-kept : (k : ℕ) → k < links → getD newFeatures k 0 ≡ getD features k 0
   feature-kept k h = getD-sets-before (map (λ l. l .0) taken) features links k h
@@ -193,7 +191,7 @@ module _ {types first features targets : List ℕ} {links v : ℕ} (s : Filled t
   feature-next : (m : ℕ) → m < length taken → getD newFeatures (links + m) 0 ≡ getD (map (λ l. l .0) taken) m 0
   feature-next m h =
       getD-sets-in (map (λ l. l .0) taken) features links m
-      (omega (arith, s .features-long, length-map (λ (l : ℕ × ℕ). l .0) taken)) (omega (arith, length-map (λ (l : ℕ × ℕ). l .0) taken))
+      (omega (arith, s .sized .features-long, length-map (λ (l : ℕ × ℕ). l .0) taken)) (omega (arith, length-map (λ (l : ℕ × ℕ). l .0) taken))
 
   links-kept : (u : ℕ) → u < v → linksAt newFirst newFeatures newTargets u ≡ linksAt first features targets u
   unfolding linksAt
@@ -213,7 +211,7 @@ module _ {types first features targets : List ℕ} {links v : ℕ} (s : Filled t
   unfolding linksAt
   links-next =
       ap₂ (λ (a b : ℕ). paired (slice a b newFeatures) (slice a b newTargets)) (first-kept v (omega arith) ∙ s .end) first-next
-      ∙ ap₂ paired (slice-next (λ l. l .0) features (s .features-long)) (slice-next (λ l. l .1) targets (s .targets-long))
+      ∙ ap₂ paired (slice-next (λ l. l .0) features (s .sized .features-long)) (slice-next (λ l. l .1) targets (s .sized .targets-long))
       ∙ paired-maps taken
 
   rows-next : rowsOf (suc v) (set types v type) newFirst newFeatures newTargets ≡ rowsOf v types first features targets ++
@@ -224,17 +222,19 @@ module _ {types first features targets : List ℕ} {links v : ℕ} (s : Filled t
       ∙ ap (λ (w : ℕ). rowsOf v (set types v type) newFirst newFeatures newTargets ++
       ((getD (set types v type) w 0, linksAt newFirst newFeatures newTargets w) ∷ [])) here
       ∙ ap₂ (λ (t : ℕ) (ls : List (ℕ × ℕ)). rowsOf v (set types v type) newFirst newFeatures newTargets ++ ((t, ls) ∷ []))
-      (getD-set-same types v type 0 (omega (arith, s .types-long))) links-next
+      (getD-set-same types v type 0 (omega (arith, s .sized .types-long))) links-next
       ∙ ap (λ (r : List (Row ℕ)). r ++ ((type, taken) ∷ []))
       (rows-same types first features targets (set types v type) newFirst newFeatures newTargets v 0
       (λ w h. getD-set-other types v w type 0 (λ e. omega arith)) (λ w h. links-kept w (omega arith)))
 
   filled-next : Filled (set types v type) newFirst newFeatures newTargets (links + length taken) (suc v)
   filled-next = record {
-    types-long = length-set types v type ∙ s .types-long;
-    first-long = length-set first (suc v) (links + length taken) ∙ s .first-long;
-    features-long = length-sets features links (map (λ l. l .0) taken) ∙ s .features-long;
-    targets-long = length-sets targets links (map (λ l. l .1) taken) ∙ s .targets-long;
+    sized = record {
+      types-long = length-set types v type ∙ s .sized .types-long;
+      first-long = length-set first (suc v) (links + length taken) ∙ s .sized .first-long;
+      features-long = length-sets features links (map (λ l. l .0) taken) ∙ s .sized .features-long;
+      targets-long = length-sets targets links (map (λ l. l .1) taken) ∙ s .sized .targets-long;
+    };
     start = first-kept 0 (omega arith) ∙ s .start;
     end = first-next;
     bounded = λ u h. bounded-go u (decLt u (suc v)) h;
@@ -305,10 +305,10 @@ pub record Filling (bytes : List ℕ) (nodes : ℕ) (types first features target
   pub filled : Filled types first features targets links v
 
 pub fill-begin : (bytes : List ℕ) (nodes at : ℕ) (types first features targets : List ℕ) → Counted bytes nodes at →
-    length types ≡ 255 → length first ≡ 256 → length features ≡ 2048 → length targets ≡ 2048 → getD first 0 0 ≡ 0 →
+    Sized types first features targets → getD first 0 0 ≡ 0 →
     Filling bytes nodes types first features targets at 0 0
 unfolding rowsFrom
-fill-begin bytes nodes at types first features targets n types-long first-long features-long targets-long start = record {
+fill-begin bytes nodes at types first features targets n sized start = record {
   todo = nodes;
   up-to = omega arith;
   read-is =
@@ -316,10 +316,7 @@ fill-begin bytes nodes at types first features targets n types-long first-long f
   inside = omega (arith, n .taken .inside, n .taken .next-is);
   room = omega arith;
   filled = record {
-    types-long = types-long;
-    first-long = first-long;
-    features-long = features-long;
-    targets-long = targets-long;
+    sized = sized;
     start = start;
     end = start;
     bounded = λ u h.
@@ -360,8 +357,8 @@ decoded-rows (b ∷ rest) nodes n =
     untaken (eqb b 0) none (whole (takeRows b 2048 rest)) (ne-eqb b 0 (λ q. n .some-nodes (n .taken .byte-is ∙ q)))
     ∙ ap (λ (k : ℕ). whole (takeRows k 2048 rest)) (sym (n .taken .byte-is))
 
-pub parse-none : (bytes : List ℕ) (ok : Bool) (g : declared.Graph) → ok ≡ false → decoded bytes ≡ none → Parses bytes ok g
-parse-none bytes ok g no-record e = record { none-stands = λ q. no-record; some-stands = λ rows q. none-some (sym e ∙ q) }
+pub parse-none : (bytes types first features targets : List ℕ) → decoded bytes ≡ none → Parses bytes Malformed types first features targets
+parse-none bytes types first features targets e = record { answers = ap parsedOf (sym e); holds = λ rows q. none-some (sym e ∙ q) }
 
 module _ {bytes : List ℕ} {nodes : ℕ} {types first features targets : List ℕ} {at links v : ℕ}
     (s : Filling bytes nodes types first features targets at links v) where
@@ -442,14 +439,14 @@ module _ {bytes : List ℕ} {nodes : ℕ} {types first features targets : List �
         laid = record {
           nonempty = omega arith;
           few = omega arith;
-          bounded = omega (arith, s .filled .first-long);
+          bounded = omega (arith, s .filled .sized .first-long);
           start = s .filled .start;
           rising = λ u h. s .filled .rising u (omega arith);
           linked = omega (arith, s .room);
-          aimed = omega (arith, s .room, s .filled .targets-long);
+          aimed = omega (arith, s .room, s .filled .sized .targets-long);
         };
-        typed = omega (arith, s .filled .types-long);
-        featured = omega (arith, s .room, s .filled .features-long);
+        typed = omega (arith, s .filled .sized .types-long);
+        featured = omega (arith, s .room, s .filled .sized .features-long);
         known = λ k h. s .filled .known k (omega arith);
         ascending = λ u k h a b. s .filled .ascending u k (omega arith) a b;
       }
@@ -465,22 +462,20 @@ module _ {bytes : List ℕ} {nodes : ℕ} {types first features targets : List �
       (sym (taken .byte-is)) (fill-step next count features′ targets′ h (n .small) t)
 
   pub parse-all : {start : ℕ} → Counted bytes nodes start → nodes ≤ v → length bytes - at ≡ 0 →
-      Parses bytes true (record { nodes = nodes; types = types; first = first; features = features; targets = targets })
+      Parses bytes (Nodes nodes) types first features targets
   parse-all n h over = record {
-    none-stands = λ q. none-some (sym q ∙ read);
-    some-stands = λ rows q. (
-      refl,
-      record {
-        rows-are = some-injective
-            (sym read ∙ q);
-        shaped = shaped-all full (n .some-nodes) (n .small);
-        small = n .small;
-      },
-    );
+    answers = ap (λ (k : ℕ). Nodes k) (sym counted) ∙ ap parsedOf (sym read);
+    holds = λ rows q.
+        let same : rowsOf nodes types first features targets ≡ rows = some-injective (sym read ∙ q) in
+        subst (λ (k : ℕ). Held rows (lent k types first features targets)) (sym counted ∙ ap length same)
+        (record { rows-are = same; shaped = shaped-all full (n .some-nodes) (n .small); small = n .small });
   }
     where
       full : v ≡ nodes
       full = omega (arith, s .up-to)
+
+      counted : length (rowsOf nodes types first features targets) ≡ nodes
+      counted = length-rows types first features targets 0 nodes
 
       read : decoded bytes ≡ some (rowsOf nodes types first features targets)
       read =

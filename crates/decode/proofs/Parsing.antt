@@ -15,7 +15,7 @@ use lib.Count.{trailingZeros, under}
 use lib.Dec.{eqb}
 use lib.ListN.{length, getD, set, drop, length-append, length-drop, drop-of-length-le}
 use lib.Pow.{shr-shr, shr-lt, high, pow-add, pow-mono}
-use lib.Seq.{sets, drop-cons, getD-drop, drop-drop}
+use lib.Seq.{sets, length-sets, drop-cons, getD-drop, drop-drop}
 use Rattle.graphs.specs.Graph.{onward}
 use Rattle.graphs.specs.Rows.{Row, from}
 use Rattle.decode.specs.declared.parse.RowEnd.{RowEnd}
@@ -336,6 +336,12 @@ module _ {read : Option (Taken (List (ℕ × ℕ)))} {bytes : List ℕ} {count :
       (set targets links b) (left / 2 ^ trailingZeros 64 left / 2) (feature + trailingZeros 64 left + 1) k (links + 1))
       (sym (t .byte-is)) (sym (t .next-is)) (link-step n h (t .inside))
 
+  pub link-features : length features ≡ length features₀
+  link-features = ap length (s .features-are) ∙ length-sets features₀ count (map (λ l. l .0) (s .taken))
+
+  pub link-targets : length targets ≡ length targets₀
+  link-targets = ap length (s .targets-are) ∙ length-sets targets₀ count (map (λ l. l .1) (s .taken))
+
   pub link-end : left ≡ 0 → Stored (λ ls. ls) read bytes count at links features₀ targets₀ features targets
   unfolding after
   link-end e = record {
@@ -355,10 +361,13 @@ module _ {read : Option (Taken (List (ℕ × ℕ)))} {bytes : List ℕ} {count :
 -- ---- what a function that takes links answers
 
 module _ {X : Type 0} {make : List (ℕ × ℕ) → X} {read : Option (Taken X)} {bytes : List ℕ} {count : ℕ} {features targets features′ targets′ : List ℕ} where
-  pub took-none : read ≡ none → Took make read bytes count features targets Short features′ targets′
-  took-none e = record {
+  pub took-none : read ≡ none → length features′ ≡ length features → length targets′ ≡ length targets →
+      Took make read bytes count features targets Short features′ targets′
+  took-none e features-kept targets-kept = record {
     short-stands = λ q. e;
     at-stands = λ next links q. absurd (let z : _≡_ {A = ℕ} 0 1 = cc in omega arith);
+    features-kept = features-kept;
+    targets-kept = targets-kept;
   }
 
   pub took-all : {next links : ℕ} → Stored make read bytes count next links features targets features′ targets′ →
@@ -369,6 +378,8 @@ module _ {X : Type 0} {make : List (ℕ × ℕ) → X} {read : Option (Taken X)}
         let e : next ≡ n = cc in
         let d : links ≡ l = cc in
         subst₂ (λ (a b : ℕ). Stored make read bytes count a b features targets features′ targets′) e d s;
+    features-kept = ap length (s .features-are) ∙ length-sets features count (map (λ l. l .0) (s .taken));
+    targets-kept = ap length (s .targets-are) ∙ length-sets targets count (map (λ l. l .1) (s .taken));
   }
 
 -- ---- a row
@@ -435,6 +446,8 @@ row-took bytes at count word features targets end features′ targets′ small e
   at-stands = λ next links q.
       subst (λ r. Stored more r bytes count next links features targets features′ targets′) (sym same)
       (stored-made (λ ls. ls) more read bytes count next links features targets features′ targets′ (t .at-stands next links q));
+  features-kept = t .features-kept;
+  targets-kept = t .targets-kept;
 }
   where
     more : List (ℕ × ℕ) → Row ℕ

@@ -45,8 +45,10 @@ pub record Stored {X : Type 0} (make : List (ℕ × ℕ) → X) (read : Option (
   pub features-are : features′ ≡ sets features count (map (λ l. l .0) taken)
   pub targets-are : targets′ ≡ sets targets count (map (λ l. l .1) taken)
 
--- links read and stored, or not to be read
+-- links read and stored, or not to be read; the arrays keep their length
 pub record Took {X : Type 0} (make : List (ℕ × ℕ) → X) (read : Option (Taken X)) (bytes : List ℕ) (count : ℕ)
     (features targets : List ℕ) (end : RowEnd) (features′ targets′ : List ℕ) : Type 0 where
   pub short-stands : end ≡ Short → read ≡ none
   pub at-stands : (next links : ℕ) → end ≡ At next links → Stored make read bytes count next links features targets features′ targets′
+  pub features-kept : length features′ ≡ length features
+  pub targets-kept : length targets′ ≡ length targets

@@ -3,12 +3,3 @@
 pub mod parse;
 pub mod range;
 pub mod reader;
-
-// A graph in compressed rows: node v's links are the places first[v] to first[v + 1], features ascending.
-pub struct Graph {
-    pub nodes: usize,
-    pub types: [u8; 255],
-    pub first: [u16; 256],
-    pub features: [u8; 2048],
-    pub targets: [u16; 2048],
-}

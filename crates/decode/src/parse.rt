@@ -1,6 +1,5 @@
 // Parsing: a record's bytes into compressed rows, or nothing where they are no record (refusal 4).
 
-use crate::Graph;
 use crate::reader::MapStep;
 use crate::reader::Step;
 use crate::reader::byte_from;
@@ -9,15 +8,14 @@ use crate::reader::left_from;
 use crate::reader::map_from;
 ghost use Prim.Native.Nat.{_-_, _≤_};
 ghost use lib.ListN.{drop, getD, length};
-ghost use mathlib.Core.Bool.{false};
-ghost use mathlib.Core.Path.{_≡_};
 ghost use Rattle.decode.specs.Decode.{takeRow};
 ghost use Rattle.decode.specs.Parse.{Took, takeWord};
-ghost use Rattle.decode.specs.Promise.{Parses};
+ghost use Rattle.decode.specs.Promise.{Parses, Sized};
 
-pub struct Parsed {
-    pub ok: bool,
-    pub graph: Graph,
+// What parsing answers: how many nodes the record has, or that the bytes are no record.
+pub enum Parsed {
+    Nodes(usize),
+    Malformed,
 }
 
 // Where a row ends: the next byte and the next link's place; or the bytes or the room for links ran out.
@@ -86,49 +84,38 @@ pub fn take_row(
     take_links(bytes, map, start, count, features, targets)
 }
 
-// No record.
-fn refused() -> Parsed
-    ensures { λ r. ⌜ r .ok ≡ false ⌝ }
-{
-    Parsed {
-        ok: false,
-        graph: Graph {
-            nodes: 0,
-            types: [0u8; 255],
-            first: [0u16; 256],
-            features: [0u8; 2048],
-            targets: [0u16; 2048],
-        },
-    }
-}
-
-// The record's graph.
-pub fn parse(bytes: &[u8]) -> Parsed
-    ensures { λ r. ⌜ Parses (now (bytes .entry)) (r .ok) (r .graph) ⌝ }
+// Reads the record's graph into the arrays: node v's links are the places first[v] to first[v + 1], features ascending.
+pub fn parse(
+    bytes: &[u8],
+    types: &mut [u8; 255],
+    first: &mut [u16; 256],
+    features: &mut [u8; 2048],
+    targets: &mut [u16; 2048],
+) -> Parsed
+    requires { ⌜ Sized (now types) (now first) (now features) (now targets) ⌝ }
+    ensures { λ r. ⌜ Parses (now (bytes .entry)) r (now (types .exit)) (now (first .exit)) (now (features .exit)) (now (targets .exit)) ⌝ }
+    ensures { λ r. ⌜ Sized (now (types .exit)) (now (first .exit)) (now (features .exit)) (now (targets .exit)) ⌝ }
 {
     let step = first_byte(bytes);
     let Step::Byte(count, start) = step else {
-        return refused();
+        return Parsed::Malformed;
     };
     let nodes = count as usize;
     if nodes == 0 {
-        return refused();
+        return Parsed::Malformed;
     }
-    let mut types = [0u8; 255];
-    let mut first = [0u16; 256];
-    let mut features = [0u8; 2048];
-    let mut targets = [0u16; 2048];
+    first[0] = 0;
     let mut at = start;
     let mut links: usize = 0;
     let mut v: usize = 0;
     while v < nodes {
         let type_step = byte_from(bytes, at);
         let Step::Byte(t, _) = type_step else {
-            return refused();
+            return Parsed::Malformed;
         };
-        let end = take_row(bytes, at, links, &mut features, &mut targets);
+        let end = take_row(bytes, at, links, features, targets);
         let RowEnd::At(next, total) = end else {
-            return refused();
+            return Parsed::Malformed;
         };
         types[v] = t;
         v += 1;
@@ -137,16 +124,7 @@ pub fn parse(bytes: &[u8]) -> Parsed
         links = total;
     }
     if left_from(bytes, at) != 0 {
-        return refused();
+        return Parsed::Malformed;
     }
-    Parsed {
-        ok: true,
-        graph: Graph {
-            nodes,
-            types,
-            first,
-            features,
-            targets,
-        },
-    }
+    Parsed::Nodes(nodes)
 }

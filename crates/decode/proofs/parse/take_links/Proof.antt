@@ -5,7 +5,7 @@ use lib.ListN.{drop}
 use borrow.Author.Needs.{needs}
 use denote.Ref.{now}
 use Rattle.decode.specs.Parse.{takeWord}
-use Rattle.decode.proofs.Parsing.{Linking, link-begin, link-feature, link-full, link-short, link-next, link-end, took-none, took-all}
+use Rattle.decode.proofs.Parsing.{Linking, link-begin, link-feature, link-full, link-short, link-features, link-targets, link-next, link-end, took-none, took-all}
 use Rattle.decode.proofs.Steps.{byte-taken, byte-ended}
 use Rattle.decode.proofs.parse.take_links.Statement.{statement}
 use Rattle.decode.proofs.parse.take_links.Tie as tie
@@ -22,7 +22,9 @@ loop-holds : tie.Need-loop-holds Inv-loop μ-loop
 loop-holds c = link-begin _ _ _ _ _ _ (c .before .fits .map .fits) (c .before .pre .0) (c .before .pre .1)
 
 returns : tie.Need-returns Inv-loop μ-loop
-returns c = took-none (link-full (c .before .before .loop .inv) (c .before .loop-test .taken) (c .if1 .taken))
+returns c =
+    let l = c .before .before .loop .inv in
+    took-none (link-full l (c .before .loop-test .taken) (c .if1 .taken)) (link-features l) (link-targets l)
 
 byte-from-requires : tie.Need-byte-from-requires Inv-loop μ-loop
 byte-from-requires c κs = search needs
@@ -40,6 +42,7 @@ returns-2 c =
     took-none
     (link-short (l .loop .inv) (r .before .before .loop-test .taken)
     (byte-ended (now (l .before .before .args .bytes)) (l .loop .at) (r .byte-from .ensures) (c .enum-told .given .1)))
+    (link-features (l .loop .inv)) (link-targets (l .loop .inv))
 
 cast-feature : tie.Need-cast-feature Inv-loop μ-loop
 cast-feature c =

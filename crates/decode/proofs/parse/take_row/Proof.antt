@@ -1,4 +1,5 @@
 -- `parse::take_row` meets its contract: a type, a map and the links of the map's word.
+use mathlib.Core.Path.{refl}
 use native.Mathlib.Omega.{arith}
 use borrow.Author.Needs.{needs}
 use denote.Ref.{now}
@@ -22,6 +23,7 @@ returns c =
     let a = r .before .before .args in
     took-none
     (row-untyped (now (a .bytes)) (a .at) _ (byte-ended (now (a .bytes)) (a .at) (r .byte-from .ensures) (c .enum-told .given .1)))
+    refl refl
 
 map-from-requires : tie.Need-map-from-requires
 map-from-requires c κs = search needs
@@ -40,6 +42,7 @@ returns-2 c =
     took-none
     (row-unmapped (now (a .bytes)) (a .at) _ (byte-taken _ _ (r .byte-from .ensures) (m .before .before .step .given .1))
     (map-cut (now (a .bytes)) _ (m .map-from .ensures) (c .enum-told2 .given .1)))
+    refl refl
 
 take-links-requires : tie.Need-take-links-requires
 take-links-requires c κs =
