@@ -3,12 +3,12 @@
 -- the root, and a walk to a node other than the root ends in a link to it.
 use mathlib.Core.Path.{_≡_, refl, sym, _∙_, ap, subst}
 use mathlib.Core.Bool.{Bool, true, false}
-use mathlib.Core.List.{List, [], _∷_, _++_, List·Memᴰ}
+use mathlib.Core.List.{List, List·Memᴰ}
 use mathlib.Core.Option.{some}
 use Prim.Native.Nat.{ℕ, zero, suc, _+_, _≤_, _<_}
 use native.Mathlib.Decide.{ℕ-discrete}
 use native.Mathlib.Omega.{arith}
-use lib.ListN.{length, length-set, length-replicate, getD, getD-replicate, replicate, set}
+use lib.ListN.{length-set, length-replicate, getD, getD-replicate, replicate, set}
 use lib.Seq.{getD-set-same, getD-set-other}
 use Rattle.graphs.specs.Graph.{Reached, walk}
 use Rattle.graphs.specs.Rows.{Row}

@@ -1,5 +1,5 @@
--- Rows that arrays hold, link by link: a link of a row is a place of the arrays, so the range test, the cycles and the visit of
--- the arrays are those of the rows.
+-- Rows that arrays hold, link by link: a link of a row is a place of the arrays, so the range test and the cycles of the arrays are
+-- those of the rows.
 use mathlib.Core.Path.{_≡_, refl, sym, _∙_, ap, ap₂, subst}
 use mathlib.Core.Bool.{Bool, cond}
 use mathlib.Core.List.{List, [], _∷_, List·Memᴰ, List·Memᴰ·head, List·Memᴰ·tail, List·Memᴰ·not-nil, List·Memᴰ·cases-cons}

@@ -1,6 +1,5 @@
 // Reach: in a graph without a cycle the root reaches every node exactly where a link leads to every node but the root.
 
-ghost use mathlib.Core.Path.{_≡_};
 ghost use Prim.Native.Nat.{ℕ, _≤_, _<_};
 ghost use lib.ListN.{length, getD};
 ghost use Rattle.visits.specs.Arrays.{Linked};
