@@ -1,5 +1,5 @@
--- Rows that arrays hold, link by link: a link of a row is a place of the arrays, so the range test, the cycles and the visit of
--- the arrays are those of the rows.
+-- Rows that arrays hold, link by link: a link of a row is a place of the arrays, so the range test and the cycles of the arrays are
+-- those of the rows.
 use mathlib.Core.Path.{_≡_, refl, sym, _∙_, ap, ap₂, subst}
 use mathlib.Core.Bool.{Bool, cond}
 use mathlib.Core.List.{List, [], _∷_, List·Memᴰ, List·Memᴰ·head, List·Memᴰ·tail, List·Memᴰ·not-nil, List·Memᴰ·cases-cons}
@@ -74,7 +74,7 @@ target-member (l ∷ ls) up f w (List·Memᴰ·tail m) =
     apart h q = omega arith
 
 -- A place of all the links is one of some node's.
-place-owner : {nodes : ℕ} {first targets : List ℕ} → Laid nodes first targets → (k : ℕ) → k < getD first nodes 0 →
+pub place-owner : {nodes : ℕ} {first targets : List ℕ} → Laid nodes first targets → (k : ℕ) → k < getD first nodes 0 →
     (v : ℕ) × (v < nodes) × (getD first v 0 ≤ k) × (k < getD first (suc v) 0)
 place-owner {nodes} {first} laid k h = go nodes (omega arith) h
   where
@@ -161,7 +161,7 @@ module _ {nodes : ℕ} {types first fs ts : List ℕ} (shaped : Shaped nodes typ
     link-of : (v f : ℕ) → v < nodes → graphOfRows held .link v f ≡ target (linksAt first fs ts v) f
     link-of v f h = ap (λ (r : Row ℕ). target (r .1) f) (held-row v h)
 
-    leads-link : (v w : ℕ) → Leads nodes first ts v w → (f : ℕ) × (graphOfRows held .link v f ≡ some w)
+    pub leads-link : (v w : ℕ) → Leads nodes first ts v w → (f : ℕ) × (graphOfRows held .link v f ≡ some w)
     leads-link v w l = (
       getD fs (l .place) 0,
       link-of v (getD fs (l .place) 0) (l .inside)
@@ -170,7 +170,7 @@ module _ {nodes : ℕ} {types first fs ts : List ℕ} (shaped : Shaped nodes typ
           ∙ ap some (l .target-is),
     )
 
-    link-leads : (v w f : ℕ) → v < nodes → graphOfRows held .link v f ≡ some w → Leads nodes first ts v w
+    pub link-leads : (v w f : ℕ) → v < nodes → graphOfRows held .link v f ≡ some w → Leads nodes first ts v w
     link-leads v w f h e =
         let (j, low, high, d) = link-source v h (f, w) (target-source (linksAt first fs ts v) f w (sym (link-of v f h) ∙ e)) in
         record { inside = h; place = j; from-first = low; before-next = high; target-is = ap (λ (x : ℕ × ℕ). x .1) (sym d) }

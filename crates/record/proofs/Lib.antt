@@ -6,6 +6,7 @@ pub mod Nodes
 pub mod Reaching
 pub mod Accepted
 pub mod Held
+pub mod Entered
 pub mod Steps
 pub mod Rewritten
 pub mod Theorems

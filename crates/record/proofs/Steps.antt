@@ -1,160 +1,161 @@
 -- The answers of `read`, one for each place where it returns: what the parts found gives the verdict of the definition.
 use mathlib.Core.Path.{_≡_, refl, sym, _∙_, ap, subst}
 use mathlib.Core.Bool.{Bool, true, false}
-use mathlib.Core.List.{List, []}
+use mathlib.Core.List.{List, List·Memᴰ}
 use mathlib.Core.Option.{Option, none, some}
-use Prim.Native.Nat.{ℕ}
+use Prim.Native.Nat.{ℕ, _≤_}
 use native.Mathlib.Omega.{arith}
-use borrow.Author.Tests.{eq-eqb, ne-eqb}
-use lib.Dec.{eqb}
 use lib.ListN.{length}
 use Rattle.graphs.specs.Rows.{Row}
 use Rattle.graphs.specs.Large.{Ascending}
-use Rattle.graphs.specs.Number.{visit}
-use Rattle.graphs.specs.Unify.{holds}
-use Rattle.graphs.proofs.Search.{true-false, not-true}
-use Rattle.visits.specs.Arrays.{Linked, Sound, rowsOf, graphOfRows, targetsAt, visitTargets}
-use Rattle.visits.specs.Promise.{Sorts, Numbers}
-use Rattle.visits.proofs.VisitRows.{visit-rows}
-use Rattle.decode.specs.declared.Graph as declared
+use Rattle.graphs.proofs.Search.{not-true}
+use Rattle.visits.specs.Arrays.{Linked, Shaped, Sound, lent, rowsOf}
+use Rattle.visits.specs.Promise.{Sorts}
+use Rattle.decode.specs.declared.parse.Parsed.{Parsed}
+use Rattle.decode.specs.declared.parse.Parsed.the-variants as parsed
 use Rattle.decode.specs.Decode.{decoded}
-use Rattle.decode.specs.Promise.{Held, Parses, Ranged, Ranges}
+use Rattle.decode.specs.Promise.{Held, Parses, Ranged, Ranges, parsedOf}
 use Rattle.record.specs.declared.GraphFault.{GraphFault}
 use Rattle.record.specs.declared.GraphFault.the-variants.{Malformed, OutOfRange, Cyclic, Unreached}
 use Rattle.record.specs.declared.Verdict.the-variants.{Accepted, Refused}
 use Rattle.record.specs.Read.{refused, accepted, reading, inRange, cyclic, reachesAll}
+use Rattle.record.specs.Reach.{Enters}
 use Rattle.record.specs.Promise.{Reads, verdictOf}
-use Rattle.record.proofs.Readings.{reading-says, in-range}
+use Rattle.record.proofs.Readings.{Stands, reading-says, in-range}
 use Rattle.record.proofs.Decoded.{Decoded, decoded-says}
-use Rattle.record.proofs.Nodes.{decoded-linked}
+use Rattle.record.proofs.Nodes as rows
 use Rattle.record.proofs.Reaching.{cyclic-exact}
 use Rattle.record.proofs.Held.{held-length, ranged-rows, rows-ranged, looped-rows, sorted-rows}
+use Rattle.record.proofs.Entered.{reaches-entered}
 
-reads-refused : (n : ℕ) (bytes : List ℕ) (g : declared.Graph) (fault : GraphFault) → reading n bytes ≡ refused fault →
-    Reads n bytes (Refused fault) g
-reads-refused n bytes g fault e =
+reads-refused : (n : ℕ) (bytes types first features targets : List ℕ) (fault : GraphFault) → reading n bytes ≡ refused fault →
+    Reads n bytes (Refused fault) types first features targets
+reads-refused n bytes types first features targets fault e =
     record {
       verdict = ap verdictOf (sym e);
       graph = λ rows h. let z : _≡_ {A = ℕ} 0 1 = cc in absurd (omega arith);
     }
 
-module _ (n : ℕ) (bytes : List ℕ) (g : declared.Graph) where
+module _ (n : ℕ) (bytes : List ℕ) {types first features targets : List ℕ} {answer : Parsed}
+    (parses : Parses bytes answer types first features targets) where
+  refuses : (fault : GraphFault) → Stands n bytes (refused fault) → Reads n bytes (Refused fault) types first features targets
+  refuses fault stands =
+      reads-refused n bytes types first features targets fault (reading-says n bytes (refused fault) .1 stands)
+
   -- 4
-  pub malformed : {ok : Bool} → Parses bytes ok g → ok ≡ false → Reads n bytes (Refused Malformed) g
-  malformed {ok} parses fails = reads-refused n bytes g Malformed (reading-says n bytes (refused Malformed) .1 (go (decoded bytes) refl))
+  pub malformed : answer ≡ parsed.Malformed → Reads n bytes (Refused Malformed) types first features targets
+  malformed no-record = refuses Malformed (go (decoded bytes) refl)
     where
       go : (o : Option (List (Row ℕ))) → decoded bytes ≡ o → decoded bytes ≡ none
       go none e = e
-      go (some rows) e = true-false (parses .some-stands rows e .0) fails
+      go (some rows) e =
+          let both : parsed.Malformed ≡ parsed.Nodes (length rows) = sym no-record ∙ parses .answers ∙ ap parsedOf e in
+          let z : _≡_ {A = ℕ} 0 1 = cc in absurd (omega arith)
 
   -- what was parsed
-  pub record Parsed : Type 0 where
-    pub rows : List (Row ℕ)
-    pub is : decoded bytes ≡ some rows
-    pub held : Held rows g
+  record Decodes (nodes : ℕ) : Type 0 where
+    pub is : decoded bytes ≡ some (rowsOf nodes types first features targets)
+    pub held : Held (rowsOf nodes types first features targets) (lent nodes types first features targets)
 
-  pub parsed : {ok : Bool} → Parses bytes ok g → ok ≡ true → Parsed
-  parsed {ok} parses holds-so = go (decoded bytes) refl
+  decodes : (nodes : ℕ) → answer ≡ parsed.Nodes nodes → Decodes nodes
+  decodes nodes found = go (decoded bytes) refl
     where
-      go : (o : Option (List (Row ℕ))) → decoded bytes ≡ o → Parsed
-      go none e = true-false holds-so (parses .none-stands e)
-      go (some rows) e = record { rows = rows; is = e; held = parses .some-stands rows e .1 }
+      go : (o : Option (List (Row ℕ))) → decoded bytes ≡ o → Decodes nodes
+      go none e =
+          let both : parsed.Nodes nodes ≡ parsed.Malformed = sym found ∙ parses .answers ∙ ap parsedOf e in
+          let z : _≡_ {A = ℕ} 0 1 = cc in absurd (omega arith)
+      go (some rows) e =
+          let both : parsed.Nodes nodes ≡ parsed.Nodes (length rows) = sym found ∙ parses .answers ∙ ap parsedOf e in
+          let long : length rows ≡ nodes = cc in
+          let held : Held rows (lent nodes types first features targets) =
+          subst (λ (k : ℕ). Held rows (lent k types first features targets)) long (parses .holds rows e) in
+          record {
+            is = e ∙ ap some (sym (held .rows-are));
+            held = record { rows-are = refl; shaped = held .shaped; small = held .small };
+          }
 
-  module _ (given : Parsed) where
-    abbrev pub own : List (Row ℕ)
-    own = rowsOf (g .nodes) (g .types) (g .first) (g .features) (g .targets)
+  module _ {nodes : ℕ} (found : answer ≡ parsed.Nodes nodes) where
+    abbrev own : List (Row ℕ)
+    own = rowsOf nodes types first features targets
 
-    decodes : decoded bytes ≡ some own
-    decodes = given .is ∙ ap some (sym (given .held .rows-are))
+    given : Decodes nodes
+    given = decodes nodes found
+
+    pub shaped : Shaped nodes types first features targets
+    shaped = given .held .shaped
+
+    pub small : nodes ≤ 255
+    small = given .held .small
 
     facts : Decoded bytes own
-    facts = decoded-says bytes own decodes
+    facts = decoded-says bytes own (given .is)
 
     -- 5
-    pub out-of-range : {answer : Bool} → Ranges n (g .nodes) (g .types) (g .first) (g .targets) answer → answer ≡ false →
-        Reads n bytes (Refused OutOfRange) g
+    pub out-of-range : {passed : Bool} → Ranges n nodes types first targets passed → passed ≡ false →
+        Reads n bytes (Refused OutOfRange) types first features targets
     out-of-range ranges fails =
-        reads-refused n bytes g OutOfRange
-        (reading-says n bytes (refused OutOfRange) .1 (
+        refuses OutOfRange (
           own,
-          decodes,
-          not-true (inRange n own)
-              (λ e. ranges .no-stands fails (rows-ranged (given .held .shaped) n (in-range n own .0 e))),
-        ))
+          given .is,
+          not-true (inRange n own) (λ e. ranges .no-stands fails (rows-ranged shaped n (in-range n own .0 e))),
+        )
 
-    module _ {answer : Bool} (ranges : Ranges n (g .nodes) (g .types) (g .first) (g .targets) answer) (yes : answer ≡ true) where
-      ranged : Ranged n (g .nodes) (g .types) (g .first) (g .targets)
+    module _ {passed : Bool} (ranges : Ranges n nodes types first targets passed) (yes : passed ≡ true) where
+      ranged : Ranged n nodes types first targets
       ranged = ranges .yes-stands yes
 
       range-passes : inRange n own ≡ true
-      range-passes = in-range n own .1 (ranged-rows (given .held .shaped) n ranged)
+      range-passes = in-range n own .1 (ranged-rows shaped n ranged)
 
-      pub linked : Linked (g .nodes) (g .first) (g .targets)
-      linked = record { laid = given .held .shaped .laid; within = ranged .targets-in }
+      pub linked : Linked nodes first targets
+      linked = record { laid = shaped .laid; within = ranged .targets-in }
 
-      pub sound : Sound (g .nodes) (g .types) (g .first) (g .features) (g .targets)
-      sound = record { shaped = given .held .shaped; within = ranged .targets-in }
+      sound : Sound nodes types first features targets
+      sound = record { shaped = shaped; within = ranged .targets-in }
 
-      ascending : (r : Row ℕ) → mathlib.Core.List.List·Memᴰ r own → Ascending (r .1)
+      ascending : (r : Row ℕ) → List·Memᴰ r own → Ascending (r .1)
       ascending r m = facts .ordered r m .0
 
+      rows-linked : rows.Linked own
+      rows-linked = rows.decoded-linked facts (in-range n own .0 range-passes)
+
       -- 6
-      pub with-cycle : {order : List ℕ} {found : Bool} → Sorts (g .nodes) (g .first) (g .targets) order found → found ≡ true →
-          Reads n bytes (Refused Cyclic) g
+      pub with-cycle : {order : List ℕ} {cycle : Bool} → Sorts nodes first targets order cycle → cycle ≡ true →
+          Reads n bytes (Refused Cyclic) types first features targets
       with-cycle sorts e =
           let (v, loop) = sorts .looped e in
-          reads-refused n bytes g Cyclic
-          (reading-says n bytes (refused Cyclic) .1 (
-            own,
-            decodes,
-            range-passes,
-            cyclic-exact own (decoded-linked facts (in-range n own .0 range-passes)) .1 (looped-rows (given .held .shaped) ascending v loop),
-          ))
+          refuses Cyclic (own, given .is, range-passes, cyclic-exact own rows-linked .1 (looped-rows shaped ascending v loop))
 
-      module _ {order : List ℕ} {found : Bool} (sorts : Sorts (g .nodes) (g .first) (g .targets) order found) (no : found ≡ false) where
+      module _ {order : List ℕ} {cycle : Bool} (sorts : Sorts nodes first targets order cycle) (no : cycle ≡ false) where
         no-cycle : cyclic own ≡ false
         no-cycle =
-            let (place, first) = sorts .sorted no in
+            let (place, sorted) = sorts .sorted no in
             not-true (cyclic own)
-            (λ e. sorted-rows (given .held .shaped) ascending (ranged .targets-in) first
-            (cyclic-exact own (decoded-linked facts (in-range n own .0 range-passes)) .0 e))
+            (λ e. sorted-rows shaped ascending (ranged .targets-in) sorted (cyclic-exact own rows-linked .0 e))
 
-        -- the visit of the arrays is that of the rows
-        visits-alike : visit eqb (graphOfRows own .link) 255 0 [] ≡ visitTargets (targetsAt (g .first) (g .targets)) 255 0 []
-        visits-alike = visit-rows sound 255 0 [] (given .held .shaped .laid .nonempty)
-
-        module _ {count : ℕ} {numbers visited : List ℕ} (found-nodes : Numbers (g .first) (g .targets) count numbers visited) where
-          reach-test : reachesAll own ≡ eqb count (g .nodes)
-          unfolding reachesAll
-          reach-test = go (visit eqb (graphOfRows own .link) 255 0 []) refl
-            where
-              go : (o : Option (List ℕ)) → visit eqb (graphOfRows own .link) 255 0 [] ≡ o →
-                  holds (λ seen. eqb (length seen) (length own)) o ≡ eqb count (g .nodes)
-              go none e =
-                  let q : count ≡ 256 = found-nodes .full (sym visits-alike ∙ e) in
-                  sym (ne-eqb count (g .nodes) (λ r. absurd (omega (arith, given .held .small))))
-              go (some seen) e =
-                  let q : count ≡ length seen = found-nodes .counted seen (sym visits-alike ∙ e) in
-                  ap (λ (k : ℕ). eqb k (length own)) (sym q) ∙ ap (eqb count) (held-length (given .held .shaped))
+        module _ {entered : Bool} (enters : Enters nodes first targets entered) where
+          reach-test : reachesAll own ≡ entered
+          reach-test =
+              let (place, sorted) = sorts .sorted no in
+              reaches-entered shaped ascending rows-linked sorted small enters
 
           -- 7
-          pub unreached : (count ≡ g .nodes → ⊥) → Reads n bytes (Refused Unreached) g
-          unreached other =
-              reads-refused n bytes g Unreached
-              (reading-says n bytes (refused Unreached) .1
-              (own, decodes, range-passes, no-cycle, reach-test ∙ ne-eqb count (g .nodes) other))
+          pub unreached : entered ≡ false → Reads n bytes (Refused Unreached) types first features targets
+          unreached fails = refuses Unreached (own, given .is, range-passes, no-cycle, reach-test ∙ fails)
 
-          pub accepts : count ≡ g .nodes → Reads n bytes Accepted g
+          pub accepts : entered ≡ true → Reads n bytes (Accepted nodes) types first features targets
           accepts all =
-              let is = reading-says n bytes (accepted own) .1 (decodes, range-passes, no-cycle, reach-test ∙ eq-eqb count (g .nodes) all) in
               record {
-                verdict = ap verdictOf (sym is);
-                graph = λ rows e. (
-                  subst (λ (r : List (Row ℕ)). Held r g) (alike rows is e)
-                      (record { rows-are = refl; shaped = given .held .shaped; small = given .held .small }),
-                  sound,
-                );
+                verdict = ap Accepted (sym (held-length shaped)) ∙ ap verdictOf (sym is);
+                graph = λ rows e.
+                    subst (λ (r : List (Row ℕ)).
+                    Held r (lent (length r) types first features targets) × Sound (length r) types first features targets) (alike rows e)
+                    (subst (λ (k : ℕ). Held own (lent k types first features targets) × Sound k types first features targets)
+                    (sym (held-length shaped)) (given .held, sound));
               }
             where
-              alike : (rows : List (Row ℕ)) → reading n bytes ≡ accepted own → reading n bytes ≡ accepted rows → own ≡ rows
-              alike rows p q = cc
+              is : reading n bytes ≡ accepted own
+              is = reading-says n bytes (accepted own) .1 (given .is, range-passes, no-cycle, reach-test ∙ all)
+
+              alike : (rows : List (Row ℕ)) → reading n bytes ≡ accepted rows → own ≡ rows
+              alike rows e = let both : accepted own ≡ accepted rows = sym is ∙ e in cc

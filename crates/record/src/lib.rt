@@ -1,6 +1,9 @@
 // Reading records: a record's graph, or the first of refusals 4 to 7 that applies, each over the whole record before the next.
 
-use decode::Graph;
+pub mod reach;
+
+use decode::parse::Parsed;
+ghost use Rattle.decode.specs.Promise.{Sized};
 ghost use Rattle.record.specs.Promise.{Reads};
 
 // Why a record is no graph: document 01's refusals 4 to 7.
@@ -11,61 +14,38 @@ pub enum GraphFault {
     Unreached,
 }
 
+// What reading a record answers: how many nodes the graph has, or why there is none.
 pub enum Verdict {
-    Accepted,
+    Accepted(usize),
     Refused(GraphFault),
 }
 
-// What reading a record answers; the graph is of no meaning beside a refusal.
-pub struct Reading {
-    pub verdict: Verdict,
-    pub graph: Graph,
-}
-
-// Reads a record over a table with n types.
-pub fn read(n: usize, bytes: &[u8]) -> Reading
-    ensures { λ r. ⌜ Reads n (now (bytes .entry)) (r .verdict) (r .graph) ⌝ }
+// Reads a record over a table with n types into the lent arrays; they are of no meaning beside a refusal.
+pub fn read(
+    n: usize,
+    bytes: &[u8],
+    types: &mut [u8; 255],
+    first: &mut [u16; 256],
+    features: &mut [u8; 2048],
+    targets: &mut [u16; 2048],
+) -> Verdict
+    requires { ⌜ Sized (now types) (now first) (now features) (now targets) ⌝ }
+    ensures { λ r. ⌜ Reads n (now (bytes .entry)) r (now (types .exit)) (now (first .exit)) (now (features .exit)) (now (targets .exit)) ⌝ }
+    ensures { λ r. ⌜ Sized (now (types .exit)) (now (first .exit)) (now (features .exit)) (now (targets .exit)) ⌝ }
 {
-    let parsed = decode::parse::parse(bytes);
-    let graph = parsed.graph;
-    let nodes = graph.nodes;
-    let ok = parsed.ok;
-    if !ok {
-        return Reading {
-            verdict: Verdict::Refused(GraphFault::Malformed),
-            graph,
-        };
-    }
-    if !decode::range::in_range(n, nodes, &graph.types, &graph.first, &graph.targets) {
-        return Reading {
-            verdict: Verdict::Refused(GraphFault::OutOfRange),
-            graph,
-        };
+    let parsed = decode::parse::parse(bytes, types, first, features, targets);
+    let Parsed::Nodes(nodes) = parsed else {
+        return Verdict::Refused(GraphFault::Malformed);
+    };
+    if !decode::range::in_range(n, nodes, types, first, targets) {
+        return Verdict::Refused(GraphFault::OutOfRange);
     }
     let mut order = [0u16; 510];
-    if visits::acyclic::has_cycle(nodes, &graph.first, &graph.targets, &mut order) {
-        return Reading {
-            verdict: Verdict::Refused(GraphFault::Cyclic),
-            graph,
-        };
+    if visits::acyclic::has_cycle(nodes, first, targets, &mut order) {
+        return Verdict::Refused(GraphFault::Cyclic);
     }
-    let mut numbers = [0u16; 510];
-    let mut visited = [0u16; 255];
-    let count = visits::number::number(
-        nodes,
-        &graph.first,
-        &graph.targets,
-        &mut numbers,
-        &mut visited,
-    );
-    if count != nodes {
-        return Reading {
-            verdict: Verdict::Refused(GraphFault::Unreached),
-            graph,
-        };
+    if !reach::all_entered(nodes, first, targets) {
+        return Verdict::Refused(GraphFault::Unreached);
     }
-    Reading {
-        verdict: Verdict::Accepted,
-        graph,
-    }
+    Verdict::Accepted(nodes)
 }

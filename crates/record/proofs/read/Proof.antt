@@ -8,55 +8,125 @@ use Rattle.record.proofs.Steps as steps
 parse-requires : tie.Need-parse-requires
 parse-requires c κs = search needs
 
+enum-known-parsed : tie.Need-enum-known-parsed
+enum-known-parsed c = search needs
+
+enum-told : tie.Need-enum-told
+enum-told c = search needs
+
 returns : tie.Need-returns
 returns c =
-    steps.malformed (c .before .before .before .before .args .n) (c .before .before .before .before .args .bytes .now) (c .before .before .parse .result .graph) (c .before .before .parse .ensures) (not-true (c .before .before .parse .result .ok) (c .if1 .taken))
+    let parsed = c .before .before in
+    let start = parsed .before .before .before .before .before .before in (
+      steps.malformed (start .args .n) (start .args .bytes .now) (parsed .parse .ensures .0) (c .enum-told .given .1),
+      parsed .parse .ensures .1,
+    )
 
 in-range-requires : tie.Need-in-range-requires
 in-range-requires c κs =
-    let given = (steps.parsed (c .before .before .before .before .before .before .before .before .args .n) (c .before .before .before .before .before .before .before .before .args .bytes .now) (c .before .before .before .before .before .before .parse .result .graph) (c .before .before .before .before .before .before .parse .ensures) (not-false (c .before .before .before .before .before .before .parse .result .ok) (c .before .before .before .before .if1 .left))) in
-    (given .held .shaped .laid, given .held .small)
+    let matched = c .before .before .before .before in
+    let parsed = matched .before .before in
+    let start = parsed .before .before .before .before .before .before in (
+      steps.shaped (start .args .n) (start .args .bytes .now) (parsed .parse .ensures .0) (matched .parsed .given .1) .laid,
+      steps.small (start .args .n) (start .args .bytes .now) (parsed .parse .ensures .0) (matched .parsed .given .1),
+    )
 
 returns-2 : tie.Need-returns-2
 returns-2 c =
-    let given = (steps.parsed (c .before .before .before .before .before .before .before .before .before .before .args .n) (c .before .before .before .before .before .before .before .before .before .before .args .bytes .now) (c .before .before .before .before .before .before .before .before .parse .result .graph) (c .before .before .before .before .before .before .before .before .parse .ensures) (not-false (c .before .before .before .before .before .before .before .before .parse .result .ok) (c .before .before .before .before .before .before .if1 .left))) in
-    steps.out-of-range (c .before .before .before .before .before .before .before .before .before .before .args .n) (c .before .before .before .before .before .before .before .before .before .before .args .bytes .now) (c .before .before .before .before .before .before .before .before .parse .result .graph) given (c .before .in-range .ensures) (not-true (c .before .in-range .result) (c .if2 .taken))
+    let ranged = c .before in
+    let matched = ranged .before .before .before .before .before in
+    let parsed = matched .before .before in
+    let start = parsed .before .before .before .before .before .before in (
+      steps.out-of-range (start .args .n) (start .args .bytes .now) (parsed .parse .ensures .0) (matched .parsed .given .1)
+          (ranged .in-range .ensures) (not-true (ranged .in-range .result) (c .if1 .taken)),
+      parsed .parse .ensures .1,
+    )
 
 has-cycle-requires : tie.Need-has-cycle-requires
 has-cycle-requires c κs =
-    let given = (steps.parsed (c .before .before .before .before .before .before .before .before .before .before .before .before .before .before .before .before .args .n) (c .before .before .before .before .before .before .before .before .before .before .before .before .before .before .before .before .args .bytes .now) (c .before .before .before .before .before .before .before .before .before .before .before .before .before .before .parse .result .graph) (c .before .before .before .before .before .before .before .before .before .before .before .before .before .before .parse .ensures) (not-false (c .before .before .before .before .before .before .before .before .before .before .before .before .before .before .parse .result .ok) (c .before .before .before .before .before .before .before .before .before .before .before .before .if1 .left))) in
-    (steps.linked (c .before .before .before .before .before .before .before .before .before .before .before .before .before .before .before .before .args .n) (c .before .before .before .before .before .before .before .before .before .before .before .before .before .before .before .before .args .bytes .now) (c .before .before .before .before .before .before .before .before .before .before .before .before .before .before .parse .result .graph) given (c .before .before .before .before .before .before .before .in-range .ensures) (not-false (c .before .before .before .before .before .before .before .in-range .result) (c .before .before .before .before .before .before .if2 .left)), search needs)
+    let passed = c .before .before .before .before .before in
+    let ranged = passed .before in
+    let matched = ranged .before .before .before .before .before in
+    let parsed = matched .before .before in
+    let start = parsed .before .before .before .before .before .before in
+    let linked =
+    steps.linked (start .args .n) (start .args .bytes .now) (parsed .parse .ensures .0) (matched .parsed .given .1)
+    (ranged .in-range .ensures) (not-false (ranged .in-range .result) (passed .if1 .left)) in
+    (linked, search needs)
 
 returns-3 : tie.Need-returns-3
 returns-3 c =
-    let given = (steps.parsed (c .before .before .before .before .before .before .before .before .before .before .before .before .before .before .before .before .before .before .args .n) (c .before .before .before .before .before .before .before .before .before .before .before .before .before .before .before .before .before .before .args .bytes .now) (c .before .before .before .before .before .before .before .before .before .before .before .before .before .before .before .before .parse .result .graph) (c .before .before .before .before .before .before .before .before .before .before .before .before .before .before .before .before .parse .ensures) (not-false (c .before .before .before .before .before .before .before .before .before .before .before .before .before .before .before .before .parse .result .ok) (c .before .before .before .before .before .before .before .before .before .before .before .before .before .before .if1 .left))) in
-    steps.with-cycle (c .before .before .before .before .before .before .before .before .before .before .before .before .before .before .before .before .before .before .args .n) (c .before .before .before .before .before .before .before .before .before .before .before .before .before .before .before .before .before .before .args .bytes .now) (c .before .before .before .before .before .before .before .before .before .before .before .before .before .before .before .before .parse .result .graph) given (c .before .before .before .before .before .before .before .before .before .in-range .ensures) (not-false (c .before .before .before .before .before .before .before .before .before .in-range .result) (c .before .before .before .before .before .before .before .before .if2 .left)) (c .before .has-cycle .ensures .0) (c .if3 .taken)
+    let sorted = c .before in
+    let passed = sorted .before .before .before .before .before .before in
+    let ranged = passed .before in
+    let matched = ranged .before .before .before .before .before in
+    let parsed = matched .before .before in
+    let start = parsed .before .before .before .before .before .before in (
+      steps.with-cycle (start .args .n) (start .args .bytes .now) (parsed .parse .ensures .0) (matched .parsed .given .1)
+          (ranged .in-range .ensures) (not-false (ranged .in-range .result) (passed .if1 .left))
+          (sorted .has-cycle .ensures .0) (c .if2 .taken),
+      parsed .parse .ensures .1,
+    )
 
-number-requires : tie.Need-number-requires
-number-requires c κs =
-    let given = (steps.parsed (c .before .before .before .before .before .before .before .before .before .before .before .before .before .before .before .before .before .before .before .before .before .before .before .before .before .args .n) (c .before .before .before .before .before .before .before .before .before .before .before .before .before .before .before .before .before .before .before .before .before .before .before .before .before .args .bytes .now) (c .before .before .before .before .before .before .before .before .before .before .before .before .before .before .before .before .before .before .before .before .before .before .before .parse .result .graph) (c .before .before .before .before .before .before .before .before .before .before .before .before .before .before .before .before .before .before .before .before .before .before .before .parse .ensures) (not-false (c .before .before .before .before .before .before .before .before .before .before .before .before .before .before .before .before .before .before .before .before .before .before .before .parse .result .ok) (c .before .before .before .before .before .before .before .before .before .before .before .before .before .before .before .before .before .before .before .before .before .if1 .left))) in
-    (steps.linked (c .before .before .before .before .before .before .before .before .before .before .before .before .before .before .before .before .before .before .before .before .before .before .before .before .before .args .n) (c .before .before .before .before .before .before .before .before .before .before .before .before .before .before .before .before .before .before .before .before .before .before .before .before .before .args .bytes .now) (c .before .before .before .before .before .before .before .before .before .before .before .before .before .before .before .before .before .before .before .before .before .before .before .parse .result .graph) given (c .before .before .before .before .before .before .before .before .before .before .before .before .before .before .before .before .in-range .ensures) (not-false (c .before .before .before .before .before .before .before .before .before .before .before .before .before .before .before .before .in-range .result) (c .before .before .before .before .before .before .before .before .before .before .before .before .before .before .before .if2 .left)), (search needs, search needs))
+all-entered-requires : tie.Need-all-entered-requires
+all-entered-requires c κs =
+    let sorted = c .before .before .before .before .before in
+    let passed = sorted .before .before .before .before .before .before in
+    let ranged = passed .before in
+    let matched = ranged .before .before .before .before .before in
+    let parsed = matched .before .before in
+    let start = parsed .before .before .before .before .before .before in (
+      steps.linked (start .args .n) (start .args .bytes .now) (parsed .parse .ensures .0) (matched .parsed .given .1)
+          (ranged .in-range .ensures) (not-false (ranged .in-range .result) (passed .if1 .left)),
+      steps.small (start .args .n) (start .args .bytes .now) (parsed .parse .ensures .0) (matched .parsed .given .1),
+    )
 
 returns-4 : tie.Need-returns-4
 returns-4 c =
-    let given = (steps.parsed (c .before .before .before .before .before .before .before .before .before .before .before .before .before .before .before .before .before .before .before .before .before .before .before .before .before .before .before .args .n) (c .before .before .before .before .before .before .before .before .before .before .before .before .before .before .before .before .before .before .before .before .before .before .before .before .before .before .before .args .bytes .now) (c .before .before .before .before .before .before .before .before .before .before .before .before .before .before .before .before .before .before .before .before .before .before .before .before .before .parse .result .graph) (c .before .before .before .before .before .before .before .before .before .before .before .before .before .before .before .before .before .before .before .before .before .before .before .before .before .parse .ensures) (not-false (c .before .before .before .before .before .before .before .before .before .before .before .before .before .before .before .before .before .before .before .before .before .before .before .before .before .parse .result .ok) (c .before .before .before .before .before .before .before .before .before .before .before .before .before .before .before .before .before .before .before .before .before .before .before .if1 .left))) in
-    steps.unreached (c .before .before .before .before .before .before .before .before .before .before .before .before .before .before .before .before .before .before .before .before .before .before .before .before .before .before .before .args .n) (c .before .before .before .before .before .before .before .before .before .before .before .before .before .before .before .before .before .before .before .before .before .before .before .before .before .before .before .args .bytes .now) (c .before .before .before .before .before .before .before .before .before .before .before .before .before .before .before .before .before .before .before .before .before .before .before .before .before .parse .result .graph) given (c .before .before .before .before .before .before .before .before .before .before .before .before .before .before .before .before .before .before .in-range .ensures) (not-false (c .before .before .before .before .before .before .before .before .before .before .before .before .before .before .before .before .before .before .in-range .result) (c .before .before .before .before .before .before .before .before .before .before .before .before .before .before .before .before .before .if2 .left)) (c .before .before .before .before .before .before .before .before .before .before .has-cycle .ensures .0) (c .before .before .before .before .before .before .before .before .before .if3 .left) (c .before .number .ensures .0) (c .if4 .taken)
+    let entered = c .before in
+    let acyclic = entered .before .before .before .before .before in
+    let sorted = acyclic .before in
+    let passed = sorted .before .before .before .before .before .before in
+    let ranged = passed .before in
+    let matched = ranged .before .before .before .before .before in
+    let parsed = matched .before .before in
+    let start = parsed .before .before .before .before .before .before in (
+      steps.unreached (start .args .n) (start .args .bytes .now) (parsed .parse .ensures .0) (matched .parsed .given .1)
+          (ranged .in-range .ensures) (not-false (ranged .in-range .result) (passed .if1 .left))
+          (sorted .has-cycle .ensures .0) (acyclic .if2 .left) (entered .all-entered .ensures)
+          (not-true (entered .all-entered .result) (c .if3 .taken)),
+      parsed .parse .ensures .1,
+    )
 
 returns-5 : tie.Need-returns-5
 returns-5 c =
-    let given = (steps.parsed (c .before .before .before .before .before .before .before .before .before .before .before .before .before .before .before .before .before .before .before .before .before .before .before .before .before .before .before .args .n) (c .before .before .before .before .before .before .before .before .before .before .before .before .before .before .before .before .before .before .before .before .before .before .before .before .before .before .before .args .bytes .now) (c .before .before .before .before .before .before .before .before .before .before .before .before .before .before .before .before .before .before .before .before .before .before .before .before .before .parse .result .graph) (c .before .before .before .before .before .before .before .before .before .before .before .before .before .before .before .before .before .before .before .before .before .before .before .before .before .parse .ensures) (not-false (c .before .before .before .before .before .before .before .before .before .before .before .before .before .before .before .before .before .before .before .before .before .before .before .before .before .parse .result .ok) (c .before .before .before .before .before .before .before .before .before .before .before .before .before .before .before .before .before .before .before .before .before .before .before .if1 .left))) in
-    steps.accepts (c .before .before .before .before .before .before .before .before .before .before .before .before .before .before .before .before .before .before .before .before .before .before .before .before .before .before .before .args .n) (c .before .before .before .before .before .before .before .before .before .before .before .before .before .before .before .before .before .before .before .before .before .before .before .before .before .before .before .args .bytes .now) (c .before .before .before .before .before .before .before .before .before .before .before .before .before .before .before .before .before .before .before .before .before .before .before .before .before .parse .result .graph) given (c .before .before .before .before .before .before .before .before .before .before .before .before .before .before .before .before .before .before .in-range .ensures) (not-false (c .before .before .before .before .before .before .before .before .before .before .before .before .before .before .before .before .before .before .in-range .result) (c .before .before .before .before .before .before .before .before .before .before .before .before .before .before .before .before .before .if2 .left)) (c .before .before .before .before .before .before .before .before .before .before .has-cycle .ensures .0) (c .before .before .before .before .before .before .before .before .before .if3 .left) (c .before .number .ensures .0) (c .if4 .left)
+    let entered = c .before in
+    let acyclic = entered .before .before .before .before .before in
+    let sorted = acyclic .before in
+    let passed = sorted .before .before .before .before .before .before in
+    let ranged = passed .before in
+    let matched = ranged .before .before .before .before .before in
+    let parsed = matched .before .before in
+    let start = parsed .before .before .before .before .before .before in (
+      steps.accepts (start .args .n) (start .args .bytes .now) (parsed .parse .ensures .0) (matched .parsed .given .1)
+          (ranged .in-range .ensures) (not-false (ranged .in-range .result) (passed .if1 .left))
+          (sorted .has-cycle .ensures .0) (acyclic .if2 .left) (entered .all-entered .ensures)
+          (not-false (entered .all-entered .result) (c .if3 .left)),
+      parsed .parse .ensures .1,
+    )
 
 pub read-spec : {M : Type 1} → statement M
 read-spec =
     tie.close
     (tie.spec
     parse-requires
+    enum-known-parsed
+    enum-told
     returns
     in-range-requires
     returns-2
     has-cycle-requires
     returns-3
-    number-requires
+    all-entered-requires
     returns-4
     returns-5)
