@@ -10,7 +10,7 @@ use Rattle.graphs.specs.Rows.{Row}
 use Rattle.visits.specs.Arrays.{Sound, Compressed, lent, rowsIn, graphIn}
 use Rattle.visits.proofs.VisitRows.{length-rows}
 use Rattle.decode.specs.Promise.{Sized, Held}
-use Rattle.record.specs.CompressedFault.{GraphFault}
+use Rattle.record.specs.declared.GraphFault.{GraphFault}
 use Rattle.record.specs.declared.Verdict.{Verdict}
 use Rattle.record.specs.declared.Verdict.the-variants.{Accepted, Refused}
 use Rattle.record.specs.Read.{Reading, refused, accepted, reading}

@@ -12,7 +12,7 @@ use Rattle.lattice.specs.declared.Opened.the-variants as opened
 use Rattle.lattice.specs.Reply as table
 use Rattle.encode.specs.declared.Written.{Written}
 use Rattle.encode.specs.Encode.{writtenOut}
-use Rattle.record.specs.CompressedFault.{GraphFault}
+use Rattle.record.specs.declared.GraphFault.{GraphFault}
 use Rattle.record.specs.declared.Verdict.{Verdict}
 use Rattle.record.specs.declared.Verdict.the-variants.{Refused}
 use Rattle.record.specs.Read.{Reading, reading}
