@@ -16,7 +16,7 @@ use Rattle.encode.specs.Encode.{bitsFrom, encodedRow, encodedRows, encod
 use Rattle.encode.specs.Encoding.{Placed, Writable, degree, degrees, lowBytes, numberByte, numberedRow, numberedRows}
 use Rattle.encode.proofs.Stores.{sets-append, sets-comm, sets-more}
 use Rattle.encode.proofs.FeatureMap.{Within, mapOf, map-none, map-more, map-bytes, bits-renamed, or-above, above-next}
-use Rattle.encode.proofs.Spans.{firsts, seconds, slice-more, span-member, span-ascending}
+use Rattle.encode.proofs.Spans.{firsts, seconds, slice-more, span-at, span-member, span-ascending}
 
 -- Links along nodes.
 
@@ -202,6 +202,11 @@ module _ (types first features targets : List ℕ) (v : ℕ) (w : Writable types
       (k : ℕ) × (start ≤ k) × (k < end) × (l .0 ≡ getD features k 0) × (l .1 ≡ getD targets k 0)
   unfolding linksAt
   links-placed l m = span-member features targets end (w .placed .featured) (w .placed .aimed) (end - start) start filled l m
+
+  -- and at each place stands a link
+  pub links-at : (k : ℕ) → start ≤ k → k < end → List·Memᴰ {A = ℕ × ℕ} (getD features k 0, getD targets k 0) (linksAt first features targets v)
+  unfolding linksAt
+  links-at k low high = span-at features targets end (w .placed .featured) (w .placed .aimed) (end - start) start filled k low high
 
   pub links-within : Within 0 64 (linksAt first features targets v)
   links-within l m =

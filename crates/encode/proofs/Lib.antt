@@ -4,4 +4,5 @@ pub mod FeatureMap
 pub mod Spans
 pub mod Encoding
 pub mod Writing
+pub mod Renumbering
 pub mod Lengths

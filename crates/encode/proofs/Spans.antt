@@ -46,11 +46,11 @@ module _ (fs ts : List ℕ) (b : ℕ) (enough : b ≤ length fs) (aimed : b ≤ 
   abbrev span : ℕ → List (ℕ × ℕ)
   span a = paired (slice a b fs) (slice a b ts)
 
-  span-cons : (a : ℕ) → a < b → _≡_ {A = List (ℕ × ℕ)} (span a) ((getD fs a 0, getD ts a 0) ∷ span (suc a))
+  pub span-cons : (a : ℕ) → a < b → _≡_ {A = List (ℕ × ℕ)} (span a) ((getD fs a 0, getD ts a 0) ∷ span (suc a))
   unfolding paired
   span-cons a h = ap₂ paired (slice-cons a b fs 0 h enough) (slice-cons a b ts 0 h aimed)
 
-  span-empty : span b ≡ []
+  pub span-empty : span b ≡ []
   unfolding paired
   span-empty = ap (λ (l : List ℕ). paired l (slice b b ts)) (slice-empty b fs)
 
@@ -66,6 +66,18 @@ module _ (fs ts : List ℕ) (b : ℕ) (enough : b ≤ length fs) (aimed : b ≤ 
       (a, omega arith, omega arith, ap (λ (x : ℕ × ℕ). x .0) q, ap (λ (x : ℕ × ℕ). x .1) q))
       (λ i. let (k, low, high, p, q) = span-member n (suc a) (omega arith) l i in (k, omega arith, high, p, q))
       (List·Memᴰ·cases-cons (subst (λ (x : List (ℕ × ℕ)). List·Memᴰ l x) (span-cons a (omega arith)) m))
+
+  -- and at each place stands a link
+  pub span-at : (n a : ℕ) → a + n ≡ b → (k : ℕ) → a ≤ k → k < b → List·Memᴰ {A = ℕ × ℕ} (getD fs k 0, getD ts k 0) (span a)
+  span-at zero a e k low high = absurd (omega arith)
+  span-at (suc n) a e k low high =
+      subst (λ (x : List (ℕ × ℕ)). List·Memᴰ {A = ℕ × ℕ} (getD fs k 0, getD ts k 0) x) (sym (span-cons a (omega arith)))
+      (go (ℕ-discrete k a) (λ below. span-at n (suc a) (omega arith) k below high))
+    where
+      go : Dec (k ≡ a) → (suc a ≤ k → List·Memᴰ {A = ℕ × ℕ} (getD fs k 0, getD ts k 0) (span (suc a))) →
+          List·Memᴰ {A = ℕ × ℕ} (getD fs k 0, getD ts k 0) ((getD fs a 0, getD ts a 0) ∷ span (suc a))
+      go (yes q) rest = List·Memᴰ·head (ap {B = ℕ × ℕ} (λ (i : ℕ). (getD fs i 0, getD ts i 0)) q)
+      go (no d) rest = List·Memᴰ·tail (rest (omega arith))
 
   module _ (start : ℕ) (up : (k : ℕ) → start ≤ k → suc k < b → getD fs k 0 < getD fs (suc k) 0) where
     rises : (n a k : ℕ) → start ≤ a → suc a + n ≡ k → k < b → getD fs a 0 < getD fs k 0

@@ -1,5 +1,5 @@
--- What `write` answers, from the numbering of the arrays' nodes: the visit over the rows that the arrays hold finds the nodes that
--- are numbered, their rows are those that are encoded, and their links are those that are counted.
+-- The written form of a graph in arrays, from the numbering of its nodes: the visit over the rows that the arrays hold finds the nodes
+-- that are numbered, their rows are those that are written, and their links are those that are counted. From it, what `write` answers.
 use mathlib.Core.Path.{_≡_, refl, sym, _∙_, ap, ap₂, subst}
 use mathlib.Core.Bool.{Bool, cond}
 use mathlib.Core.List.{List, [], _∷_, _++_, map, reverse, List·Memᴰ, List·Memᴰ·head, List·Memᴰ·tail, List·Memᴰ·not-nil, List·Memᴰ·append-cases}
@@ -15,7 +15,7 @@ use lib.ListN.{length, getD, take, drop, length-map, length-reverse, List·getD-
 use lib.Seq.{sets, sets-eq, ext-getD, getD-take, length-take-le}
 use Rattle.graphs.specs.Graph.{Graph, onward}
 use Rattle.graphs.specs.Rows.{Row, from, target, linksOf}
-use Rattle.graphs.specs.Number.{canonical, counted, indexOf, linkCount, outDegree, manyLinks, rowOf, visit, written}
+use Rattle.graphs.specs.Number.{Canonical, canonical, counted, indexOf, linkCount, outDegree, manyLinks, manyNodes, rowOf, visit, written}
 use Rattle.graphs.proofs.Lists.{mem-reverse, mem-unreverse, getD-index, index-within, tells-eqb}
 use Rattle.graphs.proofs.Rows.{linksOf-length}
 use Rattle.graphs.proofs.Form.Visited.{Grown, visit-all}
@@ -29,7 +29,7 @@ use Rattle.visits.specs.Arrays.{graphOfRows}
 use Rattle.visits.proofs.Numbering.{row-end}
 use Rattle.visits.proofs.VisitRows.{visit-rows}
 use Rattle.encode.proofs.Spans.{linksOf-links, rows-at, target-member, target-source}
-use Rattle.encode.proofs.Encoding.{degrees-reverse, links-ascending, links-length, links-placed, links-within, rows-length}
+use Rattle.encode.proofs.Encoding.{degrees-reverse, links-ascending, links-at, links-length, links-placed, links-within, rows-length}
 
 map-listed : {X Y : Type 0} {f g : X → Y} (xs : List X) → ((x : X) → List·Memᴰ x xs → f x ≡ g x) → map f xs ≡ map g xs
 map-listed [] e = refl
@@ -41,9 +41,23 @@ getD-member [] i h = absurd (omega arith)
 getD-member (v ∷ vs) zero h = List·Memᴰ·head refl
 getD-member (v ∷ vs) (suc i) h = List·Memᴰ·tail (getD-member vs i (omega arith))
 
+member-length : {v : ℕ} {vs : List ℕ} → List·Memᴰ v vs → 0 < length vs
+member-length (List·Memᴰ·head e) = omega arith
+member-length (List·Memᴰ·tail m) = omega arith
+
 -- what is answered and what is left in the output, of an outcome that is known
 pub answers : {o : Outcome} {a : Written} {l : List ℕ} → o ≡ record { answer = a; output = l } → (a ≡ o .answer) × (l ≡ o .output)
 answers e = (sym (ap (λ (o : Outcome). o .answer) e), sym (ap (λ (o : Outcome). o .output) e))
+
+-- What is too large.
+
+pub large-nodes : {form : Canonical ℕ} (old : List ℕ) → form ≡ manyNodes → writtenOut form old ≡ record { answer = outcome.TooLarge; output = old }
+unfolding writtenOut
+large-nodes old e = ap (λ (c : Canonical ℕ). writtenOut c old) e
+
+pub large-links : {form : Canonical ℕ} (old : List ℕ) → form ≡ manyLinks → writtenOut form old ≡ record { answer = outcome.TooLarge; output = old }
+unfolding writtenOut
+large-links old e = ap (λ (c : Canonical ℕ). writtenOut c old) e
 
 -- What fits.
 
@@ -129,10 +143,7 @@ module _ {nodes : ℕ} {types first features targets : List ℕ} (sound : Sound 
           ∙ links-length types first features targets v w
 
   module _ {count : ℕ} {numbers visited : List ℕ} (numbered : Numbers first targets count numbers visited)
-      (all : length visited ≡ 255) (old : List ℕ) where
-    abbrev result : Outcome
-    result = writtenOut (canonical eqb g) old
-
+      (all : length visited ≡ 255) where
     start : 0 < nodes
     start = sound .shaped .laid .nonempty
 
@@ -155,16 +166,31 @@ module _ {nodes : ℕ} {types first features targets : List ℕ} (sound : Sound 
       seen-short : length seen ≤ 255
       seen-short = grown .short (omega arith)
 
+      place-low : (w : ℕ) → List·Memᴰ w seen → indexOf eqb w (reverse seen) < length seen
+      place-low w m =
+          subst (λ (n : ℕ). indexOf eqb w (reverse seen) < n) (length-reverse seen)
+          (index-within eqb tells-eqb w (reverse seen) (mem-reverse m))
+
       -- the number of a node is its place
-      number-is : (w : ℕ) → List·Memᴰ w seen → indexOf eqb w (reverse seen) ≡ numberByte numbers w
+      number-is : (w : ℕ) → List·Memᴰ w seen → indexOf eqb w (reverse seen) ≡ getD numbers w 0
       number-is w m =
           let i : ℕ = indexOf eqb w (reverse seen) in
-          let low : i < length seen =
-          subst (λ (n : ℕ). i < n) (length-reverse seen) (index-within eqb tells-eqb w (reverse seen) (mem-reverse m)) in
           let here : getD (reverse seen) i 0 ≡ w =
           sym (List·getD-map (λ (x : ℕ). x) (reverse seen) i 0) ∙ getD-index eqb tells-eqb (λ x. x) 0 w (reverse seen) (mem-reverse m) in
-          let at : getD numbers w 0 ≡ i = ap (λ (x : ℕ). getD numbers x 0) (sym here) ∙ numbered .by-node seen e i low in
-          omega (arith, at, low, seen-short)
+          sym (ap (λ (x : ℕ). getD numbers x 0) (sym here) ∙ numbered .by-node seen e i (place-low w m))
+
+      number-low : (w : ℕ) → List·Memᴰ w seen → getD numbers w 0 < length seen
+      number-low w m = subst (λ (n : ℕ). n < length seen) (number-is w m) (place-low w m)
+
+      number-byte : (w : ℕ) → List·Memᴰ w seen → indexOf eqb w (reverse seen) ≡ numberByte numbers w
+      number-byte w m = omega (arith, number-is w m, number-low w m, seen-short)
+
+      link-seen : (v : ℕ) → List·Memᴰ v seen → (l : ℕ × ℕ) → List·Memᴰ l (linksAt first features targets v) → List·Memᴰ (l .1) seen
+      link-seen v m l n =
+          let h : v < nodes = seen-inside v m in
+          grown .closed v (mem-new v m) (l .0) (l .1)
+          (link-at v (l .0) h
+          ∙ target-member (linksAt first features targets v) l (links-ascending types first features targets v (writable v h)) n)
 
       row-is : (v : ℕ) → List·Memᴰ v seen → rowOf eqb g (reverse seen) v ≡ numberedRow types first features targets numbers v
       unfolding rowOf numberedRow
@@ -179,8 +205,7 @@ module _ {nodes : ℕ} {types first features targets : List ℕ} (sound : Sound 
           ∙ map-listed links
           (λ l n.
           ap {B = ℕ × ℕ} (λ (x : ℕ). (l .0, x))
-          (number-is (l .1)
-          (grown .closed v (mem-new v m) (l .0) (l .1) (link-at v (l .0) h ∙ target-member links l up n)))))
+          (number-byte (l .1) (link-seen v m l n))))
 
       counted-is : count ≡ length seen
       counted-is = numbered .counted seen e
@@ -191,11 +216,14 @@ module _ {nodes : ℕ} {types first features targets : List ℕ} (sound : Sound 
           ext-getD 0 (take count visited) (reverse seen) (n ∙ counted-is ∙ sym (length-reverse seen))
           (λ i h. getD-take count visited i 0 (omega (arith, n)) ∙ numbered .by-number seen e i (omega (arith, n, counted-is)))
 
-      visited-inside : (i : ℕ) → i < count → getD visited i 0 < nodes
-      visited-inside i h =
+      visited-seen : (i : ℕ) → i < count → List·Memᴰ (getD visited i 0) seen
+      visited-seen i h =
           let low : i < length (reverse seen) = omega (arith, counted-is, length-reverse seen) in
-          subst (λ (v : ℕ). v < nodes) (sym (numbered .by-number seen e i (omega (arith, counted-is))))
-          (seen-inside (getD (reverse seen) i 0) (mem-unreverse (getD-member (reverse seen) i low)))
+          subst (λ (v : ℕ). List·Memᴰ v seen) (sym (numbered .by-number seen e i (omega (arith, counted-is))))
+          (mem-unreverse (getD-member (reverse seen) i low))
+
+      visited-inside : (i : ℕ) → i < count → getD visited i 0 < nodes
+      visited-inside i h = seen-inside (getD visited i 0) (visited-seen i h)
 
       rows-are : map (rowOf eqb g (reverse seen)) (reverse seen)
           ≡ numberedRows types first features targets numbers (take count visited)
@@ -206,30 +234,30 @@ module _ {nodes : ℕ} {types first features targets : List ℕ} (sound : Sound 
       links-are : linkCount (g .link) seen ≡ degrees first (take count visited)
       links-are = links-counted seen seen-inside ∙ sym (degrees-reverse first seen) ∙ ap (degrees first) (sym visited-is)
 
-      written-many : 2048 < degrees first (take count visited) → result ≡ record { answer = outcome.TooLarge; output = old }
-      unfolding writtenOut canonical
-      written-many h =
-          ap (λ (o : Option (List ℕ)). writtenOut (counted eqb g o) old) visited-rows
-          ∙ ap (λ (t : Bool). writtenOut (cond t (written (map (rowOf eqb g (reverse seen)) (reverse seen))) manyLinks) old)
+      seen-links : 2048 < degrees first (take count visited) → canonical eqb g ≡ manyLinks
+      unfolding canonical
+      seen-links h =
+          ap (counted eqb g) visited-rows
+          ∙ ap (λ (t : Bool). cond t (written (map (rowOf eqb g (reverse seen)) (reverse seen))) manyLinks)
           (lt-leb (linkCount (g .link) seen) 2048 (omega (arith, links-are)))
 
-      written-rows : degrees first (take count visited) ≤ 2048 →
-          result ≡ fitted (encoded (numberedRows types first features targets numbers (take count visited))) old
-      unfolding writtenOut canonical
-      written-rows h =
-          ap (λ (o : Option (List ℕ)). writtenOut (counted eqb g o) old) visited-rows
-          ∙ ap (λ (t : Bool). writtenOut (cond t (written (map (rowOf eqb g (reverse seen)) (reverse seen))) manyLinks) old)
+      seen-written : degrees first (take count visited) ≤ 2048 →
+          canonical eqb g ≡ written (numberedRows types first features targets numbers (take count visited))
+      unfolding canonical
+      seen-written h =
+          ap (counted eqb g) visited-rows
+          ∙ ap (λ (t : Bool). cond t (written (map (rowOf eqb g (reverse seen)) (reverse seen))) manyLinks)
           (le-leb (linkCount (g .link) seen) 2048 (omega (arith, links-are)))
-          ∙ ap (λ (rs : List (Row ℕ)). fitted (encoded rs) old) rows-are
+          ∙ ap (λ (rs : List (Row ℕ)). written rs) rows-are
 
     -- more than 255 nodes
-    pub too-many : 255 < count → result ≡ record { answer = outcome.TooLarge; output = old }
-    unfolding writtenOut canonical
+    pub too-many : 255 < count → canonical eqb g ≡ manyNodes
+    unfolding canonical
     too-many h = go (visitTargets (targetsAt first targets) 255 0 []) refl
       where
         go : (o : Option (List ℕ)) → visitTargets (targetsAt first targets) 255 0 [] ≡ o →
-            writtenOut (counted eqb g (visit eqb (g .link) 255 0 [])) old ≡ record { answer = outcome.TooLarge; output = old }
-        go none e = ap (λ (o : Option (List ℕ)). writtenOut (counted eqb g o) old) (visit-rows sound 255 0 [] start ∙ e)
+            counted eqb g (visit eqb (g .link) 255 0 []) ≡ manyNodes
+        go none e = ap (counted eqb g) (visit-rows sound 255 0 [] start ∙ e)
         go (some seen) e = absurd (omega (arith, counted-is seen e, seen-short seen e))
 
     module _ (few : count ≤ 255) where
@@ -249,9 +277,33 @@ module _ {nodes : ℕ} {types first features targets : List ℕ} (sound : Sound 
           let w : Writable types first features targets (getD visited i 0) = visited-writable i h in
           record { bounded = w .bounded; rising = w .placed .rising }
 
+      -- the root is visited
+      pub visited-root : 0 < count
+      visited-root =
+          let (seen, e) = found in
+          omega (arith, counted-is seen e, member-length (visit-all eqb tells-eqb (g .link) (λ v. v < nodes) onto narrow 0 seen start (visited-rows seen e) .1))
+
+      -- a link from a node visited leads to one
+      pub visited-closed : (i k : ℕ) → i < count → getD first (getD visited i 0) 0 ≤ k → k < getD first (suc (getD visited i 0)) 0 →
+          getD numbers (getD targets k 0) 0 < count
+      visited-closed i k h low high =
+          let (seen, e) = found in
+          let v : ℕ = getD visited i 0 in
+          omega (
+            arith,
+            counted-is seen e,
+            number-low seen e (getD targets k 0)
+                (link-seen seen e v (visited-seen seen e i h) (getD features k 0, getD targets k 0)
+                (links-at types first features targets v (visited-writable i h) k low high)),
+          )
+
       -- more than 2,048 links
-      pub many-links : 2048 < degrees first (take count visited) → result ≡ record { answer = outcome.TooLarge; output = old }
-      many-links h = let (seen, e) = found in written-many seen e h
+      pub many-links : 2048 < degrees first (take count visited) → canonical eqb g ≡ manyLinks
+      many-links h = let (seen, e) = found in seen-links seen e h
+
+      pub written-rows : degrees first (take count visited) ≤ 2048 →
+          canonical eqb g ≡ written (numberedRows types first features targets numbers (take count visited))
+      written-rows h = let (seen, e) = found in seen-written seen e h
 
       bytes-length : length (encoded (numberedRows types first features targets numbers (take count visited)))
           ≡ 1 + 9 * count + degrees first (take count visited)
@@ -267,22 +319,24 @@ module _ {nodes : ℕ} {types first features targets : List ℕ} (sound : Sound 
                 (visited-writable i (omega (arith, n)))),
           )
 
-      pub too-short : degrees first (take count visited) ≤ 2048 →
-          length old < 1 + 9 * count + degrees first (take count visited) → result ≡ record { answer = outcome.NoRoom; output = old }
-      too-short h short =
-          let (seen, e) = found in
-          written-rows seen e h ∙ fitted-short (encoded (numberedRows types first features targets numbers (take count visited))) old (omega (arith, bytes-length))
+      module _ (old : List ℕ) {links : ℕ} (sum : links ≡ degrees first (take count visited)) (fits : links ≤ 2048) where
+        pub too-short : length old < 1 + 9 * count + links →
+            writtenOut (canonical eqb g) old ≡ record { answer = outcome.NoRoom; output = old }
+        unfolding writtenOut
+        too-short short =
+            ap (λ (form : Canonical ℕ). writtenOut form old) (written-rows (omega arith))
+            ∙ fitted-short (encoded (numberedRows types first features targets numbers (take count visited))) old (omega (arith, bytes-length))
 
-      pub written-whole : degrees first (take count visited) ≤ 2048 →
-          1 + 9 * count + degrees first (take count visited) ≤ length old →
-          result
-          ≡ record {
-            answer = outcome.Length (1 + 9 * count + degrees first (take count visited));
-            output = sets old 0 (encoded (numberedRows types first features targets numbers (take count visited)));
-          }
-      written-whole h room =
-          let (seen, e) = found in
-          let bytes : List ℕ = encoded (numberedRows types first features targets numbers (take count visited)) in
-          written-rows seen e h
-          ∙ fitted-room bytes old (omega (arith, bytes-length))
-          ∙ ap (λ (n : ℕ). record { answer = outcome.Length n; output = sets old 0 bytes }) bytes-length
+        pub written-whole : 1 + 9 * count + links ≤ length old →
+            writtenOut (canonical eqb g) old
+            ≡ record {
+              answer = outcome.Length (1 + 9 * count + links);
+              output = sets old 0 (encoded (numberedRows types first features targets numbers (take count visited)));
+            }
+        unfolding writtenOut
+        written-whole room =
+            let bytes : List ℕ = encoded (numberedRows types first features targets numbers (take count visited)) in
+            let long : length bytes ≡ 1 + 9 * count + links = omega (arith, bytes-length) in
+            ap (λ (form : Canonical ℕ). writtenOut form old) (written-rows (omega arith))
+            ∙ fitted-room bytes old (omega arith)
+            ∙ ap (λ (n : ℕ). record { answer = outcome.Length n; output = sets old 0 bytes }) long

@@ -1,3 +1,4 @@
 -- Definitions of encoding.
 pub mod Encode
 pub mod Encoding
+pub mod Renumber

@@ -1,5 +1,6 @@
 // Writing: a graph, given by arrays in compressed rows, as its record in canonical form. There is one encoder for every result.
 
+pub mod renumber;
 pub mod rows;
 
 ghost use mathlib.Core.Path.{_≡_};

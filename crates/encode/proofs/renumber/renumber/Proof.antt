@@ -1,0 +1,64 @@
+-- `renumber` meets its contract, by what the numbering says of the visit over the rows.
+use Prim.Native.Nat.{_≤_}
+use native.Mathlib.Omega.{arith}
+use borrow.Author.Needs.{needs}
+use Rattle.encode.proofs.Writing.{too-many, many-links, visited-spanned, visited-writable}
+use Rattle.encode.proofs.Renumbering.{renumbered, renumbers-links, renumbers-nodes}
+use Rattle.encode.proofs.renumber.renumber.Statement.{statement}
+use Rattle.encode.proofs.renumber.renumber.Tie as tie
+
+number-requires : tie.Need-number-requires
+number-requires c κs = search needs
+
+returns : tie.Need-returns
+returns c =
+    let start = c .before .before .before .before .before .before .before .before in
+    let numbered = c .before .number .ensures in
+    (renumbers-nodes (too-many (start .pre .0) (numbered .0) (numbered .1 .1) (omega (arith, c .if1 .taken))), start .pre .1)
+
+link-count-requires : tie.Need-link-count-requires
+link-count-requires c κs =
+    let start = c .before .before .before .before .before .before .before .before .before in
+    let numbered = c .before .before .number .ensures in
+    let few : c .before .before .number .result ≤ 255 = omega (arith, c .before .if1 .left) in
+    (few, (numbered .1 .1, visited-spanned (start .pre .0) (numbered .0) (numbered .1 .1) few))
+
+returns-2 : tie.Need-returns-2
+returns-2 c =
+    let start = c .before .before .before .before .before .before .before .before .before .before .before in
+    let numbered = c .before .before .before .before .number .ensures in (
+      renumbers-links
+          (many-links (start .pre .0) (numbered .0) (numbered .1 .1) (omega (arith, c .before .before .before .if1 .left))
+          (omega (arith, c .before .link-count .ensures, c .if2 .taken))),
+      start .pre .1,
+    )
+
+copy-rows-requires : tie.Need-copy-rows-requires
+copy-rows-requires c κs =
+    let start = c .before .before .before .before .before .before .before .before .before .before .before .before .before .before .before .before .before in
+    let numbered = c .before .before .before .before .before .before .before .before .before .before .number .ensures in
+    let few : c .before .before .before .before .before .before .before .before .before .before .number .result ≤ 255 = omega (arith, c .before .before .before .before .before .before .before .before .before .if1 .left) in (
+      few,
+      (
+        numbered .1 .1,
+        (
+          visited-writable (start .pre .0) (numbered .0) (numbered .1 .1) few,
+          (omega (arith, c .before .before .before .before .before .before .before .link-count .ensures, c .before .before .before .before .before .before .if2 .left), start .pre .1),
+        ),
+      ),
+    )
+
+returns-3 : tie.Need-returns-3
+returns-3 c =
+    let start = c .before .before .before .before .before .before .before .before .before .before .before .before .before .before .before .before .before .before in
+    let numbered = c .before .before .before .before .before .before .before .before .before .before .before .number .ensures in
+    let copied = c .copy-rows .ensures in (
+      renumbered (start .pre .0) (numbered .0) (numbered .1 .1) (omega (arith, c .before .before .before .before .before .before .before .before .before .before .if1 .left))
+          (omega (arith, c .before .before .before .before .before .before .before .before .link-count .ensures, c .before .before .before .before .before .before .before .if2 .left)) copied,
+      (copied .types-long, copied .first-long, copied .features-long, copied .targets-long),
+    )
+
+pub renumber-spec : {M : Type 1} → statement M
+renumber-spec =
+    tie.close
+    (tie.spec number-requires returns link-count-requires returns-2 copy-rows-requires returns-3)
