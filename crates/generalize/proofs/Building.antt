@@ -12,9 +12,10 @@ use Rattle.graphs.specs.Graph.{Reached}
 use Rattle.graphs.specs.Rows.{target}
 use Rattle.graphs.proofs.Walk.{reached-root, reached-link}
 use Rattle.visits.specs.Arrays.{Compressed, paired, linksAt}
+use Rattle.generalize.specs.Product.{Held, product}
 use Rattle.generalize.specs.Queue.{Marked, Numbered, Adds}
 use Rattle.generalize.proofs.Marking.{mark-root}
-use Rattle.generalize.proofs.Sides.{Held, product, commonIn, product-root, product-link, product-known}
+use Rattle.generalize.proofs.Sides.{commonIn, product-root, product-link, product-known}
 
 -- the pair with a number
 abbrev pub pairOf : ℕ → ℕ × ℕ
@@ -64,6 +65,7 @@ links-are first features targets i p q e d = ap₂ (λ (s t : ℕ). paired (slic
 pub record Building (joins : List (List ℕ)) (a b : Compressed) (head count links : ℕ)
     (marks queue types first features targets : List ℕ) : Type 0 where
   pub marked : Marked marks queue count
+  pub enough : a .nodes * 255 ≤ length marks
   pub begun : 0 < count
   pub behind : head ≤ count
   pub room : links ≤ 2112
@@ -91,13 +93,14 @@ pub record Building (joins : List (List ℕ)) (a b : Compressed) (head count lin
 
 -- The root's pair is known, and has no row yet.
 pub build-start : (joins : List (List ℕ)) {a b : Compressed} → Held a → Held b → (marks queue types first features targets : List ℕ) →
-    length marks ≡ 65025 → ((p : ℕ) → p < 65025 → getD marks p 0 ≡ 65535) → length queue ≡ 319 → getD queue 0 0 ≡ 0 →
-    length types ≡ 255 → length first ≡ 256 → getD first 0 0 ≡ 0 → length features ≡ 2112 → length targets ≡ 2112 →
-    Building joins a b 0 1 0 (set marks 0 0) queue types first features targets
-build-start joins {a} {b} left right marks queue types first features targets marks-long clear queue-long root types-long first-long start
+    a .nodes * 255 ≤ length marks → length marks ≤ 65025 → ((p : ℕ) → p < length marks → getD marks p 0 ≡ 65535) →
+    length queue ≡ 319 → getD queue 0 0 ≡ 0 → length types ≡ 255 → length first ≡ 256 → getD first 0 0 ≡ 0 →
+    length features ≡ 2112 → length targets ≡ 2112 → Building joins a b 0 1 0 (set marks 0 0) queue types first features targets
+build-start joins {a} {b} left right marks queue types first features targets enough few clear queue-long root types-long first-long start
     features-long targets-long =
     record {
-      marked = mark-root marks queue marks-long queue-long root clear;
+      marked = mark-root marks queue (omega (arith, left .sound .shaped .laid .nonempty)) few queue-long root clear;
+      enough = omega (arith, length-set marks 0 0);
       begun = omega arith;
       behind = omega arith;
       room = omega arith;
@@ -134,7 +137,7 @@ module _ {joins : List (List ℕ)} {a b : Compressed} (left : Held a) (right : H
     (short : links ≤ 2048) where
   -- The next pair gets its row.
   pub build-step : (marks′ queue′ features′ targets′ : List ℕ) (links′ count′ : ℕ) →
-      Adds (commonIn a b (getD queue head 0 / 255) (getD queue head 0 % 255)) queue features targets links count 64
+      Adds (commonIn a b (getD queue head 0 / 255) (getD queue head 0 % 255)) marks queue features targets links count 64
       marks′ queue′ features′ targets′ links′ count′ →
       Building joins a b (head + 1) count′ links′ marks′ queue′
       (set types head (getD (getD joins (getD (a .types) (getD queue head 0 / 255) 0) []) (getD (b .types) (getD queue head 0 % 255) 0) 0))
@@ -144,6 +147,7 @@ module _ {joins : List (List ℕ)} {a b : Compressed} (left : Held a) (right : H
       (sym (add-one head))
       record {
         marked = added .after;
+        enough = omega (arith, added .marks-long, s .enough);
         begun = omega (arith, s .begun, added .grows);
         behind = omega (arith, added .grows);
         room = omega (arith, added .short);

@@ -4,7 +4,7 @@ use mathlib.Core.Bool.{Bool, true, false, cond}
 use mathlib.Core.List.{List, [], _∷_, _++_}
 use mathlib.Core.Logic.{_⊎_, inl, inr}
 use mathlib.Core.Option.{Option, none, some}
-use Prim.Native.Nat.{ℕ, zero, suc, _+_, _-_, _*_, _≤_, _<_}
+use Prim.Native.Nat.{ℕ, zero, suc, _+_, _-_, _*_, _/_, _≤_, _<_}
 use native.Mathlib.Decide.{decLt, ℕ-discrete}
 use native.Mathlib.Numerals.{add-one}
 use native.Mathlib.Omega.{arith}
@@ -67,7 +67,7 @@ slice-snoc l s e a low high =
     drop-append-le s (take e l) (a ∷ []) (omega (arith, length-take-le e l (omega arith)))
 
 -- The rest of a row from a place on.
-module _ {first fs ts : List ℕ} {v : ℕ} (row : RowAt first fs ts v) where
+module _ {nodes : ℕ} {first fs ts : List ℕ} {v : ℕ} (row : RowAt nodes first fs ts v) where
   abbrev endOf : ℕ
   endOf = getD first (suc v) 0
 
@@ -130,9 +130,9 @@ module _ {first fs ts : List ℕ} {v : ℕ} (row : RowAt first fs ts v) where
 
 -- What is added.
 
-module _ {leads : ℕ → Option (ℕ × ℕ)} {queue₀ features₀ targets₀ : List ℕ} {start old : ℕ} where
-  pub adds-none : {marks : List ℕ} → Marked marks queue₀ old →
-      Adds leads queue₀ features₀ targets₀ start old 0 marks queue₀ features₀ targets₀ start old
+module _ {leads : ℕ → Option (ℕ × ℕ)} {marks₀ queue₀ features₀ targets₀ : List ℕ} {start old : ℕ} where
+  pub adds-none : Marked marks₀ queue₀ old →
+      Adds leads marks₀ queue₀ features₀ targets₀ start old 0 marks₀ queue₀ features₀ targets₀ start old
   unfolding paired target
   adds-none m =
       record {
@@ -145,6 +145,7 @@ module _ {leads : ℕ → Option (ℕ × ℕ)} {queue₀ features₀ targets₀ 
         known = λ k low high. absurd (omega arith);
         ascending = λ k low high. absurd (omega arith);
         within = λ k low high. absurd (omega arith);
+        marks-long = refl;
         features-long = refl;
         targets-long = refl;
         features-kept = λ k h. refl;
@@ -156,10 +157,10 @@ module _ {leads : ℕ → Option (ℕ × ℕ)} {queue₀ features₀ targets₀ 
       }
 
   module _ {bound : ℕ} {marks queue features targets : List ℕ} {links count : ℕ}
-      (s : Adds leads queue₀ features₀ targets₀ start old bound marks queue features targets links count) where
+      (s : Adds leads marks₀ queue₀ features₀ targets₀ start old bound marks queue features targets links count) where
     -- No feature of both up to a higher bound.
     pub adds-skip : (higher : ℕ) → bound ≤ higher → ((f : ℕ) → bound ≤ f → f < higher → leads f ≡ none) →
-        Adds leads queue₀ features₀ targets₀ start old higher marks queue features targets links count
+        Adds leads marks₀ queue₀ features₀ targets₀ start old higher marks queue features targets links count
     adds-skip higher up none-there =
         record {
           after = s .after;
@@ -171,6 +172,7 @@ module _ {leads : ℕ → Option (ℕ × ℕ)} {queue₀ features₀ targets₀ 
           known = λ k low high. omega (arith, s .known k low high);
           ascending = s .ascending;
           within = s .within;
+          marks-long = s .marks-long;
           features-long = s .features-long;
           targets-long = s .targets-long;
           features-kept = s .features-kept;
@@ -194,11 +196,11 @@ module _ {leads : ℕ → Option (ℕ × ℕ)} {queue₀ features₀ targets₀ 
     -- The next feature of both, and the pair that it leads to.
     pub adds-link : (f : ℕ) (x : ℕ × ℕ) (marks′ queue′ : List ℕ) (next : ℕ) → bound ≤ f →
         ((g : ℕ) → bound ≤ g → g < f → leads g ≡ none) → leads f ≡ some x → x .0 < 255 → x .1 < 255 →
-        links < length features → links < length targets → Enlisted queue (codeOf x) count marks′ queue′ next →
-        Adds leads queue₀ features₀ targets₀ start old (suc f) marks′ queue′ (set features links f)
+        links < length features → links < length targets → Enlisted marks queue (codeOf x) count marks′ queue′ next →
+        Adds leads marks₀ queue₀ features₀ targets₀ start old (suc f) marks′ queue′ (set features links f)
         (set targets links (getD marks′ (codeOf x) 0)) (links + 1) next
     adds-link f x marks′ queue′ next up none-there leads-x x-left x-right features-room targets-room listed =
-        subst (λ (n : ℕ). Adds leads queue₀ features₀ targets₀ start old (suc f) marks′ queue′ (set features links f) newTargets n next)
+        subst (λ (n : ℕ). Adds leads marks₀ queue₀ features₀ targets₀ start old (suc f) marks′ queue′ (set features links f) newTargets n next)
         (sym (add-one links))
         record {
           after = listed .after;
@@ -210,6 +212,7 @@ module _ {leads : ℕ → Option (ℕ × ℕ)} {queue₀ features₀ targets₀ 
           known = λ k low high. known k low high (ℕ-discrete k links);
           ascending = λ k low high. ascending k low high (ℕ-discrete (suc k) links);
           within = λ k low high. within k low high (ℕ-discrete k links);
+          marks-long = listed .marks-long ∙ s .marks-long;
           features-long = length-set features links f ∙ s .features-long;
           targets-long = length-set targets links t ∙ s .targets-long;
           features-kept = λ k h. getD-set-other features links k f 0 (λ q. omega (arith, s .rises)) ∙ s .features-kept k h;
@@ -329,12 +332,12 @@ module _ {leads : ℕ → Option (ℕ × ℕ)} {queue₀ features₀ targets₀ 
 
 -- The merge.
 
-module _ (af afs ats bf bfs bts : List ℕ) (u v : ℕ) (queue₀ features₀ targets₀ : List ℕ) (start old : ℕ) where
+module _ (af afs ats bf bfs bts : List ℕ) (u v : ℕ) (marks₀ queue₀ features₀ targets₀ : List ℕ) (start old : ℕ) where
   -- The links by features below `bound` are added; the places i and j are where both rows go on.
   pub record Merging (i j links count : ℕ) (marks queue features targets : List ℕ) : Type 0 where
     pub bound : ℕ
     pub small : bound ≤ 64
-    pub added : Adds (common af afs ats bf bfs bts u v) queue₀ features₀ targets₀ start old bound marks queue features targets links count
+    pub added : Adds (common af afs ats bf bfs bts u v) marks₀ queue₀ features₀ targets₀ start old bound marks queue features targets links count
     pub left-low : getD af u 0 ≤ i
     pub left-high : i ≤ getD af (suc u) 0
     pub right-low : getD bf v 0 ≤ j
@@ -350,10 +353,10 @@ both-right : (o : Option ℕ) → both {B = ℕ} o none ≡ none
 both-right none = refl
 both-right (some x) = refl
 
-module _ {af afs ats bf bfs bts : List ℕ} {u v : ℕ} {queue₀ features₀ targets₀ : List ℕ} {start old : ℕ}
-    (left : RowAt af afs ats u) (right : RowAt bf bfs bts v) where
-  pub merge-start : {marks : List ℕ} → Marked marks queue₀ old →
-      Merging af afs ats bf bfs bts u v queue₀ features₀ targets₀ start old (getD af u 0) (getD bf v 0) start old marks queue₀ features₀ targets₀
+module _ {af afs ats bf bfs bts : List ℕ} {u v : ℕ} {marks₀ queue₀ features₀ targets₀ : List ℕ} {start old : ℕ}
+    (left : RowAt (length marks₀ / 255) af afs ats u) (right : RowAt 255 bf bfs bts v) where
+  pub merge-start : Marked marks₀ queue₀ old →
+      Merging af afs ats bf bfs bts u v marks₀ queue₀ features₀ targets₀ start old (getD af u 0) (getD bf v 0) start old marks₀ queue₀ features₀ targets₀
   unfolding linksAt
   merge-start m =
       record {
@@ -371,10 +374,10 @@ module _ {af afs ats bf bfs bts : List ℕ} {u v : ℕ} {queue₀ features₀ ta
       }
 
   module _ {i j links count : ℕ} {marks queue features targets : List ℕ}
-      (s : Merging af afs ats bf bfs bts u v queue₀ features₀ targets₀ start old i j links count marks queue features targets) where
+      (s : Merging af afs ats bf bfs bts u v marks₀ queue₀ features₀ targets₀ start old i j links count marks queue features targets) where
     -- One of the rows is at its end.
     pub merge-done : (i ≡ getD af (suc u) 0) ⊎ (j ≡ getD bf (suc v) 0) →
-        Adds (common af afs ats bf bfs bts u v) queue₀ features₀ targets₀ start old 64 marks queue features targets links count
+        Adds (common af afs ats bf bfs bts u v) marks₀ queue₀ features₀ targets₀ start old 64 marks queue features targets links count
     merge-done over = adds-skip (s .added) 64 (s .small) (λ f low high. gone f low over)
       where
         gone : (f : ℕ) → s .bound ≤ f → (i ≡ getD af (suc u) 0) ⊎ (j ≡ getD bf (suc v) 0) → common af afs ats bf bfs bts u v f ≡ none
@@ -413,9 +416,9 @@ module _ {af afs ats bf bfs bts : List ℕ} {u v : ℕ} {queue₀ features₀ ta
 
       -- The first row's feature is the lower one.
       pub merge-left : getD afs i 0 < getD bfs j 0 →
-          Merging af afs ats bf bfs bts u v queue₀ features₀ targets₀ start old (i + 1) j links count marks queue features targets
+          Merging af afs ats bf bfs bts u v marks₀ queue₀ features₀ targets₀ start old (i + 1) j links count marks queue features targets
       merge-left less =
-          subst (λ (n : ℕ). Merging af afs ats bf bfs bts u v queue₀ features₀ targets₀ start old n j links count marks queue features targets)
+          subst (λ (n : ℕ). Merging af afs ats bf bfs bts u v marks₀ queue₀ features₀ targets₀ start old n j links count marks queue features targets)
           (sym (add-one i))
           record {
             bound = suc (getD afs i 0);
@@ -434,9 +437,9 @@ module _ {af afs ats bf bfs bts : List ℕ} {u v : ℕ} {queue₀ features₀ ta
 
       -- The second row's feature is the lower one.
       pub merge-right : getD bfs j 0 < getD afs i 0 →
-          Merging af afs ats bf bfs bts u v queue₀ features₀ targets₀ start old i (j + 1) links count marks queue features targets
+          Merging af afs ats bf bfs bts u v marks₀ queue₀ features₀ targets₀ start old i (j + 1) links count marks queue features targets
       merge-right less =
-          subst (λ (n : ℕ). Merging af afs ats bf bfs bts u v queue₀ features₀ targets₀ start old i n links count marks queue features targets)
+          subst (λ (n : ℕ). Merging af afs ats bf bfs bts u v marks₀ queue₀ features₀ targets₀ start old i n links count marks queue features targets)
           (sym (add-one j))
           record {
             bound = suc (getD bfs j 0);
@@ -461,13 +464,20 @@ module _ {af afs ats bf bfs bts : List ℕ} {u v : ℕ} {queue₀ features₀ ta
           (omega (arith, s .added .near), omega (arith, s .added .short))
 
       -- the targets are nodes
-      pub merge-pair : (getD ats i 0 < 255) × (getD bts j 0 < 255)
-      merge-pair = (left .within i (s .left-low) left-in, right .within j (s .right-low) right-in)
+      merge-nodes : (getD ats i 0 < 255) × (getD bts j 0 < 255)
+      merge-nodes = (
+        omega (arith, left .within i (s .left-low) left-in, s .added .marks-long, s .added .after .marks-few),
+        right .within j (s .right-low) right-in,
+      )
+
+      -- and there is a mark for their pair
+      pub merge-pair : getD ats i 0 * 255 + getD bts j 0 < length marks
+      merge-pair = omega (arith, left .within i (s .left-low) left-in, right .within j (s .right-low) right-in, s .added .marks-long)
 
       -- A feature of both.
       pub merge-both : getD afs i 0 ≡ getD bfs j 0 → links < length features → links < length targets →
-          (marks′ queue′ : List ℕ) (next : ℕ) → Enlisted queue (getD ats i 0 * 255 + getD bts j 0) count marks′ queue′ next →
-          Merging af afs ats bf bfs bts u v queue₀ features₀ targets₀ start old (i + 1) (j + 1) (links + 1) next marks′ queue′
+          (marks′ queue′ : List ℕ) (next : ℕ) → Enlisted marks queue (getD ats i 0 * 255 + getD bts j 0) count marks′ queue′ next →
+          Merging af afs ats bf bfs bts u v marks₀ queue₀ features₀ targets₀ start old (i + 1) (j + 1) (links + 1) next marks′ queue′
           (set features links (getD afs i 0)) (set targets links (getD marks′ (getD ats i 0 * 255 + getD bts j 0) 0))
       merge-both same features-room targets-room marks′ queue′ next listed =
           subst (λ (n : ℕ). At n (j + 1)) (sym (add-one i))
@@ -476,8 +486,7 @@ module _ {af afs ats bf bfs bts : List ℕ} {u v : ℕ} {queue₀ features₀ ta
             bound = suc (getD afs i 0);
             small = omega (arith, left .known i (s .left-low) left-in);
             added = adds-link (s .added) (getD afs i 0) (getD ats i 0, getD bts j 0) marks′ queue′ next (s .left-from left-in)
-                (λ g low high. left-none g low high) leads-both (left .within i (s .left-low) left-in)
-                (right .within j (s .right-low) right-in) features-room targets-room listed;
+                (λ g low high. left-none g low high) leads-both (merge-nodes .0) (merge-nodes .1) features-room targets-room listed;
             left-low = omega (arith, s .left-low);
             left-high = omega arith;
             right-low = omega (arith, s .right-low);
@@ -490,7 +499,7 @@ module _ {af afs ats bf bfs bts : List ℕ} {u v : ℕ} {queue₀ features₀ ta
         where
           At : ℕ → ℕ → Type 0
           At m n =
-              Merging af afs ats bf bfs bts u v queue₀ features₀ targets₀ start old m n (links + 1) next marks′ queue′
+              Merging af afs ats bf bfs bts u v marks₀ queue₀ features₀ targets₀ start old m n (links + 1) next marks′ queue′
               (set features links (getD afs i 0)) (set targets links (getD marks′ (getD ats i 0 * 255 + getD bts j 0) 0))
 
           leads-both : common af afs ats bf bfs bts u v (getD afs i 0) ≡ some (getD ats i 0, getD bts j 0)

@@ -22,20 +22,21 @@ use Rattle.visits.proofs.VisitRows.{row-at, link-known}
 use Rattle.encode.specs.Encode.{writtenOut}
 use Rattle.encode.specs.declared.Written.the-variants as outcome
 use Rattle.generalize.specs.Pairs.{samePair}
+use Rattle.generalize.specs.Product.{Held, product, productOut}
 use Rattle.generalize.specs.Queue.{codeOf, RowAt, Numbered}
 use Rattle.generalize.proofs.Merging.{row-rises, row-target}
-use Rattle.generalize.proofs.Sides.{Held, product, commonIn, product-root, product-link, product-label, product-known, tells-pair}
+use Rattle.generalize.proofs.Sides.{commonIn, product-root, product-link, product-label, product-known, tells-pair}
 use Rattle.generalize.proofs.Building.{Building, pairOf, pair-numbered}
 
 -- A graph with too many nodes or links is not written.
 pub too-large : (joins : List (List ℕ)) {a b : Compressed} → Held a → Held b → (old : List ℕ) →
     ManyNodes (product joins a b) ⊎ ManyLinks (product joins a b) →
-    writtenOut (canonical samePair (product joins a b)) old ≡ record { answer = outcome.TooLarge; output = old }
+    productOut joins a b old ≡ record { answer = outcome.TooLarge; output = old }
 unfolding writtenOut
 too-large joins {a} {b} left right old many = go (canonical samePair (product joins a b)) refl
   where
     go : (c : Canonical ℕ) → canonical samePair (product joins a b) ≡ c →
-        writtenOut (canonical samePair (product joins a b)) old ≡ record { answer = outcome.TooLarge; output = old }
+        productOut joins a b old ≡ record { answer = outcome.TooLarge; output = old }
     go manyNodes e = ap (λ (c : Canonical ℕ). writtenOut c old) e
     go manyLinks e = ap (λ (c : Canonical ℕ). writtenOut c old) e
     go (written form) e =
@@ -132,7 +133,7 @@ module _ {joins : List (List ℕ)} {a b : Compressed} (left : Held a) (right : H
 
   -- More than 2,048 links.
 
-  result-row : (i : ℕ) → i < head → count ≤ 255 → RowAt first features targets i
+  result-row : (i : ℕ) → i < head → count ≤ 255 → RowAt 255 first features targets i
   result-row i h few =
       record {
         bounded = omega (arith, s .first-long, s .behind);

@@ -9,26 +9,18 @@ use native.Mathlib.Omega.{arith}
 use borrow.Author.Tests.{eq-eqb, eqb-true}
 use lib.Dec.{eqb}
 use lib.ListN.{getD, List·getD-eq-default}
-use Rattle.graphs.specs.Graph.{Graph, Tells}
+use Rattle.graphs.specs.Graph.{Tells}
 use Rattle.graphs.specs.Rows.{Row, target}
 use Rattle.graphs.specs.Generalize.{both, generalization}
 use Rattle.graphs.proofs.Walk.{none-some}
 use Rattle.graphs.proofs.Product.{both-some}
-use Rattle.visits.specs.Arrays.{Compressed, Sound, lent, linksAt, rowsIn, graphIn}
+use Rattle.visits.specs.Arrays.{Compressed, linksAt, rowsIn, graphIn}
 use Rattle.visits.proofs.Colours.{ends}
 use Rattle.visits.proofs.VisitRows.{row-at, length-rows, link-known}
-use Rattle.generalize.specs.Pairs.{joinsOf, samePair}
+use Rattle.generalize.specs.Pairs.{samePair}
+use Rattle.generalize.specs.Product.{Held, product}
 use Rattle.generalize.specs.Queue.{RowAt, common}
 use Rattle.generalize.proofs.Merging.{none-target}
-
--- arrays that hold a graph of at most 255 nodes
-pub record Held (g : Compressed) : Type 0 where
-  pub sound : Sound (g .nodes) (g .types) (g .first) (g .features) (g .targets)
-  pub small : g .nodes ≤ 255
-
-pub held : {nodes : ℕ} {types first features targets : List ℕ} → Sound nodes types first features targets → nodes ≤ 255 →
-    Held (lent nodes types first features targets)
-held sound small = record { sound = sound; small = small }
 
 module _ {g : Compressed} (h : Held g) where
   held-row : (v : ℕ) → v < g .nodes → getD (rowsIn g) v (0, []) ≡ (getD (g .types) v 0, linksAt (g .first) (g .features) (g .targets) v)
@@ -54,8 +46,8 @@ module _ {g : Compressed} (h : Held g) where
               (List·getD-eq-default (rowsIn g) (0, []) (omega (arith, length-rows (g .types) (g .first) (g .features) (g .targets) 0 (g .nodes)))) ∙
               none-target f
 
-  pub held-row-at : (v : ℕ) → v < g .nodes → RowAt (g .first) (g .features) (g .targets) v
-  held-row-at v i =
+  pub held-row-at : (n : ℕ) → g .nodes ≤ n → (v : ℕ) → v < g .nodes → RowAt n (g .first) (g .features) (g .targets) v
+  held-row-at n few v i =
       record {
         bounded = omega (arith, h .sound .shaped .laid .bounded);
         rising = h .sound .shaped .laid .rising v i;
@@ -63,16 +55,13 @@ module _ {g : Compressed} (h : Held g) where
         aimed = omega (arith, all, h .sound .shaped .laid .aimed);
         known = λ k low high. h .sound .shaped .known k (omega (arith, all));
         ascending = λ k low high. h .sound .shaped .ascending v k i low high;
-        within = λ k low high. omega (arith, h .sound .within k (omega (arith, all)), h .small);
+        within = λ k low high. omega (arith, h .sound .within k (omega (arith, all)));
       }
     where
       all : getD (g .first) (suc v) 0 ≤ getD (g .first) (g .nodes) 0
       all = ends (h .sound .shaped .laid) v i
 
 -- The product.
-
-abbrev pub product : List (List ℕ) → Compressed → Compressed → Graph ℕ (ℕ × ℕ)
-product joins a b = generalization (joinsOf joins) (graphIn a) (graphIn b)
 
 abbrev pub commonIn : Compressed → Compressed → ℕ → ℕ → ℕ → Option (ℕ × ℕ)
 commonIn a b u v f = common (a .first) (a .features) (a .targets) (b .first) (b .features) (b .targets) u v f

@@ -13,18 +13,20 @@ use Rattle.visits.specs.Arrays.{paired, linksAt}
 abbrev pub codeOf : ℕ × ℕ → ℕ
 codeOf x = x .0 * 255 + x .1
 
--- Each pair in the queue is marked by its place there, and no other pair is marked.
+-- Each pair in the queue is marked by its place there, and no other pair is marked. There are marks for the pairs with numbers
+-- below the list's length.
 pub record Marked (marks queue : List ℕ) (count : ℕ) : Type 0 where
-  pub marks-long : length marks ≡ 65025
+  pub marks-few : length marks ≤ 65025
   pub queue-long : length queue ≡ 319
   pub few : count ≤ 319
-  pub inside : (i : ℕ) → i < count → getD queue i 0 < 65025
+  pub inside : (i : ℕ) → i < count → getD queue i 0 < length marks
   pub placed : (i : ℕ) → i < count → getD marks (getD queue i 0) 0 ≡ i
-  pub queued : (p : ℕ) → p < 65025 → (getD marks p 0 ≡ 65535 → ⊥) → (getD marks p 0 < count) × (getD queue (getD marks p 0) 0 ≡ p)
+  pub queued : (p : ℕ) → p < length marks → (getD marks p 0 ≡ 65535 → ⊥) → (getD marks p 0 < count) × (getD queue (getD marks p 0) 0 ≡ p)
 
 -- A pair is in the queue, at its end where it was not there.
-pub record Enlisted (queue : List ℕ) (pair count : ℕ) (marks′ queue′ : List ℕ) (next : ℕ) : Type 0 where
+pub record Enlisted (marks queue : List ℕ) (pair count : ℕ) (marks′ queue′ : List ℕ) (next : ℕ) : Type 0 where
   pub after : Marked marks′ queue′ next
+  pub marks-long : length marks′ ≡ length marks
   pub least : count ≤ next
   pub most : next ≤ count + 1
   pub kept : (i : ℕ) → i < count → getD queue′ i 0 ≡ getD queue i 0
@@ -32,15 +34,15 @@ pub record Enlisted (queue : List ℕ) (pair count : ℕ) (marks′ queue′ : L
   pub numbered : getD marks′ pair 0 < next
   pub found : getD queue′ (getD marks′ pair 0) 0 ≡ pair
 
--- One row of a graph in arrays: features below 64 that ascend, targets below 255.
-pub record RowAt (first features targets : List ℕ) (v : ℕ) : Type 0 where
+-- One row of a graph in arrays: features below 64 that ascend, targets below `nodes`.
+pub record RowAt (nodes : ℕ) (first features targets : List ℕ) (v : ℕ) : Type 0 where
   pub bounded : suc v < length first
   pub rising : getD first v 0 ≤ getD first (suc v) 0
   pub featured : getD first (suc v) 0 ≤ length features
   pub aimed : getD first (suc v) 0 ≤ length targets
   pub known : (k : ℕ) → getD first v 0 ≤ k → k < getD first (suc v) 0 → getD features k 0 < 64
   pub ascending : (k : ℕ) → getD first v 0 ≤ k → suc k < getD first (suc v) 0 → getD features k 0 < getD features (suc k) 0
-  pub within : (k : ℕ) → getD first v 0 ≤ k → k < getD first (suc v) 0 → getD targets k 0 < 255
+  pub within : (k : ℕ) → getD first v 0 ≤ k → k < getD first (suc v) 0 → getD targets k 0 < nodes
 
 -- where a feature of both leads from a pair
 abbrev pub common : List ℕ → List ℕ → List ℕ → List ℕ → List ℕ → List ℕ → ℕ → ℕ → ℕ → Option (ℕ × ℕ)
@@ -56,7 +58,7 @@ pub record Numbered (queue : List ℕ) (count : ℕ) (x : ℕ × ℕ) (i : ℕ) 
 
 -- The places from `start` to `links` have the common links by features below `bound`, with the numbers of the pairs that they
 -- lead to; what stood before is kept.
-pub record Adds (leads : ℕ → Option (ℕ × ℕ)) (queue features targets : List ℕ) (start old bound : ℕ)
+pub record Adds (leads : ℕ → Option (ℕ × ℕ)) (marks queue features targets : List ℕ) (start old bound : ℕ)
     (marks′ queue′ features′ targets′ : List ℕ) (links count : ℕ) : Type 0 where
   pub after : Marked marks′ queue′ count
   pub present : (f : ℕ) → f < bound → (x : ℕ × ℕ) → leads f ≡ some x →
@@ -68,6 +70,7 @@ pub record Adds (leads : ℕ → Option (ℕ × ℕ)) (queue features targets : 
   pub known : (k : ℕ) → start ≤ k → k < links → getD features′ k 0 < bound
   pub ascending : (k : ℕ) → start ≤ k → suc k < links → getD features′ k 0 < getD features′ (suc k) 0
   pub within : (k : ℕ) → start ≤ k → k < links → getD targets′ k 0 < count
+  pub marks-long : length marks′ ≡ length marks
   pub features-long : length features′ ≡ length features
   pub targets-long : length targets′ ≡ length targets
   pub features-kept : (k : ℕ) → k < start → getD features′ k 0 ≡ getD features k 0

@@ -12,9 +12,7 @@ use Rattle.generalize.proofs.pair_links.Tie as tie
 
 abbrev Inv-loop : tie.InvT-loop
 Inv-loop a-first a-features a-targets b-first b-features b-targets u v marks₀ queue₀ features₀ targets₀ start known a-end b-end i₀ j₀ links₀ count₀ marks queue features targets i j links count =
-    (a-end ≡ getD a-first (suc u) 0) × (b-end ≡ getD b-first (suc v) 0) ×
-    Merging a-first a-features a-targets b-first b-features b-targets u v queue₀ features₀ targets₀ start known
-    i j links count marks queue features targets
+    (a-end ≡ getD a-first (suc u) 0) × (b-end ≡ getD b-first (suc v) 0) × Merging a-first a-features a-targets b-first b-features b-targets u v marks₀ queue₀ features₀ targets₀ start known i j links count marks queue features targets
 
 abbrev μ-loop : tie.MeasureT-loop
 μ-loop a-first a-features a-targets b-first b-features b-targets u v marks₀ queue₀ features₀ targets₀ start known a-end b-end i₀ j₀ links₀ count₀ marks queue features targets i j links count =
@@ -30,7 +28,7 @@ shared-slice-read-a-end : tie.Need-shared-slice-read-a-end Inv-loop μ-loop
 shared-slice-read-a-end c = search needs
 
 cast-a-end : tie.Need-cast-a-end Inv-loop μ-loop
-cast-a-end c = omega (arith, c .shared-slice-known7 .given (c .before .before .before .before .before .before .before .args .u + 1))
+cast-a-end c = omega (arith, c .shared-slice-known7 .given (c .before .before .before .before .before .before .before .before .args .u + 1))
 
 add-b-end : tie.Need-add-b-end Inv-loop μ-loop
 add-b-end c = search needs
@@ -42,7 +40,7 @@ shared-slice-read-b-end : tie.Need-shared-slice-read-b-end Inv-loop μ-loop
 shared-slice-read-b-end c = search needs
 
 cast-b-end : tie.Need-cast-b-end Inv-loop μ-loop
-cast-b-end c = omega (arith, c .shared-slice-known8 .given (c .before .before .before .before .before .before .before .before .args .v + 1))
+cast-b-end c = omega (arith, c .shared-slice-known8 .given (c .before .before .before .before .before .before .before .before .before .args .v + 1))
 
 mul-i : tie.Need-mul-i Inv-loop μ-loop
 mul-i c = search needs
@@ -63,10 +61,13 @@ cast-j : tie.Need-cast-j Inv-loop μ-loop
 cast-j c = search needs
 
 loop-holds : tie.Need-loop-holds Inv-loop μ-loop
-loop-holds c = let st = c .before .before .before .before .before .before .before .before .before .before in (ap (λ (n : ℕ). getD (st .args .a-first .now) n 0) (add-one (st .args .u)), ap (λ (n : ℕ). getD (st .args .b-first .now) n 0) (add-one (st .args .v)), merge-start (st .pre .0) (st .pre .1 .0) (st .pre .1 .1 .0))
+loop-holds c = let st = c .before .before .before .before .before .before .before .before .before .before .before in (ap (λ (n : ℕ). getD (st .args .a-first .now) n 0) (add-one (st .args .u)), ap (λ (n : ℕ). getD (st .args .b-first .now) n 0) (add-one (st .args .v)), merge-start (st .pre .0) (st .pre .1 .0) (st .pre .1 .1 .0))
+
+same-length : tie.Need-same-length Inv-loop μ-loop
+same-length c = c .before .before .loop .inv .2 .added .marks-long
 
 returns : tie.Need-returns Inv-loop μ-loop
-returns c = let l = c .before .before in let st = l .before .before .before .before .before .before .before .before .before .before .before in merge-done (st .pre .0) (st .pre .1 .0) (l .loop .inv .2) (inr (omega (arith, c .if1 .taken, l .loop .inv .1, l .loop .inv .2 .right-high)))
+returns c = let l = c .before .before in let st = c .before .before .before .before .before .before .before .before .before .before .before .before .before .before in merge-done (st .pre .0) (st .pre .1 .0) (l .loop .inv .2) (inr (omega (arith, c .if1 .taken, l .loop .inv .1, l .loop .inv .2 .right-high)))
 
 shared-slice-read-f : tie.Need-shared-slice-read-f Inv-loop μ-loop
 shared-slice-read-f c = search needs
@@ -81,7 +82,7 @@ loop-less : tie.Need-loop-less Inv-loop μ-loop
 loop-less c = search needs
 
 loop-again : tie.Need-loop-again Inv-loop μ-loop
-loop-again c = let l = c .before .before .before .before .before in let st = l .before .before .before .before .before .before .before .before .before .before .before in let li : l .loop .i < getD (st .args .a-first .now) (suc (st .args .u)) 0 = omega (arith, c .before .before .before .before .loop-test .taken, l .loop .inv .0) in let ri : l .loop .j < getD (st .args .b-first .now) (suc (st .args .v)) 0 = omega (arith, c .before .before .before .if1 .left, l .loop .inv .1) in (l .loop .inv .0, l .loop .inv .1, merge-left (st .pre .0) (st .pre .1 .0) (l .loop .inv .2) li ri (omega (arith, c .if2 .taken)))
+loop-again c = let l = c .before .before .before .before .before in let st = c .before .before .before .before .before .before .before .before .before .before .before .before .before .before .before .before .before in let li : l .loop .i < getD (st .args .a-first .now) (suc (st .args .u)) 0 = omega (arith, c .before .before .before .before .loop-test .taken, l .loop .inv .0) in let ri : l .loop .j < getD (st .args .b-first .now) (suc (st .args .v)) 0 = omega (arith, c .before .before .before .if1 .left, l .loop .inv .1) in (l .loop .inv .0, l .loop .inv .1, merge-left (st .pre .0) (st .pre .1 .0) (l .loop .inv .2) li ri (omega (arith, c .if2 .taken)))
 
 add-j : tie.Need-add-j Inv-loop μ-loop
 add-j c = search needs
@@ -90,7 +91,7 @@ loop-less-2 : tie.Need-loop-less-2 Inv-loop μ-loop
 loop-less-2 c = search needs
 
 loop-again-2 : tie.Need-loop-again-2 Inv-loop μ-loop
-loop-again-2 c = let l = c .before .before .before .before .before .before in let st = l .before .before .before .before .before .before .before .before .before .before .before in let li : l .loop .i < getD (st .args .a-first .now) (suc (st .args .u)) 0 = omega (arith, c .before .before .before .before .before .loop-test .taken, l .loop .inv .0) in let ri : l .loop .j < getD (st .args .b-first .now) (suc (st .args .v)) 0 = omega (arith, c .before .before .before .before .if1 .left, l .loop .inv .1) in (l .loop .inv .0, l .loop .inv .1, merge-right (st .pre .0) (st .pre .1 .0) (l .loop .inv .2) li ri (omega (arith, c .if3 .taken)))
+loop-again-2 c = let l = c .before .before .before .before .before .before in let st = c .before .before .before .before .before .before .before .before .before .before .before .before .before .before .before .before .before .before in let li : l .loop .i < getD (st .args .a-first .now) (suc (st .args .u)) 0 = omega (arith, c .before .before .before .before .before .loop-test .taken, l .loop .inv .0) in let ri : l .loop .j < getD (st .args .b-first .now) (suc (st .args .v)) 0 = omega (arith, c .before .before .before .before .if1 .left, l .loop .inv .1) in (l .loop .inv .0, l .loop .inv .1, merge-right (st .pre .0) (st .pre .1 .0) (l .loop .inv .2) li ri (omega (arith, c .if3 .taken)))
 
 mul-pair : tie.Need-mul-pair Inv-loop μ-loop
 mul-pair c = search needs
@@ -117,22 +118,22 @@ add-pair : tie.Need-add-pair Inv-loop μ-loop
 add-pair c = let l = c .before .before .before .before .before .before .before .before in omega (arith, c .before .shared-slice-known13 .given (l .loop .i), c .shared-slice-known14 .given (l .loop .i), c .shared-slice-known14 .given (l .loop .j))
 
 enlist-requires : tie.Need-enlist-requires Inv-loop μ-loop
-enlist-requires c κs = let l = c .before .before .before .before .before .before .before .before .before .before in let st = l .before .before .before .before .before .before .before .before .before .before .before in let li : l .loop .i < getD (st .args .a-first .now) (suc (st .args .u)) 0 = omega (arith, c .before .before .before .before .before .before .before .before .before .loop-test .taken, l .loop .inv .0) in let ri : l .loop .j < getD (st .args .b-first .now) (suc (st .args .v)) 0 = omega (arith, c .before .before .before .before .before .before .before .before .if1 .left, l .loop .inv .1) in (l .loop .inv .2 .added .after, (omega (arith, merge-pair (st .pre .0) (st .pre .1 .0) (l .loop .inv .2) li ri), merge-room (st .pre .0) (st .pre .1 .0) (l .loop .inv .2) li ri (st .pre .1 .1 .1 .1 .0) (st .pre .1 .1 .1 .1 .1) .0))
+enlist-requires c κs = let l = c .before .before .before .before .before .before .before .before .before .before in let st = c .before .before .before .before .before .before .before .before .before .before .before .before .before .before .before .before .before .before .before .before .before .before in let li : l .loop .i < getD (st .args .a-first .now) (suc (st .args .u)) 0 = omega (arith, c .before .before .before .before .before .before .before .before .before .loop-test .taken, l .loop .inv .0) in let ri : l .loop .j < getD (st .args .b-first .now) (suc (st .args .v)) 0 = omega (arith, c .before .before .before .before .before .before .before .before .if1 .left, l .loop .inv .1) in (l .loop .inv .2 .added .after, (merge-pair (st .pre .0) (st .pre .1 .0) (l .loop .inv .2) li ri, merge-room (st .pre .0) (st .pre .1 .0) (l .loop .inv .2) li ri (st .pre .1 .1 .1 .1 .0) (st .pre .1 .1 .1 .1 .1) .0))
 
 element-write-features : tie.Need-element-write-features Inv-loop μ-loop
-element-write-features c = let l = c .before .before .before .before .before .before .before .before .before .before .before in let st = l .before .before .before .before .before .before .before .before .before .before .before in let li : l .loop .i < getD (st .args .a-first .now) (suc (st .args .u)) 0 = omega (arith, c .before .before .before .before .before .before .before .before .before .before .loop-test .taken, l .loop .inv .0) in let ri : l .loop .j < getD (st .args .b-first .now) (suc (st .args .v)) 0 = omega (arith, c .before .before .before .before .before .before .before .before .before .if1 .left, l .loop .inv .1) in merge-room (st .pre .0) (st .pre .1 .0) (l .loop .inv .2) li ri (st .pre .1 .1 .1 .1 .0) (st .pre .1 .1 .1 .1 .1) .1
+element-write-features c = let l = c .before .before .before .before .before .before .before .before .before .before .before .before .before in let st = c .before .before .before .before .before .before .before .before .before .before .before .before .before .before .before .before .before .before .before .before .before .before .before .before .before in let li : l .loop .i < getD (st .args .a-first .now) (suc (st .args .u)) 0 = omega (arith, c .before .before .before .before .before .before .before .before .before .before .before .before .loop-test .taken, l .loop .inv .0) in let ri : l .loop .j < getD (st .args .b-first .now) (suc (st .args .v)) 0 = omega (arith, c .before .before .before .before .before .before .before .before .before .before .before .if1 .left, l .loop .inv .1) in merge-room (st .pre .0) (st .pre .1 .0) (l .loop .inv .2) li ri (st .pre .1 .1 .1 .1 .0) (st .pre .1 .1 .1 .1 .1) .1
 
 mul-targets : tie.Need-mul-targets Inv-loop μ-loop
-mul-targets c = let l = c .before .before .before .before .before .before .before .before .before .before .before in let st = l .before .before .before .before .before .before .before .before .before .before .before in let li : l .loop .i < getD (st .args .a-first .now) (suc (st .args .u)) 0 = omega (arith, c .before .before .before .before .before .before .before .before .before .before .loop-test .taken, l .loop .inv .0) in let ri : l .loop .j < getD (st .args .b-first .now) (suc (st .args .v)) 0 = omega (arith, c .before .before .before .before .before .before .before .before .before .if1 .left, l .loop .inv .1) in omega (arith, merge-pair (st .pre .0) (st .pre .1 .0) (l .loop .inv .2) li ri)
+mul-targets c = let l = c .before .before .before .before .before .before .before .before .before .before .before .before .before in let st = c .before .before .before .before .before .before .before .before .before .before .before .before .before .before .before .before .before .before .before .before .before .before .before .before .before in let li : l .loop .i < getD (st .args .a-first .now) (suc (st .args .u)) 0 = omega (arith, c .before .before .before .before .before .before .before .before .before .before .before .before .loop-test .taken, l .loop .inv .0) in let ri : l .loop .j < getD (st .args .b-first .now) (suc (st .args .v)) 0 = omega (arith, c .before .before .before .before .before .before .before .before .before .before .before .if1 .left, l .loop .inv .1) in omega (arith, merge-pair (st .pre .0) (st .pre .1 .0) (l .loop .inv .2) li ri, l .loop .inv .2 .added .after .marks-few)
 
-element-copy-out-targets : tie.Need-element-copy-out-targets Inv-loop μ-loop
-element-copy-out-targets c = let l = c .before .before .before .before .before .before .before .before .before .before .before in let st = l .before .before .before .before .before .before .before .before .before .before .before in let li : l .loop .i < getD (st .args .a-first .now) (suc (st .args .u)) 0 = omega (arith, c .before .before .before .before .before .before .before .before .before .before .loop-test .taken, l .loop .inv .0) in let ri : l .loop .j < getD (st .args .b-first .now) (suc (st .args .v)) 0 = omega (arith, c .before .before .before .before .before .before .before .before .before .if1 .left, l .loop .inv .1) in omega (arith, merge-pair (st .pre .0) (st .pre .1 .0) (l .loop .inv .2) li ri)
+slice-read-targets : tie.Need-slice-read-targets Inv-loop μ-loop
+slice-read-targets c = let l = c .before .before .before .before .before .before .before .before .before .before .before .before .before .before in let st = c .before .before .before .before .before .before .before .before .before .before .before .before .before .before .before .before .before .before .before .before .before .before .before .before .before .before in let li : l .loop .i < getD (st .args .a-first .now) (suc (st .args .u)) 0 = omega (arith, c .before .before .before .before .before .before .before .before .before .before .before .before .before .loop-test .taken, l .loop .inv .0) in let ri : l .loop .j < getD (st .args .b-first .now) (suc (st .args .v)) 0 = omega (arith, c .before .before .before .before .before .before .before .before .before .before .before .before .if1 .left, l .loop .inv .1) in omega (arith, merge-pair (st .pre .0) (st .pre .1 .0) (l .loop .inv .2) li ri, c .before .before .before .enlist .ensures .marks-long)
 
 mul-targets-2 : tie.Need-mul-targets-2 Inv-loop μ-loop
 mul-targets-2 c = search needs
 
 element-write-targets : tie.Need-element-write-targets Inv-loop μ-loop
-element-write-targets c = let l = c .before .before .before .before .before .before .before .before .before .before .before .before in let st = l .before .before .before .before .before .before .before .before .before .before .before in let li : l .loop .i < getD (st .args .a-first .now) (suc (st .args .u)) 0 = omega (arith, c .before .before .before .before .before .before .before .before .before .before .before .loop-test .taken, l .loop .inv .0) in let ri : l .loop .j < getD (st .args .b-first .now) (suc (st .args .v)) 0 = omega (arith, c .before .before .before .before .before .before .before .before .before .before .if1 .left, l .loop .inv .1) in merge-room (st .pre .0) (st .pre .1 .0) (l .loop .inv .2) li ri (st .pre .1 .1 .1 .1 .0) (st .pre .1 .1 .1 .1 .1) .1
+element-write-targets c = let l = c .before .before .before .before .before .before .before .before .before .before .before .before .before .before in let st = c .before .before .before .before .before .before .before .before .before .before .before .before .before .before .before .before .before .before .before .before .before .before .before .before .before .before in let li : l .loop .i < getD (st .args .a-first .now) (suc (st .args .u)) 0 = omega (arith, c .before .before .before .before .before .before .before .before .before .before .before .before .before .loop-test .taken, l .loop .inv .0) in let ri : l .loop .j < getD (st .args .b-first .now) (suc (st .args .v)) 0 = omega (arith, c .before .before .before .before .before .before .before .before .before .before .before .before .if1 .left, l .loop .inv .1) in merge-room (st .pre .0) (st .pre .1 .0) (l .loop .inv .2) li ri (st .pre .1 .1 .1 .1 .0) (st .pre .1 .1 .1 .1 .1) .1
 
 add-links : tie.Need-add-links Inv-loop μ-loop
 add-links c = search needs
@@ -147,10 +148,13 @@ loop-less-3 : tie.Need-loop-less-3 Inv-loop μ-loop
 loop-less-3 c = search needs
 
 loop-again-3 : tie.Need-loop-again-3 Inv-loop μ-loop
-loop-again-3 c = let l = c .before .before .before .before .before .before .before .before .before .before .before .before in let st = l .before .before .before .before .before .before .before .before .before .before .before in let li : l .loop .i < getD (st .args .a-first .now) (suc (st .args .u)) 0 = omega (arith, c .before .before .before .before .before .before .before .before .before .before .before .loop-test .taken, l .loop .inv .0) in let ri : l .loop .j < getD (st .args .b-first .now) (suc (st .args .v)) 0 = omega (arith, c .before .before .before .before .before .before .before .before .before .before .if1 .left, l .loop .inv .1) in let room = merge-room (st .pre .0) (st .pre .1 .0) (l .loop .inv .2) li ri (st .pre .1 .1 .1 .1 .0) (st .pre .1 .1 .1 .1 .1) .1 in (l .loop .inv .0, l .loop .inv .1, merge-both (st .pre .0) (st .pre .1 .0) (l .loop .inv .2) li ri (omega (arith, c .before .before .before .before .before .before .before .if2 .left, c .before .before .before .before .before .before .if3 .left)) (omega (arith, room, l .loop .inv .2 .added .features-long, st .pre .1 .1 .1 .0 .0)) (omega (arith, room, l .loop .inv .2 .added .targets-long, st .pre .1 .1 .1 .0 .1)) _ _ _ (c .before .enlist .ensures))
+loop-again-3 c = let l = c .before .before .before .before .before .before .before .before .before .before .before .before .before .before in let st = c .before .before .before .before .before .before .before .before .before .before .before .before .before .before .before .before .before .before .before .before .before .before .before .before .before .before in let li : l .loop .i < getD (st .args .a-first .now) (suc (st .args .u)) 0 = omega (arith, c .before .before .before .before .before .before .before .before .before .before .before .before .before .loop-test .taken, l .loop .inv .0) in let ri : l .loop .j < getD (st .args .b-first .now) (suc (st .args .v)) 0 = omega (arith, c .before .before .before .before .before .before .before .before .before .before .before .before .if1 .left, l .loop .inv .1) in let room = merge-room (st .pre .0) (st .pre .1 .0) (l .loop .inv .2) li ri (st .pre .1 .1 .1 .1 .0) (st .pre .1 .1 .1 .1 .1) .1 in (l .loop .inv .0, l .loop .inv .1, merge-both (st .pre .0) (st .pre .1 .0) (l .loop .inv .2) li ri (omega (arith, c .before .before .before .before .before .before .before .before .before .if2 .left, c .before .before .before .before .before .before .before .before .if3 .left)) (omega (arith, room, l .loop .inv .2 .added .features-long, st .pre .1 .1 .1 .0 .0)) (omega (arith, room, l .loop .inv .2 .added .targets-long, st .pre .1 .1 .1 .0 .1)) _ _ _ (c .before .before .before .enlist .ensures))
+
+same-length-2 : tie.Need-same-length-2 Inv-loop μ-loop
+same-length-2 c = c .before .loop .inv .2 .added .marks-long
 
 returns-2 : tie.Need-returns-2 Inv-loop μ-loop
-returns-2 c = let l = c .before in let st = l .before .before .before .before .before .before .before .before .before .before .before in merge-done (st .pre .0) (st .pre .1 .0) (l .loop .inv .2) (inl (omega (arith, c .loop-test .left, l .loop .inv .0, l .loop .inv .2 .left-high)))
+returns-2 c = let l = c .before in let st = c .before .before .before .before .before .before .before .before .before .before .before .before .before in merge-done (st .pre .0) (st .pre .1 .0) (l .loop .inv .2) (inl (omega (arith, c .loop-test .left, l .loop .inv .0, l .loop .inv .2 .left-high)))
 
 pub pair-links-spec : {M : Type 1} → statement M
 pair-links-spec =
@@ -173,6 +177,7 @@ pair-links-spec =
     shared-slice-read-j
     cast-j
     loop-holds
+    same-length
     returns
     shared-slice-read-f
     shared-slice-read-h
@@ -193,7 +198,7 @@ pair-links-spec =
     enlist-requires
     element-write-features
     mul-targets
-    element-copy-out-targets
+    slice-read-targets
     mul-targets-2
     element-write-targets
     add-links
@@ -201,4 +206,5 @@ pair-links-spec =
     add-j-2
     loop-less-3
     loop-again-3
+    same-length-2
     returns-2)
