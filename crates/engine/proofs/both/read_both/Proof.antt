@@ -1,7 +1,7 @@
 -- Two records are read, each as one is.
 use mathlib.Core.Path.{_∙_, ap₂}
-use borrow.Author.Needs.{needs}
 use Rattle.engine.specs.Pair.{jointVerdict}
+use borrow.Author.Needs.{needs}
 use Rattle.engine.proofs.both.read_both.Statement.{statement}
 use Rattle.engine.proofs.both.read_both.Tie as tie
 
@@ -16,10 +16,14 @@ joint-verdict-requires c κs = search needs
 
 returns : tie.Need-returns
 returns c =
+    let one = c .before .before .before .before .before .before .read .ensures in
+    let other = c .before .read2 .ensures in
     record {
-      verdict = c .joint-verdict .ensures ∙ ap₂ jointVerdict (c .before .before .before .before .read .ensures .verdict) (c .before .before .read2 .ensures .verdict);
-      first = c .before .before .before .before .read .ensures .graph;
-      second = c .before .before .read2 .ensures .graph;
+      verdict = c .joint-verdict .ensures ∙ ap₂ jointVerdict (one .0 .verdict) (other .0 .verdict);
+      one = one .0 .graph;
+      other = other .0 .graph;
+      one-sized = one .1;
+      other-sized = other .1;
     }
 
 pub read-both-spec : {M : Type 1} → statement M
