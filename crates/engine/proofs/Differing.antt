@@ -101,9 +101,9 @@ module _ (n : ℕ) (t : List ℕ) (s g : List (Row ℕ)) (map : List ℕ) (gener
       (λ y m. lies y (omega (arith, from-range 0 (length g) y m))) v))
 
 -- what the difference asks
-pub ready-below : (n : ℕ) (t : List ℕ) {a b : List ℕ} {g s : Compressed} (meets : List (List ℕ)) (map : List ℕ) {R : Type 0} →
+pub ready-below : (n : ℕ) (t : List ℕ) {a b : List ℕ} {g s : Compressed} (meets : List (List ℕ)) {answer : Order} {map : List ℕ} {R : Type 0} →
     Accepts n a g → Accepts n b s → (types.accepted n t ≡ true) × (types.admits n t ≡ true) × MeetsHeld n t meets →
-    NodeMap (typeLabels n t) (graphIn s) (graphIn g) (λ y. getD map y 0) → length map ≡ 255 → R →
+    Orders n t (rowsIn s) (rowsIn g) answer map → answer ≡ order.Below → length map ≡ 255 → R →
     ((types.accepted n t ≡ true) × (types.admits n t ≡ true) × MeetsHeld n t meets) ×
     (SoundIn g ×
     (SoundIn s ×
@@ -113,11 +113,28 @@ pub ready-below : (n : ℕ) (t : List ℕ) {a b : List ℕ} {g s : Compressed} (
     (((y : ℕ) → y < g .nodes → Reached (graphIn g) y) ×
     (((v : ℕ) → v < s .nodes → Reached (graphIn s) v) ×
     (AnySize (typeLabels n t) (graphIn s) × (NodeMap (typeLabels n t) (graphIn s) (graphIn g) (λ y. getD map y 0) × R)))))))))
-ready-below n t {s = s} meets map one other opens along long room =
-    let sizes = (one .small, (other .small, (other .few, long))) in
-    let whole = rules-of-any-size n (rowsIn s) (accepts-rules other) t .any-size in
-    let reached = (accepts-reached one, (accepts-reached other, (whole, (along, room)))) in
-    (opens, (one .sound, (other .sound, (sizes, (accepts-types one, (accepts-types other, reached))))))
+ready-below n t {s = s} meets one other opens orders below long room = (
+  opens,
+  (
+    one .sound,
+    (
+      other .sound,
+      (
+        (one .small, other .small, other .few, long),
+        (
+          accepts-types one,
+          (
+            accepts-types other,
+            (
+              accepts-reached one,
+              (accepts-reached other, (rules-of-any-size n (rowsIn s) (accepts-rules other) t .any-size, (orders .yes-stands below, room))),
+            ),
+          ),
+        ),
+      ),
+    ),
+  ),
+)
 
 module _ (n : ℕ) (t out : List ℕ) {a : List ℕ} (g s : Compressed) (given : Accepts n a g) {answer : Order} {map : List ℕ}
     (orders : Orders n t (rowsIn s) (rowsIn g) answer map) where
