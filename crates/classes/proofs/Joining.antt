@@ -12,7 +12,7 @@ use borrow.Author.Tests.{eq-eqb, ne-eqb}
 use lib.Dec.{eqb}
 use lib.ListN.{length, getD, set, length-set}
 use Rattle.classes.specs.Forest.{rootOf, Forest, SameRoots}
-use Rattle.classes.specs.Merge.{Span, Merged}
+use Rattle.classes.specs.Merge.{Room, Span, Merged}
 use Rattle.classes.specs.Classes.{sumTo, rowLength, At, Rows, Same, roots, itself, back, next, down, Closed, Joins}
 use Rattle.classes.proofs.Roots.{
   stored,
@@ -46,11 +46,14 @@ pub record Respects (nodes : ℕ) (parent left right : List ℕ) (count : ℕ) (
 module _ (nodes second : ℕ) (start₀ end₀ features₀ targets₀ : List ℕ) where
   pub record Joining (parent start end features targets left right : List ℕ) (used count : ℕ) : Type 0 where
     pub rows : Rows nodes start end features targets used
+    pub features-long : length features ≡ length features₀
+    pub targets-long : length targets ≡ length targets₀
     pub forest : Forest parent
     pub left-long : length left ≡ 4097
     pub right-long : length right ≡ 4097
     -- a join takes at most 64 places and leaves one class less
-    pub room : used + 64 * rootCount nodes parent ≤ 4096 + 64 * nodes
+    pub bounded : used + 64 * rootCount nodes parent ≤ 4096 + 64 * nodes
+    pub room : Room (used + 64 * (rootCount nodes parent - 1)) features targets
     -- a join adds no more pairs than the rows lose links
     pub few : sumTo nodes (rowLength (rootOf parent) start end) ≤ 4096
     pub short : sumTo nodes (rowLength (rootOf parent) start end) + count ≤ 4097
@@ -68,19 +71,23 @@ module _ (nodes second : ℕ) (start₀ end₀ features₀ targets₀ : List ℕ
 
 -- Every node is a class of its own, and the two roots wait.
 pub join-start : {nodes second : ℕ} {start end features targets : List ℕ} {links : ℕ} → Rows nodes start end features targets links →
-    second < nodes → links ≤ 4096 → sumTo nodes (rowLength (λ x. x) start end) ≤ 4096 → (parent left right : List ℕ) →
+    second < nodes → links ≤ 4096 → sumTo nodes (rowLength (λ x. x) start end) ≤ 4096 →
+    Room (links + 64 * (nodes - 1)) features targets → (parent left right : List ℕ) →
     length parent ≡ 510 → ((x : ℕ) → x < 510 → getD parent x 0 ≡ x) → length left ≡ 4097 → length right ≡ 4097 →
     getD left 0 0 ≡ 0 →
     Joining nodes second start end features targets parent start end features targets left (set right 0 second) links 1
 unfolding rootCount
-join-start {nodes} {second} {start} {end} {features} {targets} {links} rows inside small few parent left right long own left-long
+join-start {nodes} {second} {start} {end} {features} {targets} {links} rows inside small few room parent left right long own left-long
     right-long zeroth =
     record {
       rows = rows;
+      features-long = refl;
+      targets-long = refl;
       forest = forest;
       left-long = left-long;
       right-long = length-set right 0 second ∙ right-long;
-      room = omega (arith, sum-most nodes (ownRoot parent) (λ x h. at-most (eqb (rootOf parent x) x)));
+      bounded = omega (arith, most);
+      room = (omega (arith, most, room .0), omega (arith, most, room .1));
       few = omega (arith, same-lengths);
       short = omega (arith, same-lengths);
       left-in = λ i h. omega (arith, left-is i h, rows .some);
@@ -103,6 +110,9 @@ join-start {nodes} {second} {start} {end} {features} {targets} {links} rows insi
     at-most : (t : Bool) → cond t 1 0 ≤ 1
     at-most true = omega arith
     at-most false = omega arith
+
+    most : rootCount nodes parent ≤ nodes
+    most = sum-most nodes (ownRoot parent) (λ x h. at-most (eqb (rootOf parent x) x))
 
     alike : (x : ℕ) → x < nodes → rowLength (rootOf parent) start end x ≡ rowLength (λ x. x) start end x
     alike x h = ap (λ (c : ℕ). cond (eqb c x) (getD end x 0 - getD start x 0) 0) (root x h)
@@ -136,14 +146,13 @@ module _ {nodes second : ℕ} {start₀ end₀ features₀ targets₀ parent sta
   join-roots {later} r =
       record {
         rows = s .rows;
+        features-long = s .features-long;
+        targets-long = s .targets-long;
         forest = r .forest;
         left-long = s .left-long;
         right-long = s .right-long;
-        room = omega (
-          arith,
-          s .room,
-          sum-same nodes (ownRoot later) (ownRoot parent) (λ x h. ap (λ (c : ℕ). cond (eqb c x) 1 0) (r .same x (small x h))),
-        );
+        bounded = omega (arith, s .bounded, same-count);
+        room = (omega (arith, s .room .0, same-count), omega (arith, s .room .1, same-count));
         few = omega (arith, s .few, same-lengths);
         short = omega (arith, s .short, same-lengths);
         left-in = s .left-in;
@@ -157,6 +166,11 @@ module _ {nodes second : ℕ} {start₀ end₀ features₀ targets₀ parent sta
         together = λ f q. s .together f (respects f q);
       }
     where
+      same-count : rootCount nodes later ≡ rootCount nodes parent
+      same-count =
+          sum-same nodes (ownRoot later) (ownRoot parent)
+          (λ x h. ap {B = ℕ} (λ (c : ℕ). cond (eqb c x) 1 0) (r .same x (small x h)))
+
       same-lengths : sumTo nodes (rowLength (rootOf later) start end) ≡ sumTo nodes (rowLength (rootOf parent) start end)
       same-lengths =
           sum-same nodes (rowLength (rootOf later) start end) (rowLength (rootOf parent) start end)
@@ -172,9 +186,12 @@ module _ {nodes second : ℕ} {start₀ end₀ features₀ targets₀ parent sta
   join-skip some e =
       record {
         rows = s .rows;
+        features-long = s .features-long;
+        targets-long = s .targets-long;
         forest = s .forest;
         left-long = s .left-long;
         right-long = s .right-long;
+        bounded = s .bounded;
         room = s .room;
         few = s .few;
         short = omega (arith, s .short);
@@ -253,14 +270,15 @@ module _ {nodes second : ℕ} {start₀ end₀ features₀ targets₀ parent sta
     two = omega (arith, sum-two nodes lo hi (ownRoot parent) less hi-in, own-one lo (found .2), own-one hi (found .3))
 
     pub join-asks : (lo < 510) × (hi < 510) × Span features used (getD start lo 0) (getD end lo 0) ×
-        Span features used (getD start hi 0) (getD end hi 0) × (used + 64 ≤ 36672) ×
+        Span features used (getD start hi 0) (getD end hi 0) × (used + 64 ≤ 36672) × Room (used + 64) features targets ×
         ((count - 1) + getD end hi 0 ≤ 4097 + getD start hi 0)
     join-asks = (
       small lo lo-in,
       small hi hi-in,
       lo-span,
       hi-span,
-      omega (arith, two, s .room, s .rows .few),
+      omega (arith, two, s .bounded, s .rows .few),
+      (omega (arith, two, s .room .0), omega (arith, two, s .room .1)),
       omega (arith, sum-one nodes hi (rowLength (rootOf parent) start end) hi-in, own-length hi (found .3), s .short, hi-span .rising),
     )
 
@@ -326,8 +344,6 @@ module _ {nodes second : ℕ} {start₀ end₀ features₀ targets₀ parent sta
             few = s .rows .few;
             start-long = length-set start lo used ∙ s .rows .start-long;
             end-long = length-set end lo at ∙ s .rows .end-long;
-            features-long = m .features-long ∙ s .rows .features-long;
-            targets-long = m .targets-long ∙ s .rows .targets-long;
             span = λ x h. span x h (ℕ-discrete x lo);
             within = λ x k h place. within x k h place (ℕ-discrete x lo);
           }
@@ -461,10 +477,16 @@ module _ {nodes second : ℕ} {start₀ end₀ features₀ targets₀ parent sta
       joined-state =
           record {
             rows = rows′;
+            features-long = m .features-long ∙ s .features-long;
+            targets-long = m .targets-long ∙ s .targets-long;
             forest = forest′;
             left-long = m .left-long ∙ s .left-long;
             right-long = m .right-long ∙ s .right-long;
-            room = omega (arith, s .room, fewer, merged-short m lo-span hi-span);
+            bounded = omega (arith, s .bounded, fewer, merged-short m lo-span hi-span);
+            room = (
+              omega (arith, s .room .0, two, fewer, merged-short m lo-span hi-span, m .features-long),
+              omega (arith, s .room .1, two, fewer, merged-short m lo-span hi-span, m .targets-long),
+            );
             few = omega (arith, s .few, lengths, m .counted, m .grows, m .rises, lo-span .rising, hi-span .rising);
             short = omega (arith, s .short, lengths, m .counted, m .rises, lo-span .rising, hi-span .rising);
             left-in = λ i h. left-in i h (decLt i (count - 1));
@@ -590,7 +612,8 @@ module _ {nodes second : ℕ} {start₀ end₀ features₀ targets₀ parent sta
         related = λ x h. subst (Alike x) (sym (class-is x h)) (s .related x h);
         together = class-is 0 (s .rows .some) ∙ s .together (rootOf parent) settled ∙ sym (class-is second inside);
         rows = s .rows;
-        room = omega (arith, s .room, s .rows .few, one);
+        bounded = omega (arith, s .bounded, s .rows .few, one);
+        room = (omega (arith, s .room .0), omega (arith, s .room .1));
         short =
             omega (
               arith,
@@ -661,7 +684,7 @@ module _ {nodes second : ℕ} {start₀ end₀ features₀ targets₀ parent sta
     -- What a join of x to y, or of y to x, asks and leaves.
     pub record Round (lo hi : ℕ) : Type 0 where
       pub asks : (lo < 510) × (hi < 510) × Span features used (getD start lo 0) (getD end lo 0) ×
-          Span features used (getD start hi 0) (getD end hi 0) × (used + 64 ≤ 36672) ×
+          Span features used (getD start hi 0) (getD end hi 0) × (used + 64 ≤ 36672) × Room (used + 64) features targets ×
           ((count - 1) + getD end hi 0 ≤ 4097 + getD start hi 0)
       pub goes : {parent′ start′ end′ features′ targets′ left′ right′ : List ℕ} {at top : ℕ} →
           Joins lo hi parent₂ start end features targets left right used (count - 1) parent′ start′ end′ features′ targets′ left′ right′ at top →

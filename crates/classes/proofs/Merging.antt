@@ -4,13 +4,13 @@ use mathlib.Core.Path.{_≡_, refl, sym, _∙_, ap, subst}
 use mathlib.Core.Bool.{Bool, cond}
 use mathlib.Core.List.{List}
 use mathlib.Core.Logic.{_⊎_, inl, inr, ⊎-elim}
-use Prim.Native.Nat.{ℕ, zero, suc, _+_, _-_, _≤_, _<_}
+use Prim.Native.Nat.{ℕ, zero, suc, _+_, _≤_, _<_}
 use native.Mathlib.Decide.{decLt}
 use native.Mathlib.Numerals.{add-one}
 use native.Mathlib.Omega.{arith}
 use borrow.Author.Tests.{lt-ltb, le-ltb}
 use lib.ListN.{length, getD, set, length-set}
-use Rattle.classes.specs.Merge.{Span, Merged, Copies, featureAt}
+use Rattle.classes.specs.Merge.{Room, Span, Merged, Copies, featureAt}
 use Rattle.classes.proofs.Roots.{stored, unstored}
 
 -- the feature at a place, inside a row and past its end
@@ -231,8 +231,7 @@ module _ (a₀ a₁ b₀ b₁ : ℕ) (fs ts ls rs : List ℕ) (used count : ℕ)
             )
 
     -- The three ways to go on: f and g are the next features of the two rows, 64 past a row's end.
-    module _ (fs-long : length fs ≡ 36672) (ts-long : length ts ≡ 36672) (a : Span fs used a₀ a₁) (b : Span fs used b₀ b₁)
-        (roomy : used + 64 ≤ 36672) {f g : ℕ} (f-is : f ≡ featureAt fs′ i a₁) (g-is : g ≡ featureAt fs′ j b₁) where
+    module _ (places : Room (used + 64) fs ts) (a : Span fs used a₀ a₁) (b : Span fs used b₀ b₁) {f g : ℕ} (f-is : f ≡ featureAt fs′ i a₁) (g-is : g ≡ featureAt fs′ j b₁) where
       f-in : i < a₁ → f ≡ getD fs i 0
       f-in h = f-is ∙ feature-in fs′ i a₁ h ∙ m .features-kept i (omega (arith, a .before))
 
@@ -259,14 +258,13 @@ module _ (a₀ a₁ b₀ b₁ : ℕ) (fs ts ls rs : List ℕ) (used count : ℕ)
       b-target : j < b₁ → getD ts′ j 0 ≡ getD ts j 0
       b-target h = m .targets-kept j (omega (arith, b .before))
 
-      space : (h : ℕ) → h < 64 → ((k : ℕ) → used ≤ k → k < at → getD fs′ k 0 < h) → at < 36672
-      space h small above = omega (arith, room h above)
+      -- the next place is there
+      abbrev Space : Type 0
+      Space = (at < length fs′) × (at < length ts′)
 
-      fs-space : at < 36672 → at < length fs′
-      fs-space h = omega (arith, m .features-long)
-
-      ts-space : at < 36672 → at < length ts′
-      ts-space h = omega (arith, m .targets-long)
+      space : (h : ℕ) → h < 64 → ((k : ℕ) → used ≤ k → k < at → getD fs′ k 0 < h) → Space
+      space h small above =
+          (omega (arith, room h above, m .features-long, places .0), omega (arith, room h above, m .targets-long, places .1))
 
       over-f : i < a₁ → (k : ℕ) → used ≤ k → k < at → getD fs′ k 0 < f
       over-f h k low high = omega (arith, f-in h, s .under-a k low high h)
@@ -274,24 +272,24 @@ module _ (a₀ a₁ b₀ b₁ : ℕ) (fs ts ls rs : List ℕ) (used count : ℕ)
       over-g : j < b₁ → (k : ℕ) → used ≤ k → k < at → getD fs′ k 0 < g
       over-g h k low high = omega (arith, g-in h, s .under-b k low high h)
 
-      pub left-in : f < g → (i < a₁) × (at < 36672)
+      pub left-in : f < g → (i < a₁) × Space
       left-in h =
           let l : i < a₁ = f-most .1 (omega (arith, g-most .0)) in
           (l, space f (omega (arith, g-most .0)) (over-f l))
 
-      pub right-in : g < f → (j < b₁) × (at < 36672)
+      pub right-in : g < f → (j < b₁) × Space
       right-in h =
           let l : j < b₁ = g-most .1 (omega (arith, f-most .0)) in
           (l, space g (omega (arith, f-most .0)) (over-g l))
 
-      pub both-in : i + j < a₁ + b₁ → f ≡ g → (i < a₁) × (j < b₁) × (at < 36672)
+      pub both-in : i + j < a₁ + b₁ → f ≡ g → (i < a₁) × (j < b₁) × Space
       both-in h e = go (decLt f 64)
         where
-          go : Dec (f < 64) → (i < a₁) × (j < b₁) × (at < 36672)
+          go : Dec (f < 64) → (i < a₁) × (j < b₁) × Space
           go (yes l) = let k : i < a₁ = f-most .1 l in (k, g-most .1 (omega arith), space f l (over-f k))
           go (no n) = some (decLt i a₁) (decLt j b₁)
             where
-              some : Dec (i < a₁) → Dec (j < b₁) → (i < a₁) × (j < b₁) × (at < 36672)
+              some : Dec (i < a₁) → Dec (j < b₁) → (i < a₁) × (j < b₁) × Space
               some (yes l) d = absurd (omega (arith, f-in l, a .known i (s .a-low) l))
               some (no k) (yes l) = absurd (omega (arith, g-in l, b .known j (s .b-low) l))
               some (no k) (no l) = absurd (omega arith)
@@ -299,7 +297,7 @@ module _ (a₀ a₁ b₀ b₁ : ℕ) (fs ts ls rs : List ℕ) (used count : ℕ)
       pub merge-left : f < g → Merging (set fs′ at f) (set ts′ at (getD ts′ i 0)) ls′ rs′ (i + 1) j (at + 1) top
       merge-left less =
           rw (add-one i, add-one at)
-          (merge-link (fs-space (left-in less .1)) (ts-space (left-in less .1))
+          (merge-link (left-in less .1 .0) (left-in less .1 .1)
           (record {
             above = over-f l;
             a-next = omega arith;
@@ -329,7 +327,7 @@ module _ (a₀ a₁ b₀ b₁ : ℕ) (fs ts ls rs : List ℕ) (used count : ℕ)
       pub merge-right : g < f → Merging (set fs′ at g) (set ts′ at (getD ts′ j 0)) ls′ rs′ i (j + 1) (at + 1) top
       merge-right less =
           rw (add-one j, add-one at)
-          (merge-link (fs-space (right-in less .1)) (ts-space (right-in less .1))
+          (merge-link (right-in less .1 .0) (right-in less .1 .1)
           (record {
             above = over-g l;
             a-next = omega arith;
@@ -364,7 +362,7 @@ module _ (a₀ a₁ b₀ b₁ : ℕ) (fs ts ls rs : List ℕ) (used count : ℕ)
           (at + 1) (top + 1)
       merge-both left e ls-room rs-room =
           rw (add-one i, add-one j, add-one at, add-one top)
-          (merge-link (fs-space (both-in left e .2)) (ts-space (both-in left e .2))
+          (merge-link (both-in left e .2 .0) (both-in left e .2 .1)
           (record {
             above = over-f l;
             a-next = omega arith;

@@ -6,7 +6,7 @@ use mathlib.Core.List.{List}
 use Prim.Native.Nat.{ℕ, zero, suc, _+_, _-_, _≤_, _<_}
 use lib.Dec.{eqb}
 use lib.ListN.{length, getD, set}
-use Rattle.classes.specs.Merge.{Span, Merged}
+use Rattle.classes.specs.Merge.{Room, Span, Merged}
 
 -- the sum of the first n values of a function
 unfoldable pub sumTo : ℕ → (ℕ → ℕ) → ℕ
@@ -27,8 +27,6 @@ pub record Rows (nodes : ℕ) (start end features targets : List ℕ) (used : �
   pub few : nodes ≤ 510
   pub start-long : length start ≡ 510
   pub end-long : length end ≡ 510
-  pub features-long : length features ≡ 36672
-  pub targets-long : length targets ≡ 36672
   pub span : (x : ℕ) → x < nodes → Span features used (getD start x 0) (getD end x 0)
   pub within : (x k : ℕ) → x < nodes → At start end x k → getD targets k 0 < nodes
 
@@ -52,7 +50,8 @@ pub record Closed (nodes second : ℕ) (start end features targets : List ℕ) (
   pub related : (x : ℕ) → x < nodes → Same nodes second start end features targets x (getD class x 0)
   pub together : getD class 0 0 ≡ getD class second 0
   pub rows : Rows nodes start′ end′ features′ targets′ used
-  pub room : used ≤ 36672
+  pub bounded : used ≤ 36672
+  pub room : Room used features′ targets′
   pub short : sumTo nodes (rowLength (λ x. getD class x 0) start′ end′) ≤ 4096
   pub source : (c k : ℕ) → c < nodes → At start′ end′ c k →
       (x : ℕ) × (j : ℕ) × (x < nodes) × At start end x j × Same nodes second start end features targets c x ×

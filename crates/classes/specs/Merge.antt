@@ -7,6 +7,10 @@ use Prim.Native.Nat.{ℕ, suc, _+_, _≤_, _<_}
 use lib.Dec.{ltb}
 use lib.ListN.{length, getD}
 
+-- There are places for n links.
+abbrev pub Room : ℕ → List ℕ → List ℕ → Type 0
+Room n features targets = (n ≤ length features) × (n ≤ length targets)
+
 -- A span of places with ascending features below 64, before the place `used`.
 pub record Span (features : List ℕ) (used start end : ℕ) : Type 0 where
   pub rising : start ≤ end

@@ -5,10 +5,10 @@ pub mod forest;
 pub mod rows;
 
 use crate::rows::Reach;
-ghost use Prim.Native.Nat.{_+_, _≤_, _<_};
+ghost use Prim.Native.Nat.{_+_, _*_, _-_, _≤_, _<_};
 ghost use lib.ListN.{length, getD};
 ghost use mathlib.Core.Path.{_≡_};
-ghost use Rattle.classes.specs.Merge.{Span};
+ghost use Rattle.classes.specs.Merge.{Room, Span};
 ghost use Rattle.classes.specs.Classes.{Closed, Joins, Rows, rowLength, sumTo};
 
 // Joins the class of `hi` to that of `lo`: the merged row comes at the end of the places used.
@@ -16,8 +16,8 @@ fn join(
     parent: &mut [u16; 510],
     start: &mut [u16; 510],
     end: &mut [u16; 510],
-    features: &mut [u8; 36672],
-    targets: &mut [u16; 36672],
+    features: &mut [u8],
+    targets: &mut [u16],
     left: &mut [u16; 4097],
     right: &mut [u16; 4097],
     lo: usize,
@@ -26,7 +26,7 @@ fn join(
     count: usize,
 ) -> Reach
     requires { ⌜ (lo < 510) × (hi < 510) × (length (now parent) ≡ 510) × (length (now start) ≡ 510) × (length (now end) ≡ 510) ⌝ }
-    requires { ⌜ (length (now features) ≡ 36672) × (length (now targets) ≡ 36672) ⌝ }
+    requires { ⌜ Room (used + 64) (now features) (now targets) ⌝ }
     requires { ⌜ (length (now left) ≡ 4097) × (length (now right) ≡ 4097) ⌝ }
     requires { ⌜ Span (now features) used (getD (now start) lo 0) (getD (now end) lo 0) ⌝ }
     requires { ⌜ Span (now features) used (getD (now start) hi 0) (getD (now end) hi 0) ⌝ }
@@ -55,20 +55,22 @@ fn join(
     reach
 }
 
-// Merges from the nodes 0 and `second` down. Then `class` gives the lowest node of each class.
+// Merges from the nodes 0 and `second` down. Then `class` gives the lowest node of each class. A join takes up to 64 places, and
+// there are fewer joins than nodes.
 pub fn close(
     nodes: usize,
     second: usize,
     class: &mut [u16; 510],
     start: &mut [u16; 510],
     end: &mut [u16; 510],
-    features: &mut [u8; 36672],
-    targets: &mut [u16; 36672],
+    features: &mut [u8],
+    targets: &mut [u16],
     links: usize,
 ) -> usize
     requires { ⌜ Rows nodes (now start) (now end) (now features) (now targets) links ⌝ }
     requires { ⌜ (second < nodes) × (links ≤ 4096) × (length (now class) ≡ 510) ⌝ }
     requires { ⌜ sumTo nodes (rowLength (λ x. x) (now start) (now end)) ≤ 4096 ⌝ }
+    requires { ⌜ Room (links + 64 * (nodes - 1)) (now features) (now targets) ⌝ }
     ensures { λ r. ⌜ Closed nodes second (now (start .entry)) (now (end .entry)) (now (features .entry)) (now (targets .entry)) (now (class .exit)) (now (start .exit)) (now (end .exit)) (now (features .exit)) (now (targets .exit)) r ⌝ }
 {
     let mut left = [0u16; 4097];

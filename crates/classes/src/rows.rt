@@ -3,7 +3,7 @@
 ghost use Prim.Native.Nat.{_+_, _≤_};
 ghost use lib.ListN.{length};
 ghost use mathlib.Core.Path.{_≡_};
-ghost use Rattle.classes.specs.Merge.{Merged, Span, featureAt};
+ghost use Rattle.classes.specs.Merge.{Merged, Room, Span, featureAt};
 
 // How many places are used, and how many pairs wait.
 pub struct Reach {
@@ -12,8 +12,8 @@ pub struct Reach {
 }
 
 // The feature at a place of a row, 64 past its end.
-fn feature_at(features: &[u8; 36672], k: usize, end: usize) -> u8
-    requires { ⌜ (length (now features) ≡ 36672) × (end ≤ 36672) ⌝ }
+fn feature_at(features: &[u8], k: usize, end: usize) -> u8
+    requires { ⌜ end ≤ length (now features) ⌝ }
     ensures { λ r. ⌜ r ≡ featureAt (now (features .entry)) k end ⌝ }
 {
     if k < end {
@@ -24,8 +24,8 @@ fn feature_at(features: &[u8; 36672], k: usize, end: usize) -> u8
 
 // Merges a row and a second one into one at the places from `used` on.
 pub fn merge(
-    features: &mut [u8; 36672],
-    targets: &mut [u16; 36672],
+    features: &mut [u8],
+    targets: &mut [u16],
     left: &mut [u16; 4097],
     right: &mut [u16; 4097],
     a_start: usize,
@@ -35,7 +35,7 @@ pub fn merge(
     used: usize,
     count: usize,
 ) -> Reach
-    requires { ⌜ (length (now features) ≡ 36672) × (length (now targets) ≡ 36672) ⌝ }
+    requires { ⌜ Room (used + 64) (now features) (now targets) ⌝ }
     requires { ⌜ (length (now left) ≡ 4097) × (length (now right) ≡ 4097) ⌝ }
     requires { ⌜ Span (now features) used «a_start» «a_end» ⌝ }
     requires { ⌜ Span (now features) used «b_start» «b_end» ⌝ }

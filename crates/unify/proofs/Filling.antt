@@ -9,6 +9,7 @@ use native.Mathlib.Omega.{arith}
 use borrow.Author.Tests.{eq-eqb}
 use lib.Dec.{eqb}
 use lib.ListN.{length, getD, set, length-set}
+use Rattle.classes.specs.Merge.{Room}
 use Rattle.classes.specs.Classes.{At, rowLength, sumTo}
 use Rattle.classes.proofs.Roots.{stored, unstored}
 use Rattle.classes.proofs.Sums.{sum-prefix}
@@ -17,7 +18,7 @@ use Rattle.unify.specs.Rows.{RowCopied, ClassRows, rowEnd}
 -- What filling asks of the classes' rows.
 pub record Fillable (nodes : ℕ) (class start end pf pt : List ℕ) : Type 0 where
   pub few : nodes ≤ 510
-  pub rising : (x : ℕ) → x < nodes → (getD start x 0 ≤ getD end x 0) × (getD end x 0 ≤ 36672)
+  pub rising : (x : ℕ) → x < nodes → (getD start x 0 ≤ getD end x 0) × (getD end x 0 ≤ 36672) × Room (getD end x 0) pf pt
   pub within : (x k : ℕ) → x < nodes → At start end x k → getD pt k 0 < 510
   pub short : sumTo nodes (rowLength (λ y. getD class y 0) start end) ≤ 4096
 
@@ -68,14 +69,14 @@ module _ {nodes : ℕ} {class start end pf pt : List ℕ} (given : Fillable node
   ends = row-end-is class start end x (given .rising x more .0)
 
   -- what copying the row asks
-  pub fill-asks : ((getD start x 0 ≤ rowEnd class start end x) × (rowEnd class start end x ≤ 36672) ×
+  pub fill-asks : ((getD start x 0 ≤ rowEnd class start end x) × Room (rowEnd class start end x) pf pt ×
       (links + rowEnd class start end x ≤ 4096 + getD start x 0)) ×
       ((k : ℕ) → getD start x 0 ≤ k → k < rowEnd class start end x → getD pt k 0 < 510)
   unfolding sumTo
   fill-asks = (
     (
       omega (arith, ends .0),
-      omega (arith, ends .1, given .rising x more .1),
+      (omega (arith, ends .1, given .rising x more .2 .0), omega (arith, ends .1, given .rising x more .2 .1)),
       omega (
         arith,
         ends .0,

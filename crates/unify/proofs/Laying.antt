@@ -52,7 +52,7 @@ module _ {N : ℕ} {a-first a-features a-targets : List ℕ} (a : Shape N a-firs
       plus k = omega arith
 
   module _ {start end pf pt : List ℕ} (s : Beside N a-first a-features a-targets M b-first b-features b-targets start end pf pt)
-      (start-long : length start ≡ 510) (end-long : length end ≡ 510) (pf-long : length pf ≡ 36672) (pt-long : length pt ≡ 36672) where
+      (start-long : length start ≡ 510) (end-long : length end ≡ 510) where
     a-last : (v : ℕ) → v < N → getD a-first (suc v) 0 ≤ getD a-first N 0
     a-last v h = ends (a .laid) v h
 
@@ -116,8 +116,6 @@ module _ {N : ℕ} {a-first a-features a-targets : List ℕ} (a : Shape N a-firs
           few = omega (arith, a .small, b .small);
           start-long = start-long;
           end-long = end-long;
-          features-long = pf-long;
-          targets-long = pt-long;
           span = λ x h. span x h (decLt x N);
           within = λ x k h place. within x k h place (decLt x N);
         }
@@ -178,7 +176,11 @@ pub closed-fillable : {nodes second : ℕ} {start end pf pt class start′ end�
 closed-fillable c =
     record {
       few = c .rows .few;
-      rising = λ x h. (c .rows .span x h .rising, omega (arith, c .rows .span x h .before, c .room));
+      rising = λ x h. (
+        c .rows .span x h .rising,
+        omega (arith, c .rows .span x h .before, c .bounded),
+        (omega (arith, c .rows .span x h .before, c .room .0), omega (arith, c .rows .span x h .before, c .room .1)),
+      );
       within = λ x k h place. omega (arith, c .rows .within x k h place, c .rows .few);
       short = c .short;
     }

@@ -2,7 +2,7 @@
 use mathlib.Core.Path.{_≡_}
 use mathlib.Core.Bool.{cond}
 use mathlib.Core.List.{List}
-use Prim.Native.Nat.{ℕ, suc, _+_, _≤_, _<_}
+use Prim.Native.Nat.{ℕ, suc, _+_, _-_, _*_, _≤_, _<_}
 use lib.Dec.{eqb}
 use lib.ListN.{length, getD}
 use Rattle.visits.specs.Arrays.{Laid}
@@ -16,6 +16,10 @@ pub record Shape (nodes : ℕ) (first features targets : List ℕ) : Type 0 wher
   pub known : (k : ℕ) → k < getD first nodes 0 → getD features k 0 < 64
   pub ascending : (v k : ℕ) → v < nodes → getD first v 0 ≤ k → suc k < getD first (suc v) 0 → getD features k 0 < getD features (suc k) 0
   pub within : (k : ℕ) → k < getD first nodes 0 → getD targets k 0 < nodes
+
+-- the places that merging two graphs may take: their links, and up to 64 for each merge, of which there are fewer than nodes
+abbrev pub placesFor : ℕ → List ℕ → ℕ → List ℕ → ℕ
+placesFor a-nodes a-first b-nodes b-first = (getD a-first a-nodes 0 + getD b-first b-nodes 0) + 64 * ((a-nodes + b-nodes) - 1)
 
 -- The links of a graph stand at the places from `at` on, each target moved by `shift`; what stood before is kept.
 pub record LinksCopied (features targets : List ℕ) (links at shift : ℕ) (pool-features pool-targets pool-features′ pool-targets′ : List ℕ) :

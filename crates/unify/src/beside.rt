@@ -1,8 +1,9 @@
 // Two graphs side by side: the links of one after those of the other, each node's as a span of places.
 
-ghost use Prim.Native.Nat.{ℕ, _≤_, _<_};
+ghost use Prim.Native.Nat.{ℕ, _+_, _≤_, _<_};
 ghost use lib.ListN.{length, getD};
 ghost use mathlib.Core.Path.{_≡_};
+ghost use Rattle.classes.specs.Merge.{Room};
 ghost use Rattle.unify.specs.Rows.{LinksCopied, SpansCopied};
 
 // Copies a graph's links to the places from `at` on, each target moved by `shift`.
@@ -12,12 +13,12 @@ pub fn copy_links<'a>(
     links: usize,
     at: usize,
     shift: usize,
-    pool_features: &mut [u8; 36672],
-    pool_targets: &mut [u16; 36672],
+    pool_features: &mut [u8],
+    pool_targets: &mut [u16],
 )
     requires { ⌜ (links ≤ 2048) × (at ≤ 2048) × (shift ≤ 255) ⌝ }
     requires { ⌜ ((k : ℕ) → k < links → getD (now targets) k 0 < 255) ⌝ }
-    requires { ⌜ (length (now «pool_features») ≡ 36672) × (length (now «pool_targets») ≡ 36672) ⌝ }
+    requires { ⌜ Room (at + links) (now «pool_features») (now «pool_targets») ⌝ }
     ensures { λ _. ⌜ LinksCopied (now (features .entry)) (now (targets .entry)) links at shift (now («pool_features» .entry)) (now («pool_targets» .entry)) (now («pool_features» .exit)) (now («pool_targets» .exit)) ⌝ }
 {
     let mut k = 0;

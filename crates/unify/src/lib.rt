@@ -14,9 +14,10 @@ ghost use Rattle.graphs.specs.Graph.{Reached};
 ghost use Rattle.graphs.specs.Rows.{from};
 ghost use Rattle.graphs.specs.Unify.{unification};
 ghost use Rattle.visits.specs.Arrays.{Sound, graphOfRows, rowsOf};
+ghost use Rattle.classes.specs.Merge.{Room};
 ghost use Rattle.unify.specs.Lowered.{MeetsBelow};
 ghost use Rattle.unify.specs.Outcome.{combinedOf, meetsOf, unifiedOut};
-ghost use Rattle.unify.specs.Rows.{Merges, Shape};
+ghost use Rattle.unify.specs.Rows.{Merges, Shape, placesFor};
 
 // What unifying answers: the record's length, or document 01's refusals 9, 10, 11 and 8.
 pub enum Combined {
@@ -27,7 +28,161 @@ pub enum Combined {
     NoRoom,
 }
 
-// Finds the classes of the nodes of both graphs, and the rows of the graph of the classes.
+// Finds the classes of the nodes of both graphs, and the rows of the graph of the classes. The pools take the links of both graphs
+// and the rows of merged classes.
+fn class_rows_within<'a>(
+    a_nodes: usize,
+    a_first: &'a [u16; 256],
+    a_features: &'a [u8; 2048],
+    a_targets: &'a [u16; 2048],
+    b_nodes: usize,
+    b_first: &'a [u16; 256],
+    b_features: &'a [u8; 2048],
+    b_targets: &'a [u16; 2048],
+    class: &mut [u16; 510],
+    first: &mut [u16; 511],
+    features: &mut [u8; 4096],
+    targets: &mut [u16; 4096],
+    pool_features: &mut [u8],
+    pool_targets: &mut [u16],
+)
+    requires { ⌜ Shape «a_nodes» (now «a_first») (now «a_features») (now «a_targets») ⌝ }
+    requires { ⌜ Shape «b_nodes» (now «b_first») (now «b_features») (now «b_targets») ⌝ }
+    requires { ⌜ (length (now class) ≡ 510) × (length (now first) ≡ 511) × (length (now features) ≡ 4096) × (length (now targets) ≡ 4096) ⌝ }
+    requires { ⌜ Room (placesFor «a_nodes» (now «a_first») «b_nodes» (now «b_first»)) (now «pool_features») (now «pool_targets») ⌝ }
+    ensures { λ _. ⌜ Merges «a_nodes» (now («a_first» .entry)) (now («a_features» .entry)) (now («a_targets» .entry)) «b_nodes» (now («b_first» .entry)) (now («b_features» .entry)) (now («b_targets» .entry)) (now (class .exit)) (now (first .exit)) (now (features .exit)) (now (targets .exit)) ⌝ }
+{
+    let mut start = [0u16; 510];
+    let mut end = [0u16; 510];
+    let a_links = a_first[a_nodes] as usize;
+    let b_links = b_first[b_nodes] as usize;
+    beside::copy_links(
+        a_features,
+        a_targets,
+        a_links,
+        0,
+        0,
+        pool_features,
+        pool_targets,
+    );
+    beside::copy_links(
+        b_features,
+        b_targets,
+        b_links,
+        a_links,
+        a_nodes,
+        pool_features,
+        pool_targets,
+    );
+    beside::copy_spans(a_first, a_nodes, 0, 0, &mut start, &mut end);
+    beside::copy_spans(b_first, b_nodes, a_links, a_nodes, &mut start, &mut end);
+    let nodes = a_nodes + b_nodes;
+    let links = a_links + b_links;
+    classes::close(
+        nodes,
+        a_nodes,
+        class,
+        &mut start,
+        &mut end,
+        pool_features,
+        pool_targets,
+        links,
+    );
+    quotient::quotient(
+        nodes,
+        class,
+        &start,
+        &end,
+        pool_features,
+        pool_targets,
+        first,
+        features,
+        targets,
+    );
+}
+
+// The same with pools for small graphs.
+fn class_rows_small<'a>(
+    a_nodes: usize,
+    a_first: &'a [u16; 256],
+    a_features: &'a [u8; 2048],
+    a_targets: &'a [u16; 2048],
+    b_nodes: usize,
+    b_first: &'a [u16; 256],
+    b_features: &'a [u8; 2048],
+    b_targets: &'a [u16; 2048],
+    class: &mut [u16; 510],
+    first: &mut [u16; 511],
+    features: &mut [u8; 4096],
+    targets: &mut [u16; 4096],
+)
+    requires { ⌜ Shape «a_nodes» (now «a_first») (now «a_features») (now «a_targets») ⌝ }
+    requires { ⌜ Shape «b_nodes» (now «b_first») (now «b_features») (now «b_targets») ⌝ }
+    requires { ⌜ (length (now class) ≡ 510) × (length (now first) ≡ 511) × (length (now features) ≡ 4096) × (length (now targets) ≡ 4096) ⌝ }
+    requires { ⌜ placesFor «a_nodes» (now «a_first») «b_nodes» (now «b_first») ≤ 5376 ⌝ }
+    ensures { λ _. ⌜ Merges «a_nodes» (now («a_first» .entry)) (now («a_features» .entry)) (now («a_targets» .entry)) «b_nodes» (now («b_first» .entry)) (now («b_features» .entry)) (now («b_targets» .entry)) (now (class .exit)) (now (first .exit)) (now (features .exit)) (now (targets .exit)) ⌝ }
+{
+    let mut pool_features = [0u8; 5376];
+    let mut pool_targets = [0u16; 5376];
+    class_rows_within(
+        a_nodes,
+        a_first,
+        a_features,
+        a_targets,
+        b_nodes,
+        b_first,
+        b_features,
+        b_targets,
+        class,
+        first,
+        features,
+        targets,
+        &mut pool_features,
+        &mut pool_targets,
+    );
+}
+
+// The same with pools for any two graphs.
+fn class_rows_full<'a>(
+    a_nodes: usize,
+    a_first: &'a [u16; 256],
+    a_features: &'a [u8; 2048],
+    a_targets: &'a [u16; 2048],
+    b_nodes: usize,
+    b_first: &'a [u16; 256],
+    b_features: &'a [u8; 2048],
+    b_targets: &'a [u16; 2048],
+    class: &mut [u16; 510],
+    first: &mut [u16; 511],
+    features: &mut [u8; 4096],
+    targets: &mut [u16; 4096],
+)
+    requires { ⌜ Shape «a_nodes» (now «a_first») (now «a_features») (now «a_targets») ⌝ }
+    requires { ⌜ Shape «b_nodes» (now «b_first») (now «b_features») (now «b_targets») ⌝ }
+    requires { ⌜ (length (now class) ≡ 510) × (length (now first) ≡ 511) × (length (now features) ≡ 4096) × (length (now targets) ≡ 4096) ⌝ }
+    ensures { λ _. ⌜ Merges «a_nodes» (now («a_first» .entry)) (now («a_features» .entry)) (now («a_targets» .entry)) «b_nodes» (now («b_first» .entry)) (now («b_features» .entry)) (now («b_targets» .entry)) (now (class .exit)) (now (first .exit)) (now (features .exit)) (now (targets .exit)) ⌝ }
+{
+    let mut pool_features = [0u8; 36672];
+    let mut pool_targets = [0u16; 36672];
+    class_rows_within(
+        a_nodes,
+        a_first,
+        a_features,
+        a_targets,
+        b_nodes,
+        b_first,
+        b_features,
+        b_targets,
+        class,
+        first,
+        features,
+        targets,
+        &mut pool_features,
+        &mut pool_targets,
+    );
+}
+
+// The same with pools no larger than the graphs ask for: a merge takes up to 64 places, and there are fewer merges than nodes.
 fn class_rows<'a>(
     a_nodes: usize,
     a_first: &'a [u16; 256],
@@ -47,55 +202,39 @@ fn class_rows<'a>(
     requires { ⌜ (length (now class) ≡ 510) × (length (now first) ≡ 511) × (length (now features) ≡ 4096) × (length (now targets) ≡ 4096) ⌝ }
     ensures { λ _. ⌜ Merges «a_nodes» (now («a_first» .entry)) (now («a_features» .entry)) (now («a_targets» .entry)) «b_nodes» (now («b_first» .entry)) (now («b_features» .entry)) (now («b_targets» .entry)) (now (class .exit)) (now (first .exit)) (now (features .exit)) (now (targets .exit)) ⌝ }
 {
-    let mut start = [0u16; 510];
-    let mut end = [0u16; 510];
-    let mut pool_features = [0u8; 36672];
-    let mut pool_targets = [0u16; 36672];
-    let a_links = a_first[a_nodes] as usize;
-    let b_links = b_first[b_nodes] as usize;
-    beside::copy_links(
-        a_features,
-        a_targets,
-        a_links,
-        0,
-        0,
-        &mut pool_features,
-        &mut pool_targets,
-    );
-    beside::copy_links(
-        b_features,
-        b_targets,
-        b_links,
-        a_links,
-        a_nodes,
-        &mut pool_features,
-        &mut pool_targets,
-    );
-    beside::copy_spans(a_first, a_nodes, 0, 0, &mut start, &mut end);
-    beside::copy_spans(b_first, b_nodes, a_links, a_nodes, &mut start, &mut end);
+    let links = a_first[a_nodes] as usize + b_first[b_nodes] as usize;
     let nodes = a_nodes + b_nodes;
-    let links = a_links + b_links;
-    classes::close(
-        nodes,
-        a_nodes,
-        class,
-        &mut start,
-        &mut end,
-        &mut pool_features,
-        &mut pool_targets,
-        links,
-    );
-    quotient::quotient(
-        nodes,
-        class,
-        &start,
-        &end,
-        &pool_features,
-        &pool_targets,
-        first,
-        features,
-        targets,
-    );
+    if links + 64 * (nodes - 1) <= 5376 {
+        class_rows_small(
+            a_nodes,
+            a_first,
+            a_features,
+            a_targets,
+            b_nodes,
+            b_first,
+            b_features,
+            b_targets,
+            class,
+            first,
+            features,
+            targets,
+        );
+    } else {
+        class_rows_full(
+            a_nodes,
+            a_first,
+            a_features,
+            a_targets,
+            b_nodes,
+            b_first,
+            b_features,
+            b_targets,
+            class,
+            first,
+            features,
+            targets,
+        );
+    }
 }
 
 // What writing the unification answers.

@@ -5,20 +5,21 @@ ghost use Prim.Native.Nat.{ℕ, _+_, _≤_, _<_};
 ghost use lib.ListN.{length, getD};
 ghost use mathlib.Core.Path.{_≡_};
 ghost use Rattle.classes.specs.Classes.{At, rowLength, sumTo};
+ghost use Rattle.classes.specs.Merge.{Room};
 ghost use Rattle.unify.specs.Rows.{ClassRows, RowCopied, rowEnd};
 
 // Copies a row to the places from `at` on, each target by its class. Answers the next place.
 pub fn copy_row<'a>(
     class: &'a [u16; 510],
-    pool_features: &'a [u8; 36672],
-    pool_targets: &'a [u16; 36672],
+    pool_features: &'a [u8],
+    pool_targets: &'a [u16],
     start: usize,
     end: usize,
     at: usize,
     features: &mut [u8; 4096],
     targets: &mut [u16; 4096],
 ) -> usize
-    requires { ⌜ (start ≤ end) × (end ≤ 36672) × (at + end ≤ 4096 + start) ⌝ }
+    requires { ⌜ (start ≤ end) × Room end (now «pool_features») (now «pool_targets») × (at + end ≤ 4096 + start) ⌝ }
     requires { ⌜ ((k : ℕ) → start ≤ k → k < end → getD (now «pool_targets») k 0 < 510) ⌝ }
     requires { ⌜ (length (now features) ≡ 4096) × (length (now targets) ≡ 4096) ⌝ }
     ensures { λ r. ⌜ RowCopied (now (class .entry)) (now («pool_features» .entry)) (now («pool_targets» .entry)) start end at (now (features .entry)) (now (targets .entry)) (now (features .exit)) (now (targets .exit)) r ⌝ }
@@ -59,8 +60,8 @@ pub fn quotient<'a>(
     class: &'a [u16; 510],
     start: &'a [u16; 510],
     end: &'a [u16; 510],
-    pool_features: &'a [u8; 36672],
-    pool_targets: &'a [u16; 36672],
+    pool_features: &'a [u8],
+    pool_targets: &'a [u16],
     first: &mut [u16; 511],
     features: &mut [u8; 4096],
     targets: &mut [u16; 4096],
@@ -68,7 +69,7 @@ pub fn quotient<'a>(
     requires { ⌜ nodes ≤ 510 ⌝ }
     requires { ⌜ (length (now first) ≡ 511) × (length (now features) ≡ 4096) × (length (now targets) ≡ 4096) ⌝ }
     requires { ⌜ ((x : ℕ) → x < nodes → getD (now class) x 0 < 510) ⌝ }
-    requires { ⌜ ((x : ℕ) → x < nodes → (getD (now start) x 0 ≤ getD (now end) x 0) × (getD (now end) x 0 ≤ 36672)) ⌝ }
+    requires { ⌜ ((x : ℕ) → x < nodes → (getD (now start) x 0 ≤ getD (now end) x 0) × (getD (now end) x 0 ≤ 36672) × Room (getD (now end) x 0) (now «pool_features») (now «pool_targets»)) ⌝ }
     requires { ⌜ ((x k : ℕ) → x < nodes → At (now start) (now end) x k → getD (now «pool_targets») k 0 < 510) ⌝ }
     requires { ⌜ sumTo nodes (rowLength (λ y. getD (now class) y 0) (now start) (now end)) ≤ 4096 ⌝ }
     ensures { λ _. ⌜ ClassRows nodes (now (class .entry)) (now (start .entry)) (now (end .entry)) (now («pool_features» .entry)) (now («pool_targets» .entry)) (now (first .exit)) (now (features .exit)) (now (targets .exit)) ⌝ }

@@ -36,7 +36,7 @@ array-write-right : tie.Need-array-write-right Inv-loop μ-loop
 array-write-right c = search needs
 
 loop-holds : tie.Need-loop-holds Inv-loop μ-loop
-loop-holds c = let st = c .before .before in join-start (st .pre .0) (st .pre .1 .0 .0) (st .pre .1 .0 .1) (st .pre .1 .1) _ (replicate 4097 0) (replicate 4097 0) (c .separate .ensures .0) (c .separate .ensures .1) (length-replicate {A = ℕ} 4097 0) (length-replicate {A = ℕ} 4097 0) (getD-replicate {A = ℕ} 4097 0 0 0 (omega arith))
+loop-holds c = let st = c .before .before .before .before in join-start (st .pre .0) (st .pre .1 .0 .0) (st .pre .1 .0 .1) (st .pre .1 .1 .0) (st .pre .1 .1 .1) _ (replicate 4097 0) (replicate 4097 0) (c .separate .ensures .0) (c .separate .ensures .1) (length-replicate {A = ℕ} 4097 0) (length-replicate {A = ℕ} 4097 0) (getD-replicate {A = ℕ} 4097 0 0 0 (omega arith))
 
 sub-count : tie.Need-sub-count Inv-loop μ-loop
 sub-count c = search needs
@@ -66,22 +66,22 @@ find-requires-2 : tie.Need-find-requires-2 Inv-loop μ-loop
 find-requires-2 c κs = (c .before .find .ensures .1 .forest, right-small (c .before .before .before .before .loop .inv) (c .before .before .before .loop-test .taken))
 
 join-requires : tie.Need-join-requires Inv-loop μ-loop
-join-requires c κs = let s = c .before .before .before .before .before .before .before .before .before .before .before .before .before .loop .inv in let a = round-up (c .before .before .before .before .before .before .before .before .before .before .before .before .before .loop .inv) (c .before .before .before .before .before .before .before .before .before .before .before .before .loop-test .taken) (c .before .before .before .before .before .before .before .before .before .before .find .ensures .0) (c .before .before .before .before .before .before .before .before .before .before .find .ensures .1) (c .before .before .before .before .before .before .before .before .find2 .ensures .0) (c .before .before .before .before .before .before .before .before .find2 .ensures .1) (c .before .before .before .before .before .before .before .if1 .taken) .asks in ((a .0, a .1, c .before .before .before .before .before .before .before .before .find2 .ensures .1 .forest .long, s .rows .start-long, s .rows .end-long), ((s .rows .features-long, s .rows .targets-long), ((s .left-long, s .right-long), (a .2, (a .3, (a .4, a .5))))))
+join-requires c κs = let s = c .before .before .before .before .before .before .before .before .before .before .before .before .before .loop .inv in let a = round-up (c .before .before .before .before .before .before .before .before .before .before .before .before .before .loop .inv) (c .before .before .before .before .before .before .before .before .before .before .before .before .loop-test .taken) (c .before .before .before .before .before .before .before .before .before .before .find .ensures .0) (c .before .before .before .before .before .before .before .before .before .before .find .ensures .1) (c .before .before .before .before .before .before .before .before .find2 .ensures .0) (c .before .before .before .before .before .before .before .before .find2 .ensures .1) (c .before .before .before .before .before .before .before .if1 .taken) .asks in ((a .0, a .1, c .before .before .before .before .before .before .before .before .find2 .ensures .1 .forest .long, s .rows .start-long, s .rows .end-long), (a .5, ((s .left-long, s .right-long), (a .2, (a .3, (a .4, a .6))))))
 
 loop-less : tie.Need-loop-less Inv-loop μ-loop
-loop-less c = round-up (c .before .before .before .before .before .before .before .before .before .before .before .before .before .before .loop .inv) (c .before .before .before .before .before .before .before .before .before .before .before .before .before .loop-test .taken) (c .before .before .before .before .before .before .before .before .before .before .before .find .ensures .0) (c .before .before .before .before .before .before .before .before .before .before .before .find .ensures .1) (c .before .before .before .before .before .before .before .before .before .find2 .ensures .0) (c .before .before .before .before .before .before .before .before .before .find2 .ensures .1) (c .before .before .before .before .before .before .before .before .if1 .taken) .falls (c .join .ensures)
+loop-less c = round-up (c .before .before .before .before .before .before .before .before .before .before .before .before .before .before .before .before .before .before .loop .inv) (c .before .before .before .before .before .before .before .before .before .before .before .before .before .before .before .before .before .loop-test .taken) (c .before .before .before .before .before .before .before .before .before .before .before .before .before .before .before .find .ensures .0) (c .before .before .before .before .before .before .before .before .before .before .before .before .before .before .before .find .ensures .1) (c .before .before .before .before .before .before .before .before .before .before .before .before .before .find2 .ensures .0) (c .before .before .before .before .before .before .before .before .before .before .before .before .before .find2 .ensures .1) (c .before .before .before .before .before .before .before .before .before .before .before .before .if1 .taken) .falls (c .before .before .before .before .join .ensures)
 
 loop-again : tie.Need-loop-again Inv-loop μ-loop
-loop-again c = round-up (c .before .before .before .before .before .before .before .before .before .before .before .before .before .before .loop .inv) (c .before .before .before .before .before .before .before .before .before .before .before .before .before .loop-test .taken) (c .before .before .before .before .before .before .before .before .before .before .before .find .ensures .0) (c .before .before .before .before .before .before .before .before .before .before .before .find .ensures .1) (c .before .before .before .before .before .before .before .before .before .find2 .ensures .0) (c .before .before .before .before .before .before .before .before .before .find2 .ensures .1) (c .before .before .before .before .before .before .before .before .if1 .taken) .goes (c .join .ensures)
+loop-again c = round-up (c .before .before .before .before .before .before .before .before .before .before .before .before .before .before .before .before .before .before .loop .inv) (c .before .before .before .before .before .before .before .before .before .before .before .before .before .before .before .before .before .loop-test .taken) (c .before .before .before .before .before .before .before .before .before .before .before .before .before .before .before .find .ensures .0) (c .before .before .before .before .before .before .before .before .before .before .before .before .before .before .before .find .ensures .1) (c .before .before .before .before .before .before .before .before .before .before .before .before .before .find2 .ensures .0) (c .before .before .before .before .before .before .before .before .before .before .before .before .before .find2 .ensures .1) (c .before .before .before .before .before .before .before .before .before .before .before .before .if1 .taken) .goes (c .before .before .before .before .join .ensures)
 
 join-requires-2 : tie.Need-join-requires-2 Inv-loop μ-loop
-join-requires-2 c κs = let s = c .before .before .before .before .before .before .before .before .before .before .before .before .before .before .loop .inv in let a = round-down (c .before .before .before .before .before .before .before .before .before .before .before .before .before .before .loop .inv) (c .before .before .before .before .before .before .before .before .before .before .before .before .before .loop-test .taken) (c .before .before .before .before .before .before .before .before .before .before .before .find .ensures .0) (c .before .before .before .before .before .before .before .before .before .before .before .find .ensures .1) (c .before .before .before .before .before .before .before .before .before .find2 .ensures .0) (c .before .before .before .before .before .before .before .before .before .find2 .ensures .1) (c .before .before .before .before .before .before .before .if2 .taken) .asks in ((a .0, a .1, c .before .before .before .before .before .before .before .before .before .find2 .ensures .1 .forest .long, s .rows .start-long, s .rows .end-long), ((s .rows .features-long, s .rows .targets-long), ((s .left-long, s .right-long), (a .2, (a .3, (a .4, a .5))))))
+join-requires-2 c κs = let s = c .before .before .before .before .before .before .before .before .before .before .before .before .before .before .loop .inv in let a = round-down (c .before .before .before .before .before .before .before .before .before .before .before .before .before .before .loop .inv) (c .before .before .before .before .before .before .before .before .before .before .before .before .before .loop-test .taken) (c .before .before .before .before .before .before .before .before .before .before .before .find .ensures .0) (c .before .before .before .before .before .before .before .before .before .before .before .find .ensures .1) (c .before .before .before .before .before .before .before .before .before .find2 .ensures .0) (c .before .before .before .before .before .before .before .before .before .find2 .ensures .1) (c .before .before .before .before .before .before .before .if2 .taken) .asks in ((a .0, a .1, c .before .before .before .before .before .before .before .before .before .find2 .ensures .1 .forest .long, s .rows .start-long, s .rows .end-long), (a .5, ((s .left-long, s .right-long), (a .2, (a .3, (a .4, a .6))))))
 
 loop-less-2 : tie.Need-loop-less-2 Inv-loop μ-loop
-loop-less-2 c = round-down (c .before .before .before .before .before .before .before .before .before .before .before .before .before .before .before .loop .inv) (c .before .before .before .before .before .before .before .before .before .before .before .before .before .before .loop-test .taken) (c .before .before .before .before .before .before .before .before .before .before .before .before .find .ensures .0) (c .before .before .before .before .before .before .before .before .before .before .before .before .find .ensures .1) (c .before .before .before .before .before .before .before .before .before .before .find2 .ensures .0) (c .before .before .before .before .before .before .before .before .before .before .find2 .ensures .1) (c .before .before .before .before .before .before .before .before .if2 .taken) .falls (c .join2 .ensures)
+loop-less-2 c = round-down (c .before .before .before .before .before .before .before .before .before .before .before .before .before .before .before .before .before .before .before .loop .inv) (c .before .before .before .before .before .before .before .before .before .before .before .before .before .before .before .before .before .before .loop-test .taken) (c .before .before .before .before .before .before .before .before .before .before .before .before .before .before .before .before .find .ensures .0) (c .before .before .before .before .before .before .before .before .before .before .before .before .before .before .before .before .find .ensures .1) (c .before .before .before .before .before .before .before .before .before .before .before .before .before .before .find2 .ensures .0) (c .before .before .before .before .before .before .before .before .before .before .before .before .before .before .find2 .ensures .1) (c .before .before .before .before .before .before .before .before .before .before .before .before .if2 .taken) .falls (c .before .before .before .before .join2 .ensures)
 
 loop-again-2 : tie.Need-loop-again-2 Inv-loop μ-loop
-loop-again-2 c = round-down (c .before .before .before .before .before .before .before .before .before .before .before .before .before .before .before .loop .inv) (c .before .before .before .before .before .before .before .before .before .before .before .before .before .before .loop-test .taken) (c .before .before .before .before .before .before .before .before .before .before .before .before .find .ensures .0) (c .before .before .before .before .before .before .before .before .before .before .before .before .find .ensures .1) (c .before .before .before .before .before .before .before .before .before .before .find2 .ensures .0) (c .before .before .before .before .before .before .before .before .before .before .find2 .ensures .1) (c .before .before .before .before .before .before .before .before .if2 .taken) .goes (c .join2 .ensures)
+loop-again-2 c = round-down (c .before .before .before .before .before .before .before .before .before .before .before .before .before .before .before .before .before .before .before .loop .inv) (c .before .before .before .before .before .before .before .before .before .before .before .before .before .before .before .before .before .before .loop-test .taken) (c .before .before .before .before .before .before .before .before .before .before .before .before .before .before .before .before .find .ensures .0) (c .before .before .before .before .before .before .before .before .before .before .before .before .before .before .before .before .find .ensures .1) (c .before .before .before .before .before .before .before .before .before .before .before .before .before .before .find2 .ensures .0) (c .before .before .before .before .before .before .before .before .before .before .before .before .before .before .find2 .ensures .1) (c .before .before .before .before .before .before .before .before .before .before .before .before .if2 .taken) .goes (c .before .before .before .before .join2 .ensures)
 
 loop-less-3 : tie.Need-loop-less-3 Inv-loop μ-loop
 loop-less-3 c = round-even-less (c .before .before .before .before .before .before .before .loop .inv) (c .before .before .before .before .before .before .loop-test .taken) (c .before .before .before .before .find .ensures .0) (c .before .before .before .before .find .ensures .1) (c .before .before .find2 .ensures .0) (c .before .before .find2 .ensures .1)
@@ -92,8 +92,14 @@ loop-again-3 c = round-even (c .before .before .before .before .before .before .
 flatten-requires : tie.Need-flatten-requires Inv-loop μ-loop
 flatten-requires c κs = c .before .before .loop .inv .forest
 
+same-length : tie.Need-same-length Inv-loop μ-loop
+same-length c = search needs
+
+same-length-2 : tie.Need-same-length-2 Inv-loop μ-loop
+same-length-2 c = search needs
+
 returns : tie.Need-returns Inv-loop μ-loop
-returns c = let st = c .before .before .before .before .before .before in join-done (c .before .before .before .loop .inv) (st .pre .0) (st .pre .1 .0 .0) (omega (arith, c .before .before .loop-test .left)) (c .flatten .ensures .0) (c .flatten .ensures .1)
+returns c = let st = c .before .before .before .before .before .before .before .before in join-done (c .before .before .before .loop .inv) (st .pre .0) (st .pre .1 .0 .0) (omega (arith, c .before .before .loop-test .left)) (c .flatten .ensures .0) (c .flatten .ensures .1)
 
 pub close-spec : {M : Type 1} → statement M
 close-spec =
@@ -123,4 +129,6 @@ close-spec =
     loop-less-3
     loop-again-3
     flatten-requires
+    same-length
+    same-length-2
     returns)

@@ -62,13 +62,19 @@ element-write-start : tie.Need-element-write-start
 element-write-start c = search needs
 
 cast-end : tie.Need-cast-end
-cast-end c = let st = c .before .before .before .before .before .before .before .before .before .before in omega (arith, merged-short (c .before .merge .ensures) (st .pre .1 .1 .1 .0) (st .pre .1 .1 .1 .1 .0), st .pre .1 .1 .1 .1 .1 .0)
+cast-end c = let st = c .before .before .before .before .before .before .before .before .before .before .before .before .before .before .before .before in omega (arith, merged-short (c .before .before .before .before .before .merge .ensures) (st .pre .1 .1 .1 .0) (st .pre .1 .1 .1 .1 .0), st .pre .1 .1 .1 .1 .1 .0)
 
 mul-end : tie.Need-mul-end
 mul-end c = search needs
 
 element-write-end : tie.Need-element-write-end
 element-write-end c = search needs
+
+same-length : tie.Need-same-length
+same-length c = search needs
+
+same-length-2 : tie.Need-same-length-2
+same-length-2 c = search needs
 
 returns : tie.Need-returns
 returns c = search needs
@@ -99,4 +105,6 @@ join-spec =
     cast-end
     mul-end
     element-write-end
+    same-length
+    same-length-2
     returns)

@@ -1,74 +1,71 @@
--- `class_rows` meets its contract, by those of its parts.
-use mathlib.Core.Path.{_∙_}
-use Prim.Native.Nat.{ℕ}
+-- `class_rows` meets its contract: small pools are chosen where they are large enough.
 use native.Mathlib.Omega.{arith}
-use lib.ListN.{length-replicate}
-use Rattle.unify.proofs.Laying.{first-small, target-small, lay-beside, lay-rows, lay-short, closed-fillable, class-small}
 use borrow.Author.Needs.{needs}
 use Rattle.unify.proofs.class_rows.Statement.{statement}
 use Rattle.unify.proofs.class_rows.Tie as tie
 
-mul-a-links : tie.Need-mul-a-links
-mul-a-links c = search needs
+mul-links : tie.Need-mul-links
+mul-links c = search needs
 
-element-copy-out-a-links : tie.Need-element-copy-out-a-links
-element-copy-out-a-links c = search needs
+element-copy-out-links : tie.Need-element-copy-out-links
+element-copy-out-links c = search needs
 
-cast-a-links : tie.Need-cast-a-links
-cast-a-links c = search needs
+cast-links : tie.Need-cast-links
+cast-links c = search needs
 
-mul-b-links : tie.Need-mul-b-links
-mul-b-links c = search needs
+mul-links-2 : tie.Need-mul-links-2
+mul-links-2 c = search needs
 
-element-copy-out-b-links : tie.Need-element-copy-out-b-links
-element-copy-out-b-links c = search needs
+element-copy-out-links-2 : tie.Need-element-copy-out-links-2
+element-copy-out-links-2 c = search needs
 
-cast-b-links : tie.Need-cast-b-links
-cast-b-links c = search needs
-
-copy-links-requires : tie.Need-copy-links-requires
-copy-links-requires c κs = let st = c .before .before .before .before in let a = st .pre .0 in let b = st .pre .1 .0 in ((a .short, omega arith, omega arith), (target-small a, (length-replicate {A = ℕ} 36672 0, length-replicate {A = ℕ} 36672 0)))
-
-copy-links-requires-2 : tie.Need-copy-links-requires-2
-copy-links-requires-2 c κs = let st = c .before .before .before .before .before .before .before in let a = st .pre .0 in let b = st .pre .1 .0 in ((b .short, a .short, a .small), (target-small b, (c .before .before .copy-links .ensures .features-long ∙ length-replicate {A = ℕ} 36672 0, c .before .before .copy-links .ensures .targets-long ∙ length-replicate {A = ℕ} 36672 0)))
-
-copy-spans-requires : tie.Need-copy-spans-requires
-copy-spans-requires c κs = let st = c .before .before .before .before .before .before .before .before .before .before in let a = st .pre .0 in let b = st .pre .1 .0 in ((a .small, omega arith, omega arith), (first-small a, (length-replicate {A = ℕ} 510 0, length-replicate {A = ℕ} 510 0)))
-
-copy-spans-requires-2 : tie.Need-copy-spans-requires-2
-copy-spans-requires-2 c κs = let st = c .before .before .before .before .before .before .before .before .before .before .before .before .before in let a = st .pre .0 in let b = st .pre .1 .0 in ((b .small, a .short, a .small), (first-small b, (c .before .before .copy-spans .ensures .start-long ∙ length-replicate {A = ℕ} 510 0, c .before .before .copy-spans .ensures .end-long ∙ length-replicate {A = ℕ} 510 0)))
-
-add-nodes : tie.Need-add-nodes
-add-nodes c = let st = c .before .before .before .before .before .before .before .before .before .before .before .before .before .before in let a = st .pre .0 in let b = st .pre .1 .0 in omega (arith, a .small, b .small)
+cast-links-2 : tie.Need-cast-links-2
+cast-links-2 c = search needs
 
 add-links : tie.Need-add-links
-add-links c = let st = c .before .before .before .before .before .before .before .before .before .before .before .before .before .before in let a = st .pre .0 in let b = st .pre .1 .0 in omega (arith, a .short, b .short)
+add-links c = search needs
 
-close-requires : tie.Need-close-requires
-close-requires c κs = let st = c .before .before .before .before .before .before .before .before .before .before .before .before .before .before .before .before .before .before .before in let a = st .pre .0 in let b = st .pre .1 .0 in let s = (lay-beside a b (c .before .before .before .before .before .before .before .before .before .before .before .before .before .before .copy-links .ensures) (c .before .before .before .before .before .before .before .before .before .before .before .copy-links2 .ensures) (c .before .before .before .before .before .before .before .before .copy-spans .ensures) (c .before .before .before .before .before .copy-spans2 .ensures)) in (lay-rows a b s (c .before .before .before .before .before .copy-spans2 .ensures .start-long ∙ c .before .before .before .before .before .before .before .before .copy-spans .ensures .start-long ∙ length-replicate {A = ℕ} 510 0) (c .before .before .before .before .before .copy-spans2 .ensures .end-long ∙ c .before .before .before .before .before .before .before .before .copy-spans .ensures .end-long ∙ length-replicate {A = ℕ} 510 0) (c .before .before .before .before .before .before .before .before .before .before .before .copy-links2 .ensures .features-long ∙ c .before .before .before .before .before .before .before .before .before .before .before .before .before .before .copy-links .ensures .features-long ∙ length-replicate {A = ℕ} 36672 0) (c .before .before .before .before .before .before .before .before .before .before .before .copy-links2 .ensures .targets-long ∙ c .before .before .before .before .before .before .before .before .before .before .before .before .before .before .copy-links .ensures .targets-long ∙ length-replicate {A = ℕ} 36672 0), ((omega (arith, b .laid .nonempty), omega (arith, a .short, b .short), st .pre .1 .1 .0), lay-short a b s (c .before .before .before .before .before .copy-spans2 .ensures .start-long ∙ c .before .before .before .before .before .before .before .before .copy-spans .ensures .start-long ∙ length-replicate {A = ℕ} 510 0) (c .before .before .before .before .before .copy-spans2 .ensures .end-long ∙ c .before .before .before .before .before .before .before .before .copy-spans .ensures .end-long ∙ length-replicate {A = ℕ} 510 0) (c .before .before .before .before .before .before .before .before .before .before .before .copy-links2 .ensures .features-long ∙ c .before .before .before .before .before .before .before .before .before .before .before .before .before .before .copy-links .ensures .features-long ∙ length-replicate {A = ℕ} 36672 0) (c .before .before .before .before .before .before .before .before .before .before .before .copy-links2 .ensures .targets-long ∙ c .before .before .before .before .before .before .before .before .before .before .before .before .before .before .copy-links .ensures .targets-long ∙ length-replicate {A = ℕ} 36672 0)))
+add-nodes : tie.Need-add-nodes
+add-nodes c = search needs
 
-quotient-requires : tie.Need-quotient-requires
-quotient-requires c κs = let st = c .before .before .before .before .before .before .before .before .before .before .before .before .before .before .before .before .before .before .before .before .before .before .before .before .before .before .before .before in let a = st .pre .0 in let b = st .pre .1 .0 in let q = c .before .before .before .before .before .before .before .before .close .ensures in let g = closed-fillable q in (g .few, ((st .pre .1 .1 .1, st .pre .1 .1 .2, st .pre .1 .1 .3), (class-small q, (g .rising, (g .within, g .short)))))
+sub-if1 : tie.Need-sub-if1
+sub-if1 c = search needs
+
+mul-if1 : tie.Need-mul-if1
+mul-if1 c = search needs
+
+add-if1 : tie.Need-add-if1
+add-if1 c = search needs
+
+class-rows-small-requires : tie.Need-class-rows-small-requires
+class-rows-small-requires c κs =
+    let st = c .before .before .before .before .before .before .before in (st .pre .0, (st .pre .1 .0, (st .pre .1 .1, omega (arith, c .before .before .before .before .if1 .taken))))
+
+class-rows-full-requires : tie.Need-class-rows-full-requires
+class-rows-full-requires c κs = search needs
 
 returns : tie.Need-returns
-returns c = let st = c .before .before .before .before .before .before .before .before .before .before .before .before .before .before .before .before .before .before .before .before .before .before .before .before .before .before .before .before .before in let a = st .pre .0 in let b = st .pre .1 .0 in record { start = _; end = _; pool-features = _; pool-targets = _; start′ = _; end′ = _; pool-features′ = _; pool-targets′ = _; used = _; beside = (lay-beside a b (c .before .before .before .before .before .before .before .before .before .before .before .before .before .before .before .before .before .before .before .before .before .before .before .before .copy-links .ensures) (c .before .before .before .before .before .before .before .before .before .before .before .before .before .before .before .before .before .before .before .before .before .copy-links2 .ensures) (c .before .before .before .before .before .before .before .before .before .before .before .before .before .before .before .before .before .before .copy-spans .ensures) (c .before .before .before .before .before .before .before .before .before .before .before .before .before .before .before .copy-spans2 .ensures)); closed = c .before .before .before .before .before .before .before .before .before .close .ensures; rows = c .quotient .ensures }
+returns c = search needs
+
+returns-2 : tie.Need-returns-2
+returns-2 c = search needs
 
 pub class-rows-spec : {M : Type 1} → statement M
 class-rows-spec =
     tie.close
     (tie.spec
-    mul-a-links
-    element-copy-out-a-links
-    cast-a-links
-    mul-b-links
-    element-copy-out-b-links
-    cast-b-links
-    copy-links-requires
-    copy-links-requires-2
-    copy-spans-requires
-    copy-spans-requires-2
-    add-nodes
+    mul-links
+    element-copy-out-links
+    cast-links
+    mul-links-2
+    element-copy-out-links-2
+    cast-links-2
     add-links
-    close-requires
-    quotient-requires
-    returns)
+    add-nodes
+    sub-if1
+    mul-if1
+    add-if1
+    class-rows-small-requires
+    class-rows-full-requires
+    returns
+    returns-2)

@@ -23,8 +23,8 @@ element-copy-out-pool-features c = let st = c .before .before in omega (arith, c
 add-pool-features : tie.Need-add-pool-features Inv-loop μ-loop
 add-pool-features c = search needs
 
-element-write-pool-features : tie.Need-element-write-pool-features Inv-loop μ-loop
-element-write-pool-features c = let l = c .before .before in let st = l .before in omega (arith, c .before .loop-test .taken, st .pre .0 .0, st .pre .0 .1, l .loop .inv .0 .features-long, st .pre .1 .1 .0)
+slice-write-pool-features : tie.Need-slice-write-pool-features Inv-loop μ-loop
+slice-write-pool-features c = let l = c .before .before in let st = l .before in omega (arith, c .before .loop-test .taken, st .pre .0 .0, st .pre .0 .1, l .loop .inv .0 .features-long, st .pre .1 .1 .0)
 
 mul-pool-targets : tie.Need-mul-pool-targets Inv-loop μ-loop
 mul-pool-targets c = search needs
@@ -44,8 +44,8 @@ add-pool-targets-2 c = search needs
 mul-pool-targets-2 : tie.Need-mul-pool-targets-2 Inv-loop μ-loop
 mul-pool-targets-2 c = search needs
 
-element-write-pool-targets : tie.Need-element-write-pool-targets Inv-loop μ-loop
-element-write-pool-targets c = let l = c .before .before .before in let st = l .before in omega (arith, c .before .before .loop-test .taken, st .pre .0 .0, st .pre .0 .1, l .loop .inv .0 .targets-long, st .pre .1 .1 .1)
+slice-write-pool-targets : tie.Need-slice-write-pool-targets Inv-loop μ-loop
+slice-write-pool-targets c = let l = c .before .before .before in let st = l .before in omega (arith, c .before .before .loop-test .taken, st .pre .0 .0, st .pre .0 .1, l .loop .inv .0 .targets-long, st .pre .1 .1 .1)
 
 add-k : tie.Need-add-k Inv-loop μ-loop
 add-k c = search needs
@@ -55,6 +55,12 @@ loop-less c = search needs
 
 loop-again : tie.Need-loop-again Inv-loop μ-loop
 loop-again c = let l = c .before .before .before in let st = l .before in (links-step (l .loop .inv .0) (omega (arith, c .before .before .loop-test .taken, st .pre .0 .0, st .pre .0 .1, st .pre .1 .1 .0)) (omega (arith, c .before .before .loop-test .taken, st .pre .0 .0, st .pre .0 .1, st .pre .1 .1 .1)), omega (arith, c .before .before .loop-test .taken))
+
+same-length : tie.Need-same-length Inv-loop μ-loop
+same-length c = search needs
+
+same-length-2 : tie.Need-same-length-2 Inv-loop μ-loop
+same-length-2 c = search needs
 
 returns : tie.Need-returns Inv-loop μ-loop
 returns c = let l = c .before in links-done (l .loop .inv .0) (l .loop .inv .1) (c .loop-test .left)
@@ -68,15 +74,17 @@ copy-links-spec =
     loop-holds
     element-copy-out-pool-features
     add-pool-features
-    element-write-pool-features
+    slice-write-pool-features
     mul-pool-targets
     element-copy-out-pool-targets
     cast-pool-targets
     add-pool-targets
     add-pool-targets-2
     mul-pool-targets-2
-    element-write-pool-targets
+    slice-write-pool-targets
     add-k
     loop-less
     loop-again
+    same-length
+    same-length-2
     returns)

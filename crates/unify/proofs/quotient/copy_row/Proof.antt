@@ -20,14 +20,14 @@ loop-holds c = (row-start _ _ _ _ _ _ _, omega arith, c .pre .0 .0)
 mul-w : tie.Need-mul-w Inv-loop μ-loop
 mul-w c = search needs
 
-element-copy-out-w : tie.Need-element-copy-out-w Inv-loop μ-loop
-element-copy-out-w c = search needs
+shared-slice-read-w : tie.Need-shared-slice-read-w Inv-loop μ-loop
+shared-slice-read-w c = search needs
 
 cast-w : tie.Need-cast-w Inv-loop μ-loop
 cast-w c = let l = c .before .before in omega (arith, l .before .pre .1 .0 (l .loop .k) (l .loop .inv .1) (c .before .loop-test .taken))
 
-element-copy-out-features : tie.Need-element-copy-out-features Inv-loop μ-loop
-element-copy-out-features c = search needs
+shared-slice-read-features : tie.Need-shared-slice-read-features Inv-loop μ-loop
+shared-slice-read-features c = search needs
 
 element-write-features : tie.Need-element-write-features Inv-loop μ-loop
 element-write-features c = let l = c .before .before .before in let st = l .before in omega (arith, c .before .before .loop-test .taken, l .loop .inv .0 .counted, st .pre .0 .2, l .loop .inv .0 .features-long, st .pre .1 .1 .0)
@@ -67,9 +67,9 @@ copy-row-spec =
     μ-loop
     loop-holds
     mul-w
-    element-copy-out-w
+    shared-slice-read-w
     cast-w
-    element-copy-out-features
+    shared-slice-read-features
     element-write-features
     mul-targets
     element-copy-out-targets
