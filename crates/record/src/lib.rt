@@ -1,6 +1,7 @@
 // Reading records: a record's graph, or the first of refusals 4 to 7 that applies, each over the whole record before the next.
 
 pub mod reach;
+pub mod sources;
 
 use decode::parse::Parsed;
 ghost use Rattle.decode.specs.Promise.{Sized};
