@@ -40,7 +40,7 @@ hit-small true t w = go (ℕ-discrete t w)
 -- Places that count, up to one.
 
 module _ (counts : ℕ → Bool) (targets : List ℕ) (w : ℕ) where
-  pub entering-next : (n : ℕ) → entering counts targets w (n + 1) ≡ entering counts targets w n + hit (counts n) (getD targets n 0) w
+  entering-next : (n : ℕ) → entering counts targets w (n + 1) ≡ entering counts targets w n + hit (counts n) (getD targets n 0) w
   unfolding entering
   entering-next n = ap (entering counts targets w) (add-one n)
 
@@ -48,7 +48,7 @@ module _ (counts : ℕ → Bool) (targets : List ℕ) (w : ℕ) where
   unfolding entering
   entering-suc n = refl
 
-  pub entering-none : entering counts targets w 0 ≡ 0
+  entering-none : entering counts targets w 0 ≡ 0
   unfolding entering
   entering-none = refl
 
@@ -95,7 +95,7 @@ module _ (counts : ℕ → Bool) (targets : List ℕ) (w : ℕ) where
 -- Places from s on.
 
 module _ (targets : List ℕ) (w s : ℕ) where
-  pub entering-start : (n : ℕ) → n ≤ s → entering (leb s) targets w n ≡ 0
+  entering-start : (n : ℕ) → n ≤ s → entering (leb s) targets w n ≡ 0
   entering-start zero h = entering-none (leb s) targets w
   entering-start (suc n) h =
       omega (
@@ -313,10 +313,10 @@ whites-full (suc n) (suc x ∷ l) h w i = absurd (omega (arith, whites-bound n l
 -- A node joins the queue.
 
 module _ (queue : List ℕ) (count w : ℕ) (room : count < length queue) where
-  pub join-here : getD (set queue count w) count 0 ≡ w
+  join-here : getD (set queue count w) count 0 ≡ w
   join-here = getD-set-same queue count w 0 room
 
-  pub join-before : (i : ℕ) → i < count → getD (set queue count w) i 0 ≡ getD queue i 0
+  join-before : (i : ℕ) → i < count → getD (set queue count w) i 0 ≡ getD queue i 0
   join-before i h = getD-set-other queue count i w 0 (λ e. omega arith)
 
   join-each : (P : ℕ → Type 0) → ((i : ℕ) → i < count → P (getD queue i 0)) → P w →

@@ -367,7 +367,7 @@ module _ {nodes : ℕ} {first targets : List ℕ} (linked : Linked nodes first t
             enters w positive h (no some) = let (v, l, _) = link-in (λ _. true) w (omega arith) in (v, l)
 
         -- the first of the queue is a source
-        pub some-source : 0 < sources
+        some-source : 0 < sources
         some-source = go (ℕ-discrete (entering (λ _. true) targets (getD queue 0 0) (getD first nodes 0)) 0)
           where
             go : Dec (entering (λ _. true) targets (getD queue 0 0) (getD first nodes 0) ≡ 0) → 0 < sources

@@ -1,5 +1,6 @@
-// Cycles and reach in one pass: nodes that no link enters are taken away with their links, as long as there are any. A graph where
-// some stay has a cycle, and in one where none stays the root reaches every node exactly where it is the only node to start with.
+// Cycles and reach in one pass (Kahn's topological sort): nodes that no link enters are taken away with their links, as long as there
+// are any. A graph where some stay has a cycle, and in one where none stays the root reaches every node exactly where it is the only
+// node that no link entered to start with.
 
 ghost use Prim.Native.Nat.{ℕ, _≤_, _<_};
 ghost use mathlib.Core.Path.{_≡_};
