@@ -15,10 +15,11 @@ use Rattle.graphs.specs.Graph.{follow}
 use Rattle.graphs.specs.Rows.{Row, target}
 use Rattle.graphs.specs.Large.{Ascending}
 use Rattle.graphs.proofs.Walk.{some-injective, none-some, follow-none}
-use Rattle.visits.specs.Arrays.{Laid, Shaped, Leads, Reaches, one, more, TargetsFirst, paired, linksAt, rowsFrom, rowsOf, graphOfRows}
+use Rattle.visits.specs.Arrays.{Laid, Shaped, Leads, Reaches, one, more, paired, linksAt, rowsFrom, rowsOf, graphOfRows}
 use Rattle.visits.proofs.VisitRows.{row-at, length-rows}
 use Rattle.visits.proofs.Colours.{ends}
 use Rattle.decode.specs.Promise.{Ranged}
+use Rattle.record.specs.Sources.{Earlier}
 use Rattle.record.proofs.Readings.{InRange}
 use Rattle.record.proofs.Decoded.{getD-member}
 use Rattle.record.proofs.Nodes.{target-source}
@@ -194,8 +195,8 @@ module _ {nodes : ℕ} {types first fs ts : List ℕ} (shaped : Shaped nodes typ
         (v, omega (arith, reaches-inside r, held-length), f, p, e)
 
     -- a walk goes to earlier places
-    module _ (within : (k : ℕ) → k < getD first nodes 0 → getD ts k 0 < nodes) {order : List ℕ} {place : ℕ → ℕ}
-        (sorted : TargetsFirst nodes first ts order place) where
+    module _ (within : (k : ℕ) → k < getD first nodes 0 → getD ts k 0 < nodes) {place : ℕ → ℕ}
+        (sorted : Earlier nodes first ts place) where
       leads-inside : (v w : ℕ) → Leads nodes first ts v w → w < nodes
       leads-inside v w l =
           let h = within (l .place) (omega (arith, l .before-next, row-end v (l .inside))) in

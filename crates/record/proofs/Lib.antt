@@ -7,6 +7,8 @@ pub mod Reaching
 pub mod Accepted
 pub mod Held
 pub mod Entered
+pub mod Incoming
+pub mod Peeling
 pub mod Steps
 pub mod Rewritten
 pub mod Theorems

@@ -10,7 +10,6 @@ use Rattle.graphs.specs.Rows.{Row}
 use Rattle.graphs.specs.Large.{Ascending}
 use Rattle.graphs.proofs.Search.{not-true}
 use Rattle.visits.specs.Arrays.{Linked, Shaped, Sound, lent, rowsOf}
-use Rattle.visits.specs.Promise.{Sorts}
 use Rattle.decode.specs.declared.parse.Parsed.{Parsed}
 use Rattle.decode.specs.declared.parse.Parsed.the-variants as parsed
 use Rattle.decode.specs.Decode.{decoded}
@@ -19,14 +18,16 @@ use Rattle.record.specs.declared.GraphFault.{GraphFault}
 use Rattle.record.specs.declared.GraphFault.the-variants.{Malformed, OutOfRange, Cyclic, Unreached}
 use Rattle.record.specs.declared.Verdict.the-variants.{Accepted, Refused}
 use Rattle.record.specs.Read.{refused, accepted, reading, inRange, cyclic, reachesAll}
-use Rattle.record.specs.Reach.{Enters}
+use Rattle.record.specs.declared.sources.Shape.{Shape}
+use Rattle.record.specs.declared.sources.Shape.the-variants as shapes
+use Rattle.record.specs.Sources.{Peels}
 use Rattle.record.specs.Promise.{Reads, verdictOf}
 use Rattle.record.proofs.Readings.{Stands, reading-says, in-range}
 use Rattle.record.proofs.Decoded.{Decoded, decoded-says}
 use Rattle.record.proofs.Nodes as rows
 use Rattle.record.proofs.Reaching.{cyclic-exact}
 use Rattle.record.proofs.Held.{held-length, ranged-rows, rows-ranged, looped-rows, sorted-rows}
-use Rattle.record.proofs.Entered.{reaches-entered}
+use Rattle.record.proofs.Entered.{apart-unreached, entered-reaches}
 
 reads-refused : (n : ℕ) (bytes types first features targets : List ℕ) (fault : GraphFault) → reading n bytes ≡ refused fault →
     Reads n bytes (Refused fault) types first features targets
@@ -119,43 +120,52 @@ module _ (n : ℕ) (bytes : List ℕ) {types first features targets : List ℕ} 
       rows-linked : rows.Linked own
       rows-linked = rows.decoded-linked facts (in-range n own .0 range-passes)
 
-      -- 6
-      pub with-cycle : {order : List ℕ} {cycle : Bool} → Sorts nodes first targets order cycle → cycle ≡ true →
-          Reads n bytes (Refused Cyclic) types first features targets
-      with-cycle sorts e =
-          let (v, loop) = sorts .looped e in
-          refuses Cyclic (own, given .is, range-passes, cyclic-exact own rows-linked .1 (looped-rows shaped ascending v loop))
+      module _ {shape : Shape} (peels : Peels nodes first targets shape) where
+        -- 6
+        pub with-cycle : shape ≡ shapes.Cyclic → Reads n bytes (Refused Cyclic) types first features targets
+        with-cycle e =
+            let (v, loop) = peels .cyclic-stands e in
+            refuses Cyclic (own, given .is, range-passes, cyclic-exact own rows-linked .1 (looped-rows shaped ascending v loop))
 
-      module _ {order : List ℕ} {cycle : Bool} (sorts : Sorts nodes first targets order cycle) (no : cycle ≡ false) where
-        no-cycle : cyclic own ≡ false
-        no-cycle =
-            let (place, sorted) = sorts .sorted no in
+        no-cycle : (shape ≡ shapes.Cyclic → ⊥) → cyclic own ≡ false
+        no-cycle other =
+            let (place, sorted) = peels .sorted other in
             not-true (cyclic own)
             (λ e. sorted-rows shaped ascending (ranged .targets-in) sorted (cyclic-exact own rows-linked .0 e))
 
-        module _ {entered : Bool} (enters : Enters nodes first targets entered) where
-          reach-test : reachesAll own ≡ entered
-          reach-test =
-              let (place, sorted) = sorts .sorted no in
-              reaches-entered shaped ascending rows-linked sorted small enters
+        -- 7
+        pub unreached : shape ≡ shapes.Apart → Reads n bytes (Refused Unreached) types first features targets
+        unreached e =
+            let (w, positive, inside, apart) = peels .apart-stands e in
+            refuses Unreached (
+              own,
+              given .is,
+              range-passes,
+              no-cycle λ q. let z : _≡_ {A = ℕ} 0 1 = cc in omega arith,
+              apart-unreached shaped ascending rows-linked positive inside apart,
+            )
 
-          -- 7
-          pub unreached : entered ≡ false → Reads n bytes (Refused Unreached) types first features targets
-          unreached fails = refuses Unreached (own, given .is, range-passes, no-cycle, reach-test ∙ fails)
+        pub accepts : shape ≡ shapes.Rooted → Reads n bytes (Accepted nodes) types first features targets
+        accepts e =
+            record {
+              verdict = ap Accepted (sym (held-length shaped)) ∙ ap verdictOf (sym is);
+              graph = λ rows e.
+                  subst (λ (r : List (Row ℕ)).
+                  Held r (lent (length r) types first features targets) × Sound (length r) types first features targets) (alike rows e)
+                  (subst (λ (k : ℕ). Held own (lent k types first features targets) × Sound k types first features targets)
+                  (sym (held-length shaped)) (given .held, sound));
+            }
+          where
+            other : shape ≡ shapes.Cyclic → ⊥
+            other q = let z : _≡_ {A = ℕ} 0 1 = cc in omega arith
 
-          pub accepts : entered ≡ true → Reads n bytes (Accepted nodes) types first features targets
-          accepts all =
-              record {
-                verdict = ap Accepted (sym (held-length shaped)) ∙ ap verdictOf (sym is);
-                graph = λ rows e.
-                    subst (λ (r : List (Row ℕ)).
-                    Held r (lent (length r) types first features targets) × Sound (length r) types first features targets) (alike rows e)
-                    (subst (λ (k : ℕ). Held own (lent k types first features targets) × Sound k types first features targets)
-                    (sym (held-length shaped)) (given .held, sound));
-              }
-            where
-              is : reading n bytes ≡ accepted own
-              is = reading-says n bytes (accepted own) .1 (given .is, range-passes, no-cycle, reach-test ∙ all)
+            reached : reachesAll own ≡ true
+            reached =
+                let (place, sorted) = peels .sorted other in
+                entered-reaches shaped ascending rows-linked sorted small (peels .rooted-stands e)
 
-              alike : (rows : List (Row ℕ)) → reading n bytes ≡ accepted rows → own ≡ rows
-              alike rows e = let both : accepted own ≡ accepted rows = sym is ∙ e in cc
+            is : reading n bytes ≡ accepted own
+            is = reading-says n bytes (accepted own) .1 (given .is, range-passes, no-cycle other, reached)
+
+            alike : (rows : List (Row ℕ)) → reading n bytes ≡ accepted rows → own ≡ rows
+            alike rows e = let both : accepted own ≡ accepted rows = sym is ∙ e in cc

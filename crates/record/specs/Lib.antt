@@ -1,4 +1,4 @@
 -- Definitions of reading records.
 pub mod Read
-pub mod Reach
+pub mod Sources
 pub mod Promise

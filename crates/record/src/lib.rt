@@ -1,8 +1,9 @@
 // Reading records: a record's graph, or the first of refusals 4 to 7 that applies, each over the whole record before the next.
 
-pub mod reach;
+pub mod sources;
 
 use decode::parse::Parsed;
+use sources::Shape;
 ghost use Rattle.decode.specs.Promise.{Sized};
 ghost use Rattle.record.specs.Promise.{Reads};
 
@@ -40,12 +41,9 @@ pub fn read(
     if !decode::range::in_range(n, nodes, types, first, targets) {
         return Verdict::Refused(GraphFault::OutOfRange);
     }
-    let mut order = [0u16; 510];
-    if visits::acyclic::has_cycle(nodes, first, targets, &mut order) {
-        return Verdict::Refused(GraphFault::Cyclic);
+    match sources::sources_first(nodes, first, targets) {
+        Shape::Cyclic => Verdict::Refused(GraphFault::Cyclic),
+        Shape::Apart => Verdict::Refused(GraphFault::Unreached),
+        Shape::Rooted => Verdict::Accepted(nodes),
     }
-    if !reach::all_entered(nodes, first, targets) {
-        return Verdict::Refused(GraphFault::Unreached);
-    }
-    Verdict::Accepted(nodes)
 }

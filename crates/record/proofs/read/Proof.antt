@@ -1,4 +1,5 @@
 -- `record::read` meets its contract: each return hands what the parts found to the step of that refusal. Assumes nothing.
+use native.Mathlib.Omega.{arith}
 use borrow.Author.Needs.{needs}
 use borrow.Author.Tests.{not-true, not-false}
 use Rattle.record.proofs.read.Statement.{statement}
@@ -42,76 +43,71 @@ returns-2 c =
       parsed .parse .ensures .1,
     )
 
-has-cycle-requires : tie.Need-has-cycle-requires
-has-cycle-requires c κs =
-    let passed = c .before .before .before .before .before in
+sources-first-requires : tie.Need-sources-first-requires
+sources-first-requires c κs =
+    let passed = c .before .before in
     let ranged = passed .before in
     let matched = ranged .before .before .before .before .before in
     let parsed = matched .before .before in
     let start = parsed .before .before .before .before .before .before in
     let linked =
     steps.linked (start .args .n) (start .args .bytes .now) (parsed .parse .ensures .0) (matched .parsed .given .1)
-    (ranged .in-range .ensures) (not-false (ranged .in-range .result) (passed .if1 .left)) in
-    (linked, search needs)
+    (ranged .in-range .ensures) (not-false (ranged .in-range .result) (passed .if1 .left)) in (
+      linked,
+      (
+        steps.small (start .args .n) (start .args .bytes .now) (parsed .parse .ensures .0) (matched .parsed .given .1),
+        omega (arith, linked .laid .aimed, parsed .parse .ensures .1 .targets-long),
+      ),
+    )
+
+enum-told-2 : tie.Need-enum-told-2
+enum-told-2 c = search needs
+
+enum-told-3 : tie.Need-enum-told-3
+enum-told-3 c = search needs
+
+enum-told-4 : tie.Need-enum-told-4
+enum-told-4 c = search needs
 
 returns-3 : tie.Need-returns-3
 returns-3 c =
-    let sorted = c .before in
-    let passed = sorted .before .before .before .before .before .before in
+    let found = c .before .before in
+    let passed = found .before .before .before in
     let ranged = passed .before in
     let matched = ranged .before .before .before .before .before in
     let parsed = matched .before .before in
     let start = parsed .before .before .before .before .before .before in (
       steps.with-cycle (start .args .n) (start .args .bytes .now) (parsed .parse .ensures .0) (matched .parsed .given .1)
           (ranged .in-range .ensures) (not-false (ranged .in-range .result) (passed .if1 .left))
-          (sorted .has-cycle .ensures .0) (c .if2 .taken),
+          (found .sources-first .ensures) (c .enum-told2 .given .1),
       parsed .parse .ensures .1,
-    )
-
-all-entered-requires : tie.Need-all-entered-requires
-all-entered-requires c κs =
-    let sorted = c .before .before .before .before .before in
-    let passed = sorted .before .before .before .before .before .before in
-    let ranged = passed .before in
-    let matched = ranged .before .before .before .before .before in
-    let parsed = matched .before .before in
-    let start = parsed .before .before .before .before .before .before in (
-      steps.linked (start .args .n) (start .args .bytes .now) (parsed .parse .ensures .0) (matched .parsed .given .1)
-          (ranged .in-range .ensures) (not-false (ranged .in-range .result) (passed .if1 .left)),
-      steps.small (start .args .n) (start .args .bytes .now) (parsed .parse .ensures .0) (matched .parsed .given .1),
     )
 
 returns-4 : tie.Need-returns-4
 returns-4 c =
-    let entered = c .before in
-    let acyclic = entered .before .before .before .before .before in
-    let sorted = acyclic .before in
-    let passed = sorted .before .before .before .before .before .before in
+    let found = c .before .before in
+    let passed = found .before .before .before in
     let ranged = passed .before in
     let matched = ranged .before .before .before .before .before in
     let parsed = matched .before .before in
     let start = parsed .before .before .before .before .before .before in (
       steps.unreached (start .args .n) (start .args .bytes .now) (parsed .parse .ensures .0) (matched .parsed .given .1)
           (ranged .in-range .ensures) (not-false (ranged .in-range .result) (passed .if1 .left))
-          (sorted .has-cycle .ensures .0) (acyclic .if2 .left) (entered .all-entered .ensures)
-          (not-true (entered .all-entered .result) (c .if3 .taken)),
+          (found .sources-first .ensures) (c .enum-told3 .given .1),
       parsed .parse .ensures .1,
     )
 
 returns-5 : tie.Need-returns-5
 returns-5 c =
-    let entered = c .before in
-    let acyclic = entered .before .before .before .before .before in
-    let sorted = acyclic .before in
-    let passed = sorted .before .before .before .before .before .before in
+    let found = c .before .before in
+    let passed = found .before .before .before in
     let ranged = passed .before in
     let matched = ranged .before .before .before .before .before in
     let parsed = matched .before .before in
     let start = parsed .before .before .before .before .before .before in (
       steps.accepts (start .args .n) (start .args .bytes .now) (parsed .parse .ensures .0) (matched .parsed .given .1)
           (ranged .in-range .ensures) (not-false (ranged .in-range .result) (passed .if1 .left))
-          (sorted .has-cycle .ensures .0) (acyclic .if2 .left) (entered .all-entered .ensures)
-          (not-false (entered .all-entered .result) (c .if3 .left)),
+          (found .sources-first .ensures) (c .enum-told4 .given .1),
       parsed .parse .ensures .1,
     )
 
@@ -125,8 +121,10 @@ read-spec =
     returns
     in-range-requires
     returns-2
-    has-cycle-requires
+    sources-first-requires
+    enum-told-2
+    enum-told-3
+    enum-told-4
     returns-3
-    all-entered-requires
     returns-4
     returns-5)
