@@ -1,17 +1,12 @@
--- How long a record is ("The shortest record has 10 bytes, the longest 4,344"), and that an output as long as the longest has room for
--- every record.
+-- How long a record is ("The shortest record has 10 bytes, the longest 4,344").
 use mathlib.Core.Path.{_≡_, refl, _∙_, ap}
-use mathlib.Core.Bool.{Bool, cond}
-use mathlib.Core.List.{List, [], _∷_, _++_, map}
+use mathlib.Core.List.{List, [], _∷_, map}
 use Prim.Native.Nat.{ℕ, suc, _+_, _*_, _≤_}
 use native.Mathlib.Omega.{arith}
-use borrow.Author.Tests.{le-leb}
-use lib.ListN.{length, drop, length-append, length-map}
+use lib.ListN.{length, length-append, length-map}
 use Rattle.graphs.specs.Rows.{Row, from}
-use Rattle.graphs.specs.Number.{written}
 use Rattle.graphs.specs.Large.{linksIn}
-use Rattle.encode.specs.declared.Written.the-variants as outcome
-use Rattle.encode.specs.Encode.{bitsFrom, encodedRow, encodedRows, encoded, fitted, writtenOut}
+use Rattle.encode.specs.Encode.{bitsFrom, encodedRow, encodedRows, encoded}
 
 row-length : (r : Row ℕ) → length (encodedRow r) ≡ 9 + length (r .1)
 unfolding encodedRow from
@@ -32,15 +27,3 @@ encoded-length rows = omega (arith, rows-length rows)
 -- "the longest 4,344"
 pub longest : (rows : List (Row ℕ)) → length rows ≤ 255 → linksIn rows ≤ 2048 → length (encoded rows) ≤ 4344
 longest rows nodes links = omega (arith, encoded-length rows)
-
--- there is room for it in as many bytes
-pub longest-fits : (rows : List (Row ℕ)) (out : List ℕ) → length rows ≤ 255 → linksIn rows ≤ 2048 → 4344 ≤ length out →
-    writtenOut (written rows) out ≡
-    record { answer = outcome.Length (length (encoded rows)); output = encoded rows ++ drop (length (encoded rows)) out }
-unfolding writtenOut fitted
-longest-fits rows out nodes links room =
-    ap
-    (λ (t : Bool).
-    cond t (record { answer = outcome.Length (length (encoded rows)); output = encoded rows ++ drop (length (encoded rows)) out })
-    (record { answer = outcome.NoRoom; output = out }))
-    (le-leb (length (encoded rows)) (length out) (omega (arith, longest rows nodes links)))

@@ -60,7 +60,7 @@ pub fn end_bit(word: u64, low: bool) -> usize
     if low {
         u64::trailing_zeros(word) as usize
     } else {
-        63 - u64::leading_zeros(word) as usize
+        (63 - u64::leading_zeros(word)) as usize
     }
 }
 

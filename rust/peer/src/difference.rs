@@ -2,7 +2,7 @@
 
 use crate::classes::Classes;
 use crate::graph::Graph;
-use crate::table::Table;
+use crate::table::{Bounds, Table};
 
 /// No node of g enters a link.
 const BARE: u8 = u8::MAX;
@@ -10,7 +10,14 @@ const BARE: u8 = u8::MAX;
 const NONE: u16 = u16::MAX;
 
 /// Links of s are known by their places, which go by parent and feature.
-pub fn difference(table: &Table, g: &Graph, s: &Graph, map: &[u8; 255], rest: &mut Graph) {
+pub fn difference(
+    table: &Table,
+    meets: &Bounds,
+    g: &Graph,
+    s: &Graph,
+    map: &[u8; 255],
+    rest: &mut Graph,
+) {
     let top = (table.n - 1) as u8;
     // For each link of s a node of g that a link over it enters, and classes of such nodes.
     let mut owner = [BARE; 2048];
@@ -19,7 +26,7 @@ pub fn difference(table: &Table, g: &Graph, s: &Graph, map: &[u8; 255], rest: &m
     for (node, &image) in map[..g.nodes].iter().enumerate() {
         let image = usize::from(image);
         let met = &mut over[image];
-        *met = table.meets[usize::from(*met)][usize::from(g.types[node])];
+        *met = meets[usize::from(*met)][usize::from(g.types[node])];
         let mut below = s.row(image);
         for place in g.row(node) {
             let feature = g.features[place];

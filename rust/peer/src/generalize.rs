@@ -2,10 +2,10 @@
 
 use crate::Refusal;
 use crate::graph::Graph;
-use crate::table::Table;
+use crate::table::Bounds;
 
 /// Makes the common part, or gives 11.
-pub fn generalize(table: &Table, a: &Graph, b: &Graph, common: &mut Graph) -> Result<(), Refusal> {
+pub fn generalize(joins: &Bounds, a: &Graph, b: &Graph, common: &mut Graph) -> Result<(), Refusal> {
     const CLEAR: u16 = u16::MAX;
     let mut marks = [CLEAR; 65025];
     let mut queue = [(0u8, 0u8); 255];
@@ -14,7 +14,7 @@ pub fn generalize(table: &Table, a: &Graph, b: &Graph, common: &mut Graph) -> Re
     while next < end {
         let (u, v) = queue[next];
         let (u, v) = (usize::from(u), usize::from(v));
-        common.types[next] = table.joins[usize::from(a.types[u])][usize::from(b.types[v])];
+        common.types[next] = joins[usize::from(a.types[u])][usize::from(b.types[v])];
         let (mut left, mut right) = (a.row(u), b.row(v));
         while !left.is_empty() && !right.is_empty() {
             let (f, h) = (a.features[left.start], b.features[right.start]);

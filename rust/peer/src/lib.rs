@@ -16,7 +16,7 @@ mod unify;
 mod write;
 
 use graph::Graph;
-use table::Table;
+use table::{Bounds, Table};
 
 /// Why a call has no result: document 01's number, and for 4 to 7 which record.
 #[derive(Clone, Copy, Debug, PartialEq, Eq)]
@@ -60,11 +60,11 @@ pub fn generalize(
     second: &[u8],
     output: &mut [u8],
 ) -> Result<usize, Refusal> {
-    let (mut types, mut a, mut b) = (Table::empty(), Graph::empty(), Graph::empty());
-    types.open(n, table)?;
+    let mut joins: Bounds = [[0; 64]; 64];
+    Table::empty().open_joins(n, table, &mut joins)?;
+    let (mut a, mut b, mut common) = (Graph::empty(), Graph::empty(), Graph::empty());
     read_both(n, [first, second], [&mut a, &mut b])?;
-    let mut common = Graph::empty();
-    generalize::generalize(&types, &a, &b, &mut common)?;
+    generalize::generalize(&joins, &a, &b, &mut common)?;
     write::write(&common, output)
 }
 
@@ -76,10 +76,11 @@ pub fn unify(
     second: &[u8],
     output: &mut [u8],
 ) -> Result<usize, Refusal> {
-    let (mut types, mut a, mut b) = (Table::empty(), Graph::empty(), Graph::empty());
-    types.open(n, table)?;
+    let mut meets: Bounds = [[0; 64]; 64];
+    Table::empty().open_meets(n, table, &mut meets)?;
+    let (mut a, mut b) = (Graph::empty(), Graph::empty());
     read_both(n, [first, second], [&mut a, &mut b])?;
-    unify::unify(&types, &a, &b, output)
+    unify::unify(&meets, &a, &b, output)
 }
 
 /// The difference of g, the first, and s, the second.
@@ -90,8 +91,9 @@ pub fn difference(
     s: &[u8],
     output: &mut [u8],
 ) -> Result<usize, Refusal> {
-    let (mut types, mut general, mut specific) = (Table::empty(), Graph::empty(), Graph::empty());
-    types.open(n, table)?;
+    let (mut types, mut meets) = (Table::empty(), [[0; 64]; 64]);
+    types.open_meets(n, table, &mut meets)?;
+    let (mut general, mut specific) = (Graph::empty(), Graph::empty());
     read_both(n, [g, s], [&mut general, &mut specific])?;
     if !types.admits_differences() {
         return Err(Refusal::of(13));
@@ -102,7 +104,7 @@ pub fn difference(
         return Err(Refusal::of(12));
     };
     let mut rest = Graph::empty();
-    difference::difference(&types, &general, &written, &map, &mut rest);
+    difference::difference(&types, &meets, &general, &written, &map, &mut rest);
     write::write(&rest, output)
 }
 

@@ -1,5 +1,5 @@
 //! The type table: each type's set of lower types and of upper types as a word,
-//! and the two tables of meets and joins.
+//! and the bounds of every two types on the side that a call asks for.
 
 use crate::Refusal;
 
@@ -7,22 +7,24 @@ pub struct Table {
     pub n: usize,
     /// Bit j of word i: type j is below or equal to type i.
     pub down: [u64; 64],
-    pub meets: [[u8; 64]; 64],
-    pub joins: [[u8; 64]; 64],
+    /// Bit j of word i: type i is below or equal to type j.
+    up: [u64; 64],
 }
+
+/// The meet, or the join, of every two types.
+pub type Bounds = [[u8; 64]; 64];
 
 impl Table {
     pub fn empty() -> Table {
         Table {
             n: 0,
             down: [0; 64],
-            meets: [[0; 64]; 64],
-            joins: [[0; 64]; 64],
+            up: [0; 64],
         }
     }
 
-    /// Takes in the table, or gives 1, 2 or 3.
-    pub fn open(&mut self, n: usize, bytes: &[u8]) -> Result<(), Refusal> {
+    /// Takes in an order of types with a least and a greatest, or gives 1 or 2.
+    fn read(&mut self, n: usize, bytes: &[u8]) -> Result<(), Refusal> {
         if !(2..=64).contains(&n) || bytes.len() != 8 * n {
             return Err(Refusal::of(1));
         }
@@ -30,18 +32,54 @@ impl Table {
         for (word, row) in self.down.iter_mut().zip(bytes.chunks_exact(8)) {
             *word = u64::from_le_bytes(row.try_into().expect("8 bytes"));
         }
-        let up = upper(n, &self.down).ok_or(Refusal::of(2))?;
-        let bounded = fill(n, &self.down, &mut self.meets) && fill(n, &up, &mut self.joins);
+        self.up = upper(n, &self.down).ok_or(Refusal::of(2))?;
+        Ok(())
+    }
+
+    /// Takes in the table, or gives 1, 2 or 3. Where every two types have a meet and one type
+    /// is the greatest, every two have a join.
+    pub fn open(&mut self, n: usize, bytes: &[u8]) -> Result<(), Refusal> {
+        self.read(n, bytes)?;
+        let down = &self.down;
+        let bounded = (1..n).all(|a| (0..a).all(|b| word_of(down, down[a] & down[b]).is_some()));
         if bounded { Ok(()) } else { Err(Refusal::of(3)) }
+    }
+
+    /// The same, with the meets.
+    pub fn open_meets(
+        &mut self,
+        n: usize,
+        bytes: &[u8],
+        meets: &mut Bounds,
+    ) -> Result<(), Refusal> {
+        self.read(n, bytes)?;
+        fill(n, &self.down, meets).ok_or(Refusal::of(3))
+    }
+
+    /// The same, with the joins: where every two types have one, every two have a meet.
+    pub fn open_joins(
+        &mut self,
+        n: usize,
+        bytes: &[u8],
+        joins: &mut Bounds,
+    ) -> Result<(), Refusal> {
+        self.read(n, bytes)?;
+        fill(n, &self.up, joins).ok_or(Refusal::of(3))
     }
 
     pub fn is_below(&self, lower: u8, upper: u8) -> bool {
         self.down[usize::from(upper)] >> lower & 1 == 1
     }
 
-    /// Whether for all p, q there is a greatest type whose meet with q is below p.
+    /// Whether for all p, q there is a greatest type whose meet with q is below p. That is so
+    /// where the lattice is distributive: for every type with one lower cover there is a
+    /// greatest type that is not above it.
     pub fn admits_differences(&self) -> bool {
-        (0..self.n).all(|p| (0..self.n).all(|q| self.residual(p as u8, q as u8).is_some()))
+        let all = u64::MAX >> (64 - self.n);
+        (1..self.n).all(|i| {
+            let has_one_cover = word_of(&self.down, self.down[i] & !(1 << i)).is_some();
+            !has_one_cover || word_of(&self.down, all & !self.up[i]).is_some()
+        })
     }
 
     /// The greatest type whose meet with q is below p, if there is one.
@@ -49,9 +87,7 @@ impl Table {
         let (q, p) = (self.down[usize::from(q)], self.down[usize::from(p)]);
         let mut types = 0;
         for d in 0..self.n {
-            if self.down[d] & q & !p == 0 {
-                types |= 1 << d;
-            }
+            types |= u64::from(self.down[d] & q & !p == 0) << d;
         }
         word_of(&self.down, types)
     }
@@ -80,18 +116,16 @@ fn upper(n: usize, down: &[u64; 64]) -> Option<[u64; 64]> {
     (down[n - 1] == all).then_some(up)
 }
 
-/// Fills in the bound of every two types; false if one is missing.
-fn fill(n: usize, words: &[u64; 64], bounds: &mut [[u8; 64]; 64]) -> bool {
+/// Fills in the bound of every two types, if each two have one.
+fn fill(n: usize, words: &[u64; 64], bounds: &mut Bounds) -> Option<()> {
     for a in 0..n {
         for b in 0..=a {
-            let Some(bound) = word_of(words, words[a] & words[b]) else {
-                return false;
-            };
+            let bound = word_of(words, words[a] & words[b])?;
             bounds[a][b] = bound;
             bounds[b][a] = bound;
         }
     }
-    true
+    Some(())
 }
 
 /// The type whose word it is: one that is in it.

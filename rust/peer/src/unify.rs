@@ -3,7 +3,7 @@
 use crate::Refusal;
 use crate::classes::Classes;
 use crate::graph::Graph;
-use crate::table::Table;
+use crate::table::Bounds;
 
 /// Up to 255 nodes of each graph, and their links.
 const NODES: usize = 510;
@@ -20,7 +20,7 @@ struct Rows {
 }
 
 /// Writes the combination, or 9, 10, 11, 8.
-pub fn unify(table: &Table, a: &Graph, b: &Graph, output: &mut [u8]) -> Result<usize, Refusal> {
+pub fn unify(meets: &Bounds, a: &Graph, b: &Graph, output: &mut [u8]) -> Result<usize, Refusal> {
     let mut rows = Rows {
         span: [(0, 0); NODES],
         features: [0; ROOM],
@@ -63,7 +63,7 @@ pub fn unify(table: &Table, a: &Graph, b: &Graph, output: &mut [u8]) -> Result<u
             count += 1;
         } else {
             let met = &mut types[usize::from(number[class])];
-            *met = table.meets[usize::from(*met)][usize::from(node_type)];
+            *met = meets[usize::from(*met)][usize::from(node_type)];
         }
     }
     let mut links = 0;

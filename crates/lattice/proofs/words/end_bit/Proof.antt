@@ -9,11 +9,11 @@ use Rattle.lattice.proofs.words.end_bit.Tie as tie
 cast-result : tie.Need-cast-result
 cast-result c = omega (arith, lowest-bit 64 (c .before .args .word) (c .before .fits .word .fits) (c .before .pre) .0)
 
-cast-result-2 : tie.Need-cast-result-2
-cast-result-2 c = omega (arith, highest-bit (c .before .args .word) (c .before .fits .word .fits) (c .before .pre) .0)
-
 sub-result : tie.Need-sub-result
 sub-result c = omega (arith, highest-bit (c .before .args .word) (c .before .fits .word .fits) (c .before .pre) .0)
+
+cast-result-2 : tie.Need-cast-result-2
+cast-result-2 c = omega (arith, highest-bit (c .before .args .word) (c .before .fits .word .fits) (c .before .pre) .0)
 
 returns : tie.Need-returns
 returns c =
@@ -26,4 +26,4 @@ returns-2 c =
     (highest .1, highest .2, λ e. absurd (true-not-false _ e (c .if1 .left)))
 
 pub end-bit-spec : {M : Type 1} → statement M
-end-bit-spec = tie.close (tie.spec cast-result cast-result-2 sub-result returns returns-2)
+end-bit-spec = tie.close (tie.spec cast-result sub-result cast-result-2 returns returns-2)
