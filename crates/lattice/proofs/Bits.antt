@@ -2,20 +2,20 @@
 -- operations and the counts of zeros say of bits.
 use Prim.Native.Nat.{ℕ, zero, suc, _+_, _*_, _-_, _/_, _%_, _^_, _<_, _≤_}
 use mathlib.Core.Path.{_≡_, refl, sym, ap, ap₂, subst, _∙_}
-use mathlib.Core.Bool.{Bool, true, false, not, _&&_}
+use mathlib.Core.Bool.{Bool, true, false, not, _&&_, _||_}
 use mathlib.Core.List.{List}
 use mathlib.Core.Logic.{⊎-elim}
 use native.Mathlib.Nat.{mod-lt, zero-div, mod-eq-of-lt, two-pow-succ, div-lt-iff-lt-mul, le-div-iff-mul-le, div-eq-of-lt, lt-of-lt-of-le, add-zero, add-suc, add-mul, mul-assoc, mul-comm}
 use native.Mathlib.Omega.{arith}
-use lib.Bits.{bitAnd, bitXor, and-shr, xor-shr, and-mod, xor-mod, xor-add-and, and-le-l, and-step, and-self}
+use lib.Bits.{bitAnd, bitOr, bitXor, and-shr, or-shr, xor-shr, and-mod, or-mod, xor-mod, xor-add-and, and-le-l, and-step, and-self}
 use lib.Count.{trailingZeros, under, leadingZeros, leading-top}
 use lib.Dec.{eqb}
 use lib.ListN.{getD}
 use lib.Pow.{mod-pow-add, shr-shr, shr-lt, pow-mono, pow-pos, pow-add, shl-exact}
 use borrow.Author.Tests.{eq-eqb, ne-eqb, eqb-true}
-use Rattle.lattice.specs.Table.{every, implies, below}
-use Rattle.lattice.specs.Words.{digit, word, related, bit, without, Inside}
-use Rattle.lattice.proofs.Every.{below-or-not, and-left, and-both, true-not-false, implies-from, every-fails, every-all}
+use Rattle.lattice.specs.Table.{below}
+use Rattle.lattice.specs.Words.{digit, word, related, bit, without, partOf, Inside}
+use Rattle.lattice.proofs.Every.{below-or-not, and-right, and-both, true-not-false}
 use Rattle.lattice.proofs.WordLaws.{word-below, word-same, word-bits, word-cut, turn-more, turn-fits}
 
 two : 0 < 2
@@ -67,17 +67,19 @@ bit-positive zero j h = absurd (true-not-false (bit 0 j) h (no-bit j))
 bit-positive (suc w) j h = omega arith
 
 -- 2 ^ j is the word of one bit
-one-word : (j : ℕ) → j < 64 → word 64 (λ i. eqb i j) ≡ 2 ^ j
+one-word : (n j : ℕ) → j < n → word n (λ i. eqb i j) ≡ 2 ^ j
 unfolding word
-one-word j l =
-    let cut : word 64 (λ i. eqb i j) ≡ word (suc j) (λ i. eqb i j) =
-    word-cut (suc j) 64 (λ i. eqb i j) l (λ i a b. ne-eqb i j (λ e. absurd (omega arith))) in
+one-word n j l =
+    let cut : word n (λ i. eqb i j) ≡ word (suc j) (λ i. eqb i j) =
+    word-cut (suc j) n (λ i. eqb i j) l (λ i a b. ne-eqb i j (λ e. absurd (omega arith))) in
     let low : word j (λ i. eqb i j) ≡ word 0 (λ i. eqb i j) =
     word-cut 0 j (λ i. eqb i j) (omega arith) (λ i a b. ne-eqb i j (λ e. absurd (omega arith))) in
     cut ∙ rw (eq-eqb j j refl, low) (omega arith)
 
-one-bit : (j k : ℕ) → j < 64 → k < 64 → bit (2 ^ j) k ≡ eqb k j
-one-bit j k l s = ap (λ (w : ℕ). bit w k) (sym (one-word j l)) ∙ bit-word 64 (λ i. eqb i j) k s
+one-bit : (j k : ℕ) → bit (2 ^ j) k ≡ eqb k j
+one-bit j k =
+    let n : ℕ = suc (j + k) in
+    ap (λ (w : ℕ). bit w k) (sym (one-word n j (omega arith))) ∙ bit-word n (λ i. eqb i j) k (omega arith)
 
 pub and-bit : (a b j : ℕ) → bit (bitAnd a b) j ≡ (bit a j && bit b j)
 unfolding bit
@@ -91,6 +93,21 @@ and-bit a b j = ap (λ (x : ℕ). eqb (x % 2) 1) (and-shr a b j) ∙ odd (a / 2 
 
   odd : (x y : ℕ) → eqb (bitAnd x y % 2) 1 ≡ (eqb (x % 2) 1 && eqb (y % 2) 1)
   odd x y = ap (λ (z : ℕ). eqb z 1) (and-mod x y 1) ∙ go (x % 2) (y % 2) (mod-lt x two) (mod-lt y two)
+
+pub or-bit : (a b j : ℕ) → bit (bitOr a b) j ≡ (bit a j || bit b j)
+unfolding bit
+or-bit a b j = ap (λ (x : ℕ). eqb (x % 2) 1) (or-shr a b j) ∙ odd (a / 2 ^ j) (b / 2 ^ j) where
+  go : (c d : ℕ) → c < 2 → d < 2 → eqb (bitOr c d) 1 ≡ (eqb c 1 || eqb d 1)
+  go zero zero l s = refl
+  go zero (suc zero) l s = refl
+  go zero (suc (suc d)) l s = absurd (omega arith)
+  go (suc zero) zero l s = refl
+  go (suc zero) (suc zero) l s = refl
+  go (suc zero) (suc (suc d)) l s = absurd (omega arith)
+  go (suc (suc c)) d l s = absurd (omega arith)
+
+  odd : (x y : ℕ) → eqb (bitOr x y % 2) 1 ≡ (eqb (x % 2) 1 || eqb (y % 2) 1)
+  odd x y = ap (λ (z : ℕ). eqb z 1) (or-mod x y 1) ∙ go (x % 2) (y % 2) (mod-lt x two) (mod-lt y two)
 
 pub without-bit : (a b j : ℕ) → bit (without a b) j ≡ (bit a j && not (bit b j))
 unfolding bit
@@ -113,6 +130,21 @@ below-power : (a : ℕ) → a < 2 ^ a
 below-power zero = omega arith
 below-power (suc a) = omega (arith, below-power a, two-pow-succ a)
 
+-- a word is part of another where its bits stand in it
+pub part-bit : (a b : ℕ) → partOf a b ≡ true → (j : ℕ) → bit a j ≡ true → bit b j ≡ true
+part-bit a b h j e =
+    and-right (bit a j) (bit b j) (sym (and-bit a b j) ∙ ap (λ (w : ℕ). bit w j) (eqb-true (bitAnd a b) a h) ∙ e)
+
+pub part-from : (a b : ℕ) → ((j : ℕ) → bit a j ≡ true → bit b j ≡ true) → partOf a b ≡ true
+part-from a b h =
+    eq-eqb (bitAnd a b) a
+    (bits-same a (bitAnd a b) a (omega (arith, and-le-l a b, below-power a)) (below-power a) λ j l.
+    and-bit a b j ∙ go (bit a j) (bit b j) (h j))
+  where
+    go : (x y : Bool) → (x ≡ true → y ≡ true) → x && y ≡ x
+    go true y f = f refl
+    go false y f = refl
+
 -- what is taken out and what is left make the word
 without-rest : (a b : ℕ) → without a b + bitAnd a b ≡ a
 without-rest a b =
@@ -134,12 +166,12 @@ without-less a b j e f =
     omega (arith, without-rest a b, bit-positive (bitAnd a b) j (and-bit a b j ∙ and-both (bit a j) (bit b j) e f))
 
 -- a word with a standing bit cleared is less
-pub cleared-less : (w j : ℕ) → j < 64 → bit w j ≡ true → without w (2 ^ j) < w
-cleared-less w j l e = without-less w (2 ^ j) j e (one-bit j j l l ∙ eq-eqb j j refl)
+pub cleared-less : (w j : ℕ) → bit w j ≡ true → without w (2 ^ j) < w
+cleared-less w j e = without-less w (2 ^ j) j e (one-bit j j ∙ eq-eqb j j refl)
 
 -- a bit that still stands is another, and one that does not stood not before or is the one cleared
-pub cleared-bit : (w j k : ℕ) → j < 64 → k < 64 → bit (without w (2 ^ j)) k ≡ (bit w k && not (eqb k j))
-cleared-bit w j k l s = without-bit w (2 ^ j) k ∙ ap (λ (b : Bool). bit w k && not b) (one-bit j k l s)
+pub cleared-bit : (w j k : ℕ) → bit (without w (2 ^ j)) k ≡ (bit w k && not (eqb k j))
+cleared-bit w j k = without-bit w (2 ^ j) k ∙ ap (λ (b : Bool). bit w k && not b) (one-bit j k)
 
 half-shift : (w i : ℕ) → w / 2 ^ suc i ≡ w / 2 / 2 ^ i
 half-shift w i = ap (λ (k : ℕ). w / 2 ^ k) (omega arith) ∙ sym (shr-shr w 1 i)
@@ -187,8 +219,8 @@ lowest-cleared w l s =
     let lowest : (j < 64) × (bit w j ≡ true) = lowest-bit 64 w l s in
     let one : bitAnd w (2 ^ j) ≡ 2 ^ j =
     bits-same 64 (bitAnd w (2 ^ j)) (2 ^ j) (omega (arith, and-le-l w (2 ^ j))) (pow-lt (lowest .0)) λ k r.
-    and-bit w (2 ^ j) k ∙ ap (λ (b : Bool). bit w k && b) (one-bit j k (lowest .0) r) ∙ keep j k (eqb k j) refl (lowest .1) ∙
-    sym (one-bit j k (lowest .0) r) in
+    and-bit w (2 ^ j) k ∙ ap (λ (b : Bool). bit w k && b) (one-bit j k) ∙ keep j k (eqb k j) refl (lowest .1) ∙
+    sym (one-bit j k) in
     omega (arith, lowest-and 64 w l s, without-rest w (2 ^ j), one)
   where
     pow-lt : {j : ℕ} → j < 64 → 2 ^ j < 2 ^ 64
@@ -269,33 +301,3 @@ module _ (ws : List ℕ) (n i j w : ℕ) (few : n ≤ 64) (l : 0 < j)
 
   pub twice-fits : 2 * w < 2 ^ 64
   twice-fits = omega (arith, turned-fits)
-
--- Going over the standing bits of w: `left` has those that are not tested yet, and the others passed.
-pub record Passed (w left : ℕ) (p : ℕ → Bool) : Type 0 where
-  pub part : (j : ℕ) → j < 64 → bit left j ≡ true → bit w j ≡ true
-  pub passed : (j : ℕ) → j < 64 → bit w j ≡ true → bit left j ≡ false → p j ≡ true
-
-pub pass-begin : (w : ℕ) (p : ℕ → Bool) → Passed w w p
-pass-begin w p = record { part = λ j l e. e; passed = λ j l e f. absurd (true-not-false (bit w j) e f) }
-
-module _ {w left : ℕ} {p : ℕ → Bool} (s : Passed w left p) where
-  pub pass-fails : (j : ℕ) → j < 64 → bit left j ≡ true → p j ≡ false → every 64 (λ j. implies (bit w j) (p j)) ≡ false
-  pass-fails j l e f = every-fails _ 64 j l (rw (s .part j l e, f))
-
-  pub pass-next : (j : ℕ) → j < 64 → p j ≡ true → Passed w (without left (2 ^ j)) p
-  pass-next j l h =
-      record {
-        part = λ k r e. s .part k r (and-left (bit left k) (not (eqb k j)) (sym (cleared-bit left j k l r) ∙ e));
-        passed = λ k r e f. go k r e (bit left k) refl (eqb k j) refl (sym (cleared-bit left j k l r) ∙ f);
-      }
-    where
-      go : (k : ℕ) → k < 64 → bit w k ≡ true → (b : Bool) → bit left k ≡ b → (c : Bool) → eqb k j ≡ c
-          → (bit left k && not (eqb k j)) ≡ false → p k ≡ true
-      go k r e b e₁ true e₂ h₁ = subst (λ (i : ℕ). p i ≡ true) (sym (eqb-true k j e₂)) h
-      go k r e false e₁ false e₂ h₁ = s .passed k r e e₁
-      go k r e true e₁ false e₂ h₁ = absurd (true-not-false true refl (sym (rw (e₁, e₂)) ∙ h₁))
-
-  pub pass-all : left ≡ 0 → every 64 (λ j. implies (bit w j) (p j)) ≡ true
-  pass-all e =
-      every-all _ 64 λ j l.
-      implies-from (bit w j) (p j) λ f. s .passed j l f (ap (λ (x : ℕ). bit x j) e ∙ no-bit j)

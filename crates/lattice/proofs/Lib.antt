@@ -3,6 +3,7 @@ pub mod Every
 pub mod WordLaws
 pub mod Bits
 pub mod OrderLaws
+pub mod Union
 pub mod BoundLaws
 pub mod Rows
 pub mod Search

@@ -104,7 +104,7 @@ module _ (n : ℕ) (t ws : List ℕ) (ok : accepted n t ≡ true) (words : Words
 
   lower-bit : (j d : ℕ) → j < n → d < n → bit (without (getD ws j 0) (2 ^ j)) d ≡ (below t d j && not (eqb d j))
   lower-bit j d l s =
-      cleared-bit (getD ws j 0) j d (omega (arith, few)) (omega (arith, few)) ∙
+      cleared-bit (getD ws j 0) j d ∙
       ap (λ (b : Bool). b && not (eqb d j)) (own-bit j d l (omega (arith, few)))
 
   others-bit : (j d : ℕ) → j < n → d < n → bit (without (getD ws (n - 1) 0) (turned n ws j)) d ≡ not (below t j d)

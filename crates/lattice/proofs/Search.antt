@@ -49,7 +49,7 @@ module _ {ws : List ℕ} {word left : ℕ} (s : Seeking ws word left) where
         (ap (λ (w : ℕ). bit w k) (e ∙ sym g) ∙ side .own k r)))
 
     pub seek-less : without (without left (2 ^ c)) (getD ws c 0) < left
-    seek-less = omega (arith, without-most (without left (2 ^ c)) (getD ws c 0), cleared-less left c l stands)
+    seek-less = omega (arith, without-most (without left (2 ^ c)) (getD ws c 0), cleared-less left c stands)
 
     -- c has another word: neither it nor a type on its side is the one sought
     pub seek-next : (getD ws c 0 ≡ word → ⊥) → Seeking ws word (without (without left (2 ^ c)) (getD ws c 0))
@@ -58,7 +58,7 @@ module _ {ws : List ℕ} {word left : ℕ} (s : Seeking ws word left) where
           part = λ j r e.
               s .part j r
               (and-left (bit left j) (not (eqb j c))
-              (sym (cleared-bit left c j l r) ∙
+              (sym (cleared-bit left c j) ∙
               and-left (bit (without left (2 ^ c)) j) (not (bit (getD ws c 0) j)) (sym (rest j) ∙ e)));
           kept = λ n few side in-n k r e.
               let h : bit word c ≡ true = s .part c l stands in
@@ -69,7 +69,7 @@ module _ {ws : List ℕ} {word left : ℕ} (s : Seeking ws word left) where
               true-not-false (eqb k c) (eq-eqb k c (side .anti k c r (in-n c l h) (ap (λ (w : ℕ). bit w c) e ∙ h) g)) apart in
               rest k ∙
               rw (
-                cleared-bit left c k l (omega arith),
+                cleared-bit left c k,
                 s .kept n few side in-n k r e,
                 apart,
                 off,

@@ -45,6 +45,10 @@ turned n ws i = word n λ j. bit (getD ws j 0) i
 abbrev pub partOf : ℕ → ℕ → Bool
 partOf a b = eqb (bitAnd a b) a
 
+-- u is the union of the rows of w's types: it is part of a word where each of them is
+abbrev pub Union : List ℕ → ℕ → ℕ → Type 0
+Union ws w u = (m : ℕ) → partOf u m ≡ every 64 λ j. implies (bit w j) (partOf (getD ws j 0) m)
+
 -- of a type j below i: all that is below j is below i, and i is below j only where they are one type
 unfoldable pub pairOrdered : List ℕ → ℕ → ℕ → Bool
 pairOrdered ws i j = partOf (getD ws j 0) (getD ws i 0) && implies (bit (getD ws j 0) i) (eqb i j)

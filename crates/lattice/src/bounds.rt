@@ -132,7 +132,7 @@ pub fn is_row_bounded(n: usize, words: &[u64; 64], low: bool, a: usize) -> bool
 {
     let mut b = 0;
     while b < a {
-        if 64 <= bound(words, low, a, b) {
+        if 64 <= find_word(words, words[a] & words[b], low) {
             return false;
         }
         b += 1;

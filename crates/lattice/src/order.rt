@@ -3,7 +3,7 @@ ghost use mathlib.Core.Path.{_≡_};
 ghost use Prim.Native.Nat.{_<_, _≤_};
 ghost use lib.ListN.{getD};
 ghost use Rattle.lattice.specs.Table.{every, implies, sized};
-ghost use Rattle.lattice.specs.Words.{bit, pairOrdered, rowOrdered};
+ghost use Rattle.lattice.specs.Words.{bit, Union, pairOrdered, rowOrdered};
 
 // Whether n is 2 to 64 and the table has 8 bytes for each type.
 pub fn is_sized(n: usize, table: &[u8]) -> bool
@@ -18,35 +18,29 @@ pub fn is_sized(n: usize, table: &[u8]) -> bool
     table.len() == 8 * n
 }
 
-// Of a type j below type i: whether all that is below j is below i, and i is below j only if they are one type.
-pub fn is_pair_ordered(down: &[u64; 64], i: usize, j: usize) -> bool
-    requires { ⌜ (i < 64) × (j < 64) ⌝ }
-    ensures { λ r. ⌜ r ≡ pairOrdered (now (down .entry)) i j ⌝ }
+// The union of the rows of a word's types.
+pub fn unite_rows(down: &[u64; 64], word: u64) -> u64
+    ensures { λ r. ⌜ Union (now (down .entry)) word r ⌝ }
 {
-    if down[j] & down[i] != down[j] {
-        return false;
+    let mut left = word;
+    let mut all = 0u64;
+    while left != 0 {
+        let j = super::words::end_bit(left, true);
+        all |= down[j];
+        left = super::words::without_lowest(left);
     }
-    if super::words::has_bit(down[j], i) {
-        i == j
-    } else {
-        true
-    }
+    all
 }
 
-// Whether the pairs of type i with every type below it are ordered.
+// Whether the pairs of type i with every type below it are ordered: what is below a type strictly below i is strictly below i.
 pub fn are_pairs_ordered(down: &[u64; 64], i: usize) -> bool
     requires { ⌜ i < 64 ⌝ }
     ensures { λ r. ⌜ r ≡ every 64 (λ j. implies (bit (getD (now (down .entry)) i 0) j) (pairOrdered (now (down .entry)) i j)) ⌝ }
 {
-    let mut left = down[i];
-    while left != 0 {
-        let j = super::words::end_bit(left, true);
-        if !is_pair_ordered(down, i, j) {
-            return false;
-        }
-        left = super::words::without_lowest(left);
-    }
-    true
+    let row = down[i];
+    let lower = super::words::cleared(row, i);
+    let all = unite_rows(down, lower);
+    all & lower == all
 }
 
 // Whether row i has no bit at n or above, has its own bit and that of 0, stands in row n - 1, and its pairs are ordered.

@@ -7,6 +7,7 @@ use Rattle.lattice.specs.Table.{every, found as foundOf}
 use Rattle.lattice.specs.Words.{wordBound}
 use Rattle.lattice.proofs.Every.{every-none, every-more, every-fails, every-done}
 use Rattle.lattice.proofs.Rows.{holder-found}
+use Rattle.lattice.proofs.Search.{common-inside}
 use borrow.Author.Needs.{needs}
 use Rattle.lattice.proofs.bounds.is_row_bounded.Statement.{statement}
 use Rattle.lattice.proofs.bounds.is_row_bounded.Tie as tie
@@ -20,15 +21,29 @@ abbrev μ-loop : tie.MeasureT-loop
 loop-holds : tie.Need-loop-holds Inv-loop μ-loop
 loop-holds c = (search needs, every-none _)
 
-bound-requires : tie.Need-bound-requires Inv-loop μ-loop
-bound-requires c κs = search needs
+mul-find-word : tie.Need-mul-find-word Inv-loop μ-loop
+mul-find-word c = search needs
+
+element-copy-out-find-word : tie.Need-element-copy-out-find-word Inv-loop μ-loop
+element-copy-out-find-word c = search needs
+
+mul-find-word-2 : tie.Need-mul-find-word-2 Inv-loop μ-loop
+mul-find-word-2 c = search needs
+
+element-copy-out-find-word-2 : tie.Need-element-copy-out-find-word-2 Inv-loop μ-loop
+element-copy-out-find-word-2 c = search needs
+
+find-word-requires : tie.Need-find-word-requires Inv-loop μ-loop
+find-word-requires c κs = search needs
 
 returns : tie.Need-returns Inv-loop μ-loop
 returns c =
-    let turn = c .before .before .before .loop in
-    let start = c .before .before .before .before in
-    let answer = c .before .bound .ensures (start .args .n) (start .pre .1) (start .pre .2) (start .pre .0) (search needs) in
-    let told = holder-found (start .args .n) (start .args .words .now) _ _ _ (start .pre .1) refl answer in
+    let turn = c .before .before .before .before .before .loop in
+    let start = c .before .before .before .before .before .before in
+    let n = start .args .n in
+    let ws = start .args .words .now in
+    let common = common-inside n ws (start .args .a) (turn .b) (start .pre .0) (start .pre .2) in
+    let told = holder-found n ws _ _ _ (start .pre .1) refl (c .before .find-word .ensures n (start .pre .1) (start .pre .2) common) in
     sym (every-fails _ (start .args .a) (turn .b) (search needs) (sym told ∙ le-ltb _ _ (c .if1 .taken)))
 
 add-b : tie.Need-add-b Inv-loop μ-loop
@@ -39,10 +54,12 @@ loop-less c = search needs
 
 loop-again : tie.Need-loop-again Inv-loop μ-loop
 loop-again c =
-    let turn = c .before .before .before .loop in
-    let start = c .before .before .before .before in
-    let answer = c .before .bound .ensures (start .args .n) (start .pre .1) (start .pre .2) (start .pre .0) (search needs) in
-    let told = holder-found (start .args .n) (start .args .words .now) _ _ _ (start .pre .1) refl answer in
+    let turn = c .before .before .before .before .before .loop in
+    let start = c .before .before .before .before .before .before in
+    let n = start .args .n in
+    let ws = start .args .words .now in
+    let common = common-inside n ws (start .args .a) (turn .b) (start .pre .0) (start .pre .2) in
+    let told = holder-found n ws _ _ _ (start .pre .1) refl (c .before .find-word .ensures n (start .pre .1) (start .pre .2) common) in
     (search needs, every-more _ (turn .b) (turn .inv .1) (sym told ∙ lt-ltb _ _ (c .if1 .left)))
 
 returns-2 : tie.Need-returns-2 Inv-loop μ-loop
@@ -57,7 +74,11 @@ is-row-bounded-spec =
     Inv-loop
     μ-loop
     loop-holds
-    bound-requires
+    mul-find-word
+    element-copy-out-find-word
+    mul-find-word-2
+    element-copy-out-find-word-2
+    find-word-requires
     returns
     add-b
     loop-less
