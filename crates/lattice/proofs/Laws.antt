@@ -9,7 +9,7 @@ use native.Mathlib.Omega.{arith}
 use lib.ListN.{length, getD}
 use Rattle.lattice.specs.Table.{every, found, implies, below, sized, ordered, bounded, accepted, isMeet, isJoin, meet, join, meetBelow, isResidual, residual, admits, filled, boundRow}
 use Rattle.lattice.specs.Words.{related, Words, Sided}
-use Rattle.lattice.proofs.Every.{and-left, and-right, and-both, implies-at, every-at, last-passes, found-some}
+use Rattle.lattice.proofs.Every.{and-left, and-right, and-both, implies-at, implies-from, every-at, every-all, last-passes, last-found, found-some}
 use Rattle.lattice.proofs.OrderLaws.{Ordered, ordered-facts, side, sided}
 use Rattle.lattice.proofs.Opening.{size-facts}
 use Rattle.lattice.proofs.Rows.{getD-overwrite, row-bound}
@@ -169,6 +169,45 @@ module _ (n : ℕ) (t : List ℕ) (ok : accepted n t ≡ true) where
         greatest = λ d m l f g.
             implies-at (meetBelow n t p q d) (below t d c) (every-at _ n d most l) (meet-below n t p q d m f ∙ g);
       }
+
+  -- the residual is the one greatest type whose meet with q is below p
+  pub residual-unique : (p q c : ℕ) → q < n → c < n → ((m : ℕ) → meet n t c q ≡ some m → below t m p ≡ true)
+      → ((d m : ℕ) → d < n → meet n t d q ≡ some m → below t m p ≡ true → below t d c ≡ true) → residual n t p q ≡ some c
+  unfolding residual isResidual
+  residual-unique p q c lq lc under most =
+      let m : (k : ℕ) × Meet n t c q k = meet-exists c q lc lq in
+      let passes : isResidual n t p q c ≡ true =
+      and-both (meetBelow n t p q c) (every n (λ d. implies (meetBelow n t p q d) (below t d c)))
+      (meet-below n t p q c (m .0) (m .1 .is) ∙ under (m .0) (m .1 .is))
+      (every-all _ n λ d l.
+      implies-from (meetBelow n t p q d) (below t d c) λ e.
+      let k : (i : ℕ) × Meet n t d q i = meet-exists d q l lq in
+      most d (k .0) l (k .1 .is) (sym (meet-below n t p q d (k .0) (k .1 .is)) ∙ e)) in
+      let r : (i : ℕ) × (residual n t p q ≡ some i) = found-some (residual n t p q) (last-found (isResidual n t p q) n c lc passes) in
+      let i : Residual n t p q (r .0) = residual-sound p q (r .0) (r .1) in
+      let k : (j : ℕ) × Meet n t (r .0) q j = meet-exists (r .0) q (i .type) lq in
+      i .is ∙
+      ap some
+      (below-antisymmetric (r .0) c (i .type) lc
+      (most (r .0) (k .0) (i .type) (k .1 .is) (i .under (k .0) (k .1 .is)))
+      (i .greatest c (m .0) lc (m .1 .is) (under (m .0) (m .1 .is))))
+
+  -- where q is below p, the residual is the greatest type
+  pub residual-of-below : (p q : ℕ) → p < n → q < n → below t q p ≡ true → residual n t p q ≡ some (n - 1)
+  residual-of-below p q lp lq e =
+      residual-unique p q (n - 1) lq top-type
+      (λ m f.
+      let k : Meet n t (n - 1) q m = meet-sound (n - 1) q m f in
+      below-transitive m q p (k .type) lq lp (k .right) e)
+      λ d m l f g. top-greatest d l
+
+  -- the residual by the greatest type is the type itself
+  pub residual-by-top : (p : ℕ) → p < n → residual n t p (n - 1) ≡ some p
+  residual-by-top p lp =
+      residual-unique p (n - 1) p top-type lp (λ m f. meet-sound p (n - 1) m f .left)
+      λ d m l f g.
+      let k : Meet n t d (n - 1) m = meet-sound d (n - 1) m f in
+      below-transitive d m p l (k .type) lp (k .greatest d l (below-reflexive d l) (top-greatest d l)) g
 
   module _ (differ : admits n t ≡ true) where
     -- where the table admits differences, every two types have a residual

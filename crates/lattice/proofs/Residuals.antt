@@ -1,5 +1,6 @@
 -- The type whose word is that of the types whose meet with q is below p is the residual of p by q.
-use Prim.Native.Nat.{ℕ, _<_, _≤_}
+-- And where q is below p, or the greatest type, the residual is known without a search.
+use Prim.Native.Nat.{ℕ, _-_, _<_, _≤_}
 use mathlib.Core.Path.{_≡_, refl, sym, ap, subst, _∙_}
 use mathlib.Core.Bool.{Bool, true, false, cond, _&&_}
 use mathlib.Core.List.{List}
@@ -14,11 +15,12 @@ use Rattle.lattice.specs.declared.Opened.{Opened}
 use Rattle.lattice.specs.declared.Opened.the-variants.{Accepted, Refused}
 use Rattle.lattice.specs.Table.{every, implies, below, sized, ordered, bounded, accepted, meetBelow, isResidual, residual, cell}
 use Rattle.lattice.specs.Reply.{opened}
-use Rattle.lattice.specs.Words.{word, related, Words, partOf, wordMeetBelow, holder, wordResidual, Sided, Inside}
+use Rattle.lattice.specs.Words.{word, related, Words, bit, partOf, wordMeetBelow, holder, wordResidual, Sided, Inside}
 use Rattle.lattice.proofs.Every.{and-left, and-right, and-both, implies-at, implies-from, every-at, every-all, same-test, not-true-false, last-same}
 use Rattle.lattice.proofs.WordLaws.{word-below, word-same, word-bits, word-and, bits-part-of, part-of-bits, word-cut}
 use Rattle.lattice.proofs.Bits.{small-inside}
-use Rattle.lattice.proofs.Laws.{Meet, meet-below, accepted-size, accepted-facts, accepted-sided, below-reflexive, below-transitive, meet-exists}
+use Rattle.lattice.proofs.OrderLaws.{row-bit}
+use Rattle.lattice.proofs.Laws.{Meet, meet-below, accepted-size, accepted-facts, accepted-sided, below-reflexive, below-transitive, meet-exists, residual-of-below, residual-by-top}
 
 module _ (n : ℕ) (t ws : List ℕ) (ok : accepted n t ≡ true) (words : Words n t false ws) where
   -- the test on words decides whether the meet of d and q is below p
@@ -93,6 +95,16 @@ module _ (n : ℕ) (t ws : List ℕ) (ok : accepted n t ≡ true) (words : Words
       answer n (accepted-size n t ok .1) (accepted-sided n t ok ws words)
       (subst (Inside n) (sym e) (small-inside n _ (word-below n (wordMeetBelow ws p q)))) ∙
       ap (λ (w : ℕ). cell (holder n ws w)) e ∙ ap cell (residual-found p q lp lq)
+
+  -- the answer where q is below p
+  pub below-cell : (p q : ℕ) → p < n → q < n → bit (getD ws p 0) q ≡ true → n - 1 ≡ cell (residual n t p q)
+  below-cell p q lp lq h =
+      let few : n ≤ 64 = accepted-size n t ok .1 in
+      sym (ap cell (residual-of-below n t ok p q lp lq (sym (row-bit n t ws few words p q lp (omega arith)) ∙ h)))
+
+-- the answer where q is the greatest type
+pub top-cell : (n : ℕ) (t : List ℕ) → accepted n t ≡ true → (p q : ℕ) → p < n → q ≡ n - 1 → p ≡ cell (residual n t p q)
+top-cell n t ok p q l e = sym (ap (λ (i : ℕ). cell (residual n t p i)) e ∙ ap cell (residual-by-top n t ok p l))
 
 -- the answer of opening says whether the table is accepted
 pub opened-accepted : (n : ℕ) (t : List ℕ) (r : Opened) → r ≡ opened n t → r ≡ Accepted → accepted n t ≡ true

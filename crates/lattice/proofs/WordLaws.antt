@@ -9,6 +9,7 @@ use native.Mathlib.Numerals.{add-one}
 use native.Mathlib.Omega.{arith}
 use lib.Dec.{leb, lit<}
 use lib.Bits.{bitAnd, and-block}
+use mir.Val.{boolByte}
 use lib.Pow.{high, low, pow-pos, pow-mono, shl-exact}
 use borrow.Author.Tests.{eq-eqb, eqb-true, le-leb, leb-true}
 use Rattle.lattice.specs.Words.{digit, word, partOf}
@@ -135,16 +136,14 @@ bits-short n k p l s h =
 pub shifted : (j : ℕ) → j < 64 → (1 * 2 ^ j) % 2 ^ 64 ≡ 2 ^ j
 shifted j l = shl-exact {a = 1} 1 j 64 (lit< tt) (omega arith) ∙ omega arith
 
-pub bit-fits : (j w : ℕ) → j < 64 → w < 2 ^ j → (1 * 2 ^ j) % 2 ^ 64 + w < 2 ^ 64
-bit-fits j w l s =
+pub bit-placed : (b : Bool) (j w : ℕ) → j < 64 → w + (boolByte b * 2 ^ j) % 2 ^ 64 ≡ digit b * 2 ^ j + w
+bit-placed true j w l = omega (arith, shifted j l)
+bit-placed false j w l = omega arith
+
+pub bit-fits : (b : Bool) (j w : ℕ) → j < 64 → w < 2 ^ j → w + (boolByte b * 2 ^ j) % 2 ^ 64 < 2 ^ 64
+bit-fits b j w l s =
     let e : 2 ^ suc j ≤ 2 ^ 64 = pow-mono l in
-    omega (arith, shifted j l, two-pow-succ j)
-
-pub bit-set : (b : Bool) (j w : ℕ) → j < 64 → b ≡ true → (1 * 2 ^ j) % 2 ^ 64 + w ≡ digit b * 2 ^ j + w
-bit-set b j w l h = rw h (omega (arith, shifted j l))
-
-pub bit-clear : (b : Bool) (j w : ℕ) → b ≡ false → w ≡ digit b * 2 ^ j + w
-bit-clear b j w h = rw h (omega arith)
+    omega (arith, bit-placed b j w l, digit-below b (2 ^ j), two-pow-succ j)
 
 -- a word made from its highest bit on: w has the bits from j on
 pub turn-more : (p : ℕ → Bool) (n j w d : ℕ) → 0 < j → word n p ≡ w * 2 ^ j + word j p → digit (p (j - 1)) ≡ d

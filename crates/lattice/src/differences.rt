@@ -32,11 +32,19 @@ pub fn residual_word(n: usize, down: &[u64; 64], p: usize, q: usize) -> u64
     word
 }
 
-// The residual of p by q in an accepted table with these words, document 01's wanted type; 64 where there is none.
+// The residual of p by q in an accepted table with these words, document 01's wanted type; 64 where there is none. At once
+// where q is below p, then it is the greatest type, and where q is the greatest type, then it is p.
 pub fn residual(n: usize, down: &[u64; 64], p: usize, q: usize) -> u8
     requires { ⌜ (n ≤ 64) × (p < n) × (q < n) ⌝ }
     ensures { λ r. ⌜ ((t : List ℕ) → accepted n t ≡ true → Words n t false (now (down .entry)) → r ≡ cell (residualOf n t p q)) ⌝ }
 {
+    let top = n - 1;
+    if super::words::has_bit(down[p], q) {
+        return top as u8;
+    }
+    if q == top {
+        return p as u8;
+    }
     let word = residual_word(n, down, p, q);
     super::bounds::find_word(down, word, false)
 }

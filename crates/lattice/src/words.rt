@@ -69,7 +69,7 @@ pub fn with_bit(word: u64, j: usize, stands: bool) -> u64
     requires { ⌜ (j < 64) × (word < 2 ^ j) ⌝ }
     ensures { λ r. ⌜ r ≡ digit stands * 2 ^ j + word ⌝ }
 {
-    if stands { (1u64 << j) + word } else { word }
+    word + ((stands as u64) << j)
 }
 
 // The byte at a place, 0 off the table.
