@@ -10,15 +10,10 @@ use lib.Bits.{bitAnd}
 use lib.Dec.{ltb, eqb}
 use borrow.Author.Tests.{eq-eqb, ne-eqb, eqb-true}
 use Rattle.lattice.specs.Table.{cell, found}
-use Rattle.lattice.specs.Words.{bit, without, holder, wordBound, Sided, Inside}
+use Rattle.lattice.specs.Words.{bit, without, holder, wordBound, Sided, Inside, Seeking}
 use Rattle.lattice.proofs.Every.{and-left, not-true-false, true-not-false, last-nothing, last-only}
 use Rattle.lattice.proofs.Bits.{no-bit, and-bit, without-bit, without-most, cleared-bit, cleared-less}
 use Rattle.lattice.proofs.Rows.{holder-found}
-
--- `left` has bits of `word` alone, and that of every type that has the word
-pub record Seeking (ws : List ℕ) (word left : ℕ) : Type 0 where
-  pub part : (j : ℕ) → j < 64 → bit left j ≡ true → bit word j ≡ true
-  pub kept : (n : ℕ) → n ≤ 64 → Sided n ws → Inside n word → (k : ℕ) → k < n → getD ws k 0 ≡ word → bit left k ≡ true
 
 pub seek-begin : (ws : List ℕ) (word : ℕ) → Seeking ws word word
 seek-begin ws word =

@@ -100,3 +100,8 @@ Column rows a cells = ((k : ℕ) → k < a → getD cells k 0 ≡ getD (getD row
 -- every two types have a bound
 unfoldable pub allFound : ℕ → (ℕ → ℕ → Option ℕ) → Bool
 allFound n bound = every n λ a. every n λ b. found (bound a b)
+
+-- `left` has bits of `word` alone, and that of every type that has the word
+pub record Seeking (ws : List ℕ) (word left : ℕ) : Type 0 where
+  pub part : (j : ℕ) → j < 64 → bit left j ≡ true → bit word j ≡ true
+  pub kept : (n : ℕ) → n ≤ 64 → Sided n ws → Inside n word → (k : ℕ) → k < n → getD ws k 0 ≡ word → bit left k ≡ true

@@ -1,88 +1,71 @@
--- `find_word` meets its contract: every type that has the word is among the bits left.
+-- `find_word` meets its contract: the first look, and then the bits left.
 use Prim.Native.Nat.{ℕ}
 use mathlib.Core.Path.{ap, sym, subst, _∙_}
 use native.Mathlib.Omega.{arith}
 use lib.ListN.{getD}
-use Rattle.lattice.specs.Words.{without}
-use Rattle.lattice.proofs.Search.{Seeking, seek-begin, seek-none, seek-found, seek-less, seek-next}
+use Rattle.lattice.specs.Words.{without, Seeking}
+use Rattle.lattice.proofs.Search.{seek-begin, seek-none, seek-found, seek-next}
 use borrow.Author.Needs.{needs}
 use Rattle.lattice.proofs.bounds.find_word.Statement.{statement}
 use Rattle.lattice.proofs.bounds.find_word.Tie as tie
 
-abbrev Inv-loop : tie.InvT-loop
-Inv-loop words word low left₀ end₀ left end = Seeking words word left
+returns : tie.Need-returns
+returns c = seek-none (seek-begin _ _) (c .if1 .taken)
 
-abbrev μ-loop : tie.MeasureT-loop
-μ-loop words word low left₀ end₀ left end = left
-
-loop-holds : tie.Need-loop-holds Inv-loop μ-loop
-loop-holds c = seek-begin _ _
-
-end-bit-requires : tie.Need-end-bit-requires Inv-loop μ-loop
+end-bit-requires : tie.Need-end-bit-requires
 end-bit-requires c κs = search needs
 
-mul-if1 : tie.Need-mul-if1 Inv-loop μ-loop
-mul-if1 c = search needs
+mul-if2 : tie.Need-mul-if2
+mul-if2 c = search needs
 
-element-copy-out-if1 : tie.Need-element-copy-out-if1 Inv-loop μ-loop
-element-copy-out-if1 c = search needs
+element-copy-out-if2 : tie.Need-element-copy-out-if2
+element-copy-out-if2 c = search needs
 
-cast-result : tie.Need-cast-result Inv-loop μ-loop
+cast-result : tie.Need-cast-result
 cast-result c = omega (arith, c .before .before .end-bit .ensures .0)
 
-returns : tie.Need-returns Inv-loop μ-loop
-returns c =
+returns-2 : tie.Need-returns-2
+returns-2 c =
     let bit = c .before .before .end-bit in
-    seek-found (c .before .before .before .before .loop .inv) (bit .result) (bit .ensures .0) (bit .ensures .1) (c .if1 .taken)
+    seek-found (seek-begin _ _) (bit .result) (bit .ensures .0) (bit .ensures .1) (c .if2 .taken)
 
-cleared-requires : tie.Need-cleared-requires Inv-loop μ-loop
+cleared-requires : tie.Need-cleared-requires
 cleared-requires c κs = search needs
 
-mul-without : tie.Need-mul-without Inv-loop μ-loop
+mul-without : tie.Need-mul-without
 mul-without c = search needs
 
-element-copy-out-without : tie.Need-element-copy-out-without Inv-loop μ-loop
+element-copy-out-without : tie.Need-element-copy-out-without
 element-copy-out-without c = search needs
 
-without-requires : tie.Need-without-requires Inv-loop μ-loop
+without-requires : tie.Need-without-requires
 without-requires c κs = search needs
 
-loop-less : tie.Need-loop-less Inv-loop μ-loop
-loop-less c =
+find-among-requires : tie.Need-find-among-requires
+find-among-requires c κs =
+    let start = c .before .before .before .before .before .before .before in
     let bit = c .before .before .before .before .before .end-bit in
-    let turn = c .before .before .before .before .before .before .before .loop in
-    let ws = c .before .before .before .before .before .before .before .before .args .words .now in
+    let ws = start .args .words .now in
     let next = c .without .ensures ∙ ap (λ (w : ℕ). without w (getD ws (bit .result) 0)) (c .before .before .cleared .ensures) in
-    omega (arith, next, seek-less (turn .inv) (bit .result) (bit .ensures .0) (bit .ensures .1))
+    subst (Seeking ws (start .args .word)) (sym next)
+    (seek-next (seek-begin _ _) (bit .result) (bit .ensures .0) (bit .ensures .1) (c .before .before .before .if2 .left))
 
-loop-again : tie.Need-loop-again Inv-loop μ-loop
-loop-again c =
-    let bit = c .before .before .before .before .before .end-bit in
-    let turn = c .before .before .before .before .before .before .before .loop in
-    let ws = c .before .before .before .before .before .before .before .before .args .words .now in
-    let next = c .without .ensures ∙ ap (λ (w : ℕ). without w (getD ws (bit .result) 0)) (c .before .before .cleared .ensures) in
-    subst (Seeking ws (c .before .before .before .before .before .before .before .before .args .word)) (sym next)
-    (seek-next (turn .inv) (bit .result) (bit .ensures .0) (bit .ensures .1) (c .before .before .before .if1 .left))
-
-returns-2 : tie.Need-returns-2 Inv-loop μ-loop
-returns-2 c = seek-none (c .before .loop .inv) (c .loop-test .left)
+returns-3 : tie.Need-returns-3
+returns-3 c = search needs
 
 pub find-word-spec : {M : Type 1} → statement M
 find-word-spec =
     tie.close
     (tie.spec
-    Inv-loop
-    μ-loop
-    loop-holds
-    end-bit-requires
-    mul-if1
-    element-copy-out-if1
-    cast-result
     returns
+    end-bit-requires
+    mul-if2
+    element-copy-out-if2
+    cast-result
+    returns-2
     cleared-requires
     mul-without
     element-copy-out-without
     without-requires
-    loop-less
-    loop-again
-    returns-2)
+    find-among-requires
+    returns-3)
