@@ -11,7 +11,7 @@ use std::time::{Duration, Instant};
 
 /// How long a round runs, and how many there are.
 const ROUND: Duration = Duration::from_millis(10);
-const ROUNDS: usize = 9;
+const ROUNDS: usize = 31;
 
 /// The rounds of one worker, in microseconds for a call.
 struct Rounds {
