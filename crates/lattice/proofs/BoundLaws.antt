@@ -10,9 +10,9 @@ use mathlib.Core.Logic.{⊎-elim}
 use native.Mathlib.Nat.{not-suc-le-zero, eq-or-lt-of-le}
 use native.Mathlib.Omega.{arith}
 use lib.ListN.{length, getD}
-use lib.Dec.{eqb}
+use lib.Dec.{leb, eqb}
 use lib.Bits.{bitAnd, and-comm, and-self}
-use borrow.Author.Tests.{eq-eqb, eqb-true}
+use borrow.Author.Tests.{le-leb, eq-eqb, eqb-true}
 use Rattle.lattice.specs.Table.{every, last, implies, found, isMeet, isJoin, meet, join}
 use Rattle.lattice.specs.Words.{word, related, Words, holder, wordBound, allFound}
 use Rattle.lattice.proofs.Every.{and-left, and-right, and-both, implies-at, implies-from, every-at, every-all, same-test, last-same, last-passes, last-found, found-some, true-not-false, below-or-not, below-suc}
@@ -86,6 +86,26 @@ module _ (n : ℕ) (ws : List ℕ) where
       λ h.
       every-all _ n λ a l.
       every-all _ a λ b s. every-at (test a) n b (every-at (λ i. every n (test i)) n a h l) (omega arith)
+
+  -- or with those numbered from it on
+  pub onward-found : every n (λ a. every n (λ b. implies (leb a b) (found (wordBound n ws a b)))) ≡ allFound n (wordBound n ws)
+  unfolding allFound
+  onward-found =
+      let test : ℕ → ℕ → Bool = λ a b. found (wordBound n ws a b) in
+      same-test (every n (λ a. every n (λ b. implies (leb a b) (test a b)))) (every n (λ a. every n (test a)))
+      (λ h.
+      let onward : (a b : ℕ) → a < n → b < n → a ≤ b → test a b ≡ true =
+      λ a b l s r.
+      implies-at (leb a b) (test a b)
+      (every-at (λ k. implies (leb a k) (test a k)) n b (every-at (λ i. every n (λ k. implies (leb i k) (test i k))) n a h l) s)
+      (le-leb a b r) in
+      every-all _ n λ a l.
+      every-all _ n λ b s.
+      ⊎-elim (λ r. ap found (bound-turned n ws a b) ∙ onward b a s l (omega arith)) (onward a b l s) (below-or-not b a))
+      λ h.
+      every-all _ n λ a l.
+      every-all _ n λ b s.
+      implies-from (leb a b) (test a b) λ e. every-at (test a) n b (every-at (λ i. every n (test i)) n a h l) s
 
 -- Bounds on one side give those on the other: of a and b, the bound of all types that have both on their side.
 module _ (n : ℕ) (rel : ℕ → ℕ → Bool) (laws : Side n rel) (end : ℕ) (type : end < n) (all : (i : ℕ) → i < n → rel end i ≡ true)

@@ -6,6 +6,7 @@ pub mod OrderLaws
 pub mod Union
 pub mod BoundLaws
 pub mod Rows
+pub mod Columns
 pub mod Search
 pub mod Opening
 pub mod Laws

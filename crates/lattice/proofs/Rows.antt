@@ -13,7 +13,7 @@ use lib.Seq.{ext-getD, getD-at, getD-set-same, getD-set-other}
 use lib.Dec.{leb, ltb, eqb}
 use borrow.Author.Count.{below-more}
 use borrow.Author.Tests.{le-leb, lt-leb, leb-true, lt-ltb}
-use Rattle.lattice.specs.Table.{every, found, cell, boundRow, overwrite, upto}
+use Rattle.lattice.specs.Table.{found, cell, boundRow, overwrite, upto}
 use Rattle.lattice.specs.Words.{allFound, holder}
 use Rattle.lattice.proofs.Every.{every-same, below-or-not, last-passes}
 
@@ -110,16 +110,13 @@ getD-overwrite (suc k) row rows a l s =
     getD-overwrite k row rows a r (omega arith))
     (eq-or-lt-of-le (le-of-suc-le-suc l))
 
--- one cell more of a list that is filled from its start, and what is not filled yet
+-- one cell more of a list that is filled from its start
 pub set-more : {A : Type 0} (d : A) (f : ℕ → A) (l : List A) (i : ℕ) (v : A) → i < length l → ((k : ℕ) → k < i → getD l k d ≡ f k) → v ≡ f i
     → (k : ℕ) → k < i + 1 → getD (set l i v) k d ≡ f k
 set-more d f l i v s h e =
     below-more (λ k. getD (set l i v) k d ≡ f k) i
     (λ k r. getD-set-other l i k v d (λ q. absurd (omega arith)) ∙ h k r)
     (getD-set-same l i v d s ∙ e)
-
-pub set-rest : (l : List ℕ) (i v : ℕ) → ((k : ℕ) → i ≤ k → k < 64 → getD l k 0 ≡ 0) → (k : ℕ) → i + 1 ≤ k → k < 64 → getD (set l i v) k 0 ≡ 0
-set-rest l i v h k r s = getD-set-other l i k v 0 (λ q. absurd (omega arith)) ∙ h k (omega arith) s
 
 -- a holder is a type
 holder-type : (n : ℕ) (ws : List ℕ) (w c : ℕ) → holder n ws w ≡ some c → c < n
@@ -137,12 +134,3 @@ pub next-row : (k : ℕ) (row : ℕ → List ℕ) (rows table : List (List ℕ))
     → set table k v ≡ overwrite (k + 1) row rows
 unfolding overwrite
 next-row k row rows table v e f = rw (add-one, e, f)
-
--- the end of the filling
-pub fill-done : (n : ℕ) (bound : ℕ → ℕ → Option ℕ) (k : ℕ) (r : Bool) (table rows : List (List ℕ)) → k ≤ n → n ≤ k
-    → r ≡ every k (λ a. every n (λ b. found (bound a b))) → table ≡ overwrite k (boundRow n bound) rows
-    → (r ≡ allFound n bound) × (table ≡ overwrite n (boundRow n bound) rows)
-unfolding allFound
-fill-done n bound k r table rows l s e f =
-    let q : k ≡ n = omega arith in
-    (e ∙ ap (λ (m : ℕ). every m (λ a. every n (λ b. found (bound a b)))) q, f ∙ ap (λ (m : ℕ). overwrite m (boundRow n bound) rows) q)

@@ -5,7 +5,7 @@ use mathlib.Core.Path.{_≡_}
 use mathlib.Core.Bool.{Bool, true, false, _&&_}
 use mathlib.Core.List.{List, []}
 use mathlib.Core.Option.{Option}
-use lib.ListN.{getD}
+use lib.ListN.{length, getD}
 use lib.Dec.{leb, eqb}
 use lib.Bits.{bitAnd, bitXor}
 use Rattle.lattice.specs.Table.{every, last, implies, below, found, cell}
@@ -89,13 +89,13 @@ module _ (n : ℕ) (ws : List ℕ) where
   unfoldable pub wordPrime : ℕ → Bool
   wordPrime j = implies (found (holder (without (getD ws j 0) (2 ^ j)))) (found (holder (without (getD ws (n - 1) 0) (turned n ws j))))
 
-  -- what the rows before row a hold in column a are the bounds with a
-  abbrev pub Before : List (List ℕ) → ℕ → Type 0
-  Before rows a = (k : ℕ) → k < a → getD (getD rows k []) a 0 ≡ cell (wordBound k a)
-
--- the cells before a are those of column a in the rows, the others 0
-abbrev pub Column : List (List ℕ) → ℕ → List ℕ → Type 0
-Column rows a cells = ((k : ℕ) → k < a → getD cells k 0 ≡ getD (getD rows k []) a 0) × ((k : ℕ) → a ≤ k → k < 64 → getD cells k 0 ≡ 0)
+-- 64 rows of 64 cells: the rows of the types from a on hold the bounds with the types before a, and the row of every type 0
+-- from cell n on
+pub record Columns (n : ℕ) (ws : List ℕ) (rows : List (List ℕ)) (a : ℕ) : Type 0 where
+  pub tall : length rows ≡ 64
+  pub wide : (i : ℕ) → i < 64 → length (getD rows i []) ≡ 64
+  pub before : (i j : ℕ) → a ≤ i → i < n → j < a → getD (getD rows i []) j 0 ≡ cell (wordBound n ws i j)
+  pub rest : (i j : ℕ) → i < n → n ≤ j → j < 64 → getD (getD rows i []) j 0 ≡ 0
 
 -- every two types have a bound
 unfoldable pub allFound : ℕ → (ℕ → ℕ → Option ℕ) → Bool

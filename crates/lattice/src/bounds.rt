@@ -1,12 +1,12 @@
 // The table of meets or of joins, from the words of one side: the bound of a and b is the type whose word is the common part
 // of their words.
 ghost use mathlib.Core.Path.{_≡_};
-ghost use Prim.Native.Nat.{ℕ, _<_, _≤_};
+ghost use Prim.Native.Nat.{ℕ, _+_, _<_, _≤_};
 ghost use mathlib.Core.List.{[]};
 ghost use lib.ListN.{getD};
-ghost use lib.Dec.{ltb};
-ghost use Rattle.lattice.specs.Table.{every, found as foundOf, cell, boundRow, overwrite};
-ghost use Rattle.lattice.specs.Words.{holder, wordBound, Before, Column, allFound, Sided, Inside, Seeking};
+ghost use lib.Dec.{leb};
+ghost use Rattle.lattice.specs.Table.{every, implies, found as foundOf, cell, boundRow, overwrite};
+ghost use Rattle.lattice.specs.Words.{holder, wordBound, Columns, allFound, Sided, Inside, Seeking};
 
 // The type whose word is `word`, or 64 where there is none. It has a bit of its own in the word, so it is sought among the
 // standing bits: at first the lowest for `low`, else the highest.
@@ -67,57 +67,25 @@ pub fn bound(words: &[u64; 64], low: bool, a: usize, b: usize) -> u8
     find_word(words, word, low)
 }
 
-// A row of a table of bounds, and whether the bounds in it were all found.
-pub struct BoundRow {
-    pub cells: [u8; 64],
-    pub found: bool,
-}
-
-// What the rows before row a hold in column a, and whether each of it is a type; 0 in the other cells.
-fn column(a: usize, rows: &[[u8; 64]; 64]) -> BoundRow
-    requires { ⌜ a < 64 ⌝ }
-    ensures cells { λ r. ⌜ Column (now (rows .entry)) a (r .cells) ⌝ }
-    ensures found { λ r. ⌜ r .found ≡ every a (λ k. ltb (getD (getD (now (rows .entry)) k []) a 0) 64) ⌝ }
+// Writes the bounds of type a with the types from a on into row a and into column a, and answers whether all were found.
+fn bound_row(n: usize, words: &[u64; 64], low: bool, a: usize, rows: &mut [[u8; 64]; 64]) -> bool
+    requires { ⌜ (a < n) × (n ≤ 64) × Sided n (now words) × Columns n (now words) (now rows) a ⌝ }
+    ensures found { λ r. ⌜ r ≡ every n (λ b. implies (leb a b) (foundOf (wordBound n (now (words .entry)) a b))) ⌝ }
+    ensures row { λ r. ⌜ getD (now (rows .exit)) a [] ≡ boundRow n (wordBound n (now (words .entry))) a ⌝ }
+    ensures columns { λ r. ⌜ Columns n (now (words .entry)) (now (rows .exit)) (a + 1) ⌝ }
 {
-    let mut cells = [0u8; 64];
     let mut found = true;
-    let mut b = 0;
-    while b < a {
-        let held = rows[b][a];
-        if 64 <= held {
-            found = false;
-        }
-        cells[b] = held;
-        b += 1;
-    }
-    BoundRow { cells, found }
-}
-
-// The bounds of type a with every type below n, those with the types before it out of their rows; 0 in the other cells.
-pub fn bound_row(
-    n: usize,
-    words: &[u64; 64],
-    low: bool,
-    a: usize,
-    rows: &[[u8; 64]; 64],
-) -> BoundRow
-    requires { ⌜ (a < n) × (n ≤ 64) × Sided n (now words) × Before n (now words) (now rows) a ⌝ }
-    ensures cells { λ r. ⌜ r .cells ≡ boundRow n (wordBound n (now (words .entry))) a ⌝ }
-    ensures found { λ r. ⌜ r .found ≡ every n (λ b. foundOf (wordBound n (now (words .entry)) a b)) ⌝ }
-{
-    let before = column(a, rows);
-    let mut cells = before.cells;
-    let mut found = before.found;
     let mut b = a;
     while b < n {
         let c = bound(words, low, a, b);
         if 64 <= c {
             found = false;
         }
-        cells[b] = c;
+        rows[a][b] = c;
+        rows[b][a] = c;
         b += 1;
     }
-    BoundRow { cells, found }
+    found
 }
 
 // Fills the first n rows of the table, and answers whether every two types have a bound. Of each pair it is sought once.
@@ -130,12 +98,10 @@ pub fn fill(n: usize, words: &[u64; 64], low: bool, table: &mut [[u8; 64]; 64]) 
     let mut found = true;
     let mut a = 0;
     while a < n {
-        let row = bound_row(n, words, low, a, &rows);
-        if !row.found {
+        if !bound_row(n, words, low, a, &mut rows) {
             found = false;
         }
-        let cells = row.cells;
-        rows[a] = cells;
+        let cells = rows[a];
         table[a] = cells;
         a += 1;
     }
