@@ -11,6 +11,7 @@ use lib.Dec.{leb}
 use lib.ListN.{length, getD, set, replicate, length-set, length-replicate, getD-replicate}
 use lib.Seq.{getD-set-same, getD-set-other}
 use Rattle.visits.specs.Acyclic.{whites}
+use Rattle.visits.proofs.Colours.{whites-bound}
 use Rattle.record.specs.Sources.{hit, entering, Counted, Queued, RowDue, RowTaken}
 
 -- A place that counts.
@@ -248,13 +249,6 @@ pub counted-done : {k links : ℕ} {targets incoming : List ℕ} → Counted k t
 counted-done {k} {links} {targets} {incoming} c low high = subst (λ (n : ℕ). Counted n targets incoming) (omega arith) c
 
 -- How many of the first n are 0.
-
-pub whites-bound : (n : ℕ) (l : List ℕ) → whites n l ≤ n
-unfolding whites
-whites-bound zero l = omega arith
-whites-bound (suc n) [] = omega arith
-whites-bound (suc n) (zero ∷ l) = omega (arith, whites-bound n l)
-whites-bound (suc n) (suc x ∷ l) = omega (arith, whites-bound n l)
 
 whites-zero : (l : List ℕ) → whites 0 l ≡ 0
 unfolding whites

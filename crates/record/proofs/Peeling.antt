@@ -17,7 +17,7 @@ use Rattle.graphs.specs.Large.{Distinct}
 use Rattle.graphs.proofs.Lists.{from-member, distinct-bound, tells-eqb, member-true, member-false}
 use Rattle.graphs.proofs.Search.{true-false}
 use Rattle.visits.specs.Arrays.{Laid, Linked, Leads, Reaches, one, more}
-use Rattle.visits.proofs.Colours.{ends}
+use Rattle.visits.proofs.Colours.{whites-bound, rise, ends}
 use Rattle.record.specs.declared.sources.Shape.the-variants.{Cyclic, Apart, Rooted}
 use Rattle.record.specs.Sources.{entering, Counted, Queued, RowDue, RowTaken, Earlier, Peels}
 use Rattle.record.proofs.Nodes.{length-from}
@@ -30,28 +30,19 @@ use Rattle.record.proofs.Incoming.{
   without-inside,
   without-between,
   without-kept,
-  whites-bound,
   whites-short,
   whites-full,
 }
 
 -- A place is one node's.
 
-rise : {nodes : ℕ} {first targets : List ℕ} → Laid nodes first targets → (v u : ℕ) → v ≤ u → u ≤ nodes → getD first v 0 ≤ getD first u 0
-rise {first = first} laid v zero h i = let e : v ≡ 0 = omega arith in omega (arith, ap (λ (x : ℕ). getD first x 0) e)
-rise {nodes} {first} laid v (suc u) h i = go (decLe v u) (rise laid v u)
-  where
-    go : Dec (v ≤ u) → (v ≤ u → u ≤ nodes → getD first v 0 ≤ getD first u 0) → getD first v 0 ≤ getD first (suc u) 0
-    go (yes q) before = omega (arith, before q (omega arith), laid .rising u (omega arith))
-    go (no q) before = let e : v ≡ suc u = omega arith in omega (arith, ap (λ (x : ℕ). getD first x 0) e)
-
 owner-one : {nodes : ℕ} {first targets : List ℕ} → Laid nodes first targets → (v u k : ℕ) → v < nodes → u < nodes →
     getD first v 0 ≤ k → k < getD first (suc v) 0 → getD first u 0 ≤ k → k < getD first (suc u) 0 → v ≡ u
 owner-one laid v u k hv hu sv ev su eu = go (decLe (suc v) u) (decLe (suc u) v)
   where
     go : Dec (suc v ≤ u) → Dec (suc u ≤ v) → v ≡ u
-    go (yes a) b = absurd (omega (arith, rise laid (suc v) u a (omega arith)))
-    go (no a) (yes b) = absurd (omega (arith, rise laid (suc u) v b (omega arith)))
+    go (yes a) b = absurd (omega (arith, rise laid (suc v) (u - suc v) u (omega arith) (omega arith)))
+    go (no a) (yes b) = absurd (omega (arith, rise laid (suc u) (v - suc u) v (omega arith) (omega arith)))
     go (no a) (no b) = omega arith
 
 -- Before the links of the node at `next` are taken away.

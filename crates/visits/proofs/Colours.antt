@@ -34,7 +34,7 @@ whites-fall (suc n) (suc x ∷ l) zero a h k e = omega arith
 whites-fall (suc n) (zero ∷ l) (suc i) a h k e = ap suc (whites-fall n l i a (omega arith) (omega arith) e)
 whites-fall (suc n) (suc x ∷ l) (suc i) a h k e = whites-fall n l i a (omega arith) (omega arith) e
 
-whites-bound : (n : ℕ) (l : List ℕ) → whites n l ≤ n
+pub whites-bound : (n : ℕ) (l : List ℕ) → whites n l ≤ n
 unfolding whites
 whites-bound zero l = omega arith
 whites-bound (suc n) [] = omega arith
@@ -46,7 +46,7 @@ apart : (l : List ℕ) {u v : ℕ} → (getD l u 0 ≡ getD l v 0 → ⊥) → u
 apart l h e = h (ap (λ (x : ℕ). getD l x 0) e)
 
 -- Links of one node come after those of the nodes before it.
-rise : {nodes : ℕ} {first targets : List ℕ} → Laid nodes first targets → (v d n : ℕ) → v + d ≡ n → n ≤ nodes → getD first v 0 ≤ getD first n 0
+pub rise : {nodes : ℕ} {first targets : List ℕ} → Laid nodes first targets → (v d n : ℕ) → v + d ≡ n → n ≤ nodes → getD first v 0 ≤ getD first n 0
 rise {first = first} laid v zero n e h = let s : v ≡ n = omega arith in omega (arith, ap (λ (x : ℕ). getD first x 0) s)
 rise laid v (suc d) zero e h = omega arith
 rise laid v (suc d) (suc n) e h = omega (arith, rise laid v d n (omega arith) (omega arith), laid .rising n (omega arith))

@@ -3,7 +3,8 @@ use mathlib.Core.Logic.{⊎-elim}
 use Prim.Native.Nat.{_-_, _≤_}
 use native.Mathlib.Omega.{arith}
 use Rattle.record.specs.Sources.{Queued}
-use Rattle.record.proofs.Incoming.{whites-bound, queued-none, queued-source, queued-over, queued-done}
+use Rattle.visits.proofs.Colours.{whites-bound}
+use Rattle.record.proofs.Incoming.{queued-none, queued-source, queued-over, queued-done}
 use borrow.Author.Needs.{needs}
 use Rattle.record.proofs.sources.find_sources.Statement.{statement}
 use Rattle.record.proofs.sources.find_sources.Tie as tie
