@@ -28,6 +28,13 @@ meets-rule a b la lb =
 pub meets-grades : (a b : ℕ) → a < 64 → b < 64 → IsLesser a b (getD meets (64 * a + b) 0)
 meets-grades a b la lb = subst (IsLesser a b) (sym (meets-rule a b la lb)) (lesser-grades a b la)
 
+-- every entry is a type
+pub meets-types : (k : ℕ) → k < 4096 → getD meets k 0 < 64
+unfolding meets
+meets-types k l =
+    let e : getD meets k 0 ≡ lesser (k / 64) (k % 64) = getD-listed entryOf 4096 k l in
+    omega (arith, lesser-grades (k / 64) (k % 64) (omega arith) .type)
+
 -- Paper 8: the type table of the house types states their order by grades, is accepted, and the engine works out these meets from it.
 
 pub house-order : (j i : ℕ) → j < 64 → i < 64 → below houseTable j i ≡ under j i
