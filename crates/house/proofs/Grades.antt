@@ -94,13 +94,15 @@ record Lesser (x y m : ℕ) : Type 0 where
 
 less-meet : (x y : ℕ) → Lesser x y (less x y)
 less-meet x y = go (leb x y) refl where
-  go : (b : Bool) → leb x y ≡ b → Lesser x y (cond b x y)
+  go : (b : Bool) → leb x y ≡ b → Lesser x y (less x y)
   go true e =
       let l : x ≤ y = leb-true x y e in
-      record { left = omega arith; right = l; greatest = λ z f g. f }
+      let same : less x y ≡ x = rw e in
+      record { left = omega arith; right = omega arith; greatest = λ z f g. omega arith }
   go false e =
       let l : y < x = leb-false x y e in
-      record { left = omega arith; right = omega arith; greatest = λ z f g. g }
+      let same : less x y ≡ y = rw e in
+      record { left = omega arith; right = omega arith; greatest = λ z f g. omega arith }
 
 -- m is, grade by grade, the lesser of a and b
 pub record IsLesser (a b m : ℕ) : Type 0 where
