@@ -1,5 +1,5 @@
-/* The record engine for C: five calls on bytes and the house types, in the static library
- * target/staticlib/liblibrary.a, which `rt staticlib library` writes.
+/* The record engine for C: five calls on bytes, and the table of the house types, in
+ * the static library target/staticlib/liblibrary.a, which `rt staticlib library` writes.
  *
  * Each of the five takes a type table: n, the number of types, and its bytes, 8 for
  * each type. A record or an output is a pointer to its first byte and a length. A
