@@ -10,3 +10,5 @@ pub mod Differing
 pub mod Results
 pub mod Demanded
 pub mod Demands
+pub mod Broader
+pub mod Requests

@@ -348,6 +348,51 @@ module _ (n : ℕ) (t : List ℕ) (ok : accepted n t ≡ true) where
         go clash q = absurd (unification-none .0 (inr q) C k size x y)
         go (unified u) q = (u, q)
 
+  -- Bounds keep the order: g lies below k, and h below m.
+  module _ {A B C D : Type 0} (g : Graph ℕ A) (k : Graph ℕ B) (h : Graph ℕ C) (m : Graph ℕ D) (a : OfAnySize n t g) (b : OfAnySize n t k)
+      (c : OfAnySize n t h) (d : OfAnySize n t m) (x : Below raw g k) (y : Below raw h m) where
+    pub least-monotone : {U W : Type 0} (u : Graph ℕ U) (w : Graph ℕ W) → LeastOfAnySize n t g h u → LeastOfAnySize n t k m w → Below raw u w
+    least-monotone u w best other =
+        best .least w (other .of-any-size) (below-transitive g k w a b (other .of-any-size) x (other .left))
+        (below-transitive h m w c d (other .of-any-size) y (other .right))
+
+    -- what lies below g and h lies below k and m
+    pub below-broader : {U : Type 0} (u : Graph ℕ U) → OfAnySize n t u → Below raw u g → Below raw u h → Below raw u k × Below raw u m
+    below-broader u size left right = (below-transitive u g k size a b left x, below-transitive u h m size c d right y)
+
+    pub greatest-monotone : {U W : Type 0} (u : Graph ℕ U) (w : Graph ℕ W) → GreatestOfAnySize n t g h u → GreatestOfAnySize n t k m w →
+        Below raw u w
+    greatest-monotone u w best other =
+        let (left, right) = below-broader u (best .of-any-size) (best .left) (best .right) in
+        other .greatest u (best .of-any-size) left right
+
+    -- where g and h combine, so do k and m, if their nodes are told apart;
+    pub combines-broader : (sameB : B → B → Bool) (sameD : D → D → Bool) → Tells sameB → Tells sameD → {U : Type 0} (u : Graph ℕ U) →
+        GreatestOfAnySize n t g h u → (w : Graph ℕ (B ⊎ D)) × IsCombination n t k m w × GreatestOfAnySize n t k m w × Below raw u w
+    combines-broader sameB sameD tellsB tellsD u best =
+        let (left, right) = below-broader u (best .of-any-size) (best .left) (best .right) in
+        let (w, e) = unification-exists sameB sameD tellsB tellsD k m b d u (best .of-any-size) left right in
+        let (size, is) = unification-combination sameB sameD tellsB tellsD k m b d w e in
+        let other = combination-greatest k m b d w size is in
+        (w, is, other, greatest-monotone u w best other)
+
+    -- on any nodes, that they do not is refuted
+    pub combines-not-refuted : {U : Type 0} (u : Graph ℕ U) → GreatestOfAnySize n t g h u →
+        ((W : Type 0) (w : Graph ℕ W) → GreatestOfAnySize n t k m w → ⊥) → ⊥
+    combines-not-refuted u best refuted =
+        let (left, right) = below-broader u (best .of-any-size) (best .left) (best .right) in
+        refute-on-numbers k (b .any-size) λ i same.
+        refute-on-numbers m (d .any-size) λ j means.
+        let one = same-of-any-size n t ok k i same b in
+        let two = same-of-any-size n t ok m j means d in
+        let (w, e) =
+        unification-exists eqb eqb tells-eqb tells-eqb i j one two u (best .of-any-size) (same-below-right same left)
+        (same-below-right means right) in
+        let found = unification-greatest eqb eqb tells-eqb tells-eqb i j one two w e in
+        let first = same-greatest i j w k w (same-sym same) (same-refl w) found in
+        let second = same-greatest j k w m w (same-sym means) (same-refl w) (greatest-sides k j w first) in
+        refuted (ℕ ⊎ ℕ) w (greatest-sides m k w second)
+
   -- "Difference", of graphs of any size: `set` is what the theory of graphs asks for, over types.
   module _ {A B : Type 0} (sameA : A → A → Bool) (sameB : B → B → Bool) (earlier : Link A → Link A → Bool) (s : Graph ℕ A) (ss : List A)
       (g : Graph ℕ B) (gs : List B) (over : B → A) (wanted : A → TypeBelow n) (a : OfAnySize n t s) (b : OfAnySize n t g)

@@ -49,20 +49,20 @@ impl Comparison {
     /// also called with an output of the result's length, one byte less, and another.
     pub fn check(&mut self, table: &TableBytes, records: &[&[u8]]) -> Reply {
         self.inputs += 1;
-        let reply = self.call(table, records, LONGEST_RECORD);
+        let (reply, _) = self.call(table, records, LONGEST_RECORD);
         let any = self.random.pick(LONGEST_RECORD);
         match reply {
             Reply::Length(length) => {
                 let other = *self.random.choose(&[0, length + 1, any]);
                 for room in [length, length - 1, other] {
                     let expected = (room < length).then_some(8);
-                    assert_eq!(self.call(table, records, room).number(), expected);
+                    assert_eq!(self.call(table, records, room).0.number(), expected);
                 }
             }
             Reply::Yes | Reply::No => {}
             Reply::Refused(_) => {
                 for room in [0, any] {
-                    assert_eq!(self.call(table, records, room), reply);
+                    assert_eq!(self.call(table, records, room).0, reply);
                 }
             }
         }
@@ -70,8 +70,8 @@ impl Comparison {
     }
 
     /// One call of each engine with an output of a given length in the midst of
-    /// bytes that tell a stray write.
-    fn call(&mut self, table: &TableBytes, records: &[&[u8]], room: usize) -> Reply {
+    /// bytes that tell a stray write: the reply, and the record that was written.
+    pub fn call(&mut self, table: &TableBytes, records: &[&[u8]], room: usize) -> (Reply, Vec<u8>) {
         let start = self.random.pick(256);
         let before: Vec<u8> = (0..MARGIN + room + MARGIN)
             .map(|place| (start + 167 * place) as u8)
@@ -93,7 +93,11 @@ impl Comparison {
             Reply::No => self.no += 1,
             _ => self.replies[usize::from(reference.number().unwrap_or(0))] += 1,
         }
-        reference
+        let length = match reference {
+            Reply::Length(length) => length,
+            _ => 0,
+        };
+        (reference, by_engine[MARGIN..MARGIN + length].to_vec())
     }
 
     /// Each of these replies came at least so often, and no other at all; 0 is a length.

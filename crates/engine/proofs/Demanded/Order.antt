@@ -11,11 +11,14 @@ use Rattle.graphs.specs.Graph.{Below}
 use Rattle.graphs.specs.Rows.{Row}
 use Rattle.graphs.specs.Order.{subsumes}
 use Rattle.graphs.proofs.Search.{true-false}
+use Rattle.lattice.specs.declared.Opened.{Opened}
+use Rattle.lattice.specs.declared.Opened.the-variants as opened
+use Rattle.lattice.specs.Reply as table
 use Rattle.lattice.specs.Labels.{typeLabels}
-use Rattle.record.specs.Read.{graphOfRows}
+use Rattle.record.specs.Read.{Reading, refused, accepted, reading, graphOfRows}
 use Rattle.record.proofs.Accepted.{accepted-rules}
 use Rattle.engine.specs.declared.Reply.the-variants.{Yes, No}
-use Rattle.engine.specs.Reply.{ordered, ordering}
+use Rattle.engine.specs.Reply.{checked, readBoth, ordered, ordering}
 use Rattle.engine.specs.Demand.{Given}
 use Rattle.engine.proofs.Orders.{order-test}
 
@@ -47,3 +50,15 @@ module _ (n : ℕ) (t a b : List ℕ) (s g : List (Row ℕ)) (given : Given n t 
             (λ q. let z : _≡_ {A = ℕ} 0 1 = cc in absurd (omega arith), λ below. true-false (test .1 below) e),
             (λ _ below. true-false (test .1 below) e, λ _. is),
           )
+
+-- A yes says that the table and both records are accepted.
+pub yes-given : (n : ℕ) (t a b : List ℕ) → ordering n t a b ≡ Yes → (s : List (Row ℕ)) × (g : List (Row ℕ)) × Given n t a b s g
+unfolding ordering
+yes-given n t a b q = go (table.opened n t) (reading n a) (reading n b) refl refl refl q
+  where
+    go : (o : Opened) (x y : Reading) → table.opened n t ≡ o → reading n a ≡ x → reading n b ≡ y →
+        checked (λ r. r) o (readBoth (λ r. r) x y (ordered n t)) ≡ Yes → (s : List (Row ℕ)) × (g : List (Row ℕ)) × Given n t a b s g
+    go (opened.Refused fault) x y i j k e = let z : _≡_ {A = ℕ} 0 1 = cc in absurd (omega arith)
+    go opened.Accepted (refused fault) y i j k e = let z : _≡_ {A = ℕ} 0 1 = cc in absurd (omega arith)
+    go opened.Accepted (accepted s) (refused fault) i j k e = let z : _≡_ {A = ℕ} 0 1 = cc in absurd (omega arith)
+    go opened.Accepted (accepted s) (accepted g) i j k e = (s, g, record { opens = i; first = j; second = k })

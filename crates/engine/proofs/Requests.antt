@@ -1,0 +1,127 @@
+-- The change requests, one section for each paper and one theorem for each sentence, about the definitions that the calls are proved equal
+-- to. The definitions that the statements use stand in `Reply`, `Unification` and `Demand`; the proofs are cited. n and t are the table,
+-- out and out′ are the outputs lent; a, b, c and d are the records.
+use mathlib.Core.Path.{_≡_, refl}
+use mathlib.Core.Bool.{Bool, true}
+use mathlib.Core.List.{List, []}
+use mathlib.Core.Option.{some}
+use mathlib.Core.Logic.{_⊎_}
+use Prim.Native.Nat.{ℕ, _+_, _*_, _<_}
+use lib.ListN.{length, getD, take}
+use Rattle.graphs.specs.Graph.{Graph, Tells, Below}
+use Rattle.graphs.specs.Rows.{Row}
+use Rattle.graphs.specs.Generalize.{generalization}
+use Rattle.lattice.specs.declared.Opened.the-variants.{Accepted}
+use Rattle.lattice.specs.Reply.{opened}
+use Rattle.lattice.specs.Labels.{typeLabels, OfAnySize, LeastOfAnySize, GreatestOfAnySize, IsCombination}
+use Rattle.lattice.proofs.Residuals.{opened-accepted}
+use Rattle.lattice.proofs.AnySize.{generalization-least, least-monotone, greatest-monotone, combines-broader, combines-not-refuted}
+use Rattle.lattice.specs.Table as types
+use Rattle.house.specs.House.{lesser, under, meets, houseTable}
+use Rattle.house.proofs.Theorems as house
+use Rattle.record.specs.Read.{reading, accepted, graphOfRows}
+use Rattle.engine.specs.declared.Reply.the-variants.{Length, Yes, Cycle, Clash}
+use Rattle.engine.specs.Reply.{ordering, generalizing}
+use Rattle.engine.specs.Unification.{unifying}
+use Rattle.engine.specs.Demand.{Given}
+use Rattle.engine.proofs.Broader.{RecordBelow, answer-below, rows-below, below-answer, below-paths}
+use Rattle.engine.proofs.Broader as Broader
+
+-- Paper 1: a broader program never clashes anew. Where a is below b and c is below d, b combines with d if a combines with c; what is
+-- written of the narrower pair is below what is written of the broader one, of combinations and of common parts.
+
+-- By the order's answers. A yes says that the table and both records are accepted, so nothing else is asked.
+module _ (n : ℕ) (t a b c d : List ℕ) (first : ordering n t a b ≡ Yes) (second : ordering n t c d ≡ Yes) (out out′ : List ℕ) where
+  pub broader-combines : ((unifying n t a c out .reply ≡ Cycle) ⊎ (unifying n t a c out .reply ≡ Clash) → ⊥) →
+      (unifying n t b d out′ .reply ≡ Cycle) ⊎ (unifying n t b d out′ .reply ≡ Clash) → ⊥
+  broader-combines = Broader.combines n t a b c d (answer-below n t a b first) (answer-below n t c d second) out out′
+
+  pub broader-combination : (l l′ : ℕ) → unifying n t a c out .reply ≡ Length l → unifying n t b d out′ .reply ≡ Length l′ →
+      ordering n t (take l (unifying n t a c out .output)) (take l′ (unifying n t b d out′ .output)) ≡ Yes
+  broader-combination l l′ p q =
+      below-answer n t _ _
+      (Broader.combination-below n t a b c d (answer-below n t a b first) (answer-below n t c d second) out out′ l l′ p q)
+
+  pub broader-common-part : (l l′ : ℕ) → generalizing n t a c out .reply ≡ Length l → generalizing n t b d out′ .reply ≡ Length l′ →
+      ordering n t (take l (generalizing n t a c out .output)) (take l′ (generalizing n t b d out′ .output)) ≡ Yes
+  broader-common-part l l′ p q =
+      below-answer n t _ _
+      (Broader.common-part-below n t a b c d (answer-below n t a b first) (answer-below n t c d second) out out′ l l′ p q)
+
+-- Over paths: g, k, h and m are the rows of a, b, c and d, and x and y the rows of what is written.
+module _ (n : ℕ) (t a b c d : List ℕ) (g k h m : List (Row ℕ)) (narrow : Given n t a c g h) (broad : Given n t b d k m)
+    (first : Below (typeLabels n t) (graphOfRows g) (graphOfRows k)) (second : Below (typeLabels n t) (graphOfRows h) (graphOfRows m))
+    (out out′ : List ℕ) where
+  a-below : RecordBelow n t a b
+  a-below = rows-below n t a b g k (narrow .opens) (narrow .first) (broad .first) first
+
+  c-below : RecordBelow n t c d
+  c-below = rows-below n t c d h m (narrow .opens) (narrow .second) (broad .second) second
+
+  pub paths-combine : ((unifying n t a c out .reply ≡ Cycle) ⊎ (unifying n t a c out .reply ≡ Clash) → ⊥) →
+      (unifying n t b d out′ .reply ≡ Cycle) ⊎ (unifying n t b d out′ .reply ≡ Clash) → ⊥
+  paths-combine = Broader.combines n t a b c d a-below c-below out out′
+
+  pub paths-combination : (l l′ : ℕ) → unifying n t a c out .reply ≡ Length l → unifying n t b d out′ .reply ≡ Length l′ →
+      (x y : List (Row ℕ)) → reading n (take l (unifying n t a c out .output)) ≡ accepted x →
+      reading n (take l′ (unifying n t b d out′ .output)) ≡ accepted y → Below (typeLabels n t) (graphOfRows x) (graphOfRows y)
+  paths-combination l l′ p q = below-paths n t _ _ (Broader.combination-below n t a b c d a-below c-below out out′ l l′ p q)
+
+  pub paths-common-part : (l l′ : ℕ) → generalizing n t a c out .reply ≡ Length l → generalizing n t b d out′ .reply ≡ Length l′ →
+      (x y : List (Row ℕ)) → reading n (take l (generalizing n t a c out .output)) ≡ accepted x →
+      reading n (take l′ (generalizing n t b d out′ .output)) ≡ accepted y → Below (typeLabels n t) (graphOfRows x) (graphOfRows y)
+  paths-common-part l l′ p q = below-paths n t _ _ (Broader.common-part-below n t a b c d a-below c-below out out′ l l′ p q)
+
+-- Graphs of any size always have a common part.
+pub any-size-common-part-exists : (n : ℕ) (t : List ℕ) → opened n t ≡ Accepted → {A B : Type 0} (g : Graph ℕ A) (h : Graph ℕ B) →
+    OfAnySize n t g → OfAnySize n t h → LeastOfAnySize n t g h (generalization (typeLabels n t) g h)
+any-size-common-part-exists n t opens = generalization-least n t (opened-accepted n t (opened n t) refl opens)
+
+-- Of graphs of any size, on whatever nodes: g below k, and h below m.
+module _ (n : ℕ) (t : List ℕ) (opens : opened n t ≡ Accepted) {A B C D : Type 0} (g : Graph ℕ A) (k : Graph ℕ B) (h : Graph ℕ C)
+    (m : Graph ℕ D) (g-size : OfAnySize n t g) (k-size : OfAnySize n t k) (h-size : OfAnySize n t h) (m-size : OfAnySize n t m)
+    (first : Below (typeLabels n t) g k) (second : Below (typeLabels n t) h m) where
+  -- A combination of the narrower pair lies below every one of the broader pair.
+  pub any-size-combination : {U W : Type 0} (u : Graph ℕ U) (w : Graph ℕ W) → GreatestOfAnySize n t g h u → GreatestOfAnySize n t k m w →
+      Below (typeLabels n t) u w
+  any-size-combination = greatest-monotone n t (opened-accepted n t (opened n t) refl opens) g k h m g-size k-size h-size m-size first second
+
+  -- Where there is one of the narrower pair, there is one of the broader pair, namely what the classes give, where the nodes of the
+  -- broader graphs are told apart;
+  pub any-size-combines : (sameB : B → B → Bool) (sameD : D → D → Bool) → Tells sameB → Tells sameD → {U : Type 0} (u : Graph ℕ U) →
+      GreatestOfAnySize n t g h u →
+      (w : Graph ℕ (B ⊎ D)) × IsCombination n t k m w × GreatestOfAnySize n t k m w × Below (typeLabels n t) u w
+  any-size-combines = combines-broader n t (opened-accepted n t (opened n t) refl opens) g k h m g-size k-size h-size m-size first second
+
+  -- and on whatever nodes, that there is none is refuted.
+  pub any-size-not-none : {U : Type 0} (u : Graph ℕ U) → GreatestOfAnySize n t g h u →
+      ((W : Type 0) (w : Graph ℕ W) → GreatestOfAnySize n t k m w → ⊥) → ⊥
+  any-size-not-none = combines-not-refuted n t (opened-accepted n t (opened n t) refl opens) g k h m g-size k-size h-size m-size first second
+
+  -- The common part of the narrower pair lies below that of the broader pair.
+  pub any-size-common-part : {U W : Type 0} (u : Graph ℕ U) (w : Graph ℕ W) → LeastOfAnySize n t g h u → LeastOfAnySize n t k m w →
+      Below (typeLabels n t) u w
+  any-size-common-part = least-monotone n t (opened-accepted n t (opened n t) refl opens) g k h m g-size k-size h-size m-size first second
+
+-- Paper 8: the house types as a constant. Entry 64 a + b of the constant has in each grade the lesser of a's and b's;
+pub house-rule : (a b : ℕ) → a < 64 → b < 64 → getD meets (64 * a + b) 0 ≡ lesser a b
+house-rule = house.meets-rule
+
+-- the bytes of the house types' table state the order by grades, and are accepted;
+pub house-order : (j i : ℕ) → j < 64 → i < 64 → types.below houseTable j i ≡ under j i
+house-order = house.house-order
+
+pub house-accepted : types.accepted 64 houseTable ≡ true
+house-accepted = house.house-accepted
+
+-- the engine works out the constant's entries from them: by the definition of a meet, and in the cells of an opened table;
+pub house-worked-out : (a b : ℕ) → a < 64 → b < 64 → types.meet 64 houseTable a b ≡ some (getD meets (64 * a + b) 0)
+house-worked-out = house.meets-worked-out
+
+pub house-opened : (rows : List (List ℕ)) → length rows ≡ 64 → (a b : ℕ) → a < 64 → b < 64 →
+    getD (getD (types.filled 64 houseTable (types.meet 64 houseTable) rows) a []) b 0 ≡ getD meets (64 * a + b) 0
+house-opened = house.meets-opened
+
+-- and the table admits differences.
+pub house-admits : types.admits 64 houseTable ≡ true
+house-admits = house.house-admits
