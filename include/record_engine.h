@@ -1,8 +1,8 @@
-/* The record engine for C: five calls on bytes, in the static library
- * target/staticlib/liblibrary.a, which `rt staticlib library` writes.
+/* The record engine for C: five calls on bytes, and the table of the house types, in
+ * the static library target/staticlib/liblibrary.a, which `rt staticlib library` writes.
  *
- * Every call takes a type table: n, the number of types, and its bytes, 8 for each
- * type. A record or an output is a pointer to its first byte and a length. A
+ * Each of the five takes a type table: n, the number of types, and its bytes, 8 for
+ * each type. A record or an output is a pointer to its first byte and a length. A
  * pointer is not null, also where the length is 0. The output overlaps nothing
  * else that is handed in. The calls keep no pointer, share no state and may run
  * side by side.
@@ -41,6 +41,10 @@ extern "C" {
 
 /* An output of so many bytes is never too short. */
 #define RECORD_LONGEST 4344
+
+/* The number of the house types, and the length of their table. */
+#define RECORD_HOUSE_TYPES 64
+#define RECORD_HOUSE_TABLE 512
 
 /* What `record_order` answers. */
 #define RECORD_NO (UINT64_C(1) << 33)
@@ -90,6 +94,13 @@ uint64_t record_difference(size_t n, const uint8_t *table, size_t table_length,
                            const uint8_t *general, size_t general_length,
                            const uint8_t *specific, size_t specific_length,
                            uint8_t *output, size_t output_length);
+
+/* Writes the type table of the house types, for n = RECORD_HOUSE_TYPES, into the
+ * output's first RECORD_HOUSE_TABLE bytes; its other bytes are unchanged. A house
+ * type has three grades of 0 to 3 and is numbered 16 * first + 4 * second + third; it
+ * is below another when each grade is at most the other's, and 3 tells nothing.
+ * Answers RECORD_HOUSE_TABLE, or refuses by 8. */
+uint64_t record_house_table(uint8_t *output, size_t output_length);
 
 #ifdef __cplusplus
 }

@@ -2,11 +2,12 @@
 -- to. The definitions that the statements use stand in `Reply`, `Unification` and `Demand`; the proofs are cited. n and t are the table,
 -- out and out′ are the outputs lent; a, b, c and d are the records.
 use mathlib.Core.Path.{_≡_, refl}
-use mathlib.Core.Bool.{Bool}
-use mathlib.Core.List.{List}
+use mathlib.Core.Bool.{Bool, true}
+use mathlib.Core.List.{List, []}
+use mathlib.Core.Option.{some}
 use mathlib.Core.Logic.{_⊎_}
-use Prim.Native.Nat.{ℕ}
-use lib.ListN.{take}
+use Prim.Native.Nat.{ℕ, _+_, _*_, _<_}
+use lib.ListN.{length, getD, take}
 use Rattle.graphs.specs.Graph.{Graph, Tells, Below}
 use Rattle.graphs.specs.Rows.{Row}
 use Rattle.graphs.specs.Generalize.{generalization}
@@ -15,6 +16,9 @@ use Rattle.lattice.specs.Reply.{opened}
 use Rattle.lattice.specs.Labels.{typeLabels, OfAnySize, LeastOfAnySize, GreatestOfAnySize, IsCombination}
 use Rattle.lattice.proofs.Residuals.{opened-accepted}
 use Rattle.lattice.proofs.AnySize.{generalization-least, least-monotone, greatest-monotone, combines-broader, combines-not-refuted}
+use Rattle.lattice.specs.Table as types
+use Rattle.house.specs.House.{lesser, under, meets, houseTable}
+use Rattle.house.proofs.Theorems as house
 use Rattle.record.specs.Read.{reading, accepted, graphOfRows}
 use Rattle.engine.specs.declared.Reply.the-variants.{Length, Yes, Cycle, Clash}
 use Rattle.engine.specs.Reply.{ordering, generalizing}
@@ -98,3 +102,26 @@ module _ (n : ℕ) (t : List ℕ) (opens : opened n t ≡ Accepted) {A B C D : T
   pub any-size-common-part : {U W : Type 0} (u : Graph ℕ U) (w : Graph ℕ W) → LeastOfAnySize n t g h u → LeastOfAnySize n t k m w →
       Below (typeLabels n t) u w
   any-size-common-part = least-monotone n t (opened-accepted n t (opened n t) refl opens) g k h m g-size k-size h-size m-size first second
+
+-- Paper 8: the house types as a constant. Entry 64 a + b of the constant has in each grade the lesser of a's and b's;
+pub house-rule : (a b : ℕ) → a < 64 → b < 64 → getD meets (64 * a + b) 0 ≡ lesser a b
+house-rule = house.meets-rule
+
+-- the bytes of the house types' table state the order by grades, and are accepted;
+pub house-order : (j i : ℕ) → j < 64 → i < 64 → types.below houseTable j i ≡ under j i
+house-order = house.house-order
+
+pub house-accepted : types.accepted 64 houseTable ≡ true
+house-accepted = house.house-accepted
+
+-- the engine works out the constant's entries from them: by the definition of a meet, and in the cells of an opened table;
+pub house-worked-out : (a b : ℕ) → a < 64 → b < 64 → types.meet 64 houseTable a b ≡ some (getD meets (64 * a + b) 0)
+house-worked-out = house.meets-worked-out
+
+pub house-opened : (rows : List (List ℕ)) → length rows ≡ 64 → (a b : ℕ) → a < 64 → b < 64 →
+    getD (getD (types.filled 64 houseTable (types.meet 64 houseTable) rows) a []) b 0 ≡ getD meets (64 * a + b) 0
+house-opened = house.meets-opened
+
+-- and the table admits differences.
+pub house-admits : types.admits 64 houseTable ≡ true
+house-admits = house.house-admits

@@ -1,5 +1,6 @@
 // The engine's calls for programs in other languages: a static library whose functions take a number of types, a table, one or two
-// records and an output, each slice as a pointer and a length, and answer one number.
+// records and an output, each slice as a pointer and a length, and answer one number. One function gives the table of the house
+// types.
 
 use engine::Reply;
 use engine::Side;
@@ -13,6 +14,7 @@ ghost use Rattle.engine.specs.Difference.{differing};
 ghost use Rattle.lattice.specs.Reply.{tableNumber};
 ghost use Rattle.record.specs.Read.{graphNumber};
 ghost use Rattle.library.specs.Code.{codeOf, refusalCode, sideNumber};
+ghost use Rattle.library.specs.House.{tabling};
 
 // A record in written form: the code of the reply, and the output that the engine leaves.
 #[no_mangle]
@@ -74,6 +76,19 @@ pub extern "C" fn record_difference(
     ensures { λ r. ⌜ now (out .exit) ≡ differing n (now (table .entry)) (now (first .entry)) (now (second .entry)) (now (out .entry)) .output ⌝ }
 {
     code(engine::difference(n, table, first, second, out))
+}
+
+// The type table of the house types, for n = 64: the code of the reply, and the output that the engine leaves.
+#[no_mangle]
+pub extern "C" fn record_house_table(out: &mut [u8]) -> u64
+    ensures { λ r. ⌜ r ≡ codeOf (tabling (now (out .entry)) .reply) ⌝ }
+    ensures { λ r. ⌜ now (out .exit) ≡ tabling (now (out .entry)) .output ⌝ }
+{
+    if house::fill_table(out) {
+        code(Reply::Length(512))
+    } else {
+        code(Reply::NoRoom)
+    }
 }
 
 // The number that stands for a reply.

@@ -7,8 +7,8 @@
 //! On a refusal no byte of the output is changed. On success the output's first
 //! bytes are the record and its other bytes are unchanged.
 //!
-//! A table has n types, 2 to 64, and 8 bytes for each. The examples use the
-//! diamond: the contradiction 0, two types 1 and 2 that nothing but it is below,
+//! A table has n types, 2 to 64, and 8 bytes for each; [`house_table`] gives that of
+//! the house types. The other examples use the diamond: the contradiction 0, two types 1 and 2 that nothing but it is below,
 //! and 3, the top.
 
 #![warn(missing_docs)]
@@ -22,6 +22,12 @@ use code::Answer;
 
 /// The length of the longest record: an output of so many bytes is never too short.
 pub const LONGEST_RECORD: usize = 4344;
+
+/// The number of the house types.
+pub const HOUSE_TYPES: usize = 64;
+
+/// The length of their table.
+pub const HOUSE_TABLE_LENGTH: usize = 8 * HOUSE_TYPES;
 
 /// A call on two records that writes one: each slice is a pointer to its first
 /// byte and a length.
@@ -93,6 +99,8 @@ unsafe extern "C" {
         output: *mut u8,
         output_length: usize,
     ) -> u64;
+
+    fn record_house_table(output: *mut u8, output_length: usize) -> u64;
 }
 
 /// Writes a record in its one written form: equal meaning gives equal bytes.
@@ -244,6 +252,32 @@ pub fn difference(
     output: &mut [u8],
 ) -> Result<usize, Refusal> {
     write_pair(record_difference, n, table, [general, specific], output)
+}
+
+/// Fills the output's first [`HOUSE_TABLE_LENGTH`] bytes with the table of the house
+/// types, for n = [`HOUSE_TYPES`], and gives their number; its other bytes are
+/// unchanged. A house type has three grades of 0 to 3 and is numbered
+/// 16 × first + 4 × second + third; it is below another when each grade is at most
+/// the other's, and 3 tells nothing.
+///
+/// Refused by 8.
+///
+/// ```
+/// use record_engine::{HOUSE_TABLE_LENGTH, HOUSE_TYPES};
+/// let mut table = [0; HOUSE_TABLE_LENGTH];
+/// record_engine::house_table(&mut table)?;
+/// // The grades 1, 2, 3 and the grades 3, 0, 3 have 1, 0, 3 in common.
+/// let first = [1, 16 + 4 * 2 + 3, 0, 0, 0, 0, 0, 0, 0, 0];
+/// let second = [1, 16 * 3 + 3, 0, 0, 0, 0, 0, 0, 0, 0];
+/// let mut output = [0; record_engine::LONGEST_RECORD];
+/// let length = record_engine::unify(HOUSE_TYPES, &table, &first, &second, &mut output)?;
+/// assert_eq!(output[..length], [1, 16 + 3, 0, 0, 0, 0, 0, 0, 0, 0]);
+/// # Ok::<(), record_engine::Refusal>(())
+/// ```
+pub fn house_table(output: &mut [u8]) -> Result<usize, Refusal> {
+    // SAFETY: as in `rewrite`.
+    let code = unsafe { record_house_table(output.as_mut_ptr(), output.len()) };
+    length(code)
 }
 
 /// The bytes of a table of at most 8 types, from the first byte of each row.

@@ -12,6 +12,7 @@ pub mod combination;
 pub mod common;
 pub mod difference;
 pub mod graph;
+pub mod house;
 pub mod mapcalc;
 pub mod notation;
 pub mod order;

@@ -1,0 +1,2 @@
+-- Definitions of the house types.
+pub mod House

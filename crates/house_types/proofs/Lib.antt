@@ -1,0 +1,2 @@
+-- Laws that the contracts are proved by.
+pub mod Printing
