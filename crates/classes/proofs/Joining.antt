@@ -12,8 +12,9 @@ use borrow.Author.Tests.{eq-eqb, ne-eqb}
 use lib.Dec.{eqb}
 use lib.ListN.{length, getD, set, length-set}
 use Rattle.classes.specs.Forest.{rootOf, Forest, SameRoots}
-use Rattle.classes.specs.Merge.{Room, Span, Merged}
-use Rattle.classes.specs.Classes.{sumTo, rowLength, At, Rows, Same, roots, itself, back, next, down, Closed, Joins}
+use Rattle.layout.specs.Layout.{featureAt, targetAt}
+use Rattle.classes.specs.Merge.{Span, Merged, leftAt, rightAt}
+use Rattle.classes.specs.Classes.{sumTo, rowLength, At, Rows, Same, roots, itself, back, next, down, Closed}
 use Rattle.classes.proofs.Roots.{
   stored,
   unstored,
@@ -28,7 +29,7 @@ use Rattle.classes.proofs.Roots.{
   separate-forest,
 }
 use Rattle.classes.proofs.Sums.{sum-same, sum-most, sum-one, sum-two, sum-change, sum-changes}
-use Rattle.classes.proofs.Merging.{merged-known, merged-short}
+use Rattle.classes.proofs.Merging.{feature-same, target-same, merged-known, merged-short}
 
 -- 1 for a root
 abbrev ownRoot : List ℕ → ℕ → ℕ
@@ -38,65 +39,67 @@ ownRoot parent x = cond (eqb (rootOf parent x) x) 1 0
 pub rootCount : ℕ → List ℕ → ℕ
 rootCount nodes parent = sumTo nodes (ownRoot parent)
 
--- A function that is constant on classes and on the pairs that wait.
-pub record Respects (nodes : ℕ) (parent left right : List ℕ) (count : ℕ) (h : ℕ → ℕ) : Type 0 where
-  pub classes : (x : ℕ) → x < nodes → h (rootOf parent x) ≡ h x
-  pub pairs : (i : ℕ) → i < count → h (getD left i 0) ≡ h (getD right i 0)
+-- What joining two classes leaves: their rows merged, the greater's node below the lesser's.
+pub record Joins (lo hi : ℕ) (parent start end pool waiting : List ℕ) (used count : ℕ) (parent′ start′ end′ pool′ waiting′ : List ℕ)
+    (at top : ℕ) : Type 0 where
+  pub merged : Merged (getD start lo 0) (getD end lo 0) (getD start hi 0) (getD end hi 0) pool waiting used count pool′ waiting′ at top
+  pub parent-is : parent′ ≡ set parent hi lo
+  pub start-is : start′ ≡ set start lo used
+  pub end-is : end′ ≡ set end lo at
 
-module _ (nodes second : ℕ) (start₀ end₀ features₀ targets₀ : List ℕ) where
-  pub record Joining (parent start end features targets left right : List ℕ) (used count : ℕ) : Type 0 where
-    pub rows : Rows nodes start end features targets used
-    pub features-long : length features ≡ length features₀
-    pub targets-long : length targets ≡ length targets₀
+-- A function that is constant on classes and on the pairs that wait.
+pub record Respects (nodes : ℕ) (parent waiting : List ℕ) (count : ℕ) (h : ℕ → ℕ) : Type 0 where
+  pub classes : (x : ℕ) → x < nodes → h (rootOf parent x) ≡ h x
+  pub pairs : (i : ℕ) → i < count → h (leftAt waiting i) ≡ h (rightAt waiting i)
+
+module _ (nodes second : ℕ) (start₀ end₀ pool₀ : List ℕ) where
+  pub record Joining (parent start end pool waiting : List ℕ) (used count : ℕ) : Type 0 where
+    pub rows : Rows nodes start end pool used
+    pub pool-long : length pool ≡ length pool₀
     pub forest : Forest parent
-    pub left-long : length left ≡ 4097
-    pub right-long : length right ≡ 4097
+    pub waiting-long : length waiting ≡ 4097
     -- a join takes at most 64 places and leaves one class less
-    pub bounded : used + 64 * rootCount nodes parent ≤ 4096 + 64 * nodes
-    pub room : Room (used + 64 * (rootCount nodes parent - 1)) features targets
+    pub bounded : used + 64 * rootCount nodes parent ≤ 4606 + 64 * nodes
+    pub room : used + 64 * (rootCount nodes parent - 1) ≤ length pool
     -- a join adds no more pairs than the rows lose links
     pub few : sumTo nodes (rowLength (rootOf parent) start end) ≤ 4096
     pub short : sumTo nodes (rowLength (rootOf parent) start end) + count ≤ 4097
-    pub left-in : (i : ℕ) → i < count → getD left i 0 < nodes
-    pub right-in : (i : ℕ) → i < count → getD right i 0 < nodes
-    pub related : (x : ℕ) → x < nodes → Same nodes second start₀ end₀ features₀ targets₀ x (rootOf parent x)
-    pub waiting : (i : ℕ) → i < count → Same nodes second start₀ end₀ features₀ targets₀ (getD left i 0) (getD right i 0)
+    pub left-in : (i : ℕ) → i < count → leftAt waiting i < nodes
+    pub right-in : (i : ℕ) → i < count → rightAt waiting i < nodes
+    pub related : (x : ℕ) → x < nodes → Same nodes second start₀ end₀ pool₀ x (rootOf parent x)
+    pub alike : (i : ℕ) → i < count → Same nodes second start₀ end₀ pool₀ (leftAt waiting i) (rightAt waiting i)
     pub source : (c k : ℕ) → c < nodes → At start end c k →
-        (x : ℕ) × (j : ℕ) × (x < nodes) × At start₀ end₀ x j × Same nodes second start₀ end₀ features₀ targets₀ c x ×
-        (getD features₀ j 0 ≡ getD features k 0) × (getD targets₀ j 0 ≡ getD targets k 0)
+        (x : ℕ) × (j : ℕ) × (x < nodes) × At start₀ end₀ x j × Same nodes second start₀ end₀ pool₀ c x ×
+        (getD pool₀ j 0 ≡ getD pool k 0)
     pub kept : (x j : ℕ) → x < nodes → At start₀ end₀ x j →
-        (k : ℕ) × At start end (rootOf parent x) k × (getD features k 0 ≡ getD features₀ j 0) ×
-        ((h : ℕ → ℕ) → Respects nodes parent left right count h → h (getD targets k 0) ≡ h (getD targets₀ j 0))
-    pub together : (h : ℕ → ℕ) → Respects nodes parent left right count h → h 0 ≡ h second
+        (k : ℕ) × At start end (rootOf parent x) k × (featureAt pool k ≡ featureAt pool₀ j) ×
+        ((h : ℕ → ℕ) → Respects nodes parent waiting count h → h (targetAt pool k) ≡ h (targetAt pool₀ j))
+    pub together : (h : ℕ → ℕ) → Respects nodes parent waiting count h → h 0 ≡ h second
 
 -- Every node is a class of its own, and the two roots wait.
-pub join-start : {nodes second : ℕ} {start end features targets : List ℕ} {links : ℕ} → Rows nodes start end features targets links →
-    second < nodes → links ≤ 4096 → sumTo nodes (rowLength (λ x. x) start end) ≤ 4096 →
-    Room (links + 64 * (nodes - 1)) features targets → (parent left right : List ℕ) →
-    length parent ≡ 510 → ((x : ℕ) → x < 510 → getD parent x 0 ≡ x) → length left ≡ 4097 → length right ≡ 4097 →
-    getD left 0 0 ≡ 0 →
-    Joining nodes second start end features targets parent start end features targets left (set right 0 second) links 1
+pub join-start : {nodes second : ℕ} {start end pool : List ℕ} {links : ℕ} → Rows nodes start end pool links →
+    second < nodes → links ≤ 4606 → sumTo nodes (rowLength (λ x. x) start end) ≤ 4096 →
+    links + 64 * (nodes - 1) ≤ length pool → (parent waiting : List ℕ) →
+    length parent ≡ 510 → ((x : ℕ) → x < 510 → getD parent x 0 ≡ x) → length waiting ≡ 4097 →
+    Joining nodes second start end pool parent start end pool (set waiting 0 second) links 1
 unfolding rootCount
-join-start {nodes} {second} {start} {end} {features} {targets} {links} rows inside small few room parent left right long own left-long
-    right-long zeroth =
+join-start {nodes} {second} {start} {end} {pool} {links} rows inside small few room parent waiting long own waiting-long =
     record {
       rows = rows;
-      features-long = refl;
-      targets-long = refl;
+      pool-long = refl;
       forest = forest;
-      left-long = left-long;
-      right-long = length-set right 0 second ∙ right-long;
+      waiting-long = length-set waiting 0 second ∙ waiting-long;
       bounded = omega (arith, most);
-      room = (omega (arith, most, room .0), omega (arith, most, room .1));
+      room = omega (arith, most, room);
       few = omega (arith, same-lengths);
       short = omega (arith, same-lengths);
       left-in = λ i h. omega (arith, left-is i h, rows .some);
       right-in = λ i h. omega (arith, right-is i h);
-      related = λ x h. subst (Same nodes second start end features targets x) (sym (root x h)) (itself h);
-      waiting = λ i h.
-          subst (λ (y : ℕ). Same nodes second start end features targets (getD left i 0) y) (sym (right-is i h))
-          (subst (λ (y : ℕ). Same nodes second start end features targets y second) (sym (left-is i h)) roots);
-      source = λ c k h at. (c, k, h, at, itself h, refl, refl);
+      related = λ x h. subst (Same nodes second start end pool x) (sym (root x h)) (itself h);
+      alike = λ i h.
+          subst (λ (y : ℕ). Same nodes second start end pool (leftAt (set waiting 0 second) i) y) (sym (right-is i h))
+          (subst (λ (y : ℕ). Same nodes second start end pool y second) (sym (left-is i h)) roots);
+      source = λ c k h at. (c, k, h, at, itself h, refl);
       kept = λ x j h at. (j, subst (λ (y : ℕ). At start end y j) (sym (root x h)) at, refl, λ f r. refl);
       together = λ f r. ap f (sym (left-is 0 (omega arith))) ∙ r .pairs 0 (omega arith) ∙ ap f (right-is 0 (omega arith));
     }
@@ -120,18 +123,21 @@ join-start {nodes} {second} {start} {end} {features} {targets} {links} rows insi
     same-lengths : sumTo nodes (rowLength (rootOf parent) start end) ≡ sumTo nodes (rowLength (λ x. x) start end)
     same-lengths = sum-same nodes (rowLength (rootOf parent) start end) (rowLength (λ x. x) start end) alike
 
-    left-is : (i : ℕ) → i < 1 → getD left i 0 ≡ 0
-    left-is i h = let e : i ≡ 0 = omega arith in ap (λ (n : ℕ). getD left n 0) e ∙ zeroth
-
-    right-is : (i : ℕ) → i < 1 → getD (set right 0 second) i 0 ≡ second
-    right-is i h =
+    pair-is : (i : ℕ) → i < 1 → getD (set waiting 0 second) i 0 ≡ second
+    pair-is i h =
         let e : i ≡ 0 = omega arith in
-        ap (λ (n : ℕ). getD (set right 0 second) n 0) e ∙ stored right 0 second (omega (arith, right-long))
+        ap (λ (n : ℕ). getD (set waiting 0 second) n 0) e ∙ stored waiting 0 second (omega (arith, waiting-long))
 
-module _ {nodes second : ℕ} {start₀ end₀ features₀ targets₀ parent start end features targets left right : List ℕ} {used count : ℕ}
-    (s : Joining nodes second start₀ end₀ features₀ targets₀ parent start end features targets left right used count) where
+    left-is : (i : ℕ) → i < 1 → leftAt (set waiting 0 second) i ≡ 0
+    left-is i h = omega (arith, pair-is i h, rows .few)
+
+    right-is : (i : ℕ) → i < 1 → rightAt (set waiting 0 second) i ≡ second
+    right-is i h = omega (arith, pair-is i h, rows .few)
+
+module _ {nodes second : ℕ} {start₀ end₀ pool₀ parent start end pool waiting : List ℕ} {used count : ℕ}
+    (s : Joining nodes second start₀ end₀ pool₀ parent start end pool waiting used count) where
   abbrev Alike : ℕ → ℕ → Type 0
-  Alike = Same nodes second start₀ end₀ features₀ targets₀
+  Alike = Same nodes second start₀ end₀ pool₀
 
   small : (x : ℕ) → x < nodes → x < 510
   small x h = omega (arith, s .rows .few)
@@ -141,24 +147,22 @@ module _ {nodes second : ℕ} {start₀ end₀ features₀ targets₀ parent sta
 
   -- Another forest with the same roots.
   pub join-roots : {later : List ℕ} → SameRoots parent later →
-      Joining nodes second start₀ end₀ features₀ targets₀ later start end features targets left right used count
+      Joining nodes second start₀ end₀ pool₀ later start end pool waiting used count
   unfolding rootCount
   join-roots {later} r =
       record {
         rows = s .rows;
-        features-long = s .features-long;
-        targets-long = s .targets-long;
+        pool-long = s .pool-long;
         forest = r .forest;
-        left-long = s .left-long;
-        right-long = s .right-long;
+        waiting-long = s .waiting-long;
         bounded = omega (arith, s .bounded, same-count);
-        room = (omega (arith, s .room .0, same-count), omega (arith, s .room .1, same-count));
+        room = omega (arith, s .room, same-count);
         few = omega (arith, s .few, same-lengths);
         short = omega (arith, s .short, same-lengths);
         left-in = s .left-in;
         right-in = s .right-in;
         related = λ x h. subst (Alike x) (sym (r .same x (small x h))) (s .related x h);
-        waiting = s .waiting;
+        alike = s .alike;
         source = s .source;
         kept = λ x j h at.
             let (k, row, e, joint) = s .kept x j h at in
@@ -176,21 +180,19 @@ module _ {nodes second : ℕ} {start₀ end₀ features₀ targets₀ parent sta
           sum-same nodes (rowLength (rootOf later) start end) (rowLength (rootOf parent) start end)
           (λ x h. ap (λ (c : ℕ). cond (eqb c x) (getD end x 0 - getD start x 0) 0) (r .same x (small x h)))
 
-      respects : (f : ℕ → ℕ) → Respects nodes later left right count f → Respects nodes parent left right count f
+      respects : (f : ℕ → ℕ) → Respects nodes later waiting count f → Respects nodes parent waiting count f
       respects f q =
           record { classes = λ x h. ap f (sym (r .same x (small x h))) ∙ q .classes x h; pairs = q .pairs }
 
   -- The last pair is of one class already.
-  pub join-skip : 0 < count → rootOf parent (getD left (count - 1) 0) ≡ rootOf parent (getD right (count - 1) 0) →
-      Joining nodes second start₀ end₀ features₀ targets₀ parent start end features targets left right used (count - 1)
+  pub join-skip : 0 < count → rootOf parent (leftAt waiting (count - 1)) ≡ rootOf parent (rightAt waiting (count - 1)) →
+      Joining nodes second start₀ end₀ pool₀ parent start end pool waiting used (count - 1)
   join-skip some e =
       record {
         rows = s .rows;
-        features-long = s .features-long;
-        targets-long = s .targets-long;
+        pool-long = s .pool-long;
         forest = s .forest;
-        left-long = s .left-long;
-        right-long = s .right-long;
+        waiting-long = s .waiting-long;
         bounded = s .bounded;
         room = s .room;
         few = s .few;
@@ -198,30 +200,30 @@ module _ {nodes second : ℕ} {start₀ end₀ features₀ targets₀ parent sta
         left-in = λ i h. s .left-in i (omega arith);
         right-in = λ i h. s .right-in i (omega arith);
         related = s .related;
-        waiting = λ i h. s .waiting i (omega arith);
+        alike = λ i h. s .alike i (omega arith);
         source = s .source;
         kept = λ x j h at. let (k, row, d, joint) = s .kept x j h at in (k, row, d, λ f q. joint f (respects f q));
         together = λ f q. s .together f (respects f q);
       }
     where
-      respects : (f : ℕ → ℕ) → Respects nodes parent left right (count - 1) f → Respects nodes parent left right count f
+      respects : (f : ℕ → ℕ) → Respects nodes parent waiting (count - 1) f → Respects nodes parent waiting count f
       respects f q = record { classes = q .classes; pairs = λ i h. go i h (ℕ-discrete i (count - 1)) }
         where
-          go : (i : ℕ) → i < count → Dec (i ≡ count - 1) → f (getD left i 0) ≡ f (getD right i 0)
+          go : (i : ℕ) → i < count → Dec (i ≡ count - 1) → f (leftAt waiting i) ≡ f (rightAt waiting i)
           go i h (yes z) =
-              subst (λ (n : ℕ). f (getD left n 0) ≡ f (getD right n 0)) (sym z)
-              (sym (q .classes (getD left (count - 1) 0) (s .left-in (count - 1) (omega arith))) ∙ ap f e ∙
-              q .classes (getD right (count - 1) 0) (s .right-in (count - 1) (omega arith)))
+              subst (λ (n : ℕ). f (leftAt waiting n) ≡ f (rightAt waiting n)) (sym z)
+              (sym (q .classes (leftAt waiting (count - 1)) (s .left-in (count - 1) (omega arith))) ∙ ap f e ∙
+              q .classes (rightAt waiting (count - 1)) (s .right-in (count - 1) (omega arith)))
           go i h (no d) = q .pairs i (omega arith)
 
   -- The last pair is of two classes, which are represented by lo and hi.
   module _ (some : 0 < count) (lo hi : ℕ) (less : lo < hi)
-      (meets : ((lo ≡ rootOf parent (getD left (count - 1) 0)) × (hi ≡ rootOf parent (getD right (count - 1) 0))) ⊎
-      ((hi ≡ rootOf parent (getD left (count - 1) 0)) × (lo ≡ rootOf parent (getD right (count - 1) 0)))) where
-    l-in : getD left (count - 1) 0 < nodes
+      (meets : ((lo ≡ rootOf parent (leftAt waiting (count - 1))) × (hi ≡ rootOf parent (rightAt waiting (count - 1)))) ⊎
+      ((hi ≡ rootOf parent (leftAt waiting (count - 1))) × (lo ≡ rootOf parent (rightAt waiting (count - 1))))) where
+    l-in : leftAt waiting (count - 1) < nodes
     l-in = s .left-in (count - 1) (omega arith)
 
-    r-in : getD right (count - 1) 0 < nodes
+    r-in : rightAt waiting (count - 1) < nodes
     r-in = s .right-in (count - 1) (omega arith)
 
     root-of : (c x : ℕ) → x < nodes → c ≡ rootOf parent x → (c < nodes) × (rootOf parent c ≡ c) × Alike x c
@@ -231,19 +233,19 @@ module _ {nodes second : ℕ} {start₀ end₀ features₀ targets₀ parent sta
       subst (Alike x) (sym e) (s .related x h),
     )
 
-    pair-alike : Alike (getD left (count - 1) 0) (getD right (count - 1) 0)
-    pair-alike = s .waiting (count - 1) (omega arith)
+    pair-alike : Alike (leftAt waiting (count - 1)) (rightAt waiting (count - 1))
+    pair-alike = s .alike (count - 1) (omega arith)
 
     found : (lo < nodes) × (hi < nodes) × (rootOf parent lo ≡ lo) × (rootOf parent hi ≡ hi) × Alike lo hi
     found =
         ⊎-elim
-        (λ (z : (lo ≡ rootOf parent (getD left (count - 1) 0)) × (hi ≡ rootOf parent (getD right (count - 1) 0))).
-        let (a, b, c) = root-of lo (getD left (count - 1) 0) l-in (z .0) in
-        let (d, e, f) = root-of hi (getD right (count - 1) 0) r-in (z .1) in
+        (λ (z : (lo ≡ rootOf parent (leftAt waiting (count - 1))) × (hi ≡ rootOf parent (rightAt waiting (count - 1)))).
+        let (a, b, c) = root-of lo (leftAt waiting (count - 1)) l-in (z .0) in
+        let (d, e, f) = root-of hi (rightAt waiting (count - 1)) r-in (z .1) in
         (a, d, b, e, next (back c) (next pair-alike f)))
-        (λ (z : (hi ≡ rootOf parent (getD left (count - 1) 0)) × (lo ≡ rootOf parent (getD right (count - 1) 0))).
-        let (a, b, c) = root-of hi (getD left (count - 1) 0) l-in (z .0) in
-        let (d, e, f) = root-of lo (getD right (count - 1) 0) r-in (z .1) in
+        (λ (z : (hi ≡ rootOf parent (leftAt waiting (count - 1))) × (lo ≡ rootOf parent (rightAt waiting (count - 1)))).
+        let (a, b, c) = root-of hi (leftAt waiting (count - 1)) l-in (z .0) in
+        let (d, e, f) = root-of lo (rightAt waiting (count - 1)) r-in (z .1) in
         (d, a, e, b, next (back f) (next (back pair-alike) c)))
         meets
 
@@ -253,10 +255,10 @@ module _ {nodes second : ℕ} {start₀ end₀ features₀ targets₀ parent sta
     hi-in : hi < nodes
     hi-in = found .1
 
-    lo-span : Span features used (getD start lo 0) (getD end lo 0)
+    lo-span : Span pool used (getD start lo 0) (getD end lo 0)
     lo-span = s .rows .span lo lo-in
 
-    hi-span : Span features used (getD start hi 0) (getD end hi 0)
+    hi-span : Span pool used (getD start hi 0) (getD end hi 0)
     hi-span = s .rows .span hi hi-in
 
     own-one : (x : ℕ) → rootOf parent x ≡ x → ownRoot parent x ≡ 1
@@ -269,8 +271,8 @@ module _ {nodes second : ℕ} {start₀ end₀ features₀ targets₀ parent sta
     unfolding rootCount
     two = omega (arith, sum-two nodes lo hi (ownRoot parent) less hi-in, own-one lo (found .2), own-one hi (found .3))
 
-    pub join-asks : (lo < 510) × (hi < 510) × Span features used (getD start lo 0) (getD end lo 0) ×
-        Span features used (getD start hi 0) (getD end hi 0) × (used + 64 ≤ 36672) × Room (used + 64) features targets ×
+    pub join-asks : (lo < 510) × (hi < 510) × Span pool used (getD start lo 0) (getD end lo 0) ×
+        Span pool used (getD start hi 0) (getD end hi 0) × (used + 64 ≤ 37182) × (used + 64 ≤ length pool) ×
         ((count - 1) + getD end hi 0 ≤ 4097 + getD start hi 0)
     join-asks = (
       small lo lo-in,
@@ -278,13 +280,13 @@ module _ {nodes second : ℕ} {start₀ end₀ features₀ targets₀ parent sta
       lo-span,
       hi-span,
       omega (arith, two, s .bounded, s .rows .few),
-      (omega (arith, two, s .room .0), omega (arith, two, s .room .1)),
+      omega (arith, two, s .room),
       omega (arith, sum-one nodes hi (rowLength (rootOf parent) start end) hi-in, own-length hi (found .3), s .short, hi-span .rising),
     )
 
-    module _ {features′ targets′ left′ right′ : List ℕ} {at top : ℕ}
-        (m : Merged (getD start lo 0) (getD end lo 0) (getD start hi 0) (getD end hi 0) features targets left right used (count - 1)
-        features′ targets′ left′ right′ at top) where
+    module _ {pool′ waiting′ : List ℕ} {at top : ℕ}
+        (m : Merged (getD start lo 0) (getD end lo 0) (getD start hi 0) (getD end hi 0) pool waiting used (count - 1)
+        pool′ waiting′ at top) where
       forest′ : Forest (set parent hi lo)
       forest′ = hung-forest (s .forest) lo hi less (small hi hi-in) (found .2) (found .3)
 
@@ -329,15 +331,14 @@ module _ {nodes second : ℕ} {start₀ end₀ features₀ targets₀ parent sta
 
       -- where a merged link comes from
       origin : (k : ℕ) → used ≤ k → k < at →
-          (c : ℕ) × (p : ℕ) × (c < nodes) × Alike lo c × At start end c p × (getD features′ k 0 ≡ getD features p 0) ×
-          (getD targets′ k 0 ≡ getD targets p 0)
+          (c : ℕ) × (p : ℕ) × (c < nodes) × Alike lo c × At start end c p × (getD pool′ k 0 ≡ getD pool p 0)
       origin k low high =
-          let (p, side, both) = m .source k low high in
+          let (p, side, same) = m .source k low high in
           ⊎-elim
-          (λ (z : (getD start lo 0 ≤ p) × (p < getD end lo 0)). (lo, p, lo-in, itself lo-in, (z .0, z .1), both .0, both .1))
-          (λ (z : (getD start hi 0 ≤ p) × (p < getD end hi 0)). (hi, p, hi-in, found .4, (z .0, z .1), both .0, both .1)) side
+          (λ (z : (getD start lo 0 ≤ p) × (p < getD end lo 0)). (lo, p, lo-in, itself lo-in, (z .0, z .1), same))
+          (λ (z : (getD start hi 0 ≤ p) × (p < getD end hi 0)). (hi, p, hi-in, found .4, (z .0, z .1), same)) side
 
-      rows′ : Rows nodes (set start lo used) (set end lo at) features′ targets′ at
+      rows′ : Rows nodes (set start lo used) (set end lo at) pool′ at
       rows′ =
           record {
             some = s .rows .some;
@@ -348,11 +349,11 @@ module _ {nodes second : ℕ} {start₀ end₀ features₀ targets₀ parent sta
             within = λ x k h place. within x k h place (ℕ-discrete x lo);
           }
         where
-          span : (x : ℕ) → x < nodes → Dec (x ≡ lo) → Span features′ at (getD (set start lo used) x 0) (getD (set end lo at) x 0)
+          span : (x : ℕ) → x < nodes → Dec (x ≡ lo) → Span pool′ at (getD (set start lo used) x 0) (getD (set end lo at) x 0)
           span x h (yes e) =
-              subst (λ (y : ℕ). Span features′ at (getD (set start lo used) y 0) (getD (set end lo at) y 0)) (sym e)
-              (subst (λ (y : ℕ). Span features′ at y (getD (set end lo at) lo 0)) (sym start-lo)
-              (subst (λ (y : ℕ). Span features′ at used y) (sym end-lo)
+              subst (λ (y : ℕ). Span pool′ at (getD (set start lo used) y 0) (getD (set end lo at) y 0)) (sym e)
+              (subst (λ (y : ℕ). Span pool′ at y (getD (set end lo at) lo 0)) (sym start-lo)
+              (subst (λ (y : ℕ). Span pool′ at used y) (sym end-lo)
               (record {
                 rising = m .rises;
                 before = omega arith;
@@ -360,30 +361,30 @@ module _ {nodes second : ℕ} {start₀ end₀ features₀ targets₀ parent sta
                 ascending = m .ascending;
               })))
           span x h (no d) =
-              subst (λ (y : ℕ). Span features′ at y (getD (set end lo at) x 0)) (sym (start-other x d))
-              (subst (λ (y : ℕ). Span features′ at (getD start x 0) y) (sym (end-other x d))
+              subst (λ (y : ℕ). Span pool′ at y (getD (set end lo at) x 0)) (sym (start-other x d))
+              (subst (λ (y : ℕ). Span pool′ at (getD start x 0) y) (sym (end-other x d))
               (record {
                 rising = s .rows .span x h .rising;
                 before = omega (arith, s .rows .span x h .before, m .rises);
                 known = λ k low high.
-                    omega (arith, m .features-kept k (old x k h (low, high)), s .rows .span x h .known k low high);
+                    omega (arith, feature-same (m .pool-kept k (old x k h (low, high))), s .rows .span x h .known k low high);
                 ascending = λ k low high.
                     omega (
                       arith,
-                      m .features-kept k (old x k h (low, omega arith)),
-                      m .features-kept (suc k) (old x (suc k) h (omega arith, high)),
+                      feature-same (m .pool-kept k (old x k h (low, omega arith))),
+                      feature-same (m .pool-kept (suc k) (old x (suc k) h (omega arith, high))),
                       s .rows .span x h .ascending k low high,
                     );
               }))
 
-          within : (x k : ℕ) → x < nodes → At (set start lo used) (set end lo at) x k → Dec (x ≡ lo) → getD targets′ k 0 < nodes
+          within : (x k : ℕ) → x < nodes → At (set start lo used) (set end lo at) x k → Dec (x ≡ lo) → targetAt pool′ k < nodes
           within x k h place (yes e) =
               let (low, high) = of-lo x k e place in
-              let (c, p, inside, _, row, _, d) = origin k low high in
-              omega (arith, d, s .rows .within c p inside row)
+              let (c, p, inside, _, row, d) = origin k low high in
+              omega (arith, target-same d, s .rows .within c p inside row)
           within x k h place (no d) =
               let row = of-other x k d place in
-              omega (arith, m .targets-kept k (old x k h row), s .rows .within x k h row)
+              omega (arith, target-same (m .pool-kept k (old x k h row)), s .rows .within x k h row)
 
       -- the classes left
       own-same : (x : ℕ) → x < nodes → (x ≡ hi → ⊥) → eqb (rootOf parent x) x ≡ eqb (rootOf (set parent hi lo) x) x
@@ -443,7 +444,7 @@ module _ {nodes second : ℕ} {start₀ end₀ features₀ targets₀ parent sta
           gone = ap (λ (t : Bool). cond t (getD (set end lo at) hi 0 - getD (set start lo used) hi 0) 0) own-hi
 
       -- a function that respects what is left respects what was
-      respects : (f : ℕ → ℕ) → Respects nodes (set parent hi lo) left′ right′ top f → Respects nodes parent left right count f
+      respects : (f : ℕ → ℕ) → Respects nodes (set parent hi lo) waiting′ top f → Respects nodes parent waiting count f
       respects f q = record { classes = λ x h. class x h (ℕ-discrete (rootOf parent x) hi); pairs = λ i h. pair i h (ℕ-discrete i (count - 1)) }
         where
           ends : f lo ≡ f hi
@@ -456,56 +457,51 @@ module _ {nodes second : ℕ} {start₀ end₀ features₀ targets₀ parent sta
           root-value : (x : ℕ) → x < nodes → f (rootOf parent x) ≡ f x
           root-value x h = class x h (ℕ-discrete (rootOf parent x) hi)
 
-          last : f (getD left (count - 1) 0) ≡ f (getD right (count - 1) 0)
+          last : f (leftAt waiting (count - 1)) ≡ f (rightAt waiting (count - 1))
           last =
               ⊎-elim
-              (λ (z : (lo ≡ rootOf parent (getD left (count - 1) 0)) × (hi ≡ rootOf parent (getD right (count - 1) 0))).
-              sym (ap f (z .0) ∙ root-value (getD left (count - 1) 0) l-in) ∙ ends ∙ ap f (z .1) ∙
-              root-value (getD right (count - 1) 0) r-in)
-              (λ (z : (hi ≡ rootOf parent (getD left (count - 1) 0)) × (lo ≡ rootOf parent (getD right (count - 1) 0))).
-              sym (ap f (z .0) ∙ root-value (getD left (count - 1) 0) l-in) ∙ sym ends ∙ ap f (z .1) ∙
-              root-value (getD right (count - 1) 0) r-in)
+              (λ (z : (lo ≡ rootOf parent (leftAt waiting (count - 1))) × (hi ≡ rootOf parent (rightAt waiting (count - 1)))).
+              sym (ap f (z .0) ∙ root-value (leftAt waiting (count - 1)) l-in) ∙ ends ∙ ap f (z .1) ∙
+              root-value (rightAt waiting (count - 1)) r-in)
+              (λ (z : (hi ≡ rootOf parent (leftAt waiting (count - 1))) × (lo ≡ rootOf parent (rightAt waiting (count - 1)))).
+              sym (ap f (z .0) ∙ root-value (leftAt waiting (count - 1)) l-in) ∙ sym ends ∙ ap f (z .1) ∙
+              root-value (rightAt waiting (count - 1)) r-in)
               meets
 
-          pair : (i : ℕ) → i < count → Dec (i ≡ count - 1) → f (getD left i 0) ≡ f (getD right i 0)
-          pair i h (yes e) = subst (λ (n : ℕ). f (getD left n 0) ≡ f (getD right n 0)) (sym e) last
+          pair : (i : ℕ) → i < count → Dec (i ≡ count - 1) → f (leftAt waiting i) ≡ f (rightAt waiting i)
+          pair i h (yes e) = subst (λ (n : ℕ). f (leftAt waiting n) ≡ f (rightAt waiting n)) (sym e) last
           pair i h (no d) =
-              ap f (sym (m .left-kept i (omega arith))) ∙ q .pairs i (omega (arith, m .grows)) ∙ ap f (m .right-kept i (omega arith))
+              ap f (sym (feature-same (m .waiting-kept i (omega arith)))) ∙ q .pairs i (omega (arith, m .grows)) ∙ ap f (target-same (m .waiting-kept i (omega arith)))
 
-      joined-state : Joining nodes second start₀ end₀ features₀ targets₀ (set parent hi lo) (set start lo used) (set end lo at)
-          features′ targets′ left′ right′ at top
+      joined-state : Joining nodes second start₀ end₀ pool₀ (set parent hi lo) (set start lo used) (set end lo at)
+          pool′ waiting′ at top
       joined-state =
           record {
             rows = rows′;
-            features-long = m .features-long ∙ s .features-long;
-            targets-long = m .targets-long ∙ s .targets-long;
+            pool-long = m .pool-long ∙ s .pool-long;
             forest = forest′;
-            left-long = m .left-long ∙ s .left-long;
-            right-long = m .right-long ∙ s .right-long;
+            waiting-long = m .waiting-long ∙ s .waiting-long;
             bounded = omega (arith, s .bounded, fewer, merged-short m lo-span hi-span);
-            room = (
-              omega (arith, s .room .0, two, fewer, merged-short m lo-span hi-span, m .features-long),
-              omega (arith, s .room .1, two, fewer, merged-short m lo-span hi-span, m .targets-long),
-            );
+            room = omega (arith, s .room, two, fewer, merged-short m lo-span hi-span, m .pool-long);
             few = omega (arith, s .few, lengths, m .counted, m .grows, m .rises, lo-span .rising, hi-span .rising);
             short = omega (arith, s .short, lengths, m .counted, m .rises, lo-span .rising, hi-span .rising);
             left-in = λ i h. left-in i h (decLt i (count - 1));
             right-in = λ i h. right-in i h (decLt i (count - 1));
             related = λ x h. related x h (ℕ-discrete (rootOf parent x) hi);
-            waiting = λ i h. waiting i h (decLt i (count - 1));
+            alike = λ i h. alike i h (decLt i (count - 1));
             source = λ c k h place. source c k h place (ℕ-discrete c lo);
             kept = λ x j h place. kept x j h place (ℕ-discrete (rootOf parent x) hi) (ℕ-discrete (rootOf parent x) lo);
             together = λ f q. s .together f (respects f q);
           }
         where
-          left-in : (i : ℕ) → i < top → Dec (i < count - 1) → getD left′ i 0 < nodes
-          left-in i h (yes e) = omega (arith, m .left-kept i e, s .left-in i (omega arith))
+          left-in : (i : ℕ) → i < top → Dec (i < count - 1) → leftAt waiting′ i < nodes
+          left-in i h (yes e) = omega (arith, feature-same (m .waiting-kept i e), s .left-in i (omega arith))
           left-in i h (no n) =
               let (p, q, a, b, _, _, _, e, _) = m .pair i (omega arith) h in
               omega (arith, e, s .rows .within lo p lo-in (a, b))
 
-          right-in : (i : ℕ) → i < top → Dec (i < count - 1) → getD right′ i 0 < nodes
-          right-in i h (yes e) = omega (arith, m .right-kept i e, s .right-in i (omega arith))
+          right-in : (i : ℕ) → i < top → Dec (i < count - 1) → rightAt waiting′ i < nodes
+          right-in i h (yes e) = omega (arith, target-same (m .waiting-kept i e), s .right-in i (omega arith))
           right-in i h (no n) =
               let (p, q, _, _, a, b, _, _, e) = m .pair i (omega arith) h in
               omega (arith, e, s .rows .within hi q hi-in (a, b))
@@ -515,35 +511,34 @@ module _ {nodes second : ℕ} {start₀ end₀ features₀ targets₀ parent sta
               subst (Alike x) (sym (root-hi x h e)) (next (subst (Alike x) e (s .related x h)) (back (found .4)))
           related x h (no d) = subst (Alike x) (sym (root-other x h d)) (s .related x h)
 
-          waiting : (i : ℕ) → i < top → Dec (i < count - 1) → Alike (getD left′ i 0) (getD right′ i 0)
-          waiting i h (yes e) =
-              subst (λ (y : ℕ). Alike y (getD right′ i 0)) (sym (m .left-kept i e))
-              (subst (λ (y : ℕ). Alike (getD left i 0) y) (sym (m .right-kept i e)) (s .waiting i (omega arith)))
-          waiting i h (no n) =
+          alike : (i : ℕ) → i < top → Dec (i < count - 1) → Alike (leftAt waiting′ i) (rightAt waiting′ i)
+          alike i h (yes e) =
+              subst (λ (y : ℕ). Alike y (rightAt waiting′ i)) (sym (feature-same (m .waiting-kept i e)))
+              (subst (λ (y : ℕ). Alike (leftAt waiting i) y) (sym (target-same (m .waiting-kept i e))) (s .alike i (omega arith)))
+          alike i h (no n) =
               let (p, q, a, b, c, d, same, e1, e2) = m .pair i (omega arith) h in
-              let (x, j, x-in, x-at, x-like, x-feature, x-target) = s .source lo p lo-in (a, b) in
-              let (y, k, y-in, y-at, y-like, y-feature, y-target) = s .source hi q hi-in (c, d) in
-              subst (λ (z : ℕ). Alike z (getD right′ i 0)) (x-target ∙ sym e1)
-              (subst (λ (z : ℕ). Alike (getD targets₀ j 0) z) (y-target ∙ sym e2)
-              (down (next (back x-like) (next (found .4) y-like)) x-in y-in x-at y-at (x-feature ∙ same ∙ sym y-feature)))
+              let (x, j, x-in, x-at, x-like, x-word) = s .source lo p lo-in (a, b) in
+              let (y, k, y-in, y-at, y-like, y-word) = s .source hi q hi-in (c, d) in
+              subst (λ (z : ℕ). Alike z (rightAt waiting′ i)) (target-same x-word ∙ sym e1)
+              (subst (λ (z : ℕ). Alike (targetAt pool₀ j) z) (target-same y-word ∙ sym e2)
+              (down (next (back x-like) (next (found .4) y-like)) x-in y-in x-at y-at (feature-same x-word ∙ same ∙ sym (feature-same y-word))))
 
           source : (c k : ℕ) → c < nodes → At (set start lo used) (set end lo at) c k → Dec (c ≡ lo) →
-              (x : ℕ) × (j : ℕ) × (x < nodes) × At start₀ end₀ x j × Alike c x × (getD features₀ j 0 ≡ getD features′ k 0) ×
-              (getD targets₀ j 0 ≡ getD targets′ k 0)
+              (x : ℕ) × (j : ℕ) × (x < nodes) × At start₀ end₀ x j × Alike c x × (getD pool₀ j 0 ≡ getD pool′ k 0)
           source c k h place (yes e) =
               let (low, high) = of-lo c k e place in
-              let (d, p, d-in, like, row, feature, target) = origin k low high in
-              let (x, j, x-in, x-at, x-like, x-feature, x-target) = s .source d p d-in row in
-              (x, j, x-in, x-at, subst (λ (y : ℕ). Alike y x) (sym e) (next like x-like), x-feature ∙ sym feature, x-target ∙ sym target)
+              let (d, p, d-in, like, row, same) = origin k low high in
+              let (x, j, x-in, x-at, x-like, x-word) = s .source d p d-in row in
+              (x, j, x-in, x-at, subst (λ (y : ℕ). Alike y x) (sym e) (next like x-like), x-word ∙ sym same)
           source c k h place (no d) =
               let row = of-other c k d place in
-              let (x, j, x-in, x-at, x-like, x-feature, x-target) = s .source c k h row in
-              (x, j, x-in, x-at, x-like, x-feature ∙ sym (m .features-kept k (old c k h row)), x-target ∙ sym (m .targets-kept k (old c k h row)))
+              let (x, j, x-in, x-at, x-like, x-word) = s .source c k h row in
+              (x, j, x-in, x-at, x-like, x-word ∙ sym (m .pool-kept k (old c k h row)))
 
           kept : (x j : ℕ) → x < nodes → At start₀ end₀ x j → Dec (rootOf parent x ≡ hi) → Dec (rootOf parent x ≡ lo) →
               (k : ℕ) × At (set start lo used) (set end lo at) (rootOf (set parent hi lo) x) k ×
-              (getD features′ k 0 ≡ getD features₀ j 0) ×
-              ((f : ℕ → ℕ) → Respects nodes (set parent hi lo) left′ right′ top f → f (getD targets′ k 0) ≡ f (getD targets₀ j 0))
+              (featureAt pool′ k ≡ featureAt pool₀ j) ×
+              ((f : ℕ → ℕ) → Respects nodes (set parent hi lo) waiting′ top f → f (targetAt pool′ k) ≡ f (targetAt pool₀ j))
           kept x j h place (yes e) _ =
               let (k, row, feature, joint) = s .kept x j h place in
               let (low, high) = subst (λ (c : ℕ). At start end c k) e row in
@@ -552,55 +547,55 @@ module _ {nodes second : ℕ} {start₀ end₀ features₀ targets₀ parent sta
                 subst (λ (c : ℕ). At (set start lo used) (set end lo at) c p) (sym (root-hi x h e)) (at-lo p p-low p-high),
                 same ∙ feature,
                 λ f q.
-                    ⊎-elim (λ (z : getD targets′ p 0 ≡ getD targets k 0). ap f z)
-                    (λ (z : (i : ℕ) × (count - 1 ≤ i) × (i < top) × (getD left′ i 0 ≡ getD targets′ p 0) ×
-                    (getD right′ i 0 ≡ getD targets k 0)).
+                    ⊎-elim (λ (z : targetAt pool′ p ≡ targetAt pool k). ap f z)
+                    (λ (z : (i : ℕ) × (count - 1 ≤ i) × (i < top) × (leftAt waiting′ i ≡ targetAt pool′ p) ×
+                    (rightAt waiting′ i ≡ targetAt pool k)).
                     ap f (sym (z .3)) ∙ q .pairs (z .0) (z .2) ∙ ap f (z .4)) either ∙
                     joint f (respects f q),
               )
           kept x j h place (no d) (yes e) =
               let (k, row, feature, joint) = s .kept x j h place in
               let (low, high) = subst (λ (c : ℕ). At start end c k) e row in
-              let (p, p-low, p-high, both) = m .first k low high in (
+              let (p, p-low, p-high, same) = m .first k low high in (
                 p,
                 subst (λ (c : ℕ). At (set start lo used) (set end lo at) c p) (sym (root-other x h d ∙ e)) (at-lo p p-low p-high),
-                both .0 ∙ feature,
-                λ f q. ap f (both .1) ∙ joint f (respects f q),
+                feature-same same ∙ feature,
+                λ f q. ap f (target-same same) ∙ joint f (respects f q),
               )
           kept x j h place (no d) (no n) =
               let (k, row, feature, joint) = s .kept x j h place in
               let before = old (rootOf parent x) k (root-in x h) row in (
                 k,
                 subst (λ (c : ℕ). At (set start lo used) (set end lo at) c k) (sym (root-other x h d)) (at-other (rootOf parent x) k n row),
-                m .features-kept k before ∙ feature,
-                λ f q. ap f (m .targets-kept k before) ∙ joint f (respects f q),
+                feature-same (m .pool-kept k before) ∙ feature,
+                λ f q. ap f (target-same (m .pool-kept k before)) ∙ joint f (respects f q),
               )
 
     -- The two classes become one.
-    pub join-step : {parent′ start′ end′ features′ targets′ left′ right′ : List ℕ} {at top : ℕ} →
-        Joins lo hi parent start end features targets left right used (count - 1) parent′ start′ end′ features′ targets′ left′ right′ at top →
-        Joining nodes second start₀ end₀ features₀ targets₀ parent′ start′ end′ features′ targets′ left′ right′ at top
-    join-step {parent′} {start′} {end′} {features′} {targets′} {left′} {right′} {at} {top} j =
-        subst (λ (p : List ℕ). Joining nodes second start₀ end₀ features₀ targets₀ p start′ end′ features′ targets′ left′ right′ at top)
+    pub join-step : {parent′ start′ end′ pool′ waiting′ : List ℕ} {at top : ℕ} →
+        Joins lo hi parent start end pool waiting used (count - 1) parent′ start′ end′ pool′ waiting′ at top →
+        Joining nodes second start₀ end₀ pool₀ parent′ start′ end′ pool′ waiting′ at top
+    join-step {parent′} {start′} {end′} {pool′} {waiting′} {at} {top} j =
+        subst (λ (p : List ℕ). Joining nodes second start₀ end₀ pool₀ p start′ end′ pool′ waiting′ at top)
         (sym (j .parent-is))
         (subst
-        (λ (p : List ℕ). Joining nodes second start₀ end₀ features₀ targets₀ (set parent hi lo) p end′ features′ targets′ left′ right′ at top)
+        (λ (p : List ℕ). Joining nodes second start₀ end₀ pool₀ (set parent hi lo) p end′ pool′ waiting′ at top)
         (sym (j .start-is))
         (subst
         (λ (p : List ℕ).
-        Joining nodes second start₀ end₀ features₀ targets₀ (set parent hi lo) (set start lo used) p features′ targets′ left′ right′ at top)
+        Joining nodes second start₀ end₀ pool₀ (set parent hi lo) (set start lo used) p pool′ waiting′ at top)
         (sym (j .end-is)) (joined-state (j .merged))))
 
-    pub join-fewer : {parent′ start′ end′ features′ targets′ left′ right′ : List ℕ} {at top : ℕ} →
-        Joins lo hi parent start end features targets left right used (count - 1) parent′ start′ end′ features′ targets′ left′ right′ at top →
+    pub join-fewer : {parent′ start′ end′ pool′ waiting′ : List ℕ} {at top : ℕ} →
+        Joins lo hi parent start end pool waiting used (count - 1) parent′ start′ end′ pool′ waiting′ at top →
         4098 * rootCount nodes parent′ + top < 4098 * rootCount nodes parent + count
     join-fewer {parent′} {top = top} j =
         omega (arith, fewer (j .merged), ap (rootCount nodes) (j .parent-is), joined-state (j .merged) .short)
 
   -- Nothing waits, and each node is right below its root.
-  pub join-done : {links : ℕ} → Rows nodes start₀ end₀ features₀ targets₀ links → second < nodes → count ≡ 0 → {class : List ℕ} → length class ≡ 510 →
+  pub join-done : {links : ℕ} → Rows nodes start₀ end₀ pool₀ links → second < nodes → count ≡ 0 → {class : List ℕ} → length class ≡ 510 →
       ((x : ℕ) → x < 510 → getD class x 0 ≡ rootOf parent x) →
-      Closed nodes second start₀ end₀ features₀ targets₀ class start end features targets used
+      Closed nodes second start₀ end₀ pool₀ class start end pool used
   unfolding rootCount
   join-done rows₀ inside none {class} long is =
       record {
@@ -613,7 +608,7 @@ module _ {nodes second : ℕ} {start₀ end₀ features₀ targets₀ parent sta
         together = class-is 0 (s .rows .some) ∙ s .together (rootOf parent) settled ∙ sym (class-is second inside);
         rows = s .rows;
         bounded = omega (arith, s .bounded, s .rows .few, one);
-        room = (omega (arith, s .room .0), omega (arith, s .room .1));
+        room = omega (arith, s .room);
         short =
             omega (
               arith,
@@ -627,15 +622,15 @@ module _ {nodes second : ℕ} {start₀ end₀ features₀ targets₀ parent sta
               k,
               subst (λ (c : ℕ). At start end c k) (sym (class-is x h)) row,
               feature,
-              class-is (getD targets k 0) (s .rows .within (rootOf parent x) k (root-in x h) row) ∙ joint (rootOf parent) settled ∙
-                  sym (class-is (getD targets₀ j 0) (rows₀ .within x j h place)),
+              class-is (targetAt pool k) (s .rows .within (rootOf parent x) k (root-in x h) row) ∙ joint (rootOf parent) settled ∙
+                  sym (class-is (targetAt pool₀ j) (rows₀ .within x j h place)),
             );
       }
     where
       class-is : (x : ℕ) → x < nodes → getD class x 0 ≡ rootOf parent x
       class-is x h = is x (small x h)
 
-      settled : Respects nodes parent left right count (rootOf parent)
+      settled : Respects nodes parent waiting count (rootOf parent)
       settled = record { classes = λ x h. root-twice (s .forest) x (small x h); pairs = λ i h. absurd (omega arith) }
 
       one : 1 ≤ rootCount nodes parent
@@ -648,24 +643,24 @@ module _ {nodes second : ℕ} {start₀ end₀ features₀ targets₀ parent sta
           )
 
 -- One round: the roots x and y of the last pair are found, each on the way up through a forest with the same roots.
-module _ {nodes second : ℕ} {start₀ end₀ features₀ targets₀ parent start end features targets left right : List ℕ} {used count : ℕ}
-    (s : Joining nodes second start₀ end₀ features₀ targets₀ parent start end features targets left right used count) (some : 0 < count) where
-  pub left-small : getD left (count - 1) 0 < 510
-  left-small = small s (getD left (count - 1) 0) (s .left-in (count - 1) (omega arith))
+module _ {nodes second : ℕ} {start₀ end₀ pool₀ parent start end pool waiting : List ℕ} {used count : ℕ}
+    (s : Joining nodes second start₀ end₀ pool₀ parent start end pool waiting used count) (some : 0 < count) where
+  pub left-small : leftAt waiting (count - 1) < 510
+  left-small = small s (leftAt waiting (count - 1)) (s .left-in (count - 1) (omega arith))
 
-  pub right-small : getD right (count - 1) 0 < 510
-  right-small = small s (getD right (count - 1) 0) (s .right-in (count - 1) (omega arith))
+  pub right-small : rightAt waiting (count - 1) < 510
+  right-small = small s (rightAt waiting (count - 1)) (s .right-in (count - 1) (omega arith))
 
-  module _ {parent₁ parent₂ : List ℕ} {x y : ℕ} (x-is : x ≡ rootOf parent (getD left (count - 1) 0)) (same₁ : SameRoots parent parent₁)
-      (y-is : y ≡ rootOf parent₁ (getD right (count - 1) 0)) (same₂ : SameRoots parent₁ parent₂) where
-    state : Joining nodes second start₀ end₀ features₀ targets₀ parent₂ start end features targets left right used count
+  module _ {parent₁ parent₂ : List ℕ} {x y : ℕ} (x-is : x ≡ rootOf parent (leftAt waiting (count - 1))) (same₁ : SameRoots parent parent₁)
+      (y-is : y ≡ rootOf parent₁ (rightAt waiting (count - 1))) (same₂ : SameRoots parent₁ parent₂) where
+    state : Joining nodes second start₀ end₀ pool₀ parent₂ start end pool waiting used count
     state = join-roots (join-roots s same₁) same₂
 
-    x-found : x ≡ rootOf parent₂ (getD left (count - 1) 0)
-    x-found = x-is ∙ sym (same₂ .same (getD left (count - 1) 0) left-small ∙ same₁ .same (getD left (count - 1) 0) left-small)
+    x-found : x ≡ rootOf parent₂ (leftAt waiting (count - 1))
+    x-found = x-is ∙ sym (same₂ .same (leftAt waiting (count - 1)) left-small ∙ same₁ .same (leftAt waiting (count - 1)) left-small)
 
-    y-found : y ≡ rootOf parent₂ (getD right (count - 1) 0)
-    y-found = y-is ∙ sym (same₂ .same (getD right (count - 1) 0) right-small)
+    y-found : y ≡ rootOf parent₂ (rightAt waiting (count - 1))
+    y-found = y-is ∙ sym (same₂ .same (rightAt waiting (count - 1)) right-small)
 
     as-many : rootCount nodes parent₂ ≡ rootCount nodes parent
     unfolding rootCount
@@ -675,7 +670,7 @@ module _ {nodes second : ℕ} {start₀ end₀ features₀ targets₀ parent sta
         ap {B = ℕ} (λ (c : ℕ). cond (eqb c z) 1 0) (same₂ .same z (small s z h) ∙ same₁ .same z (small s z h)))
 
     pub round-even : y ≤ x → x ≤ y →
-        Joining nodes second start₀ end₀ features₀ targets₀ parent₂ start end features targets left right used (count - 1)
+        Joining nodes second start₀ end₀ pool₀ parent₂ start end pool waiting used (count - 1)
     round-even h k = let e : x ≡ y = omega arith in join-skip state some (sym x-found ∙ e ∙ y-found)
 
     pub round-even-less : 4098 * rootCount nodes parent₂ + (count - 1) < 4098 * rootCount nodes parent + count
@@ -683,19 +678,19 @@ module _ {nodes second : ℕ} {start₀ end₀ features₀ targets₀ parent sta
 
     -- What a join of x to y, or of y to x, asks and leaves.
     pub record Round (lo hi : ℕ) : Type 0 where
-      pub asks : (lo < 510) × (hi < 510) × Span features used (getD start lo 0) (getD end lo 0) ×
-          Span features used (getD start hi 0) (getD end hi 0) × (used + 64 ≤ 36672) × Room (used + 64) features targets ×
+      pub asks : (lo < 510) × (hi < 510) × Span pool used (getD start lo 0) (getD end lo 0) ×
+          Span pool used (getD start hi 0) (getD end hi 0) × (used + 64 ≤ 37182) × (used + 64 ≤ length pool) ×
           ((count - 1) + getD end hi 0 ≤ 4097 + getD start hi 0)
-      pub goes : {parent′ start′ end′ features′ targets′ left′ right′ : List ℕ} {at top : ℕ} →
-          Joins lo hi parent₂ start end features targets left right used (count - 1) parent′ start′ end′ features′ targets′ left′ right′ at top →
-          Joining nodes second start₀ end₀ features₀ targets₀ parent′ start′ end′ features′ targets′ left′ right′ at top
-      pub falls : {parent′ start′ end′ features′ targets′ left′ right′ : List ℕ} {at top : ℕ} →
-          Joins lo hi parent₂ start end features targets left right used (count - 1) parent′ start′ end′ features′ targets′ left′ right′ at top →
+      pub goes : {parent′ start′ end′ pool′ waiting′ : List ℕ} {at top : ℕ} →
+          Joins lo hi parent₂ start end pool waiting used (count - 1) parent′ start′ end′ pool′ waiting′ at top →
+          Joining nodes second start₀ end₀ pool₀ parent′ start′ end′ pool′ waiting′ at top
+      pub falls : {parent′ start′ end′ pool′ waiting′ : List ℕ} {at top : ℕ} →
+          Joins lo hi parent₂ start end pool waiting used (count - 1) parent′ start′ end′ pool′ waiting′ at top →
           4098 * rootCount nodes parent′ + top < 4098 * rootCount nodes parent + count
 
     round : (lo hi : ℕ) → lo < hi →
-        ((lo ≡ rootOf parent₂ (getD left (count - 1) 0)) × (hi ≡ rootOf parent₂ (getD right (count - 1) 0))) ⊎
-        ((hi ≡ rootOf parent₂ (getD left (count - 1) 0)) × (lo ≡ rootOf parent₂ (getD right (count - 1) 0))) → Round lo hi
+        ((lo ≡ rootOf parent₂ (leftAt waiting (count - 1))) × (hi ≡ rootOf parent₂ (rightAt waiting (count - 1)))) ⊎
+        ((hi ≡ rootOf parent₂ (leftAt waiting (count - 1))) × (lo ≡ rootOf parent₂ (rightAt waiting (count - 1)))) → Round lo hi
     round lo hi less meets =
         record {
           asks = join-asks state some lo hi less meets;

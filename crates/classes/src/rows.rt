@@ -1,9 +1,11 @@
-// The merge of two rows into one. Where both have a feature, their targets make a pair of nodes that are to be joined.
+// The merge of two rows of link words into one. Where both have a feature, their targets make a pair of nodes that are to be joined.
 
-ghost use Prim.Native.Nat.{_+_, _≤_};
+use layout::SCALE;
+ghost use Prim.Native.Nat.{_+_, _%_, _≤_};
 ghost use lib.ListN.{length};
 ghost use mathlib.Core.Path.{_≡_};
-ghost use Rattle.classes.specs.Merge.{Merged, Room, Span, featureAt};
+ghost use Rattle.layout.specs.Layout.{scale};
+ghost use Rattle.classes.specs.Merge.{Merges, Span, featureOr, pairWord};
 
 // How many places are used, and how many pairs wait.
 pub struct Reach {
@@ -12,59 +14,59 @@ pub struct Reach {
 }
 
 // The feature at a place of a row, 64 past its end.
-fn feature_at(features: &[u8], k: usize, end: usize) -> u8
-    requires { ⌜ end ≤ length (now features) ⌝ }
-    ensures { λ r. ⌜ r ≡ featureAt (now (features .entry)) k end ⌝ }
+fn feature_at(pool: &[u16], k: usize, end: usize) -> u16
+    requires { ⌜ end ≤ length (now pool) ⌝ }
+    ensures { λ r. ⌜ r ≡ featureOr (now (pool .entry)) k end ⌝ }
 {
     if k < end {
-        return features[k];
+        let w = pool[k];
+        return w / SCALE;
     }
     64
 }
 
-// Merges a row and a second one into one at the places from `used` on.
+// The word of the pair of two links' targets.
+fn pair(v: u16, w: u16) -> u32
+    ensures { λ r. ⌜ r ≡ pairWord (v % scale) (w % scale) ⌝ }
+{
+    ((v % SCALE) as u32) * (SCALE as u32) + ((w % SCALE) as u32)
+}
+
+// Merges a row and a second one into one at the places behind those used.
 pub fn merge(
-    features: &mut [u8],
-    targets: &mut [u16],
-    left: &mut [u16; 4097],
-    right: &mut [u16; 4097],
+    pool: &mut [u16],
+    waiting: &mut [u32; 4097],
     a_start: usize,
     a_end: usize,
     b_start: usize,
     b_end: usize,
-    used: usize,
-    count: usize,
+    reach: Reach,
 ) -> Reach
-    requires { ⌜ Room (used + 64) (now features) (now targets) ⌝ }
-    requires { ⌜ (length (now left) ≡ 4097) × (length (now right) ≡ 4097) ⌝ }
-    requires { ⌜ Span (now features) used «a_start» «a_end» ⌝ }
-    requires { ⌜ Span (now features) used «b_start» «b_end» ⌝ }
-    requires { ⌜ (used + 64 ≤ 36672) × (count + «b_end» ≤ 4097 + «b_start») ⌝ }
-    ensures { λ r. ⌜ Merged «a_start» «a_end» «b_start» «b_end» (now (features .entry)) (now (targets .entry)) (now (left .entry)) (now (right .entry)) used count (now (features .exit)) (now (targets .exit)) (now (left .exit)) (now (right .exit)) (r .used) (r .count) ⌝ }
+    requires { ⌜ (reach .used + 64 ≤ length (now pool)) × (length (now waiting) ≡ 4097) ⌝ }
+    requires { ⌜ Span (now pool) (reach .used) «a_start» «a_end» ⌝ }
+    requires { ⌜ Span (now pool) (reach .used) «b_start» «b_end» ⌝ }
+    requires { ⌜ (reach .used + 64 ≤ 37182) × (reach .count + «b_end» ≤ 4097 + «b_start») ⌝ }
+    ensures { λ r. ⌜ Merges «a_start» «a_end» «b_start» «b_end» (now (pool .entry)) (now (waiting .entry)) reach (now (pool .exit)) (now (waiting .exit)) r ⌝ }
 {
     let mut i = a_start;
     let mut j = b_start;
-    let mut at = used;
-    let mut top = count;
+    let mut at = reach.used;
+    let mut top = reach.count;
     while i + j < a_end + b_end {
-        let f = feature_at(features, i, a_end);
-        let g = feature_at(features, j, b_end);
+        let f = feature_at(pool, i, a_end);
+        let g = feature_at(pool, j, b_end);
         if f < g {
-            features[at] = f;
-            targets[at] = targets[i];
+            pool[at] = pool[i];
             at += 1;
             i += 1;
         } else if g < f {
-            features[at] = g;
-            targets[at] = targets[j];
+            pool[at] = pool[j];
             at += 1;
             j += 1;
         } else {
-            left[top] = targets[i];
-            right[top] = targets[j];
+            waiting[top] = pair(pool[i], pool[j]);
             top += 1;
-            features[at] = f;
-            targets[at] = targets[i];
+            pool[at] = pool[i];
             at += 1;
             i += 1;
             j += 1;

@@ -1,5 +1,8 @@
 -- Laws of decoding.
-pub mod Parsing
-pub mod Filling
 pub mod Steps
 pub mod Thin
+pub mod Ranging
+pub mod Word
+pub mod Reading
+pub mod Decoded
+pub mod Storing

@@ -11,7 +11,7 @@ use Rattle.decode.specs.declared.reader.Step.{Step}
 use Rattle.decode.specs.declared.reader.Step.the-variants.{Byte, End}
 use Rattle.decode.specs.declared.reader.MapStep.{MapStep}
 use Rattle.decode.specs.declared.reader.MapStep.the-variants.{Map, Cut}
-use Rattle.decode.specs.Parse.{wordOf}
+use Rattle.decode.specs.Word.{wordOf}
 use Rattle.decode.specs.Reader.{byteStep, mapStep}
 
 -- a byte was taken

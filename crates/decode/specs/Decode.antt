@@ -7,6 +7,7 @@ use lib.Dec.{eqb, leb}
 use lib.ListN.{length, getD, drop}
 use Rattle.graphs.specs.Graph.{onward, andThen}
 use Rattle.graphs.specs.Rows.{Row, features}
+use Rattle.lattice.specs.Label.{Label}
 
 -- "feature f, 0 to 63, is bit f mod 8 of byte f div 8"
 unfoldable pub bitOf : List ℕ → ℕ → Bool
@@ -33,22 +34,22 @@ takeLinks stands [] room rest = some (record { value = []; room = room; rest = r
 takeLinks stands (f ∷ fs) room rest = cond (stands f) (takeTarget f (takeLinks stands fs) room rest) (takeLinks stands fs room rest)
 
 -- "for each node in turn: one type byte, 8 bytes of feature map .., then one target byte for each standing bit"
-unfoldable pub takeRow : ℕ → List ℕ → Option (Taken (Row ℕ))
+unfoldable pub takeRow : ℕ → List ℕ → Option (Taken (Row Label))
 takeRow room rest =
     cond (leb 9 (length rest))
     (onward (changed λ ls. (getD rest 0 0, ls)) (takeLinks (bitOf (drop 1 rest)) features room (drop 9 rest)))
     none
 
-unfoldable pub takeRows : ℕ → ℕ → List ℕ → Option (Taken (List (Row ℕ)))
+unfoldable pub takeRows : ℕ → ℕ → List ℕ → Option (Taken (List (Row Label)))
 takeRows zero room rest = some (record { value = []; room = room; rest = rest })
 takeRows (suc k) room rest = andThen (takeRow room rest) λ r. onward (changed λ rs. r .value ∷ rs) (takeRows k (r .room) (r .rest))
 
 -- "The record ends there."
-abbrev pub whole : Option (Taken (List (Row ℕ))) → Option (List (Row ℕ))
+abbrev pub whole : Option (Taken (List (Row Label))) → Option (List (Row Label))
 whole none = none
 whole (some t) = cond (eqb (length (t .rest)) 0) (some (t .value)) none
 
 -- "Byte 0 is the node count N, 1 to 255 .. At most 2,048 links in all."
-unfoldable pub decoded : List ℕ → Option (List (Row ℕ))
+unfoldable pub decoded : List ℕ → Option (List (Row Label))
 decoded [] = none
 decoded (n ∷ rest) = cond (eqb n 0) none (whole (takeRows n 2048 rest))

@@ -1,5 +1,6 @@
 -- Definitions of decoding.
 pub mod Decode
-pub mod Promise
-pub mod Parse
+pub mod Word
 pub mod Reader
+pub mod Storing
+pub mod Answers

@@ -1,5 +1,5 @@
 -- What the reader gives at its position (document 01, "Graph record": "The record is walked inside the host's bytes by a reader
--- that keeps the record and its next byte together"): what it takes, with the position moved past it, and how much is left.
+-- that keeps the record and its next byte together"): what it takes, with the position moved past it.
 use mathlib.Core.Bool.{cond}
 use mathlib.Core.List.{List}
 use Prim.Native.Nat.{ℕ, _+_, _-_}
@@ -9,11 +9,7 @@ use Rattle.decode.specs.declared.reader.Step.{Step}
 use Rattle.decode.specs.declared.reader.Step.the-variants.{Byte, End}
 use Rattle.decode.specs.declared.reader.MapStep.{MapStep}
 use Rattle.decode.specs.declared.reader.MapStep.the-variants.{Map, Cut}
-use Rattle.decode.specs.Parse.{wordOf}
-
--- how many bytes are left
-abbrev pub bytesLeft : List ℕ → ℕ → ℕ
-bytesLeft bytes next = length bytes - next
+use Rattle.decode.specs.Word.{wordOf}
 
 -- the byte at the position, or the end
 abbrev pub byteStep : List ℕ → ℕ → Step
@@ -21,4 +17,4 @@ byteStep bytes next = cond (ltb next (length bytes)) (Byte (getD bytes next 0) (
 
 -- "8 bytes of feature map", or the end
 abbrev pub mapStep : List ℕ → ℕ → MapStep
-mapStep bytes next = cond (leb 8 (bytesLeft bytes next)) (Map (wordOf 8 (drop next bytes)) (next + 8)) Cut
+mapStep bytes next = cond (leb 8 (length bytes - next)) (Map (wordOf 8 (drop next bytes)) (next + 8)) Cut

@@ -1,12 +1,12 @@
-// The reader of a record: the record's bytes and the position of the next one, kept together. It starts at byte 0, takes a byte
-// or a feature map and tells the position behind it, and tells how much is left. Parsing calls the last four functions, whose
-// parameters are plain: each makes the reader at a position and leaves the work to it.
+// The reader of a record: the record's bytes and the position of the next one, kept together. It takes a byte or a feature map and
+// tells the position behind it. Parsing calls the last two functions, whose parameters are plain: each makes the reader at a
+// position and leaves the work to it.
 
 ghost use Prim.Native.Nat.{_+_, _≤_};
 ghost use lib.ListN.{drop, length};
 ghost use mathlib.Core.Path.{_≡_};
-ghost use Rattle.decode.specs.Parse.{wordOf};
-ghost use Rattle.decode.specs.Reader.{byteStep, bytesLeft, mapStep};
+ghost use Rattle.decode.specs.Word.{wordOf};
+ghost use Rattle.decode.specs.Reader.{byteStep, mapStep};
 
 pub struct Reader<'a> {
     pub bytes: &'a [u8],
@@ -45,16 +45,6 @@ pub fn map_at(bytes: &[u8], at: usize) -> u64
     map
 }
 
-// How many bytes stand from a place on.
-pub fn left_at(bytes: &[u8], at: usize) -> usize
-    ensures { λ r. ⌜ r ≡ bytesLeft (now (bytes .entry)) at ⌝ }
-{
-    if bytes.len() <= at {
-        return 0;
-    }
-    bytes.len() - at
-}
-
 // The byte at a place.
 pub fn byte_at(bytes: &[u8], at: usize) -> Step
     ensures { λ r. ⌜ r ≡ byteStep (now (bytes .entry)) at ⌝ }
@@ -69,17 +59,13 @@ pub fn byte_at(bytes: &[u8], at: usize) -> Step
 pub fn whole_map_at(bytes: &[u8], at: usize) -> MapStep
     ensures { λ r. ⌜ r ≡ mapStep (now (bytes .entry)) at ⌝ }
 {
-    if left_at(bytes, at) < 8 {
+    if bytes.len() <= at {
+        return MapStep::Cut;
+    }
+    if bytes.len() - at < 8 {
         return MapStep::Cut;
     }
     MapStep::Map(map_at(bytes, at), at + 8)
-}
-
-// The reader at the start of a record.
-pub fn start<'a>(bytes: &'a [u8]) -> Reader<'a>
-    ensures { λ r. ⌜ (r .bytes ≡ bytes .entry) × (r .next ≡ 0) ⌝ }
-{
-    Reader { bytes, next: 0 }
 }
 
 // Takes the next byte.
@@ -96,20 +82,6 @@ pub fn map<'a>(r: Reader<'a>) -> MapStep
     whole_map_at(r.bytes, r.next)
 }
 
-// How many bytes are left.
-pub fn left<'a>(r: Reader<'a>) -> usize
-    ensures { λ n. ⌜ n ≡ bytesLeft (now (r .entry .bytes)) (r .entry .next) ⌝ }
-{
-    left_at(r.bytes, r.next)
-}
-
-// The record's first byte.
-pub fn first_byte(bytes: &[u8]) -> Step
-    ensures { λ s. ⌜ s ≡ byteStep (now (bytes .entry)) 0 ⌝ }
-{
-    byte(start(bytes))
-}
-
 // The byte that the reader takes at a position.
 pub fn byte_from(bytes: &[u8], at: usize) -> Step
     ensures { λ s. ⌜ s ≡ byteStep (now (bytes .entry)) at ⌝ }
@@ -122,11 +94,4 @@ pub fn map_from(bytes: &[u8], at: usize) -> MapStep
     ensures { λ s. ⌜ s ≡ mapStep (now (bytes .entry)) at ⌝ }
 {
     map(Reader { bytes, next: at })
-}
-
-// How many bytes the reader has left at a position.
-pub fn left_from(bytes: &[u8], at: usize) -> usize
-    ensures { λ n. ⌜ n ≡ bytesLeft (now (bytes .entry)) at ⌝ }
-{
-    left(Reader { bytes, next: at })
 }

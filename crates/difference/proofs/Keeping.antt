@@ -6,7 +6,6 @@ use mathlib.Core.List.{List, [], _∷_, List·Memᴰ, List·Memᴰ·not-nil, Lis
 use mathlib.Core.Logic.{_⊎_, inl, inr, ⊎-elim}
 use Prim.Native.Nat.{ℕ, zero, suc, _+_, _-_, _≤_, _<_}
 use native.Mathlib.Decide.{ℕ-discrete}
-use native.Mathlib.Numerals.{add-one}
 use native.Mathlib.Omega.{arith}
 use lib.ListN.{length, getD, set, length-set}
 use lib.Seq.{getD-set-same, getD-set-other}
@@ -15,12 +14,15 @@ use Rattle.graphs.specs.Large.{Distinct}
 use Rattle.graphs.proofs.Lists.{distinct-bound, from-member}
 use Rattle.graphs.proofs.Search.{true-false}
 use Rattle.lattice.specs.Table.{below}
-use Rattle.visits.specs.Arrays.{Linked, Leads as Linking, Reaches, TargetsFirst}
-use Rattle.visits.specs.Promise.{Sorts}
-use Rattle.visits.proofs.Colours.{ends}
-use Rattle.difference.specs.Keeping.{Grown, Leads, Cause, several, alone, Entering, Untop, Stays, Onward, Sorted, Settled, Why, isRoot, caused, untop, onward, Keeps}
+use Rattle.layout.specs.Layout.{size, rowFrom, linksFrom, rowEnd, targetAt, Node, Shaped, Place, rowsEnd}
+use Rattle.layout.proofs.Order.{next-row, place-from, no-header}
+use Rattle.visits.specs.Walks.{Leads as Linking, Reaches, TargetsFirst, Sorts}
+use Rattle.difference.specs.Keeping.{Grown, Leads, Cause, several, alone, Entering, Enters, Untop, Stays, Onward, Ready, Sorted, Settled, Why, isRoot, caused, untop, onward, Keeps}
 
 -- Growing.
+
+within : (l : List ℕ) {u : ℕ} → u < 255 → length l ≡ 255 → u < length l
+within l h e = omega arith
 
 module _ {Q : ℕ → Type 0} where
   pub grown-start : {keep : List ℕ} → length keep ≡ 255 → ((v : ℕ) → Q v → ⊥) → Grown Q keep keep
@@ -65,59 +67,106 @@ module _ {Q : ℕ → Type 0} where
 
 -- Causes.
 
-module _ (marks targets : List ℕ) (k : ℕ) where
-  cause-more : (v : ℕ) → Cause marks targets k v → Cause marks targets (k + 1) v
-  cause-more v (several j i h l a b p q) = several j i h (omega arith) a b p q
-  cause-more v (alone j h e p) = alone j (omega arith) e p
+module _ (s marks : List ℕ) where
+  leads-wider : {k l v : ℕ} → k ≤ l → Leads s marks k v → Leads s marks l v
+  leads-wider h a =
+      record { node = a .node; place = a .place; link = a .link; before = omega (arith, a .before); leading = a .leading; enters = a .enters }
+
+  leads-narrower : {k l v : ℕ} → ((u j : ℕ) → Place s u j → j < l → j < k) → Leads s marks l v → Leads s marks k v
+  leads-narrower none a =
+      record {
+        node = a .node;
+        place = a .place;
+        link = a .link;
+        before = none (a .node) (a .place) (a .link) (a .before);
+        leading = a .leading;
+        enters = a .enters;
+      }
+
+  cause-wider : {k l v : ℕ} → k ≤ l → Cause s marks k v → Cause s marks l v
+  unfolding leads-wider
+  cause-wider h (several a b) = several (leads-wider h a) b
+  cause-wider h (alone a e) = alone (leads-wider h a) e
+
+  cause-narrower : {k l v : ℕ} → ((u j : ℕ) → Place s u j → j < l → j < k) → Cause s marks l v → Cause s marks k v
+  unfolding leads-narrower
+  cause-narrower none (several a b) = several (leads-narrower none a) b
+  cause-narrower none (alone a e) = alone (leads-narrower none a) e
+
+  -- what is said up to one place is said up to another where no link stands between
+  pub entering-moved : {k l : ℕ} {keep₀ keep entered : List ℕ} → k ≤ l → ((u j : ℕ) → Place s u j → j < l → j < k) →
+      Entering s marks k keep₀ keep entered → Entering s marks l keep₀ keep entered
+  entering-moved h none e =
+      record {
+        grown = grown-stay (e .grown) (λ v c. cause-wider h c) (λ v c. cause-narrower none c);
+        entered-long = e .entered-long;
+        met = λ v l x. leads-wider h (e .met v l x);
+        unmet = λ v l x. e .unmet v l (leads-narrower none x);
+      }
+
+module _ (s marks : List ℕ) (k : ℕ) where
+  -- a link before place k + 1 stands before place k, or there
+  leads-split : {v : ℕ} (a : Leads s marks (k + 1) v) → (a .place ≡ k) ⊎ (a .place < k)
+  leads-split a = go (ℕ-discrete (a .place) k)
+    where
+      go : Dec (a .place ≡ k) → (a .place ≡ k) ⊎ (a .place < k)
+      go (yes e) = inl e
+      go (no d) = inr (omega (arith, a .before))
+
+  earlier : {v : ℕ} (a : Leads s marks (k + 1) v) → a .place < k → Leads s marks k v
+  earlier a h = record { node = a .node; place = a .place; link = a .link; before = h; leading = a .leading; enters = a .enters }
 
   -- a cause that place k has part in
   pub data Newly (v : ℕ) : Type 0 where
-    second : (getD marks k 0 ≡ 0 → ⊥) → Leads marks targets k v → Newly v
+    second : (getD marks k 0 ≡ 0 → ⊥) → Leads s marks k v → Newly v
     barely : getD marks k 0 ≡ 2 → Newly v
 
-  cause-split : (v : ℕ) → Cause marks targets (k + 1) v → Cause marks targets k v ⊎ ((v ≡ getD targets k 0) × Newly v)
-  cause-split v (several j i h l a b p q) = go (ℕ-discrete i k)
-    where
-      go : Dec (i ≡ k) → Cause marks targets k v ⊎ ((v ≡ getD targets k 0) × Newly v)
-      go (yes e) =
-          inr (sym q ∙ ap (λ (x : ℕ). getD targets x 0) e, second (λ z. b (ap (λ (x : ℕ). getD marks x 0) e ∙ z)) (j, omega arith, a, p))
-      go (no d) = inl (several j i h (omega arith) a b p q)
-  cause-split v (alone j h e p) = go (ℕ-discrete j k)
-    where
-      go : Dec (j ≡ k) → Cause marks targets k v ⊎ ((v ≡ getD targets k 0) × Newly v)
-      go (yes d) = inr (sym p ∙ ap (λ (x : ℕ). getD targets x 0) d, barely (ap (λ (x : ℕ). getD marks x 0) (sym d) ∙ e))
-      go (no d) = inl (alone j (omega arith) e p)
+  cause-split : (v : ℕ) → Cause s marks (k + 1) v → Cause s marks k v ⊎ ((v ≡ targetAt s k) × Newly v)
+  unfolding earlier
+  cause-split v (several a b) =
+      ⊎-elim
+      (λ (e : a .place ≡ k).
+      inr (
+        sym (a .enters) ∙ ap (targetAt s) e,
+        second (λ z. a .leading (ap (λ (x : ℕ). getD marks x 0) e ∙ z)) (subst (λ (i : ℕ). Leads s marks i v) e b),
+      ))
+      (λ (h : a .place < k). inl (several (earlier a h) b)) (leads-split a)
+  cause-split v (alone a q) =
+      ⊎-elim
+      (λ (e : a .place ≡ k). inr (sym (a .enters) ∙ ap (targetAt s) e, barely (ap (λ (x : ℕ). getD marks x 0) (sym e) ∙ q)))
+      (λ (h : a .place < k). inl (alone (earlier a h) q)) (leads-split a)
 
-  leads-more : (v : ℕ) → Leads marks targets k v → Leads marks targets (k + 1) v
-  leads-more v (j, h, a, p) = (j, omega arith, a, p)
+  wider : (v : ℕ) → Cause s marks k v → Cause s marks (k + 1) v
+  wider v c = cause-wider s marks (omega arith) c
 
-  module _ {keep₀ keep entered : List ℕ} (e : Entering marks targets k keep₀ keep entered) where
-    pub entering-follows : getD marks k 0 ≡ 0 → Entering marks targets (k + 1) keep₀ keep entered
+  module _ {keep₀ keep entered : List ℕ} (e : Entering s marks k keep₀ keep entered) where
+    pub entering-follows : getD marks k 0 ≡ 0 → Entering s marks (k + 1) keep₀ keep entered
     entering-follows z =
         record {
-          grown = grown-stay (e .grown) cause-more narrower;
+          grown = grown-stay (e .grown) wider narrower;
           entered-long = e .entered-long;
-          met = λ v h x. leads-more v (e .met v h x);
+          met = λ v h x. leads-wider s marks (omega arith) (e .met v h x);
           unmet = λ v h x. e .unmet v h (before v x);
         }
       where
-        narrower : (v : ℕ) → Cause marks targets (k + 1) v → Cause marks targets k v
-        narrower v c = ⊎-elim (λ (x : Cause marks targets k v). x) (λ (x : (v ≡ getD targets k 0) × Newly v). none (x .1)) (cause-split v c)
+        narrower : (v : ℕ) → Cause s marks (k + 1) v → Cause s marks k v
+        narrower v c = ⊎-elim (λ (x : Cause s marks k v). x) (λ (x : (v ≡ targetAt s k) × Newly v). none (x .1)) (cause-split v c)
           where
-            none : Newly v → Cause marks targets k v
+            none : Newly v → Cause s marks k v
             none (second d x) = absurd (d z)
             none (barely d) = absurd (omega (arith, z, d))
 
-        before : (v : ℕ) → Leads marks targets (k + 1) v → Leads marks targets k v
-        before v (j, h, a, p) = go (ℕ-discrete j k)
-          where
-            go : Dec (j ≡ k) → Leads marks targets k v
-            go (yes d) = absurd (a (ap (λ (x : ℕ). getD marks x 0) d ∙ z))
-            go (no d) = (j, omega arith, a, p)
+        before : (v : ℕ) → Leads s marks (k + 1) v → Leads s marks k v
+        before v a =
+            ⊎-elim (λ (d : a .place ≡ k). absurd (a .leading (ap (λ (x : ℕ). getD marks x 0) d ∙ z)))
+            (λ (h : a .place < k). earlier a h) (leads-split a)
 
-    module _ (leading : getD marks k 0 ≡ 0 → ⊥) (small : getD targets k 0 < 255) where
-      entering-with : {keep′ : List ℕ} → Grown (Cause marks targets (k + 1)) keep₀ keep′ →
-          Entering marks targets (k + 1) keep₀ keep′ (set entered (getD targets k 0) 1)
+    module _ {w : ℕ} (link : Place s w k) (leading : getD marks k 0 ≡ 0 → ⊥) (small : targetAt s k < 255) where
+      here : {l : ℕ} → k < l → Leads s marks l (targetAt s k)
+      here h = record { node = w; place = k; link = link; before = h; leading = leading; enters = refl }
+
+      entering-with : {keep′ : List ℕ} → Grown (Cause s marks (k + 1)) keep₀ keep′ →
+          Entering s marks (k + 1) keep₀ keep′ (set entered (targetAt s k) 1)
       entering-with g =
           record {
             grown = g;
@@ -127,68 +176,149 @@ module _ (marks targets : List ℕ) (k : ℕ) where
           }
         where
           u : ℕ
-          u = getD targets k 0
+          u = targetAt s k
 
-          met : (v : ℕ) → v < 255 → getD (set entered u 1) v 0 ≡ 1 → Dec (v ≡ u) → Leads marks targets (k + 1) v
-          met v h x (yes d) = (k, omega arith, leading, sym d)
-          met v h x (no d) = leads-more v (e .met v h (sym (getD-set-other entered u v 1 0 d) ∙ x))
+          met : (v : ℕ) → v < 255 → getD (set entered u 1) v 0 ≡ 1 → Dec (v ≡ u) → Leads s marks (k + 1) v
+          met v h x (yes d) = subst (λ (i : ℕ). Leads s marks (k + 1) i) (sym d) (here (omega arith))
+          met v h x (no d) = leads-wider s marks (omega arith) (e .met v h (sym (getD-set-other entered u v 1 0 d) ∙ x))
 
-          unmet : (v : ℕ) → v < 255 → Leads marks targets (k + 1) v → Dec (v ≡ u) → getD (set entered u 1) v 0 ≡ 1
+          unmet : (v : ℕ) → v < 255 → Leads s marks (k + 1) v → Dec (v ≡ u) → getD (set entered u 1) v 0 ≡ 1
           unmet v h x (yes d) =
-              ap (λ (i : ℕ). getD (set entered u 1) i 0) d ∙ getD-set-same entered u 1 0 (omega (arith, e .entered-long))
-          unmet v h (j, l, a, p) (no d) = getD-set-other entered u v 1 0 d ∙ e .unmet v h (j, go (ℕ-discrete j k), a, p)
-            where
-              go : Dec (j ≡ k) → j < k
-              go (yes q) = absurd (d (sym p ∙ ap (λ (x : ℕ). getD targets x 0) q))
-              go (no q) = omega arith
+              ap (λ (i : ℕ). getD (set entered u 1) i 0) d ∙ getD-set-same entered u 1 0 (within entered small (e .entered-long))
+          unmet v h x (no d) =
+              getD-set-other entered u v 1 0 d ∙
+              e .unmet v h
+              (⊎-elim (λ (q : x .place ≡ k). absurd (d (sym (x .enters) ∙ ap (targetAt s) q)))
+              (λ (q : x .place < k). earlier x q) (leads-split x))
 
-      split : (v : ℕ) → Cause marks targets (k + 1) v → Cause marks targets k v ⊎ (v ≡ getD targets k 0)
+      split : (v : ℕ) → Cause s marks (k + 1) v → Cause s marks k v ⊎ (v ≡ targetAt s k)
       split v c =
-          ⊎-elim (λ (x : Cause marks targets k v). inl x) (λ (x : (v ≡ getD targets k 0) × Newly v). inr (x .0)) (cause-split v c)
+          ⊎-elim (λ (x : Cause s marks k v). inl x) (λ (x : (v ≡ targetAt s k) × Newly v). inr (x .0)) (cause-split v c)
 
       pub entering-bare : getD marks k 0 ≡ 2 →
-          Entering marks targets (k + 1) keep₀ (set keep (getD targets k 0) 1) (set entered (getD targets k 0) 1)
-      entering-bare b =
-          entering-with (grown-more (e .grown) cause-more (getD targets k 0) small (alone k (omega arith) b refl) split)
+          Entering s marks (k + 1) keep₀ (set keep (targetAt s k) 1) (set entered (targetAt s k) 1)
+      unfolding here
+      entering-bare b = entering-with (grown-more (e .grown) wider (targetAt s k) small (alone (here (omega arith)) b) split)
 
-      pub entering-again : getD entered (getD targets k 0) 0 ≡ 1 →
-          Entering marks targets (k + 1) keep₀ (set keep (getD targets k 0) 1) (set entered (getD targets k 0) 1)
+      pub entering-again : getD entered (targetAt s k) 0 ≡ 1 →
+          Entering s marks (k + 1) keep₀ (set keep (targetAt s k) 1) (set entered (targetAt s k) 1)
+      unfolding here
       entering-again b =
-          let (j, l, a, p) = e .met (getD targets k 0) small b in
           entering-with
-          (grown-more (e .grown) cause-more (getD targets k 0) small (several j k l (omega arith) a leading p refl) split)
+          (grown-more (e .grown) wider (targetAt s k) small
+          (several (here (omega arith)) (e .met (targetAt s k) small b)) split)
 
-      pub entering-first : (getD marks k 0 ≡ 2 → ⊥) → (getD entered (getD targets k 0) 0 ≡ 1 → ⊥) →
-          Entering marks targets (k + 1) keep₀ keep (set entered (getD targets k 0) 1)
-      entering-first b d = entering-with (grown-stay (e .grown) cause-more narrower)
+      pub entering-first : (getD marks k 0 ≡ 2 → ⊥) → (getD entered (targetAt s k) 0 ≡ 1 → ⊥) →
+          Entering s marks (k + 1) keep₀ keep (set entered (targetAt s k) 1)
+      entering-first b d = entering-with (grown-stay (e .grown) wider narrower)
         where
-          narrower : (v : ℕ) → Cause marks targets (k + 1) v → Cause marks targets k v
+          narrower : (v : ℕ) → Cause s marks (k + 1) v → Cause s marks k v
           narrower v c =
-              ⊎-elim (λ (x : Cause marks targets k v). x) (λ (x : (v ≡ getD targets k 0) × Newly v). none (x .0) (x .1)) (cause-split v c)
+              ⊎-elim (λ (x : Cause s marks k v). x) (λ (x : (v ≡ targetAt s k) × Newly v). none (x .0) (x .1)) (cause-split v c)
             where
-              none : v ≡ getD targets k 0 → Newly v → Cause marks targets k v
-              none q (second x y) = absurd (d (e .unmet (getD targets k 0) small (subst (Leads marks targets k) q y)))
+              none : v ≡ targetAt s k → Newly v → Cause s marks k v
+              none q (second x y) = absurd (d (e .unmet (targetAt s k) small (subst (λ (i : ℕ). Leads s marks k i) q y)))
               none q (barely x) = absurd (b x)
 
-pub entering-start : {marks targets keep entered : List ℕ} → length keep ≡ 255 → length entered ≡ 255 →
-    ((v : ℕ) → v < 255 → getD entered v 0 ≡ 0) → Entering marks targets 0 keep keep entered
-entering-start {marks} {targets} long room clear =
-    record {
-      grown = grown-start long none;
-      entered-long = room;
-      met = λ v h e. absurd (omega (arith, e, clear v h));
-      unmet = λ v h x. absurd (omega (arith, x .1));
-    }
-  where
-    none : (v : ℕ) → Cause marks targets 0 v → ⊥
-    none v (several j i h l a b p q) = omega arith
-    none v (alone j h e p) = omega arith
+-- The loops over the rows.
 
-pub entering-done : {marks targets keep₀ keep entered : List ℕ} {k links : ℕ} → Entering marks targets k keep₀ keep entered → k ≤ links →
-    links ≤ k → Grown (Cause marks targets links) keep₀ keep
-entering-done {marks} {targets} {keep₀} {keep} {entered} {k} {links} e h l =
-    let z : k ≡ links = omega arith in
-    subst (λ (i : ℕ). Grown (Cause marks targets i) keep₀ keep) z (e .grown)
+-- In the row of node v, at place k: what was said where the row began is said here. It was said of some first nodes.
+pub record InRow (s marks : List ℕ) (v k : ℕ) (keep₀ entered₀ keep entered : List ℕ) : Type 0 where
+  pub ready : Ready s marks keep
+  pub entered-long : length entered ≡ 255
+  pub inside : v < size s
+  pub low : linksFrom s v ≤ k
+  pub high : k ≤ rowEnd s v
+  pub first : List ℕ
+  pub begun : Entering s marks (linksFrom s v) first keep₀ entered₀
+  pub entering : (start : List ℕ) → Entering s marks (linksFrom s v) start keep₀ entered₀ → Entering s marks k start keep entered
+
+-- what is read at a place of a row
+pub record PlaceKnown (s : List ℕ) (v k : ℕ) : Type 0 where
+  pub link : Place s v k
+  pub few : k < 2560
+  pub within : k < length s
+  pub target : targetAt s k < 255
+
+pub place-known : {s marks keep : List ℕ} {v k : ℕ} → Ready s marks keep → v < size s → linksFrom s v ≤ k → k < rowEnd s v → PlaceKnown s v k
+place-known {v = v} {k = k} r h low high =
+    record {
+      link = record { inside = h; low = low; high = high };
+      few = omega (arith, r .sound .shaped .node v h .ended, r .short);
+      within = omega (arith, r .sound .shaped .node v h .ended);
+      target = omega (arith, r .sound .targets v k h low high, r .small);
+    }
+
+-- the same, with other nodes kept
+pub ready-with : {s marks keep keep′ : List ℕ} → Ready s marks keep → length keep′ ≡ 255 → Ready s marks keep′
+ready-with r long = record { sound = r .sound; small = r .small; short = r .short; marks-long = r .marks-long; keep-long = long }
+
+module _ {s marks : List ℕ} where
+  pub entering-start : {keep entered : List ℕ} → Ready s marks keep → length entered ≡ 255 → ((v : ℕ) → v < 255 → getD entered v 0 ≡ 0) →
+      Entering s marks (rowFrom s 0) keep keep entered
+  entering-start {keep} {entered} r room clear =
+      record {
+        grown = grown-start (r .keep-long) none;
+        entered-long = room;
+        met = λ v h e. absurd (omega (arith, e, clear v h));
+        unmet = λ v h x. absurd (omega (arith, x .before, place-from (r .sound .shaped) (x .link)));
+      }
+    where
+      none : (v : ℕ) → Cause s marks (rowFrom s 0) v → ⊥
+      none v (several a b) = omega (arith, a .before, place-from (r .sound .shaped) (a .link))
+      none v (alone a e) = omega (arith, a .before, place-from (r .sound .shaped) (a .link))
+
+  -- past a header
+  pub row-entering : (v : ℕ) {keep₀ keep entered : List ℕ} → Shaped s → v < size s → Entering s marks (rowFrom s v) keep₀ keep entered →
+      Entering s marks (linksFrom s v) keep₀ keep entered
+  row-entering v shaped h e = entering-moved s marks (omega arith) (λ u j p below. no-header shaped v h p below) e
+
+  pub row-start : (v : ℕ) {keep₀ keep entered : List ℕ} → Ready s marks keep → v < size s → Entering s marks (rowFrom s v) keep₀ keep entered →
+      InRow s marks v (linksFrom s v) keep entered keep entered
+  row-start v {keep₀} r h e =
+      record {
+        ready = r;
+        entered-long = e .entered-long;
+        inside = h;
+        low = omega arith;
+        high = r .sound .shaped .node v h .begun;
+        first = keep₀;
+        begun = row-entering v (r .sound .shaped) h e;
+        entering = λ start x. x;
+      }
+
+  module _ {v k : ℕ} {keep₀ entered₀ keep entered : List ℕ} (i : InRow s marks v k keep₀ entered₀ keep entered) where
+    pub row-place : k < rowEnd s v → PlaceKnown s v k
+    row-place h = place-known (i .ready) (i .inside) (i .low) h
+
+    pub row-next : {keep′ entered′ : List ℕ} → k < rowEnd s v → Enters s marks k keep entered keep′ entered′ →
+        InRow s marks v (k + 1) keep₀ entered₀ keep′ entered′
+    row-next h e =
+        let new = e (i .first) (i .entering (i .first) (i .begun)) in
+        record {
+          ready = ready-with (i .ready) (new .grown .long);
+          entered-long = new .entered-long;
+          inside = i .inside;
+          low = omega (arith, i .low);
+          high = omega arith;
+          first = i .first;
+          begun = i .begun;
+          entering = λ start x. e start (i .entering start x);
+        }
+
+    pub row-done : {start : List ℕ} → rowEnd s v ≤ k → Entering s marks (rowFrom s v) start keep₀ entered₀ →
+        Entering s marks (rowFrom s (v + 1)) start keep entered
+    row-done {start} h e =
+        subst (λ (j : ℕ). Entering s marks j start keep entered) (ends ∙ next-row s v (v + 1) (omega arith))
+        (i .entering start (row-entering v (i .ready .sound .shaped) (i .inside) e))
+      where
+        ends : k ≡ rowEnd s v
+        ends = omega (arith, i .high)
+
+  pub entering-done : (v : ℕ) {keep₀ keep entered : List ℕ} → Entering s marks (rowFrom s v) keep₀ keep entered → v ≤ size s → size s ≤ v →
+      Grown (Cause s marks (rowsEnd s)) keep₀ keep
+  entering-done v {keep₀} {keep} e h l =
+      subst (λ (i : ℕ). Grown (Cause s marks (rowFrom s i)) keep₀ keep) (omega arith) (e .grown)
 
 -- Wanted types.
 
@@ -223,15 +353,15 @@ untop-done n t types k nodes {keep₀} {keep} g h l =
 
 -- none of the places before k
 abbrev pub NoneYet : List ℕ → List ℕ → List ℕ → ℕ → ℕ → Type 0
-NoneYet targets marks keep start k = (i : ℕ) → start ≤ i → i < k → Stays targets marks keep i → ⊥
+NoneYet s marks keep start k = (i : ℕ) → start ≤ i → i < k → Stays s marks keep i → ⊥
 
-pub none-next : {targets marks keep : List ℕ} {start k : ℕ} → NoneYet targets marks keep start k → (Stays targets marks keep k → ⊥) →
-    NoneYet targets marks keep start (k + 1)
-none-next {targets} {marks} {keep} {start} {k} none here i low high s = go (ℕ-discrete i k)
+pub none-next : {s marks keep : List ℕ} {start k : ℕ} → NoneYet s marks keep start k → (Stays s marks keep k → ⊥) →
+    NoneYet s marks keep start (k + 1)
+none-next {s} {marks} {keep} {start} {k} none here i low high stays = go (ℕ-discrete i k)
   where
     go : Dec (i ≡ k) → ⊥
-    go (yes e) = here (subst (Stays targets marks keep) e s)
-    go (no d) = none i low (omega arith) s
+    go (yes e) = here (subst (Stays s marks keep) e stays)
+    go (no d) = none i low (omega arith) stays
 
 -- An order with targets first has each node at one place.
 
@@ -256,11 +386,11 @@ unfolding from
 from-length f zero = refl
 from-length f (suc k) = ap suc (from-length (suc f) k)
 
-module _ {nodes : ℕ} {first targets order : List ℕ} {place : ℕ → ℕ} (f : TargetsFirst nodes first targets order place) where
-  one-place : (v w : ℕ) → v < nodes → w < nodes → place v ≡ place w → v ≡ w
+module _ {s order : List ℕ} {place : ℕ → ℕ} (f : TargetsFirst s order place) where
+  one-place : (v w : ℕ) → v < size s → w < size s → place v ≡ place w → v ≡ w
   one-place v w h l e = sym (f .stands v h) ∙ ap (λ (i : ℕ). getD order i 0) e ∙ f .stands w l
 
-  places-distinct : (k : ℕ) → k ≤ nodes → Distinct (placesOf place k)
+  places-distinct : (k : ℕ) → k ≤ size s → Distinct (placesOf place k)
   unfolding placesOf
   places-distinct zero h = tt
   places-distinct (suc k) h = (
@@ -282,42 +412,41 @@ module _ {nodes : ℕ} {first targets order : List ℕ} {place : ℕ → ℕ} (f
           here v h e (yes q) = d (ap place (sym q) ∙ e)
           here v h e (no q) = none v (omega arith) e
 
-  onto : (i : ℕ) → i < nodes → (v : ℕ) × (v < nodes) × (place v ≡ i)
-  onto i h = go (search i nodes)
+  onto : (i : ℕ) → i < size s → (v : ℕ) × (v < size s) × (place v ≡ i)
+  onto i h = go (search i (size s))
     where
-      go : ((v : ℕ) × (v < nodes) × (place v ≡ i)) ⊎ ((v : ℕ) → v < nodes → place v ≡ i → ⊥) → (v : ℕ) × (v < nodes) × (place v ≡ i)
+      go : ((v : ℕ) × (v < size s) × (place v ≡ i)) ⊎ ((v : ℕ) → v < size s → place v ≡ i → ⊥) → (v : ℕ) × (v < size s) × (place v ≡ i)
       go (inl x) = x
       go (inr none) =
           absurd (omega (
             arith,
-            distinct-bound (i ∷ placesOf place nodes) (from 0 nodes) (outside, places-distinct nodes (omega arith)) inside,
-            places-length place nodes,
-            from-length 0 nodes,
+            distinct-bound (i ∷ placesOf place (size s)) (from 0 (size s)) (outside, places-distinct (size s) (omega arith)) inside,
+            places-length place (size s),
+            from-length 0 (size s),
           ))
         where
-          outside : List·Memᴰ i (placesOf place nodes) → ⊥
-          outside m = let (v, l, e) = places-source place nodes i m in none v l (sym e)
+          outside : List·Memᴰ i (placesOf place (size s)) → ⊥
+          outside m = let (v, l, e) = places-source place (size s) i m in none v l (sym e)
 
-          inside : (x : ℕ) → List·Memᴰ x (i ∷ placesOf place nodes) → List·Memᴰ x (from 0 nodes)
+          inside : (x : ℕ) → List·Memᴰ x (i ∷ placesOf place (size s)) → List·Memᴰ x (from 0 (size s))
           inside x m =
-              ⊎-elim (λ (e : x ≡ i). from-member 0 nodes x (omega arith) (omega arith))
-              (λ (y : List·Memᴰ x (placesOf place nodes)).
-              let (v, l, e) = places-source place nodes x y in
-              from-member 0 nodes x (omega arith) (omega (arith, e, f .inside v l))) (List·Memᴰ·cases-cons m)
+              ⊎-elim (λ (e : x ≡ i). from-member 0 (size s) x (omega arith) (omega arith))
+              (λ (y : List·Memᴰ x (placesOf place (size s))).
+              let (v, l, e) = places-source place (size s) x y in
+              from-member 0 (size s) x (omega arith) (omega (arith, e, f .inside v l))) (List·Memᴰ·cases-cons m)
 
-pub sorted-from : {nodes : ℕ} {first targets order : List ℕ} {answer : Bool} → Sorts nodes first targets order answer →
-    ((v : ℕ) → Reaches nodes first targets v v → ⊥) → Sorted nodes first targets order
-sorted-from {nodes} {first} {targets} {order} {answer} sorts acyclic = go answer refl
+pub sorted-from : {s order : List ℕ} {answer : Bool} → Sorts s order answer → ((v : ℕ) → Reaches s v v → ⊥) → Sorted s order
+sorted-from {s} {order} {answer} sorts acyclic = go answer refl
   where
-    go : (b : Bool) → answer ≡ b → Sorted nodes first targets order
+    go : (b : Bool) → answer ≡ b → Sorted s order
     go true e = let (v, r) = sorts .looped e in absurd (acyclic v r)
     go false e = let (place, f) = sorts .sorted e in record { place = place; targets-first = f; onto = onto f }
 
 -- One pass over the nodes.
 
-module _ {nodes : ℕ} {first targets order : List ℕ} (s : Sorted nodes first targets order) {i : ℕ} (inside : i < nodes) where
+module _ {ws order : List ℕ} (s : Sorted ws order) {i : ℕ} (inside : i < size ws) where
   -- the node at place i
-  pub order-inside : getD order i 0 < nodes
+  pub order-inside : getD order i 0 < size ws
   order-inside =
       let (v, h, e) = s .onto i inside in
       omega (arith, ap (λ (x : ℕ). getD order x 0) e, s .targets-first .stands v h)
@@ -327,11 +456,11 @@ module _ {nodes : ℕ} {first targets order : List ℕ} (s : Sorted nodes first 
       let (v, h, e) = s .onto i inside in
       ap (s .place) (ap (λ (x : ℕ). getD order x 0) (sym e) ∙ s .targets-first .stands v h) ∙ e
 
-  module _ {marks keep₀ keep : List ℕ} (small : nodes ≤ 255) (g : Settled (λ v. s .place v < i) nodes first targets marks keep₀ keep) where
+  module _ {marks keep₀ keep : List ℕ} (small : size ws ≤ 255) (g : Settled (λ v. s .place v < i) ws marks keep₀ keep) where
     u : ℕ
     u = getD order i 0
 
-    other : (v : ℕ) → v < nodes → s .place v < i + 1 → (v ≡ u → ⊥) → s .place v < i
+    other : (v : ℕ) → v < size ws → s .place v < i + 1 → (v ≡ u → ⊥) → s .place v < i
     unfolding u
     other v h l d = go (ℕ-discrete (s .place v) i)
       where
@@ -340,15 +469,15 @@ module _ {nodes : ℕ} {first targets order : List ℕ} (s : Sorted nodes first 
         go (no n) = omega arith
 
     -- a link of a node that is done leads to another node
-    elsewhere : (v k : ℕ) → v < nodes → s .place v < i + 1 → getD first v 0 ≤ k → k < getD first (suc v) 0 → getD targets k 0 ≡ u → ⊥
+    elsewhere : (v k : ℕ) → v < size ws → s .place v < i + 1 → linksFrom ws v ≤ k → k < rowEnd ws v → targetAt ws k ≡ u → ⊥
     unfolding u
     elsewhere v k h l low high e =
-        let link : Linking nodes first targets v (getD order i 0) =
-        record { inside = h; place = k; from-first = low; before-next = high; target-is = e } in
+        let link : Linking ws v (getD order i 0) =
+        record { inside = h; place = k; low = low; high = high; target-is = e } in
         omega (arith, s .targets-first .earlier v (getD order i 0) link, order-place)
 
-    pub settled-no : (Onward targets marks keep (getD first (getD order i 0) 0) (getD first (suc (getD order i 0)) 0) → ⊥) →
-        Settled (λ v. s .place v < i + 1) nodes first targets marks keep₀ keep
+    pub settled-no : (Onward ws marks keep (linksFrom ws (getD order i 0)) (rowEnd ws (getD order i 0)) → ⊥) →
+        Settled (λ v. s .place v < i + 1) ws marks keep₀ keep
     unfolding u
     settled-no none =
         record {
@@ -358,14 +487,14 @@ module _ {nodes : ℕ} {first targets order : List ℕ} (s : Sorted nodes first 
           why = g .why;
         }
       where
-        found : (v : ℕ) → v < nodes → s .place v < i + 1 → Onward targets marks keep (getD first v 0) (getD first (suc v) 0) → Dec (v ≡ u) →
+        found : (v : ℕ) → v < size ws → s .place v < i + 1 → Onward ws marks keep (linksFrom ws v) (rowEnd ws v) → Dec (v ≡ u) →
             getD keep v 0 ≡ 1
         found v h l o (yes e) =
-            absurd (none (subst (λ (x : ℕ). Onward targets marks keep (getD first x 0) (getD first (suc x) 0)) e o))
+            absurd (none (subst (λ (x : ℕ). Onward ws marks keep (linksFrom ws x) (rowEnd ws x)) e o))
         found v h l o (no d) = g .found v h (other v h l d) o
 
-    pub settled-yes : Onward targets marks keep (getD first (getD order i 0) 0) (getD first (suc (getD order i 0)) 0) →
-        Settled (λ v. s .place v < i + 1) nodes first targets marks keep₀ (set keep (getD order i 0) 1)
+    pub settled-yes : Onward ws marks keep (linksFrom ws (getD order i 0)) (rowEnd ws (getD order i 0)) →
+        Settled (λ v. s .place v < i + 1) ws marks keep₀ (set keep (getD order i 0) 1)
     unfolding u
     settled-yes o =
         record {
@@ -388,10 +517,10 @@ module _ {nodes : ℕ} {first targets order : List ℕ} (s : Sorted nodes first 
             go (yes d) = ap (λ (x : ℕ). getD new x 0) d ∙ here
             go (no d) = getD-set-other keep u v 1 0 d ∙ e
 
-        along : (a b : ℕ) → Onward targets marks keep a b → Onward targets marks new a b
-        along a b (k, low, high, x) = (k, low, high, record { leads = x .leads; enters = still (getD targets k 0) (x .enters) })
+        along : (a b : ℕ) → Onward ws marks keep a b → Onward ws marks new a b
+        along a b (k, low, high, x) = (k, low, high, record { leads = x .leads; enters = still (targetAt ws k) (x .enters) })
 
-        found : (v : ℕ) → v < nodes → s .place v < i + 1 → Onward targets marks new (getD first v 0) (getD first (suc v) 0) → Dec (v ≡ u) →
+        found : (v : ℕ) → v < size ws → s .place v < i + 1 → Onward ws marks new (linksFrom ws v) (rowEnd ws v) → Dec (v ≡ u) →
             getD new v 0 ≡ 1
         found v h l x (yes e) = ap (λ (y : ℕ). getD new y 0) e ∙ here
         found v h l (k, low, high, x) (no d) =
@@ -401,59 +530,51 @@ module _ {nodes : ℕ} {first targets order : List ℕ} (s : Sorted nodes first 
               high,
               record {
                 leads = x .leads;
-                enters = sym (getD-set-other keep u (getD targets k 0) 1 0 (elsewhere v k h l low high)) ∙ x .enters;
+                enters = sym (getD-set-other keep u (targetAt ws k) 1 0 (elsewhere v k h l low high)) ∙ x .enters;
               },
             ))
 
-        why : (v : ℕ) → v < nodes → getD new v 0 ≡ 1 → Dec (v ≡ u) →
-            (getD keep₀ v 0 ≡ 1) ⊎ Onward targets marks new (getD first v 0) (getD first (suc v) 0)
+        why : (v : ℕ) → v < size ws → getD new v 0 ≡ 1 → Dec (v ≡ u) →
+            (getD keep₀ v 0 ≡ 1) ⊎ Onward ws marks new (linksFrom ws v) (rowEnd ws v)
         why v h e (yes d) =
-            inr (subst (λ (x : ℕ). Onward targets marks new (getD first x 0) (getD first (suc x) 0)) (sym d) (along _ _ o))
+            inr (subst (λ (x : ℕ). Onward ws marks new (linksFrom ws x) (rowEnd ws x)) (sym d) (along _ _ o))
         why v h e (no d) =
             ⊎-elim (λ (x : getD keep₀ v 0 ≡ 1). inl x)
-            (λ (x : Onward targets marks keep (getD first v 0) (getD first (suc v) 0)). inr (along _ _ x))
+            (λ (x : Onward ws marks keep (linksFrom ws v) (rowEnd ws v)). inr (along _ _ x))
             (g .why v h (sym (getD-set-other keep u v 1 0 d) ∙ e))
 
-    -- the same of a row that ends where the next one starts
-    pub left-yes : Onward targets marks keep (getD first (getD order i 0) 0) (getD first (getD order i 0 + 1) 0) →
-        Settled (λ v. s .place v < i + 1) nodes first targets marks keep₀ (set keep (getD order i 0) 1)
-    left-yes o = settled-yes (rw (add-one (getD order i 0)) at o)
-
-    pub left-no : (Onward targets marks keep (getD first (getD order i 0) 0) (getD first (getD order i 0 + 1) 0) → ⊥) →
-        Settled (λ v. s .place v < i + 1) nodes first targets marks keep₀ keep
-    left-no none = settled-no (rw (add-one (getD order i 0)) at none)
+-- the turn, of nodes that are equal
+pub left : {s order marks before keep₀ keep keep′ : List ℕ} (i : ℕ) → keep′ ≡ keep → i + 1 ≤ size s → Ready s marks before → (sorted : Sorted s order) →
+    Settled (λ v. sorted .place v < i + 1) s marks keep₀ keep →
+    (i + 1 ≤ size s) × Ready s marks keep′ × ((sorted : Sorted s order) × Settled (λ v. sorted .place v < i + 1) s marks keep₀ keep′)
+left {s} {order} {marks} {before} {keep₀} {keep} {keep′} i e h r sorted new = (
+  h,
+  ready-with r (ap length e ∙ new .long),
+  (sorted, subst (λ (l : List ℕ). Settled (λ v. sorted .place v < i + 1) s marks keep₀ l) (sym e) new),
+)
 
 -- what is read of a node's row
-pub record NodeKnown (first targets : List ℕ) (v : ℕ) : Type 0 where
+pub record NodeKnown (s : List ℕ) (v : ℕ) : Type 0 where
   pub small : v < 255
-  pub inside : v + 1 < length first
-  pub start : getD first v 0 ≤ 2048
-  pub few : getD first (v + 1) 0 ≤ 2048
-  pub aimed : getD first (v + 1) 0 ≤ length targets
-  pub within : (k : ℕ) → k < getD first (v + 1) 0 → getD targets k 0 < 255
+  pub node : Node s v
+  pub ended : rowEnd s v ≤ 2560
+  pub within : (k : ℕ) → linksFrom s v ≤ k → k < rowEnd s v → targetAt s k < 255
 
-pub node-known : {nodes : ℕ} {first targets : List ℕ} → Linked nodes first targets → nodes ≤ 255 → getD first nodes 0 ≤ 2048 → (v : ℕ) →
-    v < nodes → NodeKnown first targets v
-node-known {nodes} {first} {targets} linked small few v h =
+pub node-known : {s marks keep : List ℕ} → Ready s marks keep → (v : ℕ) → v < size s → NodeKnown s v
+node-known r v h =
     record {
-      small = omega arith;
-      inside = omega (arith, linked .laid .bounded);
-      start = omega (arith, linked .laid .rising v h, end);
-      few = omega (arith, ap (λ (i : ℕ). getD first i 0) (add-one v), end);
-      aimed = omega (arith, ap (λ (i : ℕ). getD first i 0) (add-one v), end, linked .laid .aimed);
-      within = λ k l. omega (arith, linked .within k (omega (arith, ap (λ (i : ℕ). getD first i 0) (add-one v), end)));
+      small = omega (arith, r .small);
+      node = r .sound .shaped .node v h;
+      ended = omega (arith, r .sound .shaped .node v h .ended, r .short);
+      within = λ k low high. place-known r h low high .target;
     }
-  where
-    end : getD first (suc v) 0 ≤ getD first nodes 0
-    end = ends (linked .laid) v h
 
-pub settled-start : {nodes : ℕ} {first targets order marks keep : List ℕ} (s : Sorted nodes first targets order) → length keep ≡ 255 →
-    Settled (λ v. s .place v < 0) nodes first targets marks keep keep
+pub settled-start : {ws order marks keep : List ℕ} (s : Sorted ws order) → length keep ≡ 255 →
+    Settled (λ v. s .place v < 0) ws marks keep keep
 settled-start s long = record { long = long; kept = λ v h e. e; found = λ v h l. absurd (omega arith); why = λ v h e. inl e }
 
-pub settled-done : {nodes : ℕ} {first targets order marks keep₀ keep : List ℕ} (s : Sorted nodes first targets order) {i : ℕ} →
-    Settled (λ v. s .place v < i) nodes first targets marks keep₀ keep → nodes ≤ i →
-    Settled (λ _. Unit {0}) nodes first targets marks keep₀ keep
+pub settled-done : {ws order marks keep₀ keep : List ℕ} (s : Sorted ws order) {i : ℕ} → Settled (λ v. s .place v < i) ws marks keep₀ keep →
+    size ws ≤ i → Settled (λ _. Unit {0}) ws marks keep₀ keep
 settled-done s g h =
     record {
       long = g .long;
@@ -463,17 +584,16 @@ settled-done s g h =
     }
 
 -- All together: just the nodes with a reason.
-pub keeps-all : (n : ℕ) (t : List ℕ) (nodes : ℕ) (first targets marks types start : List ℕ) {caused′ typed′ keep : List ℕ} → nodes ≤ 255 →
-    length start ≡ 255 → ((v : ℕ) → v < 255 → getD start v 0 ≡ 0) →
-    Grown (Cause marks targets (getD first nodes 0)) (set start 0 1) caused′ → Grown (Untop n t types nodes) caused′ typed′ →
-    Settled (λ _. Unit {0}) nodes first targets marks typed′ keep → Keeps n t nodes first targets marks types keep
-keeps-all n t nodes first targets marks types start {caused′} {typed′} {keep} small long clear a b c =
+pub keeps-all : (n : ℕ) (t s marks types start : List ℕ) {caused′ typed′ keep : List ℕ} → size s ≤ 255 → length start ≡ 255 → ((v : ℕ) → v < 255 → getD start v 0 ≡ 0) →
+    Grown (Cause s marks (rowsEnd s)) (set start 0 1) caused′ → Grown (Untop n t types (size s)) caused′ typed′ →
+    Settled (λ _. Unit {0}) s marks typed′ keep → Keeps n t s marks types keep
+keeps-all n t s marks types start {caused′} {typed′} {keep} small long clear a b c =
     record { long = c .long; why = why; found = found }
   where
     Reason : ℕ → Type 0
-    Reason v = Why n t nodes first targets marks types keep v
+    Reason v = Why n t s marks types keep v
 
-    wide : (v : ℕ) → v < nodes → v < 255
+    wide : (v : ℕ) → v < size s → v < 255
     wide v h = omega arith
 
     rooted : (v : ℕ) → v < 255 → getD (set start 0 1) v 0 ≡ 1 → v ≡ 0
@@ -483,14 +603,14 @@ keeps-all n t nodes first targets marks types start {caused′} {typed′} {keep
         go (yes d) = d
         go (no d) = absurd (omega (arith, sym (getD-set-other start 0 v 1 0 d) ∙ e, clear v h))
 
-    why : (v : ℕ) → v < nodes → getD keep v 0 ≡ 1 → Reason v
+    why : (v : ℕ) → v < size s → getD keep v 0 ≡ 1 → Reason v
     why v h e =
         ⊎-elim (λ (x : getD typed′ v 0 ≡ 1).
         ⊎-elim (λ (y : getD caused′ v 0 ≡ 1).
         ⊎-elim (λ (z : getD (set start 0 1) v 0 ≡ 1). isRoot (rooted v (wide v h) z)) caused (a .why v (wide v h) y))
-        (λ (y : Untop n t types nodes v). untop (y .1)) (b .why v (wide v h) x)) onward (c .why v h e)
+        (λ (y : Untop n t types (size s) v). untop (y .1)) (b .why v (wide v h) x)) onward (c .why v h e)
 
-    found : (v : ℕ) → v < nodes → Reason v → getD keep v 0 ≡ 1
+    found : (v : ℕ) → v < size s → Reason v → getD keep v 0 ≡ 1
     found v h (isRoot e) =
         c .kept v (wide v h) (b .kept v (wide v h) (a .kept v (wide v h)
         (ap (λ (i : ℕ). getD (set start 0 1) i 0) e ∙ getD-set-same start 0 1 0 (omega arith))))

@@ -1,4 +1,4 @@
--- Lemmas that several proofs share.
+-- Laws of the difference.
 pub mod Wanting
 pub mod Keeping
 pub mod Thinning

@@ -1,310 +1,329 @@
--- Rows with the kept links alone: adding one link or passing it over, one row after another, and the arrays that come of it.
+-- Rows with the kept links alone: adding one link or passing it over, one row after another, and the graph that comes of it.
 use mathlib.Core.Path.{_≡_, refl, sym, _∙_, ap, subst}
 use mathlib.Core.List.{List}
-use Prim.Native.Nat.{ℕ, zero, suc, _+_, _-_, _≤_, _<_}
-use native.Mathlib.Decide.{ℕ-discrete, decLt}
-use native.Mathlib.Numerals.{add-one}
+use Prim.Native.Nat.{ℕ, _+_, _/_, _%_, _≤_, _<_}
+use native.Mathlib.Decide.{ℕ-discrete}
 use native.Mathlib.Omega.{arith}
 use lib.ListN.{length, getD, set, length-set}
 use lib.Seq.{getD-set-same, getD-set-other}
-use Rattle.subsume.specs.Following.{Span}
-use Rattle.visits.specs.Arrays.{Sound}
-use Rattle.visits.proofs.Colours.{ends}
-use Rattle.difference.specs.Keeping.{Stays}
-use Rattle.difference.specs.Thinning.{Copied, Thinned, Rows}
+use Rattle.layout.specs.Layout.{header, scale, size, rowFrom, linksFrom, rowEnd, labelAt, labelFrom, featureAt, Sound, Place}
+use Rattle.layout.specs.Builder.{Open}
+use Rattle.layout.proofs.Builder.{built-begin, built-kept, row-closes, built-node}
+use Rattle.layout.proofs.Order.{next-row, place-rises}
+use Rattle.difference.specs.Keeping.{Stays, Ready}
+use Rattle.difference.specs.Thinning.{Thinned, Rows, Kept}
+
+-- the feature and the target of a word that is copied
+pub copied-feature : {w x : ℕ} → w ≡ x → w / scale ≡ x / scale
+copied-feature e = ap (λ (w : ℕ). w / scale) e
+
+pub copied-target : {w x : ℕ} → w ≡ x → w % scale ≡ x % scale
+copied-target e = ap (λ (w : ℕ). w % scale) e
+
+rises : {a b x y : ℕ} → x ≡ a → y ≡ b → a < b → x < y
+rises p q h = omega arith
 
 -- One row.
 
-module _ {fs₀ ts₀ marks keep : List ℕ} {start : ℕ} where
-  pub thin-start : {fs ts : List ℕ} {count : ℕ} → length fs ≡ 2048 → length ts ≡ 2048 → count ≤ start →
-      Thinned fs₀ ts₀ marks keep start start fs ts count fs ts count
-  thin-start a b h =
+-- at place k of v's row
+pub record Thinning (s marks keep : List ℕ) (v k : ℕ) (ws₀ : List ℕ) (start : ℕ) (ws : List ℕ) (end : ℕ) : Type 0 where
+  pub ready : Ready s marks keep
+  pub inside : v < size s
+  pub low : linksFrom s v ≤ k
+  pub high : k ≤ rowEnd s v
+  pub thinned : Thinned s marks keep v k ws₀ start ws end
+
+module _ {s marks keep : List ℕ} {v : ℕ} where
+  pub thin-start : {ws : List ℕ} {start : ℕ} → Ready s marks keep → v < size s → length ws ≡ 2560 → start ≤ linksFrom s v →
+      Thinning s marks keep v (linksFrom s v) ws start ws start
+  thin-start r h long low =
       record {
-        fs-long = a;
-        ts-long = b;
-        rises = omega arith;
-        short = h;
-        fs-kept = λ i l. refl;
-        ts-kept = λ i l. refl;
-        source = λ i low high. absurd (omega arith);
-        all = λ k low high. absurd (omega arith);
-        ascending = λ i low high. absurd (omega arith);
+        ready = r;
+        inside = h;
+        low = omega arith;
+        high = r .sound .shaped .node v h .begun;
+        thinned =
+            record {
+              long = long;
+              same = λ i _ l. refl;
+              rises = omega arith;
+              short = low;
+              source = λ i a b. absurd (omega arith);
+              all = λ j p b. absurd (omega (arith, p .low));
+              ascending = λ i a b. absurd (omega arith);
+            };
       }
 
-  module _ {k : ℕ} {fs ts fs′ ts′ : List ℕ} {count links : ℕ} (t : Thinned fs₀ ts₀ marks keep start k fs ts count fs′ ts′ links) where
-    pub thin-stay : (Stays ts₀ marks keep k → ⊥) → Thinned fs₀ ts₀ marks keep start (k + 1) fs ts count fs′ ts′ links
+  module _ {k : ℕ} {ws₀ : List ℕ} {start : ℕ} {ws : List ℕ} {end : ℕ} (t : Thinning s marks keep v k ws₀ start ws end) (more : k < rowEnd s v) where
+    here : Place s v k
+    here = record { inside = t .inside; low = t .low; high = more }
+
+    step : {ws′ : List ℕ} {end′ : ℕ} → Thinned s marks keep v (k + 1) ws₀ start ws′ end′ → Thinning s marks keep v (k + 1) ws₀ start ws′ end′
+    step new = record { ready = t .ready; inside = t .inside; low = omega (arith, t .low); high = omega arith; thinned = new }
+
+    pub thin-room : end < 2560
+    thin-room =
+        omega (arith, t .thinned .short, t .ready .sound .shaped .node v (t .inside) .ended, t .ready .short)
+
+    pub thin-stay : (Stays s marks keep k → ⊥) → Thinning s marks keep v (k + 1) ws₀ start ws end
     thin-stay none =
-        record {
-          fs-long = t .fs-long;
-          ts-long = t .ts-long;
-          rises = t .rises;
-          short = omega (arith, t .short);
-          fs-kept = t .fs-kept;
-          ts-kept = t .ts-kept;
-          source = λ i low high. let (j, a, b, s, c) = t .source i low high in (j, a, omega arith, s, c);
-          all = λ j low high s. all j low high s (ℕ-discrete j k);
-          ascending = t .ascending;
-        }
+        step
+        (record {
+          long = t .thinned .long;
+          same = t .thinned .same;
+          rises = t .thinned .rises;
+          short = omega (arith, t .thinned .short);
+          source = λ i a b. let (j, p, l, x, c) = t .thinned .source i a b in (j, p, omega arith, x, c);
+          all = λ j p l x. all j p l x (ℕ-discrete j k);
+          ascending = t .thinned .ascending;
+        })
       where
-        all : (j : ℕ) → start ≤ j → j < k + 1 → Stays ts₀ marks keep j → Dec (j ≡ k) →
-            (i : ℕ) × (count ≤ i) × (i < links) × Copied fs₀ ts₀ fs′ ts′ j i
-        all j low high s (yes e) = absurd (none (subst (Stays ts₀ marks keep) e s))
-        all j low high s (no d) = t .all j low (omega arith) s
+        all : (j : ℕ) → Place s v j → j < k + 1 → Stays s marks keep j → Dec (j ≡ k) →
+            (i : ℕ) × (start ≤ i) × (i < end) × (getD ws i 0 ≡ getD s j 0)
+        all j p l x (yes e) = absurd (none (subst (Stays s marks keep) e x))
+        all j p l x (no d) = t .thinned .all j p (omega arith) x
 
-    module _ {end : ℕ} (span : Span fs₀ ts₀ start end) (begun : start ≤ k) (inside : k < end) (few : end ≤ 2048) where
-      rises : (n i j : ℕ) → j ≡ i + suc n → start ≤ i → j < end → getD fs₀ i 0 < getD fs₀ j 0
-      rises zero i j e low high =
-          let z : j ≡ suc i = omega arith in
-          omega (arith, ap (λ (x : ℕ). getD fs₀ x 0) z, span .ascending i low (omega arith))
-      rises (suc n) i j e low high =
-          omega (arith, span .ascending i low (omega arith), rises n (suc i) j (omega arith) (omega arith) high)
+    pub thin-more : Stays s marks keep k → Thinning s marks keep v (k + 1) ws₀ start (set ws end (getD s k 0)) (end + 1)
+    thin-more stays =
+        step
+        (record {
+          long = length-set ws end w ∙ t .thinned .long;
+          same = λ i a b. old i (omega (arith, t .thinned .rises)) ∙ t .thinned .same i a b;
+          rises = omega (arith, t .thinned .rises);
+          short = omega (arith, t .thinned .short);
+          source = λ i a b. source i a b (ℕ-discrete i end);
+          all = λ j p l x. all j p l x (ℕ-discrete j k);
+          ascending = λ i a b. ascending i a b (ℕ-discrete (i + 1) end);
+        })
+      where
+        w : ℕ
+        w = getD s k 0
 
-      pub thin-more : Stays ts₀ marks keep k →
-          Thinned fs₀ ts₀ marks keep start (k + 1) fs ts count (set fs′ links (getD fs₀ k 0)) (set ts′ links (getD ts₀ k 0)) (links + 1)
-      thin-more stays =
-          record {
-            fs-long = length-set fs′ links (getD fs₀ k 0) ∙ t .fs-long;
-            ts-long = length-set ts′ links (getD ts₀ k 0) ∙ t .ts-long;
-            rises = omega (arith, t .rises);
-            short = omega (arith, t .short);
-            fs-kept = λ i l. fs-old i (omega (arith, t .rises)) ∙ t .fs-kept i l;
-            ts-kept = λ i l. ts-old i (omega (arith, t .rises)) ∙ t .ts-kept i l;
-            source = λ i low high. source i low high (ℕ-discrete i links);
-            all = λ j low high s. all j low high s (ℕ-discrete j k);
-            ascending = λ i low high. ascending i low high (ℕ-discrete (suc i) links);
-          }
-        where
-          f : ℕ
-          f = getD fs₀ k 0
+        new : List ℕ
+        new = set ws end w
 
-          w : ℕ
-          w = getD ts₀ k 0
+        old : (i : ℕ) → i < end → getD new i 0 ≡ getD ws i 0
+        old i h = getD-set-other ws end i w 0 (λ e. omega arith)
 
-          fs-old : (i : ℕ) → i < links → getD (set fs′ links f) i 0 ≡ getD fs′ i 0
-          fs-old i h = getD-set-other fs′ links i f 0 (λ e. omega arith)
+        last : getD new end 0 ≡ w
+        last = getD-set-same ws end w 0 (omega (arith, t .thinned .long, thin-room))
 
-          ts-old : (i : ℕ) → i < links → getD (set ts′ links w) i 0 ≡ getD ts′ i 0
-          ts-old i h = getD-set-other ts′ links i w 0 (λ e. omega arith)
+        source : (i : ℕ) → start ≤ i → i < end + 1 → Dec (i ≡ end) →
+            (j : ℕ) × Place s v j × (j < k + 1) × Stays s marks keep j × (getD new i 0 ≡ getD s j 0)
+        source i a b (yes e) = (k, here, omega arith, stays, ap (λ (x : ℕ). getD new x 0) e ∙ last)
+        source i a b (no d) =
+            let (j, p, l, x, c) = t .thinned .source i a (omega arith) in
+            (j, p, omega arith, x, old i (omega arith) ∙ c)
 
-          fs-here : getD (set fs′ links f) links 0 ≡ f
-          fs-here = getD-set-same fs′ links f 0 (omega (arith, t .fs-long, t .short))
+        all : (j : ℕ) → Place s v j → j < k + 1 → Stays s marks keep j → Dec (j ≡ k) →
+            (i : ℕ) × (start ≤ i) × (i < end + 1) × (getD new i 0 ≡ getD s j 0)
+        all j p l x (yes e) = (end, t .thinned .rises, omega arith, last ∙ ap (λ (i : ℕ). getD s i 0) (sym e))
+        all j p l x (no d) =
+            let (i, a, b, c) = t .thinned .all j p (omega arith) x in
+            (i, a, omega arith, old i b ∙ c)
 
-          here : Copied fs₀ ts₀ (set fs′ links f) (set ts′ links w) k links
-          here = record { feature = fs-here; target = getD-set-same ts′ links w 0 (omega (arith, t .ts-long, t .short)) }
+        ascending : (i : ℕ) → start ≤ i → i + 1 < end + 1 → Dec (i + 1 ≡ end) → featureAt new i < featureAt new (i + 1)
+        ascending i a b (yes e) =
+            let (j, p, l, x, c) = t .thinned .source i a (omega arith) in
+            rises
+            (copied-feature (old i (omega arith) ∙ c))
+            (copied-feature (ap (λ (x : ℕ). getD new x 0) e ∙ last))
+            (place-rises (t .ready .sound .shaped) p here l)
+        ascending i a b (no d) =
+            rises (copied-feature (old i (omega arith))) (copied-feature (old (i + 1) (omega arith)))
+            (t .thinned .ascending i a (omega arith))
 
-          old : (j i : ℕ) → i < links → Copied fs₀ ts₀ fs′ ts′ j i → Copied fs₀ ts₀ (set fs′ links f) (set ts′ links w) j i
-          old j i h c = record { feature = fs-old i h ∙ c .feature; target = ts-old i h ∙ c .target }
+  -- the same, of words that are equal
+  pub thin-as : {k : ℕ} {ws₀ ws ws′ : List ℕ} {start end end′ : ℕ} → ws′ ≡ ws → end′ ≡ end → Thinning s marks keep v k ws₀ start ws end →
+      Thinning s marks keep v k ws₀ start ws′ end′
+  thin-as p e t = rw (p, e) t
 
-          source : (i : ℕ) → count ≤ i → i < links + 1 → Dec (i ≡ links) →
-              (j : ℕ) × (start ≤ j) × (j < k + 1) × Stays ts₀ marks keep j × Copied fs₀ ts₀ (set fs′ links f) (set ts′ links w) j i
-          source i low high (yes e) = (k, begun, omega arith, stays, subst (Copied fs₀ ts₀ (set fs′ links f) (set ts′ links w) k) (sym e) here)
-          source i low high (no d) =
-              let (j, a, b, s, c) = t .source i low (omega arith) in
-              (j, a, omega arith, s, old j i (omega arith) c)
-
-          all : (j : ℕ) → start ≤ j → j < k + 1 → Stays ts₀ marks keep j → Dec (j ≡ k) →
-              (i : ℕ) × (count ≤ i) × (i < links + 1) × Copied fs₀ ts₀ (set fs′ links f) (set ts′ links w) j i
-          all j low high s (yes e) =
-              (links, t .rises, omega arith, subst (λ (x : ℕ). Copied fs₀ ts₀ (set fs′ links f) (set ts′ links w) x links) (sym e) here)
-          all j low high s (no d) =
-              let (i, a, b, c) = t .all j low (omega arith) s in
-              (i, a, omega arith, old j i b c)
-
-          ascending : (i : ℕ) → count ≤ i → suc i < links + 1 → Dec (suc i ≡ links) →
-              getD (set fs′ links f) i 0 < getD (set fs′ links f) (suc i) 0
-          ascending i low high (yes e) =
-              let (j, a, b, s, c) = t .source i low (omega arith) in
-              omega (
-                arith,
-                fs-old i (omega arith),
-                c .feature,
-                ap (λ (x : ℕ). getD (set fs′ links f) x 0) e,
-                fs-here,
-                rises (k - suc j) j k (omega arith) a inside,
-              )
-          ascending i low high (no d) =
-              omega (arith, fs-old i (omega arith), fs-old (suc i) (omega arith), t .ascending i low (omega arith))
-
--- the same, of arrays that are equal
-pub thin-as : {fs₀ ts₀ marks keep : List ℕ} {start k : ℕ} {fs ts fs′ ts′ fs″ ts″ : List ℕ} {count links links″ : ℕ} → fs″ ≡ fs′ → ts″ ≡ ts′ →
-    links″ ≡ links → Thinned fs₀ ts₀ marks keep start k fs ts count fs′ ts′ links →
-    Thinned fs₀ ts₀ marks keep start k fs ts count fs″ ts″ links″
-thin-as p q e t = rw (p, q, e) t
-
-pub thin-done : {fs₀ ts₀ marks keep : List ℕ} {start k end : ℕ} {fs ts fs′ ts′ : List ℕ} {count links : ℕ} →
-    Thinned fs₀ ts₀ marks keep start k fs ts count fs′ ts′ links → k ≤ end → end ≤ k →
-    Thinned fs₀ ts₀ marks keep start end fs ts count fs′ ts′ links
-thin-done {fs₀} {ts₀} {marks} {keep} {start} {k} {end} {fs} {ts} {fs′} {ts′} {count} {links} t h l =
-    let e : k ≡ end = omega arith in
-    subst (λ (x : ℕ). Thinned fs₀ ts₀ marks keep start x fs ts count fs′ ts′ links) e t
+  pub thin-done : {k : ℕ} {ws₀ ws : List ℕ} {start end : ℕ} → Thinning s marks keep v k ws₀ start ws end → rowEnd s v ≤ k →
+      Thinned s marks keep v (rowEnd s v) ws₀ start ws end
+  thin-done {k} {ws₀} {ws} {start} {end} t l =
+      subst (λ (x : ℕ). Thinned s marks keep v x ws₀ start ws end) (omega (arith, t .high)) (t .thinned)
 
 -- All rows.
 
-module _ {nodes : ℕ} {types first features targets : List ℕ} (sound : Sound nodes types first features targets) where
-  -- what is read of row v
-  pub row-span : nodes ≤ 255 → (v : ℕ) → v < nodes → Span features targets (getD first v 0) (getD first (v + 1) 0)
-  row-span small v h =
-      rw (add-one v)
-      (record {
-        rising = sound .shaped .laid .rising v h;
-        featured = omega (arith, last, sound .shaped .featured);
-        aimed = omega (arith, last, sound .shaped .laid .aimed);
-        ascending = λ k a b. sound .shaped .ascending v k h a b;
-        within = λ k a b. omega (arith, sound .within k (omega (arith, last)));
-      })
-    where
-      last : getD first (suc v) 0 ≤ getD first nodes 0
-      last = ends (sound .shaped .laid) v h
+-- what the code asks at the next row
+pub record RowKnown (s : List ℕ) (v at : ℕ) : Type 0 where
+  pub small : v < 255
+  pub room : at < 2560
+  pub before : at + header ≤ linksFrom s v
+  pub ended : rowEnd s v ≤ 2560
 
-  pub row-end : (v : ℕ) → v < nodes → getD first (v + 1) 0 ≤ getD first nodes 0
-  row-end v h = rw (add-one v) (ends (sound .shaped .laid) v h)
-
-module _ {nodes : ℕ} {types first features targets : List ℕ} (sound : Sound nodes types first features targets) {marks keep : List ℕ} where
-  pub rows-start : (first′ : List ℕ) {fs ts : List ℕ} → length first′ ≡ 256 → length fs ≡ 2048 → length ts ≡ 2048 →
-      Rows features targets marks keep first 0 (set first′ 0 0) fs ts 0
-  rows-start first′ a b c =
+module _ {s marks keep types : List ℕ} where
+  pub rows-start : (ws : List ℕ) → Ready s marks keep → length ws ≡ 2560 →
+      Rows s marks keep types 0 (set (set ws 0 (size s)) 1 (rowFrom s 0)) (rowFrom s 0)
+  rows-start ws r long =
       record {
-        first-long = length-set first′ 0 0 ∙ a;
-        fs-long = b;
-        ts-long = c;
-        start = getD-set-same first′ 0 0 0 (omega arith);
-        end = getD-set-same first′ 0 0 0 (omega arith);
+        long = length-set (set ws 0 (size s)) 1 (rowFrom s 0) ∙ first-long;
+        sized = getD-set-other (set ws 0 (size s)) 1 0 (rowFrom s 0) 0 (λ e. omega arith) ∙ getD-set-same ws 0 (size s) 0 (omega arith);
+        built = built-begin (set ws 0 (size s)) (rowFrom s 0) (omega (arith, r .sound .shaped .behind)) (omega (arith, first-long, room));
         short = omega arith;
-        rising = λ u h. absurd (omega arith);
-        bounded = λ u h. absurd (omega arith);
-        source = λ i h. absurd (omega arith);
+        labels = λ u h. absurd (omega arith);
         each = λ u i h. absurd (omega arith);
-        all = λ u k h. absurd (omega arith);
+        all = λ u j h. absurd (omega arith);
         ascending = λ u i h. absurd (omega arith);
       }
+    where
+      first-long : length (set ws 0 (size s)) ≡ 2560
+      first-long = length-set ws 0 (size s) ∙ long
 
-  rows-suc : {v : ℕ} {first′ fs ts fs′ ts′ : List ℕ} {links more : ℕ} → v < nodes → nodes ≤ 255 →
-      Rows features targets marks keep first v first′ fs ts links →
-      Thinned features targets marks keep (getD first v 0) (getD first (suc v) 0) fs ts links fs′ ts′ more →
-      Rows features targets marks keep first (suc v) (set first′ (suc v) more) fs′ ts′ more
-  rows-suc {v} {first′} {fs} {ts} {fs′} {ts′} {links} {more} h small r t =
+      room : rowFrom s 0 ≤ 2560
+      room =
+          let node = r .sound .shaped .node 0 (r .sound .shaped .nonempty) in
+          omega (arith, node .begun, node .ended, r .short)
+
+  module _ {v at : ℕ} {ws : List ℕ} (ready : Ready s marks keep) (inside : v < size s) (r : Rows s marks keep types v ws at) where
+    pub row-known : RowKnown s v at
+    row-known =
+        let node = ready .sound .shaped .node v inside in
+        record {
+          small = omega (arith, ready .small);
+          room = omega (arith, r .short, node .begun, node .ended, ready .short);
+          before = omega (arith, r .short);
+          ended = omega (arith, node .ended, ready .short);
+        }
+
+    module _ {end : ℕ} {ws′ : List ℕ} (t : Thinned s marks keep v (rowEnd s v) (set ws at (getD types v 0)) (at + header) ws′ end) where
+      new : List ℕ
+      new = set ws′ (v + 2) end
+
+      listed : v + 2 < rowFrom s 0
+      listed = omega (arith, ready .sound .shaped .behind)
+
+      -- nothing before the row has moved
+      kept : (i : ℕ) → i < at → getD ws′ i 0 ≡ getD ws i 0
+      kept i h =
+          t .same i (omega arith) (omega arith) ∙ getD-set-other ws at i (getD types v 0) 0 (λ e. omega arith)
+
+      other : (i : ℕ) → (i ≡ v + 2 → ⊥) → getD new i 0 ≡ getD ws′ i 0
+      unfolding new
+      other i d = getD-set-other ws′ (v + 2) i end 0 d
+
+      still : (i : ℕ) → i < at → (i ≡ v + 2 → ⊥) → getD new i 0 ≡ getD ws i 0
+      still i h d = other i d ∙ kept i h
+
+      starts : (u : ℕ) → u < v + 1 → rowFrom new u ≡ rowFrom ws u
+      starts u h = still (u + 1) (omega (arith, listed, r .built .low)) (λ e. omega arith)
+
+      ends : (u : ℕ) → u < v → rowEnd new u ≡ rowEnd ws u
+      ends u h = still (u + 2) (omega (arith, listed, r .built .low)) (λ e. omega arith)
+
+      begins : rowFrom new v ≡ at
+      begins = starts v (omega arith) ∙ r .built .next
+
+      last : rowEnd new v ≡ end
+      unfolding new
+      last = getD-set-same ws′ (v + 2) end 0 (omega (arith, t .long, listed, r .built .low, row-known .room))
+
+      place-kept : (u i : ℕ) → u < v → rowFrom ws u ≤ i → i < rowEnd ws u → getD new i 0 ≡ getD ws i 0
+      place-kept u i h low high =
+          still i (omega (arith, r .built .ended u h)) (λ e. omega (arith, listed, r .built .lower u h))
+
+      place-new : (i : ℕ) → at ≤ i → getD new i 0 ≡ getD ws′ i 0
+      place-new i h = other i (λ e. omega (arith, listed, r .built .low))
+
+      opened : Open ws′ (rowFrom s 0) v at end
+      opened =
+          record {
+            built = built-kept (r .built) ws′ (t .long ∙ sym (r .long)) (λ i low high. kept i (omega (arith, listed, r .built .low)));
+            headed = t .rises;
+            inside = omega (arith, t .long, t .short, row-known .ended);
+          }
+
+      pub rows-next : Rows s marks keep types (v + 1) (set ws′ (v + 2) end) end
+      unfolding new
+      rows-next =
+          record {
+            long = length-set ws′ (v + 2) end ∙ t .long;
+            sized = still 0 (omega (arith, listed, r .built .low)) (λ e. omega arith) ∙ r .sized;
+            built = row-closes opened listed;
+            short = omega (arith, t .short, next-row s v (v + 1) (omega arith));
+            labels = λ u h. labels u h (ℕ-discrete u v);
+            each = λ u i h low high. each u i h low high (ℕ-discrete u v);
+            all = λ u j h p x. all u j h p x (ℕ-discrete u v);
+            ascending = λ u i h low high. ascending u i h low high (ℕ-discrete u v);
+          }
+        where
+          labels : (u : ℕ) → u < v + 1 → Dec (u ≡ v) → labelAt new u ≡ getD types u 0
+          labels u h (yes e) =
+              ap (labelAt new) e ∙ ap (labelFrom new) begins ∙ place-new at (omega arith) ∙ t .same at (omega arith) (omega arith) ∙
+              getD-set-same ws at (getD types v 0) 0 (omega (arith, r .long, row-known .room)) ∙ ap (λ (x : ℕ). getD types x 0) (sym e)
+          labels u h (no d) =
+              let l : u < v = omega arith in
+              ap (labelFrom new) (starts u h) ∙
+              place-kept u (rowFrom ws u) l (omega arith) (omega (arith, r .built .begun u l)) ∙ r .labels u l
+
+          each : (u i : ℕ) → u < v + 1 → linksFrom new u ≤ i → i < rowEnd new u → Dec (u ≡ v) →
+              (j : ℕ) × Place s u j × Stays s marks keep j × (getD new i 0 ≡ getD s j 0)
+          each u i h low high (yes e) =
+              let a : rowFrom new u ≡ at = ap (rowFrom new) e ∙ begins in
+              let b : rowEnd new u ≡ end = ap (rowEnd new) e ∙ last in
+              let (j, p, l, x, c) = t .source i (omega (arith, a)) (omega (arith, b)) in
+              (j, subst (λ (y : ℕ). Place s y j) (sym e) p, x, place-new i (omega (arith, a)) ∙ c)
+          each u i h low high (no d) =
+              let l : u < v = omega arith in
+              let a = starts u h in
+              let b = ends u l in
+              let (j, p, x, c) = r .each u i l (omega (arith, a)) (omega (arith, b)) in
+              (j, p, x, place-kept u i l (omega (arith, a)) (omega (arith, b)) ∙ c)
+
+          all : (u j : ℕ) → u < v + 1 → Place s u j → Stays s marks keep j → Dec (u ≡ v) →
+              (i : ℕ) × (linksFrom new u ≤ i) × (i < rowEnd new u) × (getD new i 0 ≡ getD s j 0)
+          all u j h p x (yes e) =
+              let a : rowFrom new u ≡ at = ap (rowFrom new) e ∙ begins in
+              let b : rowEnd new u ≡ end = ap (rowEnd new) e ∙ last in
+              let q : Place s v j = subst (λ (y : ℕ). Place s y j) e p in
+              let (i, low, high, c) = t .all j q (q .high) x in
+              (i, omega (arith, a), omega (arith, b), place-new i (omega arith) ∙ c)
+          all u j h p x (no d) =
+              let l : u < v = omega arith in
+              let a = starts u h in
+              let b = ends u l in
+              let (i, low, high, c) = r .all u j l p x in
+              (i, omega (arith, a), omega (arith, b), place-kept u i l (omega arith) high ∙ c)
+
+          ascending : (u i : ℕ) → u < v + 1 → linksFrom new u ≤ i → i + 1 < rowEnd new u → Dec (u ≡ v) → featureAt new i < featureAt new (i + 1)
+          ascending u i h low high (yes e) =
+              let a : rowFrom new u ≡ at = ap (rowFrom new) e ∙ begins in
+              let b : rowEnd new u ≡ end = ap (rowEnd new) e ∙ last in
+              rises (copied-feature (place-new i (omega (arith, a))))
+              (copied-feature (place-new (i + 1) (omega (arith, a))))
+              (t .ascending i (omega (arith, a)) (omega (arith, b)))
+          ascending u i h low high (no d) =
+              let l : u < v = omega arith in
+              let a = starts u h in
+              let b = ends u l in
+              rises (copied-feature (place-kept u i l (omega (arith, a)) (omega (arith, b))))
+              (copied-feature (place-kept u (i + 1) l (omega (arith, a)) (omega (arith, b))))
+              (r .ascending u i l (omega (arith, a)) (omega (arith, b)))
+
+  pub rows-done : {v at : ℕ} {ws : List ℕ} → Rows s marks keep types v ws at → v ≤ size s → size s ≤ v → Kept s marks keep types ws
+  rows-done {v} {at} {ws} r h l = (at, subst (λ (x : ℕ). Rows s marks keep types x ws at) (omega arith) r)
+
+  -- The words hold a graph.
+  pub rows-sound : {ws : List ℕ} → Ready s marks keep → ((v : ℕ) → v < size s → getD types v 0 < 256) → Kept s marks keep types ws → Sound ws
+  rows-sound {ws} ready low (at, r) =
       record {
-        first-long = length-set first′ (suc v) more ∙ r .first-long;
-        fs-long = t .fs-long;
-        ts-long = t .ts-long;
-        start = was 0 (omega arith) ∙ r .start;
-        end = here;
-        short = t .short;
-        rising = λ u l. rising u l (ℕ-discrete u v);
-        bounded = λ u l. bounded u l (ℕ-discrete u v);
-        source = λ i l. source i l (decLt i links);
-        each = λ u i l low high. each u i l low high (ℕ-discrete u v);
-        all = λ u k l low high s. all u k l low high s (ℕ-discrete u v);
-        ascending = λ u i l low high. ascending u i l low high (ℕ-discrete u v);
+        shaped =
+            record {
+              nonempty = omega (arith, r .sized, ready .sound .shaped .nonempty);
+              few = omega (arith, r .sized, ready .small);
+              behind = omega (arith, r .sized, ready .sound .shaped .behind, r .built .lower 0 (ready .sound .shaped .nonempty));
+              node = built-node (r .built) (r .sized);
+              labelled = λ v h. subst (λ (x : ℕ). x < 256) (sym (r .labels v (in-s h))) (low v (in-s h));
+              known = λ v i h a b.
+                  let (j, p, x, c) = r .each v i (in-s h) a b in
+                  subst (λ (f : ℕ). f < 64) (sym (copied-feature c))
+                  (ready .sound .shaped .known v j (p .inside) (p .low) (p .high));
+              ascending = λ v i h a b. r .ascending v i (in-s h) a b;
+            };
+        targets = λ v i h a b.
+            let (j, p, x, c) = r .each v i (in-s h) a b in
+            rises (copied-target c) (r .sized) (ready .sound .targets v j (p .inside) (p .low) (p .high));
       }
     where
-      new : List ℕ
-      new = set first′ (suc v) more
-
-      was : (u : ℕ) → u ≤ v → getD new u 0 ≡ getD first′ u 0
-      was u l = getD-set-other first′ (suc v) u more 0 (λ e. omega arith)
-
-      here : getD new (suc v) 0 ≡ more
-      here = getD-set-same first′ (suc v) more 0 (omega (arith, r .first-long))
-
-      next : (u : ℕ) → u ≡ v → getD new (suc u) 0 ≡ more
-      next u e = ap (λ (x : ℕ). getD new (suc x) 0) e ∙ here
-
-      from-here : (u : ℕ) → u ≡ v → getD new u 0 ≡ links
-      from-here u e = ap (λ (x : ℕ). getD new x 0) e ∙ was v (omega arith) ∙ r .end
-
-      copied : (k i : ℕ) → i < links → Copied features targets fs ts k i → Copied features targets fs′ ts′ k i
-      copied k i l c = record { feature = t .fs-kept i l ∙ c .feature; target = t .ts-kept i l ∙ c .target }
-
-      rising : (u : ℕ) → u < suc v → Dec (u ≡ v) → getD new u 0 ≤ getD new (suc u) 0
-      rising u l (yes e) = omega (arith, from-here u e, next u e, t .rises)
-      rising u l (no d) = omega (arith, was u (omega arith), was (suc u) (omega arith), r .rising u (omega arith))
-
-      bounded : (u : ℕ) → u < suc v → Dec (u ≡ v) → getD new (suc u) 0 ≤ more
-      bounded u l (yes e) = omega (arith, next u e)
-      bounded u l (no d) = omega (arith, was (suc u) (omega arith), r .bounded u (omega arith), t .rises)
-
-      source : (i : ℕ) → i < more → Dec (i < links) → (k : ℕ) × (k < getD first (suc v) 0) × Copied features targets fs′ ts′ k i
-      source i l (yes x) =
-          let (k, b, c) = r .source i x in
-          (k, omega (arith, sound .shaped .laid .rising v h), copied k i x c)
-      source i l (no x) = let (k, a, b, s, c) = t .source i (omega arith) l in (k, b, c)
-
-      each : (u i : ℕ) → u < suc v → getD new u 0 ≤ i → i < getD new (suc u) 0 → Dec (u ≡ v) →
-          (k : ℕ) × (getD first u 0 ≤ k) × (k < getD first (suc u) 0) × Stays targets marks keep k × Copied features targets fs′ ts′ k i
-      each u i l low high (yes e) =
-          let (k, a, b, s, c) = t .source i (omega (arith, from-here u e)) (omega (arith, next u e)) in (
-            k,
-            omega (arith, ap (λ (x : ℕ). getD first x 0) e),
-            omega (arith, ap (λ (x : ℕ). getD first (suc x) 0) e),
-            s,
-            c,
-          )
-      each u i l low high (no d) =
-          let (k, a, b, s, c) = r .each u i (omega arith) (omega (arith, was u (omega arith))) (omega (arith, was (suc u) (omega arith))) in
-          (k, a, b, s, copied k i (omega (arith, was (suc u) (omega arith), r .bounded u (omega arith))) c)
-
-      all : (u k : ℕ) → u < suc v → getD first u 0 ≤ k → k < getD first (suc u) 0 → Stays targets marks keep k → Dec (u ≡ v) →
-          (i : ℕ) × (getD new u 0 ≤ i) × (i < getD new (suc u) 0) × Copied features targets fs′ ts′ k i
-      all u k l low high s (yes e) =
-          let (i, a, b, c) =
-          t .all k (omega (arith, ap (λ (x : ℕ). getD first x 0) e)) (omega (arith, ap (λ (x : ℕ). getD first (suc x) 0) e)) s in
-          (i, omega (arith, from-here u e), omega (arith, next u e), c)
-      all u k l low high s (no d) =
-          let (i, a, b, c) = r .all u k (omega arith) low high s in (
-            i,
-            omega (arith, was u (omega arith)),
-            omega (arith, was (suc u) (omega arith)),
-            copied k i (omega (arith, r .bounded u (omega arith))) c,
-          )
-
-      ascending : (u i : ℕ) → u < suc v → getD new u 0 ≤ i → suc i < getD new (suc u) 0 → Dec (u ≡ v) → getD fs′ i 0 < getD fs′ (suc i) 0
-      ascending u i l low high (yes e) = t .ascending i (omega (arith, from-here u e)) (omega (arith, next u e))
-      ascending u i l low high (no d) =
-          omega (
-            arith,
-            t .fs-kept i (omega (arith, was (suc u) (omega arith), r .bounded u (omega arith))),
-            t .fs-kept (suc i) (omega (arith, was (suc u) (omega arith), r .bounded u (omega arith))),
-            r .ascending u i (omega arith) (omega (arith, was u (omega arith))) (omega (arith, was (suc u) (omega arith))),
-          )
-
-  pub rows-next : {v : ℕ} {first′ fs ts fs′ ts′ : List ℕ} {links more : ℕ} → v < nodes → nodes ≤ 255 →
-      Rows features targets marks keep first v first′ fs ts links →
-      Thinned features targets marks keep (getD first v 0) (getD first (v + 1) 0) fs ts links fs′ ts′ more →
-      Rows features targets marks keep first (v + 1) (set first′ (v + 1) more) fs′ ts′ more
-  rows-next {v} h small r t =
-      let t′ = rw (add-one v) at t in
-      rw (add-one v) (rows-suc h small r t′)
-
-  pub rows-done : {v : ℕ} {first′ fs ts : List ℕ} {links : ℕ} → Rows features targets marks keep first v first′ fs ts links → v ≤ nodes → nodes ≤ v →
-      Rows features targets marks keep first nodes first′ fs ts links
-  rows-done {v} {first′} {fs} {ts} {links} r h l =
-      let e : v ≡ nodes = omega arith in
-      subst (λ (x : ℕ). Rows features targets marks keep first x first′ fs ts links) e r
-
-  -- The arrays hold rows.
-  pub rows-sound : {wanted first′ fs ts : List ℕ} {links : ℕ} → nodes ≤ length wanted → nodes ≤ 255 → getD first nodes 0 ≤ 2048 →
-      Rows features targets marks keep first nodes first′ fs ts links → Sound nodes wanted first′ fs ts
-  rows-sound {wanted} {first′} {fs} {ts} {links} typed small few r =
-      record {
-        shaped = record {
-          laid = record {
-            nonempty = sound .shaped .laid .nonempty;
-            few = sound .shaped .laid .few;
-            bounded = omega (arith, r .first-long);
-            start = r .start;
-            rising = r .rising;
-            linked = omega (arith, r .end, r .short);
-            aimed = omega (arith, r .end, r .short, r .ts-long);
-          };
-          typed = typed;
-          featured = omega (arith, r .end, r .short, r .fs-long);
-          known = λ i h.
-              let (k, b, c) = r .source i (omega (arith, r .end)) in
-              omega (arith, c .feature, sound .shaped .known k b);
-          ascending = λ v i h low high. r .ascending v i h low high;
-        };
-        within = λ i h.
-            let (k, b, c) = r .source i (omega (arith, r .end)) in
-            omega (arith, c .target, sound .within k b);
-      }
+      in-s : {v : ℕ} → v < size ws → v < size s
+      in-s h = omega (arith, r .sized)

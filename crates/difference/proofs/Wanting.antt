@@ -1,5 +1,5 @@
 -- Wanted types: meeting the types of g's nodes from the last to the first, and one residual for each node of s.
-use mathlib.Core.Path.{_≡_, refl, sym, _∙_, ap, ap₂, subst}
+use mathlib.Core.Path.{_≡_, refl, sym, _∙_, ap, ap₂}
 use mathlib.Core.Bool.{Bool, true, false, cond}
 use mathlib.Core.List.{List, [], _∷_, List·Memᴰ, List·Memᴰ·head, List·Memᴰ·tail}
 use Prim.Native.Nat.{ℕ, suc, _+_, _-_, _≤_, _<_}
@@ -12,9 +12,11 @@ use lib.Seq.{getD-set-same, getD-set-other}
 use Rattle.graphs.specs.Label.{Labels}
 use Rattle.graphs.specs.Rows.{from}
 use Rattle.graphs.specs.Difference.{meetWhere}
-use Rattle.lattice.specs.Table.{admits, cell, meet, residual}
-use Rattle.lattice.proofs.Laws.{meet-exists, residual-exists}
-use Rattle.difference.specs.Wanted.{Typed, Met, Wants, metFrom}
+use Rattle.lattice.specs.Table.{accepted, admits, cell, meet, residual}
+use Rattle.lattice.proofs.Laws.{accepted-size, meet-exists, residual-exists}
+use Rattle.layout.specs.Layout.{size, rowFrom, labelAt, Node, Shaped}
+use Rattle.difference.specs.Asked.{Asked}
+use Rattle.difference.specs.Wanted.{MeetsHeld, Typed, Types, Met, Wants, metFrom}
 
 -- The loop that fills with one value.
 pub record Filling (value k : ℕ) (types : List ℕ) : Type 0 where
@@ -30,154 +32,225 @@ filling-next {value} {k} {types} f h =
     go v l (no d) = getD-set-other types k v value 0 d ∙ f .each v (omega arith)
 
 -- one node more, before the others
-met-cons : (n : ℕ) (t types map : List ℕ) (y c v : ℕ) → metFrom n t types map y (suc c) v ≡
-    cond (eqb (getD map y 0) v) (cell (meet n t (getD types y 0) (metFrom n t types map (suc y) c v))) (metFrom n t types map (suc y) c v)
+met-cons : (n : ℕ) (t g map : List ℕ) (y c v : ℕ) → metFrom n t g map y (suc c) v ≡
+    cond (eqb (getD map y 0) v) (cell (meet n t (labelAt g y) (metFrom n t g map (suc y) c v))) (metFrom n t g map (suc y) c v)
 unfolding metFrom meetWhere from
-met-cons n t types map y c v = refl
+met-cons n t g map y c v = refl
+
+-- What is met over the nodes from y on: types, and by each table that has the meets the right ones.
+pub record Meeting (n : ℕ) (meets : List (List ℕ)) (nodes : ℕ) (g map : List ℕ) (y : ℕ) (met : List ℕ) : Type 0 where
+  pub typed : Typed n meets nodes g map
+  pub left : y ≤ size g
+  pub types : Types n nodes met
+  pub each : (t : List ℕ) → MeetsHeld n t meets → Met n t nodes g map y (size g - y) met
 
 -- what is read at node y of g, and stored at its node of s
-pub record Turn (n : ℕ) (types map met : List ℕ) (y : ℕ) : Type 0 where
+pub record Turn (n : ℕ) (g map met : List ℕ) (y : ℕ) : Type 0 where
   pub few : n ≤ 64
-  pub listed : y < length types
-  pub placed : y < length map
+  pub small : y < 255
+  pub node : Node g y
+  pub from : rowFrom g y < length g
   pub stored : getD map y 0 < 255
-  pub known : getD types y 0 < n
+  pub known : labelAt g y < n
   pub met-known : getD met (getD map y 0) 0 < n
 
-module _ {n : ℕ} {t : List ℕ} {meets : List (List ℕ)} {sn gn : ℕ} {types map : List ℕ} (typed : Typed n t meets sn gn types map) where
-  pub met-start : {met : List ℕ} → length met ≡ 255 → ((v : ℕ) → v < sn → getD met v 0 ≡ n - 1) → Met n t sn types map gn (gn - gn) met
+module _ {n : ℕ} {meets : List (List ℕ)} {nodes : ℕ} {g map : List ℕ} where
+  pub met-start : {met : List ℕ} → Typed n meets nodes g map → length met ≡ 255 → ((v : ℕ) → v < nodes → getD met v 0 ≡ n - 1) →
+      Meeting n meets nodes g map (size g) met
   unfolding metFrom meetWhere from
-  met-start {met} long top =
-      let z : gn - gn ≡ 0 = omega arith in
-      rw z (record { long = long; each = top; known = λ v h. omega (arith, top v h, typed .two) })
-
-  meet-low : (a b : ℕ) → a < n → b < n → cell (meet n t a b) < n
-  meet-low a b l s =
-      let r = meet-exists n t (typed .ok) a b l s in
-      let e : cell (meet n t a b) ≡ r .0 = ap cell (r .1 .is) in
-      omega (arith, r .1 .type)
-
-  met-next : {y c : ℕ} {met : List ℕ} → Met n t sn types map (suc y) c met → y < gn →
-      Met n t sn types map y (suc c) (set met (getD map y 0) (getD (getD meets (getD types y 0) []) (getD met (getD map y 0) 0) 0))
-  met-next {y} {c} {met} m h =
+  met-start {met} typed long top =
+      let z : size g - size g ≡ 0 = omega arith in
       record {
-        long = length-set met u new ∙ m .long;
-        each = λ v l. each v l (ℕ-discrete v u);
-        known = λ v l. known v l (ℕ-discrete v u);
-      }
-    where
-      u : ℕ
-      u = getD map y 0
-
-      new : ℕ
-      new = getD (getD meets (getD types y 0) []) (getD met u 0) 0
-
-      inside : u < sn
-      inside = typed .mapped y h
-
-      here : getD (set met u new) u 0 ≡ new
-      here = getD-set-same met u new 0 (omega (arith, m .long, inside, typed .small))
-
-      is : new ≡ cell (meet n t (getD types y 0) (getD met u 0))
-      is = typed .held (getD types y 0) (getD met u 0) (typed .known y h) (m .known u inside)
-
-      each : (v : ℕ) → v < sn → Dec (v ≡ u) → getD (set met u new) v 0 ≡ metFrom n t types map y (suc c) v
-      each v l (yes e) =
-          ap (λ (i : ℕ). getD (set met u new) i 0) e ∙ here ∙ is ∙
-          ap (λ (q : ℕ). cell (meet n t (getD types y 0) q)) (m .each u inside ∙ ap (metFrom n t types map (suc y) c) (sym e)) ∙
-          sym (met-cons n t types map y c v ∙
-          ap (λ (b : Bool). cond b (cell (meet n t (getD types y 0) (metFrom n t types map (suc y) c v))) (metFrom n t types map (suc y) c v))
-          (eq-eqb u v (sym e)))
-      each v l (no d) =
-          getD-set-other met u v new 0 d ∙ m .each v l ∙
-          sym (met-cons n t types map y c v ∙
-          ap (λ (b : Bool). cond b (cell (meet n t (getD types y 0) (metFrom n t types map (suc y) c v))) (metFrom n t types map (suc y) c v))
-          (ne-eqb u v (λ e. d (sym e))))
-
-      known : (v : ℕ) → v < sn → Dec (v ≡ u) → getD (set met u new) v 0 < n
-      known v l (yes e) =
-          omega (
-            arith,
-            ap (λ (i : ℕ). getD (set met u new) i 0) e,
-            here,
-            is,
-            meet-low (getD types y 0) (getD met u 0) (typed .known y h) (m .known u inside),
-          )
-      known v l (no d) = omega (arith, getD-set-other met u v new 0 d, m .known v l)
-
-  pub turn-known : {y c : ℕ} {met : List ℕ} → Met n t sn types map y c met → 0 < y → y ≤ gn → Turn n types map met (y - 1)
-  turn-known {y} m h l =
-      let u = typed .mapped (y - 1) (omega arith) in
-      record {
-        few = typed .few;
-        listed = omega (arith, typed .long);
-        placed = omega (arith, typed .map-long);
-        stored = omega (arith, typed .small);
-        known = typed .known (y - 1) (omega arith);
-        met-known = m .known (getD map (y - 1) 0) u;
+        typed = typed;
+        left = omega arith;
+        types = record { long = long; known = λ v h. omega (arith, top v h, typed .two) };
+        each = λ t held. rw z top;
       }
 
-  -- the loop goes down
-  pub met-down : {y : ℕ} {met : List ℕ} → Met n t sn types map y (gn - y) met → 0 < y → y ≤ gn →
-      Met n t sn types map (y - 1) (gn - (y - 1))
-      (set met (getD map (y - 1) 0) (getD (getD meets (getD types (y - 1) 0) []) (getD met (getD map (y - 1) 0) 0) 0))
-  met-down {y} {met} m h l =
-      let e : y ≡ suc (y - 1) = omega arith in
-      let d : gn - (y - 1) ≡ suc (gn - y) = omega arith in
-      let m′ : Met n t sn types map (suc (y - 1)) (gn - y) met = subst (λ (i : ℕ). Met n t sn types map i (gn - y) met) e m in
-      rw d (met-next m′ (omega arith))
+  module _ {y : ℕ} {met : List ℕ} (m : Meeting n meets nodes g map y met) (h : 0 < y) where
+    lower : y - 1 < size g
+    lower = omega (arith, m .left)
 
-  pub met-done : {y : ℕ} {met : List ℕ} → Met n t sn types map y (gn - y) met → y ≤ 0 → Met n t sn types map 0 gn met
-  met-done {y} {met} m h =
+    pub turn-known : Turn n g map met (y - 1)
+    turn-known =
+        let node = m .typed .sound .shaped .node (y - 1) lower in
+        record {
+          few = m .typed .few;
+          small = omega (arith, lower, m .typed .upper-small);
+          node = node;
+          from = omega (arith, node .begun, node .ended);
+          stored = omega (arith, m .typed .mapped (y - 1) lower, m .typed .small);
+          known = m .typed .known (y - 1) lower;
+          met-known = m .types .known (getD map (y - 1) 0) (m .typed .mapped (y - 1) lower);
+        }
+
+    -- the loop goes down
+    pub met-down : Meeting n meets nodes g map (y - 1)
+        (set met (getD map (y - 1) 0) (getD (getD meets (labelAt g (y - 1)) []) (getD met (getD map (y - 1) 0) 0) 0))
+    met-down =
+        record {
+          typed = m .typed;
+          left = omega (arith, m .left);
+          types = record { long = length-set met u new ∙ m .types .long; known = λ v l. known v l (ℕ-discrete v u) };
+          each = λ t held v l. each t held v l (ℕ-discrete v u);
+        }
+      where
+        u : ℕ
+        u = getD map (y - 1) 0
+
+        a : ℕ
+        a = labelAt g (y - 1)
+
+        new : ℕ
+        new = getD (getD meets a []) (getD met u 0) 0
+
+        inside : u < nodes
+        inside = m .typed .mapped (y - 1) lower
+
+        here : getD (set met u new) u 0 ≡ new
+        here = getD-set-same met u new 0 (omega (arith, m .types .long, inside, m .typed .small))
+
+        known : (v : ℕ) → v < nodes → Dec (v ≡ u) → getD (set met u new) v 0 < n
+        known v l (yes e) =
+            omega (
+              arith,
+              ap (λ (i : ℕ). getD (set met u new) i 0) e,
+              here,
+              m .typed .closed a (getD met u 0) (m .typed .known (y - 1) lower) (m .types .known u inside),
+            )
+        known v l (no d) = omega (arith, getD-set-other met u v new 0 d, m .types .known v l)
+
+        rest : List ℕ → ℕ → ℕ
+        rest t v = metFrom n t g map (suc (y - 1)) (size g - y) v
+
+        before : (t : List ℕ) → MeetsHeld n t meets → (v : ℕ) → v < nodes → getD met v 0 ≡ rest t v
+        before t held v l =
+            let e : y ≡ suc (y - 1) = omega arith in
+            m .each t held v l ∙ ap (λ (i : ℕ). metFrom n t g map i (size g - y) v) e
+
+        more : (t : List ℕ) (v : ℕ) → metFrom n t g map (y - 1) (size g - (y - 1)) v ≡
+            cond (eqb u v) (cell (meet n t a (rest t v))) (rest t v)
+        more t v =
+            let d : size g - (y - 1) ≡ suc (size g - y) = omega (arith, m .left) in
+            ap (λ (c : ℕ). metFrom n t g map (y - 1) c v) d ∙ met-cons n t g map (y - 1) (size g - y) v
+
+        each : (t : List ℕ) → MeetsHeld n t meets → (v : ℕ) → v < nodes → Dec (v ≡ u) →
+            getD (set met u new) v 0 ≡ metFrom n t g map (y - 1) (size g - (y - 1)) v
+        each t held v l (yes e) =
+            ap (λ (i : ℕ). getD (set met u new) i 0) e ∙ here ∙
+            held a (getD met u 0) (m .typed .known (y - 1) lower) (m .types .known u inside) ∙
+            ap (λ (q : ℕ). cell (meet n t a q)) (before t held u inside ∙ ap (rest t) (sym e)) ∙
+            sym (more t v ∙ ap (λ (b : Bool). cond b (cell (meet n t a (rest t v))) (rest t v)) (eq-eqb u v (sym e)))
+        each t held v l (no d) =
+            getD-set-other met u v new 0 d ∙ before t held v l ∙
+            sym (more t v ∙ ap (λ (b : Bool). cond b (cell (meet n t a (rest t v))) (rest t v)) (ne-eqb u v (λ e. d (sym e))))
+
+  pub met-done : {y : ℕ} {met : List ℕ} → Meeting n meets nodes g map y met → y ≤ 0 → (t : List ℕ) → MeetsHeld n t meets →
+      Met n t nodes g map 0 (size g) met
+  met-done {y} {met} m h t held v l =
       let e : y ≡ 0 = omega arith in
-      let d : gn - 0 ≡ gn = omega arith in
-      subst (λ (c : ℕ). Met n t sn types map 0 c met) d (subst (λ (i : ℕ). Met n t sn types map i (gn - i) met) e m)
+      let d : size g - 0 ≡ size g = omega arith in
+      m .each t held v l ∙ ap (λ (i : ℕ). metFrom n t g map i (size g - i) v) e ∙ ap (λ (c : ℕ). metFrom n t g map 0 c v) d
 
-  -- Wanted types.
+-- Wanted types.
+
+module _ (n : ℕ) (t : List ℕ) (ok : accepted n t ≡ true) where
+  -- the meets of types are types
+  pub meets-closed : (meets : List (List ℕ)) → MeetsHeld n t meets → (a b : ℕ) → a < n → b < n → getD (getD meets a []) b 0 < n
+  meets-closed meets held a b l s =
+      let r = meet-exists n t ok a b l s in
+      let e : cell (meet n t a b) ≡ r .0 = ap cell (r .1 .is) in
+      omega (arith, held a b l s, r .1 .type)
 
   residual-low : admits n t ≡ true → (p q : ℕ) → p < n → q < n → cell (residual n t p q) < n
   residual-low differ p q l s =
-      let r = residual-exists n t (typed .ok) differ p q l s in
+      let r = residual-exists n t ok differ p q l s in
       let e : cell (residual n t p q) ≡ r .0 = ap cell (r .1 .is) in
       omega (arith, r .1 .type)
 
-  pub wants-next : admits n t ≡ true → {st met ws : List ℕ} {k r : ℕ} → Met n t sn types map 0 gn met → k < sn → getD st k 0 < n →
-      Wants n t st gn types map k ws → r ≡ cell (residual n t (getD st k 0) (getD met k 0)) →
-      Wants n t st gn types map (k + 1) (set ws k r)
-  wants-next differ {st} {met} {ws} {k} {r} m h low w e =
+-- the wanted types of the nodes before k
+pub record Wanting (n : ℕ) (t s g map met : List ℕ) (k : ℕ) (types : List ℕ) : Type 0 where
+  pub ok : accepted n t ≡ true
+  pub differs : admits n t ≡ true
+  pub few : n ≤ 64
+  pub shaped : Shaped s
+  pub small : size s ≤ 255
+  pub typed : (v : ℕ) → v < size s → labelAt s v < n
+  pub met-known : Types n (size s) met
+  pub met-each : Met n t (size s) g map 0 (size g) met
+  pub wants : Wants n t s g map k types
+
+module _ {n : ℕ} {t s g map met : List ℕ} where
+  pub wants-start : {meets : List (List ℕ)} {types : List ℕ} → Asked n t meets g s map → length types ≡ 255 → Types n (size s) met →
+      Met n t (size s) g map 0 (size g) met → Wanting n t s g map met 0 types
+  wants-start asked long known each =
       record {
-        long = length-set ws k r ∙ w .long;
-        each = λ v l. each v l (ℕ-discrete v k);
-        known = λ v l. known v l (ℕ-discrete v k);
+        ok = asked .ok;
+        differs = asked .differs;
+        few = accepted-size n t (asked .ok) .1;
+        shaped = asked .lower .sound .shaped;
+        small = asked .lower .small;
+        typed = asked .lower-typed;
+        met-known = known;
+        met-each = each;
+        wants =
+            record {
+              types-known = record { long = long; known = λ v h. absurd (omega arith) };
+              each = λ v h. absurd (omega arith);
+            };
+      }
+
+  pub wants-next : {k r : ℕ} {types : List ℕ} → Wanting n t s g map met k types → k < size s →
+      r ≡ cell (residual n t (labelAt s k) (getD met k 0)) → Wanting n t s g map met (k + 1) (set types k r)
+  wants-next {k} {r} {types} w h e =
+      record {
+        ok = w .ok;
+        differs = w .differs;
+        few = w .few;
+        shaped = w .shaped;
+        small = w .small;
+        typed = w .typed;
+        met-known = w .met-known;
+        met-each = w .met-each;
+        wants =
+            record {
+              types-known =
+                  record {
+                    long = length-set types k r ∙ w .wants .types-known .long;
+                    known = λ v l. known v l (ℕ-discrete v k);
+                  };
+              each = λ v l. each v l (ℕ-discrete v k);
+            };
       }
     where
-      here : getD (set ws k r) k 0 ≡ r
-      here = getD-set-same ws k r 0 (omega (arith, w .long, typed .small))
+      here : getD (set types k r) k 0 ≡ r
+      here = getD-set-same types k r 0 (omega (arith, w .wants .types-known .long, w .small))
 
-      each : (v : ℕ) → v < k + 1 → Dec (v ≡ k) → getD (set ws k r) v 0 ≡ cell (residual n t (getD st v 0) (metFrom n t types map 0 gn v))
+      each : (v : ℕ) → v < k + 1 → Dec (v ≡ k) →
+          getD (set types k r) v 0 ≡ cell (residual n t (labelAt s v) (metFrom n t g map 0 (size g) v))
       each v l (yes d) =
-          ap (λ (i : ℕ). getD (set ws k r) i 0) d ∙ here ∙ e ∙
-          ap (λ (q : ℕ). cell (residual n t (getD st k 0) q)) (m .each k h) ∙
-          ap (λ (i : ℕ). cell (residual n t (getD st i 0) (metFrom n t types map 0 gn i))) (sym d)
-      each v l (no d) = getD-set-other ws k v r 0 d ∙ w .each v (omega arith)
+          ap (λ (i : ℕ). getD (set types k r) i 0) d ∙ here ∙ e ∙
+          ap (λ (q : ℕ). cell (residual n t (labelAt s k) q)) (w .met-each k h) ∙
+          ap (λ (i : ℕ). cell (residual n t (labelAt s i) (metFrom n t g map 0 (size g) i))) (sym d)
+      each v l (no d) = getD-set-other types k v r 0 d ∙ w .wants .each v (omega arith)
 
-      known : (v : ℕ) → v < k + 1 → Dec (v ≡ k) → getD (set ws k r) v 0 < n
+      known : (v : ℕ) → v < k + 1 → Dec (v ≡ k) → getD (set types k r) v 0 < n
       known v l (yes d) =
           omega (
             arith,
-            ap (λ (i : ℕ). getD (set ws k r) i 0) d,
+            ap (λ (i : ℕ). getD (set types k r) i 0) d,
             here,
             e,
-            residual-low differ (getD st k 0) (getD met k 0) low (m .known k h),
+            residual-low n t (w .ok) (w .differs) (labelAt s k) (getD met k 0) (w .typed k h) (w .met-known .known k h),
           )
-      known v l (no d) = omega (arith, getD-set-other ws k v r 0 d, w .known v (omega arith))
+      known v l (no d) = omega (arith, getD-set-other types k v r 0 d, w .wants .types-known .known v (omega arith))
 
-pub wants-start : {n : ℕ} {t st : List ℕ} {gn : ℕ} {types map ws : List ℕ} → length ws ≡ 255 → Wants n t st gn types map 0 ws
-wants-start long = record { long = long; each = λ v h. absurd (omega arith); known = λ v h. absurd (omega arith) }
-
-pub wants-done : {n : ℕ} {t st : List ℕ} {gn : ℕ} {types map ws : List ℕ} {k sn : ℕ} → Wants n t st gn types map k ws → sn ≤ k →
-    Wants n t st gn types map sn ws
-wants-done w h = record { long = w .long; each = λ v l. w .each v (omega arith); known = λ v l. w .known v (omega arith) }
+  pub wants-done : {k : ℕ} {types : List ℕ} → Wanting n t s g map met k types → size s ≤ k → Wants n t s g map (size s) types
+  wants-done w h =
+      record {
+        types-known = record { long = w .wants .types-known .long; known = λ v l. w .wants .types-known .known v (omega arith) };
+        each = λ v l. w .wants .each v (omega arith);
+      }
 
 -- what is met depends on the labels listed alone
 pub meetWhere-same : (𝓛 : Labels) {B : Type 0} (test : B → Bool) (label label′ : B → 𝓛 .L) (ys : List B) →

@@ -1,5 +1,6 @@
 -- The difference that is written, and what the steps on the way to it keep.
 pub mod Promise
 pub mod Wanted
+pub mod Asked
 pub mod Keeping
 pub mod Thinning

@@ -6,21 +6,27 @@ use lib.Dec.{eqb}
 use lib.ListN.{length, getD}
 use Rattle.graphs.specs.Graph.{Graph}
 use Rattle.graphs.specs.Rows.{Row, from}
+use Rattle.graphs.specs.Number.{Canonical, canonical}
 use Rattle.graphs.specs.Difference.{difference, meetOver, byNumber}
 use Rattle.lattice.specs.Table.{cell, residual}
+use Rattle.lattice.specs.Label.{Label}
 use Rattle.lattice.specs.Labels.{typeLabels}
-use Rattle.visits.specs.Arrays.{graphOfRows}
+use Rattle.layout.specs.Layout.{graphOfRows, rowsOf}
 
-module _ (n : ℕ) (t : List ℕ) (s g : List (Row ℕ)) (map : List ℕ) where
+module _ (n : ℕ) (t : List ℕ) (s g : List (Row Label)) (map : List ℕ) where
   -- "The wanted type is the greatest type whose meet with the meet of all g types over this node (top if none) equals the type in s":
   -- where s is below g, this is the greatest whose meet with it is below or equal to the type in s
-  unfoldable pub wantedType : ℕ → ℕ
+  unfoldable pub wantedType : ℕ → Label
   wantedType v =
       cell (residual n t (graphOfRows s .label v)
       (meetOver (typeLabels n t) eqb (graphOfRows g) (from 0 (length g)) (λ y. getD map y 0) v))
 
   -- the difference, its links ordered "by parent number, then feature"
-  unfoldable pub differenceOf : Graph ℕ ℕ
+  unfoldable pub differenceOf : Graph Label ℕ
   differenceOf =
       difference (typeLabels n t) eqb eqb byNumber (graphOfRows s) (from 0 (length s)) (graphOfRows g) (from 0 (length g))
       (λ y. getD map y 0) wantedType
+
+-- the canonical form of the difference, of graphs in words
+abbrev pub differenceForm : ℕ → List ℕ → List ℕ → List ℕ → List ℕ → Canonical Label
+differenceForm n t s g map = canonical eqb (differenceOf n t (rowsOf s) (rowsOf g) map)

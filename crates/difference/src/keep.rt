@@ -1,29 +1,30 @@
 // The nodes that the difference keeps: 1 for a kept one, else 0.
 
 ghost use mathlib.Core.Path.{_≡_};
-ghost use mathlib.Core.List.{List};
-ghost use Prim.Native.Nat.{ℕ, _+_, _-_, _≤_, _<_};
+ghost use Prim.Native.Nat.{ℕ, _≤_, _<_};
 ghost use lib.ListN.{length, getD};
-ghost use Rattle.visits.specs.Arrays.{Linked, Reaches};
-ghost use Rattle.difference.specs.Keeping.{Cause, Decides, Entering, Grown, Keeps, Onward, Settled, Sorted, Stays, Untop};
+ghost use Rattle.layout.specs.Layout.{Place, rowsEnd, size, targetAt};
+ghost use Rattle.visits.specs.Walks.{Reaches};
+ghost use Rattle.difference.specs.Keeping.{Cause, Decides, Enters, Grown, Keeps, Onward, Ready, Settled, Sorted, Stays, Untop};
+ghost use Rattle.difference.specs.Wanted.{Types};
 
 // Keeps the node that the link at place k enters, where that is a cause; `entered` has 1 where an earlier link leads.
 fn keep_one<'a>(
-    marks: &'a [u8; 2048],
-    targets: &'a [u16],
+    s: &'a [u16],
+    marks: &'a [u8; 2560],
     k: usize,
     entered: &mut [u8; 255],
     keep: &mut [u8; 255],
 )
-    requires { ⌜ (length (now marks) ≡ 2048) × (length (now entered) ≡ 255) × (length (now keep) ≡ 255) ⌝ }
-    requires { ⌜ (k < 2048) × (k < length (now targets)) × (getD (now targets) k 0 < 255) ⌝ }
-    ensures { λ _. ⌜ ((start : List ℕ) → Entering (now (marks .entry)) (now (targets .entry)) k start (now (keep .entry)) (now (entered .entry)) → Entering (now (marks .entry)) (now (targets .entry)) (k + 1) start (now (keep .exit)) (now (entered .exit))) ⌝ }
+    requires { ⌜ ((u : ℕ) × Place (now s) u k) × (k < length (now s)) × (targetAt (now s) k < 255) ⌝ }
+    requires { ⌜ (k < 2560) × (length (now marks) ≡ 2560) × (length (now entered) ≡ 255) × (length (now keep) ≡ 255) ⌝ }
+    ensures { λ _. ⌜ Enters (now (s .entry)) (now (marks .entry)) k (now (keep .entry)) (now (entered .entry)) (now (keep .exit)) (now (entered .exit)) ⌝ }
 {
     let mark = marks[k];
     if mark == groups::FOLLOWS {
         return;
     }
-    let v = targets[k] as usize;
+    let v = (s[k] % layout::SCALE) as usize;
     let before = entered[v];
     entered[v] = 1;
     if mark == groups::BARE {
@@ -36,21 +37,21 @@ fn keep_one<'a>(
 }
 
 // Keeps the nodes that two links lead to, or one with nothing of g over it.
-pub fn keep_entered<'a>(
-    marks: &'a [u8; 2048],
-    targets: &'a [u16],
-    links: usize,
-    keep: &mut [u8; 255],
-)
-    requires { ⌜ (length (now marks) ≡ 2048) × (length (now keep) ≡ 255) ⌝ }
-    requires { ⌜ (links ≤ 2048) × (links ≤ length (now targets)) × ((k : ℕ) → k < links → getD (now targets) k 0 < 255) ⌝ }
-    ensures { λ _. ⌜ Grown (Cause (now (marks .entry)) (now (targets .entry)) links) (now (keep .entry)) (now (keep .exit)) ⌝ }
+pub fn keep_entered<'a>(s: &'a [u16], marks: &'a [u8; 2560], keep: &mut [u8; 255])
+    requires { ⌜ Ready (now s) (now marks) (now keep) ⌝ }
+    ensures { λ _. ⌜ Grown (Cause (now (s .entry)) (now (marks .entry)) (rowsEnd (now (s .entry)))) (now (keep .entry)) (now (keep .exit)) ⌝ }
 {
     let mut entered = [0u8; 255];
-    let mut k = 0;
-    while k < links {
-        keep_one(marks, targets, k, &mut entered, keep);
-        k += 1;
+    let nodes = s[0] as usize;
+    let mut v = 0;
+    while v < nodes {
+        let end = s[v + 2] as usize;
+        let mut k = s[v + 1] as usize + layout::HEADER;
+        while k < end {
+            keep_one(s, marks, k, &mut entered, keep);
+            k += 1;
+        }
+        v += 1;
     }
 }
 
@@ -62,8 +63,7 @@ pub fn keep_typed<'a>(
     types: &'a [u8; 255],
     keep: &mut [u8; 255],
 )
-    requires { ⌜ (2 ≤ n) × (n ≤ 64) × (nodes ≤ 255) × (length (now types) ≡ 255) × (length (now keep) ≡ 255) ⌝ }
-    requires { ⌜ ((v : ℕ) → v < nodes → getD (now types) v 0 < 64) ⌝ }
+    requires { ⌜ (2 ≤ n) × (n ≤ 64) × (nodes ≤ 255) × Types n nodes (now types) × (length (now keep) ≡ 255) ⌝ }
     ensures { λ _. ⌜ Grown (Untop n (now (table .entry)) (now (types .entry)) nodes) (now (keep .entry)) (now (keep .exit)) ⌝ }
 {
     let mut v = 0;
@@ -77,32 +77,32 @@ pub fn keep_typed<'a>(
 }
 
 // Whether the link at place k leads its group and enters a kept node.
-pub fn is_kept<'a>(targets: &'a [u16], marks: &'a [u8; 2048], keep: &'a [u8; 255], k: usize) -> bool
-    requires { ⌜ (length (now marks) ≡ 2048) × (length (now keep) ≡ 255) ⌝ }
-    requires { ⌜ (k < 2048) × (k < length (now targets)) × (getD (now targets) k 0 < 255) ⌝ }
-    ensures { λ r. ⌜ Decides (Stays (now (targets .entry)) (now (marks .entry)) (now (keep .entry)) k) r ⌝ }
+pub fn is_kept<'a>(s: &'a [u16], marks: &'a [u8; 2560], keep: &'a [u8; 255], k: usize) -> bool
+    requires { ⌜ (length (now marks) ≡ 2560) × (length (now keep) ≡ 255) ⌝ }
+    requires { ⌜ (k < 2560) × (k < length (now s)) × (targetAt (now s) k < 255) ⌝ }
+    ensures { λ r. ⌜ Decides (Stays (now (s .entry)) (now (marks .entry)) (now (keep .entry)) k) r ⌝ }
 {
     if marks[k] == groups::FOLLOWS {
         return false;
     }
-    keep[targets[k] as usize] == 1
+    keep[(s[k] % layout::SCALE) as usize] == 1
 }
 
 // Whether a link between two places is kept.
 pub fn is_left<'a>(
-    targets: &'a [u16],
-    marks: &'a [u8; 2048],
+    s: &'a [u16],
+    marks: &'a [u8; 2560],
     keep: &'a [u8; 255],
     start: usize,
     end: usize,
 ) -> bool
-    requires { ⌜ (length (now marks) ≡ 2048) × (length (now keep) ≡ 255) ⌝ }
-    requires { ⌜ (end ≤ 2048) × (end ≤ length (now targets)) × ((k : ℕ) → k < end → getD (now targets) k 0 < 255) ⌝ }
-    ensures { λ r. ⌜ Decides (Onward (now (targets .entry)) (now (marks .entry)) (now (keep .entry)) start end) r ⌝ }
+    requires { ⌜ (length (now marks) ≡ 2560) × (length (now keep) ≡ 255) × (end ≤ 2560) × (end ≤ length (now s)) ⌝ }
+    requires { ⌜ ((k : ℕ) → start ≤ k → k < end → targetAt (now s) k < 255) ⌝ }
+    ensures { λ r. ⌜ Decides (Onward (now (s .entry)) (now (marks .entry)) (now (keep .entry)) start end) r ⌝ }
 {
     let mut k = start;
     while k < end {
-        if is_kept(targets, marks, keep, k) {
+        if is_kept(s, marks, keep, k) {
             return true;
         }
         k += 1;
@@ -112,24 +112,21 @@ pub fn is_left<'a>(
 
 // Keeps the nodes that a kept link leaves, going through them with targets first.
 pub fn keep_below<'a>(
-    nodes: usize,
-    first: &'a [u16],
-    targets: &'a [u16],
-    marks: &'a [u8; 2048],
+    s: &'a [u16],
+    marks: &'a [u8; 2560],
     order: &'a [u16; 510],
     keep: &mut [u8; 255],
 )
-    requires { ⌜ (nodes ≤ 255) × Linked nodes (now first) (now targets) × (getD (now first) nodes 0 ≤ 2048) ⌝ }
-    requires { ⌜ (length (now marks) ≡ 2048) × (length (now order) ≡ 510) × (length (now keep) ≡ 255) ⌝ }
-    requires { ⌜ Sorted nodes (now first) (now targets) (now order) ⌝ }
-    ensures { λ _. ⌜ Settled (λ v. Unit {0}) nodes (now (first .entry)) (now (targets .entry)) (now (marks .entry)) (now (keep .entry)) (now (keep .exit)) ⌝ }
+    requires { ⌜ Ready (now s) (now marks) (now keep) × Sorted (now s) (now order) × (length (now order) ≡ 510) ⌝ }
+    ensures { λ _. ⌜ Settled (λ v. Unit {0}) (now (s .entry)) (now (marks .entry)) (now (keep .entry)) (now (keep .exit)) ⌝ }
 {
+    let nodes = s[0] as usize;
     let mut i = 0;
     while i < nodes {
         let v = order[i] as usize;
-        let start = first[v] as usize;
-        let end = first[v + 1] as usize;
-        if is_left(targets, marks, keep, start, end) {
+        let start = s[v + 1] as usize + layout::HEADER;
+        let end = s[v + 2] as usize;
+        if is_left(s, marks, keep, start, end) {
             keep[v] = 1;
         }
         i += 1;
@@ -140,25 +137,21 @@ pub fn keep_below<'a>(
 pub fn kept_nodes<'a>(
     n: usize,
     table: &'a [u8],
-    nodes: usize,
-    first: &'a [u16],
-    targets: &'a [u16],
-    marks: &'a [u8; 2048],
+    s: &'a [u16],
+    marks: &'a [u8; 2560],
     types: &'a [u8; 255],
     keep: &mut [u8; 255],
 )
-    requires { ⌜ (2 ≤ n) × (n ≤ 64) × (nodes ≤ 255) × (length (now types) ≡ 255) × (length (now marks) ≡ 2048) × (length (now keep) ≡ 255) ⌝ }
-    requires { ⌜ ((v : ℕ) → v < 255 → getD (now keep) v 0 ≡ 0) ⌝ }
-    requires { ⌜ ((v : ℕ) → v < nodes → getD (now types) v 0 < 64) ⌝ }
-    requires { ⌜ Linked nodes (now first) (now targets) × (getD (now first) nodes 0 ≤ 2048) ⌝ }
-    requires { ⌜ ((v : ℕ) → Reaches nodes (now first) (now targets) v v → ⊥) ⌝ }
-    ensures { λ _. ⌜ Keeps n (now (table .entry)) nodes (now (first .entry)) (now (targets .entry)) (now (marks .entry)) (now (types .entry)) (now (keep .exit)) ⌝ }
+    requires { ⌜ (2 ≤ n) × (n ≤ 64) × Types n (size (now s)) (now types) ⌝ }
+    requires { ⌜ Ready (now s) (now marks) (now keep) × ((v : ℕ) → v < 255 → getD (now keep) v 0 ≡ 0) ⌝ }
+    requires { ⌜ ((v : ℕ) → Reaches (now s) v v → ⊥) ⌝ }
+    ensures { λ _. ⌜ Keeps n (now (table .entry)) (now (s .entry)) (now (marks .entry)) (now (types .entry)) (now (keep .exit)) ⌝ }
 {
     keep[0] = 1;
-    keep_entered(marks, targets, first[nodes] as usize, keep);
-    keep_typed(n, table, nodes, types, keep);
+    keep_entered(s, marks, keep);
+    keep_typed(n, table, s[0] as usize, types, keep);
     // there is no cycle: the order alone is wanted
     let mut order = [0u16; 510];
-    visits::acyclic::has_cycle(nodes, first, targets, &mut order);
-    keep_below(nodes, first, targets, marks, &order, keep)
+    visits::cycle::has_cycle(s, &mut order);
+    keep_below(s, marks, &order, keep)
 }

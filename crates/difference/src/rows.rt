@@ -1,79 +1,60 @@
-// The rows of the difference: the links that lead their group and enter a kept node.
+// The rows of the difference: wanted types, and the links that lead their group and enter a kept node.
 
 ghost use mathlib.Core.Path.{_≡_};
-ghost use Prim.Native.Nat.{_≤_, _<_};
+ghost use Prim.Native.Nat.{ℕ, _≤_, _<_};
 ghost use lib.ListN.{length, getD};
-ghost use Rattle.subsume.specs.Following.{Span};
-ghost use Rattle.visits.specs.Arrays.{Sound};
-ghost use Rattle.difference.specs.Thinning.{Rows, Thinned};
+ghost use Rattle.layout.specs.Layout.{linksFrom, rowEnd, size};
+ghost use Rattle.difference.specs.Keeping.{Ready};
+ghost use Rattle.difference.specs.Thinning.{Kept, Thinned};
 
-// Adds the kept links between two places of s. Answers how many links there are then.
+// Copies the kept links of node v to the words from `at` on. Answers the next place.
 pub fn keep_row<'a>(
-    features: &'a [u8],
-    targets: &'a [u16],
-    marks: &'a [u8; 2048],
+    s: &'a [u16],
+    marks: &'a [u8; 2560],
     keep: &'a [u8; 255],
-    start: usize,
-    end: usize,
-    kept_features: &mut [u8; 2048],
-    kept_targets: &mut [u16; 2048],
-    count: usize,
+    v: usize,
+    at: usize,
+    words: &mut [u16; 2560],
 ) -> usize
-    requires { ⌜ (length (now marks) ≡ 2048) × (length (now keep) ≡ 255) × (length (now «kept_features») ≡ 2048) × (length (now «kept_targets») ≡ 2048) ⌝ }
-    requires { ⌜ Span (now features) (now targets) start end × (end ≤ 2048) × (count ≤ start) ⌝ }
-    ensures { λ r. ⌜ Thinned (now (features .entry)) (now (targets .entry)) (now (marks .entry)) (now (keep .entry)) start end (now («kept_features» .entry)) (now («kept_targets» .entry)) count (now («kept_features» .exit)) (now («kept_targets» .exit)) r ⌝ }
+    requires { ⌜ Ready (now s) (now marks) (now keep) × (v < size (now s)) ⌝ }
+    requires { ⌜ (length (now words) ≡ 2560) × (at ≤ linksFrom (now s) v) ⌝ }
+    ensures { λ r. ⌜ Thinned (now (s .entry)) (now (marks .entry)) (now (keep .entry)) v (rowEnd (now (s .entry)) v) (now (words .entry)) at (now (words .exit)) r ⌝ }
 {
-    let mut links = count;
-    let mut k = start;
+    let end = s[v + 2] as usize;
+    let mut k = s[v + 1] as usize + layout::HEADER;
+    let mut next = at;
     while k < end {
-        if super::keep::is_kept(targets, marks, keep, k) {
-            kept_features[links] = features[k];
-            kept_targets[links] = targets[k];
-            links += 1;
+        if super::keep::is_kept(s, marks, keep, k) {
+            words[next] = s[k];
+            next += 1;
         }
         k += 1;
     }
-    links
+    next
 }
 
-// The rows with the kept links; answers how many links there are. Of the types the contract alone makes use.
+// Fills words with the rows of the difference.
 pub fn kept_links<'a>(
-    nodes: usize,
-    types: &'a [u8],
-    first: &'a [u16],
-    features: &'a [u8],
-    targets: &'a [u16],
-    marks: &'a [u8; 2048],
+    s: &'a [u16],
+    marks: &'a [u8; 2560],
     keep: &'a [u8; 255],
-    kept_first: &mut [u16; 256],
-    kept_features: &mut [u8; 2048],
-    kept_targets: &mut [u16; 2048],
-) -> usize
-    requires { ⌜ Sound nodes (now types) (now first) (now features) (now targets) ⌝ }
-    requires { ⌜ (nodes ≤ 255) × (getD (now first) nodes 0 ≤ 2048) ⌝ }
-    requires { ⌜ (length (now marks) ≡ 2048) × (length (now keep) ≡ 255) ⌝ }
-    requires { ⌜ (length (now «kept_first») ≡ 256) × (length (now «kept_features») ≡ 2048) × (length (now «kept_targets») ≡ 2048) ⌝ }
-    ensures { λ r. ⌜ Rows (now (features .entry)) (now (targets .entry)) (now (marks .entry)) (now (keep .entry)) (now (first .entry)) nodes (now («kept_first» .exit)) (now («kept_features» .exit)) (now («kept_targets» .exit)) r ⌝ }
+    types: &'a [u8; 255],
+    words: &mut [u16; 2560],
+)
+    requires { ⌜ Ready (now s) (now marks) (now keep) ⌝ }
+    requires { ⌜ (length (now types) ≡ 255) × ((v : ℕ) → v < size (now s) → getD (now types) v 0 < 256) ⌝ }
+    requires { ⌜ length (now words) ≡ 2560 ⌝ }
+    ensures { λ _. ⌜ Kept (now (s .entry)) (now (marks .entry)) (now (keep .entry)) (now (types .entry)) (now (words .exit)) ⌝ }
 {
-    kept_first[0] = 0;
-    let mut links: usize = 0;
+    let nodes = s[0] as usize;
+    let mut at = s[1] as usize;
+    words[0] = nodes as u16;
+    words[1] = at as u16;
     let mut v = 0;
     while v < nodes {
-        let start = first[v] as usize;
-        let end = first[v + 1] as usize;
-        links = keep_row(
-            features,
-            targets,
-            marks,
-            keep,
-            start,
-            end,
-            kept_features,
-            kept_targets,
-            links,
-        );
+        words[at] = types[v] as u16;
+        at = keep_row(s, marks, keep, v, at + layout::HEADER, words);
+        words[v + 2] = at as u16;
         v += 1;
-        kept_first[v] = links as u16;
     }
-    links
 }

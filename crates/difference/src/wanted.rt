@@ -1,11 +1,12 @@
 // The wanted types: of each node of s the greatest type whose meet with the meet of all g types over the node is below its own.
 
 ghost use mathlib.Core.Path.{_≡_};
-ghost use mathlib.Core.Bool.{true};
+ghost use mathlib.Core.List.{List};
 ghost use Prim.Native.Nat.{ℕ, _≤_, _<_};
 ghost use lib.ListN.{length, getD};
-ghost use Rattle.lattice.specs.Table.{admits};
-ghost use Rattle.difference.specs.Wanted.{Met, Typed, Wants};
+ghost use Rattle.layout.specs.Layout.{size};
+ghost use Rattle.difference.specs.Asked.{Asked};
+ghost use Rattle.difference.specs.Wanted.{MeetsHeld, Met, Typed, Types, Wants};
 
 // Fills the first `nodes` types with one.
 fn clear(value: u8, nodes: usize, types: &mut [u8; 255])
@@ -20,27 +21,26 @@ fn clear(value: u8, nodes: usize, types: &mut [u8; 255])
     }
 }
 
-// The meet of all g types over each node of s, top if none. Of the table the contract alone makes use.
+// The meet of all g types over each of the `nodes` nodes of s, top if none.
 pub fn meet_over<'a>(
     n: usize,
-    table: &'a [u8],
     meets: &'a [[u8; 64]; 64],
-    s_nodes: usize,
-    g_nodes: usize,
-    g_types: &'a [u8],
-    map: &'a [u16],
+    nodes: usize,
+    g: &'a [u16],
+    map: &'a [u16; 255],
     met: &mut [u8; 255],
 )
-    requires { ⌜ Typed n (now table) (now meets) «s_nodes» «g_nodes» (now «g_types») (now map) ⌝ }
-    requires { ⌜ length (now met) ≡ 255 ⌝ }
-    ensures { λ _. ⌜ Met n (now (table .entry)) «s_nodes» (now («g_types» .entry)) (now (map .entry)) 0 «g_nodes» (now (met .exit)) ⌝ }
+    requires { ⌜ Typed n (now meets) nodes (now g) (now map) × (length (now met) ≡ 255) ⌝ }
+    ensures { λ _. ⌜ Types n nodes (now (met .exit)) ⌝ }
+    ensures { λ _. ⌜ ((t : List ℕ) → MeetsHeld n t (now (meets .entry)) → Met n t nodes (now (g .entry)) (now (map .entry)) 0 (size (now (g .entry))) (now (met .exit))) ⌝ }
 {
-    clear((n - 1) as u8, s_nodes, met);
-    let mut y = g_nodes;
+    clear((n - 1) as u8, nodes, met);
+    let mut y = g[0] as usize;
     while 0 < y {
         y -= 1;
         let v = map[y] as usize;
-        let a = g_types[y] as usize;
+        let row = g[y + 1] as usize;
+        let a = g[row] as usize;
         let q = met[v] as usize;
         met[v] = meets[a][q];
     }
@@ -51,25 +51,22 @@ pub fn wanted_types<'a>(
     n: usize,
     table: &'a [u8],
     meets: &'a [[u8; 64]; 64],
-    s_nodes: usize,
-    s_types: &'a [u8],
-    g_nodes: usize,
-    g_types: &'a [u8],
-    map: &'a [u16],
+    g: &'a [u16],
+    s: &'a [u16],
+    map: &'a [u16; 255],
     types: &mut [u8; 255],
 )
-    requires { ⌜ Typed n (now table) (now meets) «s_nodes» «g_nodes» (now «g_types») (now map) ⌝ }
-    requires { ⌜ admits n (now table) ≡ true ⌝ }
-    requires { ⌜ («s_nodes» ≤ length (now «s_types»)) × ((v : ℕ) → v < «s_nodes» → getD (now «s_types») v 0 < n) ⌝ }
-    requires { ⌜ length (now types) ≡ 255 ⌝ }
-    ensures { λ _. ⌜ Wants n (now (table .entry)) (now («s_types» .entry)) «g_nodes» (now («g_types» .entry)) (now (map .entry)) «s_nodes» (now (types .exit)) ⌝ }
+    requires { ⌜ Asked n (now table) (now meets) (now g) (now s) (now map) × (length (now types) ≡ 255) ⌝ }
+    ensures { λ _. ⌜ Wants n (now (table .entry)) (now (s .entry)) (now (g .entry)) (now (map .entry)) (size (now (s .entry))) (now (types .exit)) ⌝ }
 {
+    let nodes = s[0] as usize;
     let mut met = [0u8; 255];
-    meet_over(n, table, meets, s_nodes, g_nodes, g_types, map, &mut met);
+    meet_over(n, meets, nodes, g, map, &mut met);
     let down = lattice::words::read_words(n, table);
     let mut v = 0;
-    while v < s_nodes {
-        let p = s_types[v] as usize;
+    while v < nodes {
+        let row = s[v + 1] as usize;
+        let p = s[row] as usize;
         let q = met[v] as usize;
         types[v] = lattice::differences::residual(n, &down, p, q);
         v += 1;

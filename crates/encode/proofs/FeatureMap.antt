@@ -18,7 +18,7 @@ use Rattle.graphs.specs.Rows.{from, target}
 use Rattle.graphs.specs.Number.{countSome}
 use Rattle.graphs.specs.Large.{Ascending}
 use Rattle.encode.specs.Encode.{bitsFrom}
-use Rattle.encode.specs.Encoding.{lowBytes}
+use Rattle.encode.specs.NumberedRows.{lowBytes}
 
 -- the sum of the powers of two at the features
 unfoldable pub mapOf : List ℕ → ℕ

@@ -1,8 +1,10 @@
 -- Laws of encoding.
 pub mod Stores
 pub mod FeatureMap
-pub mod Spans
-pub mod Encoding
-pub mod Writing
-pub mod Renumbering
+pub mod Links
+pub mod RowBytes
+pub mod Outcomes
 pub mod Lengths
+pub mod WrittenRows
+pub mod WrittenForm
+pub mod CopiedRows

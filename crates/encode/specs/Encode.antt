@@ -6,6 +6,7 @@ use lib.Dec.{leb}
 use lib.ListN.{length, drop}
 use Rattle.graphs.specs.Rows.{Row, from, target}
 use Rattle.graphs.specs.Number.{Canonical, manyNodes, manyLinks, written, countSome}
+use Rattle.lattice.specs.Label.{Label}
 use Rattle.encode.specs.declared.Written.{Written}
 use Rattle.encode.specs.declared.Written.the-variants as outcome
 
@@ -15,15 +16,15 @@ bitsFrom links f zero = 0
 bitsFrom links f (suc k) = countSome (target links f) + 2 * bitsFrom links (suc f) k
 
 -- "one type byte, 8 bytes of feature map .., then one target byte for each standing bit, lowest feature first"
-unfoldable pub encodedRow : Row ℕ → List ℕ
+unfoldable pub encodedRow : Row Label → List ℕ
 encodedRow r = r .0 ∷ map (λ k. bitsFrom (r .1) (8 * k) 8) (from 0 8) ++ map (λ l. l .1) (r .1)
 
-unfoldable pub encodedRows : List (Row ℕ) → List ℕ
+unfoldable pub encodedRows : List (Row Label) → List ℕ
 encodedRows [] = []
 encodedRows (r ∷ rs) = encodedRow r ++ encodedRows rs
 
 -- "Byte 0 is the node count"
-unfoldable pub encoded : List (Row ℕ) → List ℕ
+unfoldable pub encoded : List (Row Label) → List ℕ
 encoded rows = length rows ∷ encodedRows rows
 
 -- What is answered and what the output holds: "its first bytes are the record, the others unchanged"; on a refusal, unchanged.
@@ -39,7 +40,7 @@ fitted bytes old =
     (record { answer = outcome.NoRoom; output = old })
 
 -- "result over 255 nodes or 2,048 links" is 11, then 8
-unfoldable pub writtenOut : Canonical ℕ → List ℕ → Outcome
+unfoldable pub writtenOut : Canonical Label → List ℕ → Outcome
 writtenOut manyNodes old = record { answer = outcome.TooLarge; output = old }
 writtenOut manyLinks old = record { answer = outcome.TooLarge; output = old }
 writtenOut (written rows) old = fitted (encoded rows) old

@@ -1,4 +1,4 @@
 -- Definitions of encoding.
 pub mod Encode
-pub mod Encoding
-pub mod Renumber
+pub mod NumberedRows
+pub mod Copies

@@ -7,6 +7,7 @@ use Prim.Native.Nat.{ℕ}
 use lib.ListN.{take}
 use Rattle.graphs.specs.Graph.{Below}
 use Rattle.graphs.specs.Rows.{Row}
+use Rattle.lattice.specs.Label.{Label}
 use Rattle.lattice.specs.declared.Opened.the-variants.{Accepted}
 use Rattle.lattice.specs.Reply.{opened}
 use Rattle.lattice.specs.Labels.{typeLabels, OfAnySize}
@@ -23,8 +24,8 @@ use Rattle.engine.proofs.Demanded.Combination.{none-exact, exists, writ
 
 -- the records x and y are accepted, and x is below y
 pub record RecordBelow (n : ℕ) (t x y : List ℕ) : Type 0 where
-  pub lower : List (Row ℕ)
-  pub upper : List (Row ℕ)
+  pub lower : List (Row Label)
+  pub upper : List (Row Label)
   pub given : Given n t x y lower upper
   pub below : Below (typeLabels n t) (graphOfRows lower) (graphOfRows upper)
 
@@ -34,7 +35,7 @@ module _ (n : ℕ) (t x y : List ℕ) where
       let (s, g, given) = yes-given n t x y q in
       record { lower = s; upper = g; given = given; below = order-exact n t x y s g given .0 .0 q }
 
-  pub rows-below : (s g : List (Row ℕ)) → opened n t ≡ Accepted → reading n x ≡ accepted s → reading n y ≡ accepted g →
+  pub rows-below : (s g : List (Row Label)) → opened n t ≡ Accepted → reading n x ≡ accepted s → reading n y ≡ accepted g →
       Below (typeLabels n t) (graphOfRows s) (graphOfRows g) → RecordBelow n t x y
   rows-below s g opens i j below =
       record { lower = s; upper = g; given = record { opens = opens; first = i; second = j }; below = below }
@@ -44,7 +45,7 @@ module _ (n : ℕ) (t x y : List ℕ) where
     below-answer = order-exact n t x y (r .lower) (r .upper) (r .given) .0 .1 (r .below)
 
     -- whichever rows they are read as
-    pub below-paths : (s g : List (Row ℕ)) → reading n x ≡ accepted s → reading n y ≡ accepted g →
+    pub below-paths : (s g : List (Row Label)) → reading n x ≡ accepted s → reading n y ≡ accepted g →
         Below (typeLabels n t) (graphOfRows s) (graphOfRows g)
     below-paths s g i j =
         order-exact n t x y s g (record { opens = r .given .opens; first = i; second = j }) .0 .0 below-answer

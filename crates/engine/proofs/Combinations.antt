@@ -9,9 +9,10 @@ use native.Mathlib.Omega.{arith}
 use lib.Dec.{eqb}
 use lib.ListN.{length, getD}
 use Rattle.graphs.specs.Label.{Labels}
-use Rattle.graphs.specs.Graph.{Graph, Reached}
+use Rattle.graphs.specs.Graph.{Graph}
 use Rattle.graphs.specs.Rows.{Row, from}
 use Rattle.graphs.specs.Number.{canonical}
+use Rattle.lattice.specs.Label.{Label}
 use Rattle.graphs.specs.Unify.{
   anyOf,
   Unified,
@@ -28,7 +29,8 @@ use Rattle.graphs.specs.Unify.{
   unified,
   unification,
 }
-use Rattle.visits.specs.Arrays.{Compressed, graphOfRows, graphIn}
+use Rattle.layout.specs.Layout.{size, graphOfRows, graphIn}
+use Rattle.layout.proofs.Rows.{length-rows}
 use Rattle.lattice.specs.declared.TableFault.{TableFault}
 use Rattle.lattice.specs.declared.Opened.the-variants as opened
 use Rattle.lattice.specs.Table.{accepted, meet, cell, filled}
@@ -44,13 +46,14 @@ use Rattle.record.proofs.Accepted.{Rules}
 use Rattle.unify.specs.declared.Combined.{Combined}
 use Rattle.unify.specs.Lowered.{MeetsBelow}
 use Rattle.unify.specs.Outcome.{meetsOf, combinedOf, unifiedOut}
+use Rattle.unify.specs.Rows.{Operand}
 use Rattle.engine.specs.declared.Reply.{Reply}
 use Rattle.engine.specs.declared.Reply.the-variants.{Table}
 use Rattle.engine.specs.Reply.{replyOf, refusing, readBoth}
 use Rattle.engine.specs.Unification.{sameEither, combined, unifiedRows, unifying}
 use Rattle.engine.specs.Pair.{met, meeting, combinedReply}
 use Rattle.engine.proofs.Replies.{Gives, gives-as, table-refused, table-accepted}
-use Rattle.engine.proofs.Readings.{Accepts, SoundIn, accepts-types, accepts-reached, rows-in, both-next, both-same}
+use Rattle.engine.proofs.Readings.{Accepts, accepts-reached, accepts-recorded, both-next, both-same}
 use Rattle.engine.proofs.Tables.{label-known, meets-known}
 
 module _ (n : ℕ) (t : List ℕ) (ok : accepted n t ≡ true) (le : ℕ → ℕ → Bool) (meets joins : ℕ → ℕ → ℕ)
@@ -82,7 +85,7 @@ module _ (n : ℕ) (t : List ℕ) (ok : accepted n t ≡ true) (le : ℕ → ℕ
       go true a c (e, l) = (ap (meets (label x)) e ∙ are (label x) c (known x) l, meet-type (label x) c (known x) l)
       go false a c (e, l) = (e, l)
 
-  module _ {A B : Type 0} (sameA : A → A → Bool) (sameB : B → B → Bool) (g : Graph ℕ A) (gs : List A) (h : Graph ℕ B) (hs : List B)
+  module _ {A B : Type 0} (sameA : A → A → Bool) (sameB : B → B → Bool) (g : Graph Label A) (gs : List A) (h : Graph Label B) (hs : List B)
       (left : (v : A) → g .label v < n) (right : (w : B) → h .label w < n) where
     known-beside : (x : A ⊎ B) → labelBeside (g .label) (h .label) x < n
     known-beside (inl v) = left v
@@ -119,7 +122,7 @@ module _ (n : ℕ) (t : List ℕ) (ok : accepted n t ≡ true) (le : ℕ → ℕ
     unfolding unification
     same-unification =
         ap₂ (λ (b c : Bool). cond b cycle (cond c clash (unified (classGraph agreeing sameA sameB g gs h hs)))) same-cycle same-clash ∙
-        ap (λ (u : Graph ℕ (A ⊎ B)).
+        ap (λ (u : Graph Label (A ⊎ B)).
         cond (hasCycle (typeLabels n t) sameA sameB g gs h hs) cycle
         (cond (hasClash (typeLabels n t) sameA sameB g gs h hs) clash (unified u)))
         class-graph
@@ -131,7 +134,7 @@ written-reply (outcome.Length l) = refl
 written-reply outcome.TooLarge = refl
 written-reply outcome.NoRoom = refl
 
-combined-gives : (u : Unified ℕ (ℕ ⊎ ℕ)) (out : List ℕ) →
+combined-gives : (u : Unified Label (ℕ ⊎ ℕ)) (out : List ℕ) →
     Gives (combined u out) (combinedReply (unifiedOut u out .answer)) (unifiedOut u out .output)
 unfolding unifiedOut
 combined-gives cycle out = (refl, refl)
@@ -139,11 +142,11 @@ combined-gives clash out = (refl, refl)
 combined-gives (unified u) out = (written-reply (writtenOut (canonical sameEither u) out .answer), refl)
 
 -- the unification of two graphs by a table of meets
-abbrev byMeets : ℕ → List (List ℕ) → Compressed → Compressed → Unified ℕ (ℕ ⊎ ℕ)
-byMeets n meets g h = unification (meetsOf n meets) eqb eqb (graphIn g) (from 0 (g .nodes)) (graphIn h) (from 0 (h .nodes))
+abbrev byMeets : ℕ → List (List ℕ) → List ℕ → List ℕ → Unified Label (ℕ ⊎ ℕ)
+byMeets n meets g h = unification (meetsOf n meets) eqb eqb (graphIn g) (from 0 (size g)) (graphIn h) (from 0 (size h))
 
 -- the combination by a table of meets, written
-pub met-as : (n : ℕ) (a b out : List ℕ) (meets : List (List ℕ)) {g h : Compressed} → Accepts n a g × Accepts n b h →
+pub met-as : (n : ℕ) (a b out : List ℕ) (meets : List (List ℕ)) {g h : List ℕ} → Accepts n a g × Accepts n b h →
     {answer : Combined} {r : Reply} {new : List ℕ} → answer ≡ unifiedOut (byMeets n meets g h) out .answer →
     new ≡ unifiedOut (byMeets n meets g h) out .output → r ≡ combinedReply answer → Gives (meeting n meets a b out) r new
 unfolding met
@@ -152,50 +155,26 @@ met-as n a b out meets {g} {h} given answers leaves said =
     gives-as
     (both-next n a b (λ q. refusing q out) (met n meets out) given ∙
     ap₂ (λ (k l : ℕ). combined (unification (meetsOf n meets) eqb eqb (graphIn g) (from 0 k) (graphIn h) (from 0 l)) out)
-    (rows-in g) (rows-in h))
+    (length-rows g 0 (size g)) (length-rows h 0 (size h)))
     (said ∙ ap combinedReply answers ∙ replies, leaves ∙ left)
 
 -- What combining asks of two accepted graphs.
 
-pub ready-to-combine : {n : ℕ} {a b : List ℕ} (meets : List (List ℕ)) {g h : Compressed} →
-    ((0 < n) × (n ≤ 64)) × MeetsBelow n meets → Accepts n a g × Accepts n b h →
-    ((0 < n) × (n ≤ 64)) ×
-    (MeetsBelow n meets ×
-    (SoundIn g ×
-    (SoundIn h ×
-    (((g .nodes ≤ 255) × (h .nodes ≤ 255)) ×
-    (((v : ℕ) → v < g .nodes → getD (g .types) v 0 < n) ×
-    (((v : ℕ) → v < h .nodes → getD (h .types) v 0 < n) ×
-    (((v : ℕ) → v < g .nodes → Reached (graphIn g) v) ×
-    (((v : ℕ) → v < h .nodes → Reached (graphIn h) v) ×
-    ((getD (g .first) (g .nodes) 0 ≤ 2048) × (getD (h .first) (h .nodes) 0 ≤ 2048))))))))))
-ready-to-combine meets (types, below) (one, other) = (
-  types,
-  (
-    below,
-    (
-      one .sound,
-      (
-        other .sound,
-        (
-          (one .small, other .small),
-          (
-            accepts-types one,
-            (accepts-types other, (accepts-reached one, (accepts-reached other, (one .few, other .few)))),
-          ),
-        ),
-      ),
-    ),
-  ),
-)
+-- an accepted graph as an operand
+operand : {n : ℕ} {a g : List ℕ} → n ≤ 64 → Accepts n a g → Operand n g
+operand few given = record { recorded = accepts-recorded few given; labelled = given .typed; reached = accepts-reached given }
+
+pub ready-to-combine : {n : ℕ} {a b g h : List ℕ} (meets : List (List ℕ)) → ((0 < n) × (n ≤ 64)) × MeetsBelow n meets →
+    Accepts n a g × Accepts n b h → ((0 < n) × (n ≤ 64)) × (MeetsBelow n meets × (Operand n g × Operand n h))
+ready-to-combine meets (types, below) (one, other) = (types, (below, (operand (types .1) one, operand (types .1) other)))
 
 module _ (n : ℕ) (t : List ℕ) (rows : List (List ℕ)) {meets : List (List ℕ)} (ok : accepted n t ≡ true) (long : length rows ≡ 64)
     (filling : meets ≡ filled n t (meet n t) rows) where
   -- the combination by the filled meets is that by the table's types
-  met-unified : (out : List ℕ) (g h : List (Row ℕ)) → Rules n g → Rules n h → met n meets out g h ≡ unifiedRows n t out g h
+  met-unified : (out : List ℕ) (g h : List (Row Label)) → Rules n g → Rules n h → met n meets out g h ≡ unifiedRows n t out g h
   unfolding met unifiedRows
   met-unified out g h left right =
-      ap (λ (u : Unified ℕ (ℕ ⊎ ℕ)). combined u out)
+      ap (λ (u : Unified Label (ℕ ⊎ ℕ)). combined u out)
       (same-unification n t ok eqb (meetsOf n meets .meet) (meetsOf n meets .join)
       (λ i j l s. meets-known n t rows ok long filling i j l s .0) eqb eqb (graphOfRows g) (from 0 (length g)) (graphOfRows h)
       (from 0 (length h)) (label-known (zero-type n t ok) left) (label-known (zero-type n t ok) right))

@@ -7,7 +7,8 @@ use lib.ListN.{length}
 use Rattle.graphs.specs.Rows.{Row}
 use Rattle.graphs.specs.Number.{Canonical, canonical}
 use Rattle.graphs.specs.Generalize.{generalization}
-use Rattle.visits.specs.Arrays.{Compressed, graphOfRows, graphIn}
+use Rattle.lattice.specs.Label.{Label}
+use Rattle.layout.specs.Layout.{graphOfRows, graphIn}
 use Rattle.lattice.specs.declared.TableFault.{TableFault}
 use Rattle.lattice.specs.declared.Opened.the-variants as opened
 use Rattle.lattice.specs.Table.{accepted, join, filled}
@@ -30,7 +31,7 @@ use Rattle.engine.proofs.Readings.{Accepts, both-next, both-same}
 use Rattle.engine.proofs.Tables.{label-known, joins-known, canonical-same}
 
 -- the common part by a table of joins, written
-pub joined-as : (n : ℕ) (a b out : List ℕ) (joins : List (List ℕ)) {g h : Compressed} → Accepts n a g × Accepts n b h →
+pub joined-as : (n : ℕ) (a b out : List ℕ) (joins : List (List ℕ)) {g h : List ℕ} → Accepts n a g × Accepts n b h →
     {w : Written} {r : Reply} {new : List ℕ} →
     w ≡ writtenOut (canonical samePair (generalization (joinsOf joins) (graphIn g) (graphIn h))) out .answer →
     new ≡ writtenOut (canonical samePair (generalization (joinsOf joins) (graphIn g) (graphIn h))) out .output →
@@ -42,10 +43,10 @@ joined-as n a b out joins given answers leaves said =
 module _ (n : ℕ) (t : List ℕ) (rows : List (List ℕ)) {joins : List (List ℕ)} (ok : accepted n t ≡ true) (long : length rows ≡ 64)
     (filling : joins ≡ filled n t (join n t) rows) where
   -- the common part by the filled joins is that by the table's types
-  joined-generalized : (out : List ℕ) (g h : List (Row ℕ)) → Rules n g → Rules n h → joined joins out g h ≡ generalized n t out g h
+  joined-generalized : (out : List ℕ) (g h : List (Row Label)) → Rules n g → Rules n h → joined joins out g h ≡ generalized n t out g h
   unfolding joined generalized generalization
   joined-generalized out g h left right =
-      ap (λ (c : Canonical ℕ). resultOf (writtenOut c out))
+      ap (λ (c : Canonical Label). resultOf (writtenOut c out))
       (canonical-same tells-pair (generalization (joinsOf joins) (graphOfRows g) (graphOfRows h))
       (generalization (typeLabels n t) (graphOfRows g) (graphOfRows h)) refl
       (λ x. joins-known n t rows ok long filling _ _ (label-known (zero-type n t ok) left (x .0)) (label-known (zero-type n t ok) right (x .1)))

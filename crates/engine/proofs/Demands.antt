@@ -11,6 +11,7 @@ use lib.ListN.{take}
 use Rattle.graphs.specs.Graph.{Graph, Tells, Below, SameMeaning}
 use Rattle.graphs.specs.Rows.{Row}
 use Rattle.graphs.specs.Unify as unify
+use Rattle.lattice.specs.Label.{Label}
 use Rattle.lattice.specs.declared.Opened.the-variants.{Accepted}
 use Rattle.lattice.specs.Table.{admits}
 use Rattle.lattice.specs.Reply.{opened}
@@ -74,7 +75,7 @@ module _ (n : ℕ) (t out : List ℕ) where
 -- Demand 2: bytes and meaning.
 
 -- Rewriting an accepted record gives 8 and a length exactly where they are due.
-module _ (n : ℕ) (t a : List ℕ) (rows : List (Row ℕ)) (opens : opened n t ≡ Accepted) (reads : reading n a ≡ accepted rows) (out : List ℕ) where
+module _ (n : ℕ) (t a : List ℕ) (rows : List (Row Label)) (opens : opened n t ≡ Accepted) (reads : reading n a ≡ accepted rows) (out : List ℕ) where
   pub rewriting-written : Writes n t eqb (graphOfRows rows) out (rewriting n t a out)
   rewriting-written = Meaning.rewriting-writes n t a rows opens reads out
 
@@ -82,7 +83,7 @@ module _ (n : ℕ) (t a : List ℕ) (rows : List (Row ℕ)) (opens : opened n t 
   pub rewriting-means : (l : ℕ) → rewriting n t a out .reply ≡ Length l → Rewritten n t a rows (take l (rewriting n t a out .output))
   rewriting-means = Meaning.written-again n t a rows opens reads out
 
-module _ (n : ℕ) (t a b : List ℕ) (s g : List (Row ℕ)) (given : Given n t a b s g) where
+module _ (n : ℕ) (t a b : List ℕ) (s g : List (Row Label)) (given : Given n t a b s g) where
   -- Two accepted records mean the same exactly when rewriting gives equal bytes,
   pub meaning-bytes : (out : List ℕ) (l m : ℕ) → rewriting n t a out .reply ≡ Length l → rewriting n t b out .reply ≡ Length m →
       SameMeaning (typeLabels n t) (graphOfRows s) (graphOfRows g) ↔
@@ -100,14 +101,14 @@ module _ (n : ℕ) (t a b : List ℕ) (s g : List (Row ℕ)) (given : Given n t 
 
 -- Demand 3, the order: yes exactly where the first graph is below the second, and no exactly where it is not.
 
-module _ (n : ℕ) (t a b : List ℕ) (s g : List (Row ℕ)) (given : Given n t a b s g) where
+module _ (n : ℕ) (t a b : List ℕ) (s g : List (Row Label)) (given : Given n t a b s g) where
   pub order-exact : ((ordering n t a b ≡ Yes) ↔ Below (typeLabels n t) (graphOfRows s) (graphOfRows g)) ×
       ((ordering n t a b ≡ No) ↔ (Below (typeLabels n t) (graphOfRows s) (graphOfRows g) → ⊥))
   order-exact = Order.order-exact n t a b s g given
 
 -- Demand 3, the common part.
 
-module _ (n : ℕ) (t a b : List ℕ) (g h : List (Row ℕ)) (given : Given n t a b g h) where
+module _ (n : ℕ) (t a b : List ℕ) (g h : List (Row Label)) (given : Given n t a b g h) where
   -- There always is a least graph of any size above both: the common part, also where it is too large to be written.
   pub common-part-exists : LeastOfAnySize n t (graphOfRows g) (graphOfRows h) (common n t g h)
   common-part-exists = Common.common-part-exists n t a b g h given
@@ -125,12 +126,12 @@ module _ (n : ℕ) (t a b : List ℕ) (g h : List (Row ℕ)) (given : Given n t 
 
 -- "Order and combination of such graphs go by the same rules, over paths": of graphs of any size, what the classes of paths give is the
 -- greatest graph of any size below both.
-pub combination-over-paths : (n : ℕ) (t : List ℕ) → opened n t ≡ Accepted → {A B C : Type 0} (g : Graph ℕ A) (h : Graph ℕ B) (u : Graph ℕ C) →
+pub combination-over-paths : (n : ℕ) (t : List ℕ) → opened n t ≡ Accepted → {A B C : Type 0} (g : Graph Label A) (h : Graph Label B) (u : Graph Label C) →
     OfAnySize n t g → OfAnySize n t h → OfAnySize n t u → IsCombination n t g h u → GreatestOfAnySize n t g h u
 combination-over-paths n t opens g h u a b =
     combination-greatest n t (opened-accepted n t (opened n t) refl opens) g h a b u
 
-module _ (n : ℕ) (t a b : List ℕ) (g h : List (Row ℕ)) (given : Given n t a b g h) (out : List ℕ) where
+module _ (n : ℕ) (t a b : List ℕ) (g h : List (Row Label)) (given : Given n t a b g h) (out : List ℕ) where
   -- 9 exactly where a class reaches itself,
   pub combination-cycle : (unifying n t a b out .reply ≡ Cycle) ↔ unify.Cycle (typeLabels n t) (graphOfRows g) (graphOfRows h)
   combination-cycle = Combined.cycle-exact n t a b g h given out
@@ -146,11 +147,11 @@ module _ (n : ℕ) (t a b : List ℕ) (g h : List (Row ℕ)) (given : Given n t 
 
   -- Else the classes of paths give a graph, the greatest of any size below both, also where it is too large to be written.
   pub combination-exists : ((unifying n t a b out .reply ≡ Cycle) ⊎ (unifying n t a b out .reply ≡ Clash) → ⊥) →
-      (u : Graph ℕ (ℕ ⊎ ℕ)) × IsCombination n t (graphOfRows g) (graphOfRows h) u × GreatestOfAnySize n t (graphOfRows g) (graphOfRows h) u
+      (u : Graph Label (ℕ ⊎ ℕ)) × IsCombination n t (graphOfRows g) (graphOfRows h) u × GreatestOfAnySize n t (graphOfRows g) (graphOfRows h) u
   combination-exists = Combined.exists n t a b g h given out
 
   -- Of whatever such graph, the call refuses by 11 and 8 exactly where they are due; else it writes it.
-  pub combination-written : {C : Type 0} (same : C → C → Bool) → Tells same → (u : Graph ℕ C) →
+  pub combination-written : {C : Type 0} (same : C → C → Bool) → Tells same → (u : Graph Label C) →
       GreatestOfAnySize n t (graphOfRows g) (graphOfRows h) u → Writes n t same u out (unifying n t a b out)
   combination-written same tells u best = Combined.greatest-writes n t a b g h given out same tells u best
 
@@ -160,7 +161,7 @@ module _ (n : ℕ) (t a b : List ℕ) (g h : List (Row ℕ)) (given : Given n t 
 
 -- Demand 3, the difference of a, the general record, and b, the specific one.
 
-module _ (n : ℕ) (t a b : List ℕ) (g s : List (Row ℕ)) (given : Given n t a b g s) where
+module _ (n : ℕ) (t a b : List ℕ) (g s : List (Row Label)) (given : Given n t a b g s) where
   -- Where the table admits differences and s is below g, the difference restores s with g and nothing more general does.
   pub difference-restores : admits n t ≡ true → Below (typeLabels n t) (graphOfRows s) (graphOfRows g) →
       Restores n t (remainder n t g s) (graphOfRows g) (graphOfRows s)

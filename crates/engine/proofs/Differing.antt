@@ -2,7 +2,7 @@
 -- reads, and the difference along the order's node map is the difference.
 use mathlib.Core.Path.{_≡_, refl, sym, _∙_, ap, subst}
 use mathlib.Core.Bool.{Bool, true, false, cond}
-use mathlib.Core.List.{List, []}
+use mathlib.Core.List.{List, [], List·Memᴰ}
 use Prim.Native.Nat.{ℕ, _≤_, _<_}
 use native.Mathlib.Omega.{arith}
 use lib.Dec.{eqb}
@@ -16,15 +16,18 @@ use Rattle.graphs.specs.Difference.{byNumber}
 use Rattle.graphs.proofs.Lists.{from-range, tells-eqb}
 use Rattle.graphs.proofs.Below.{map-below}
 use Rattle.graphs.proofs.Difference.Agree.{meetOver-agree, difference-agree}
-use Rattle.visits.specs.Arrays.{Compressed, lent, graphOfRows, rowsIn, graphIn}
+use Rattle.lattice.specs.Label.{Label}
+use Rattle.layout.specs.Layout.{size, labelAt, linksAt, graphOfRows, rowsOf, graphIn}
+use Rattle.layout.proofs.Rows.{rows-member}
 use Rattle.lattice.specs.declared.TableFault.{TableFault}
 use Rattle.lattice.specs.declared.Opened.the-variants as opened
 use Rattle.lattice.specs.Table as types
 use Rattle.lattice.specs.Reply as table
 use Rattle.lattice.specs.Labels.{typeLabels}
+use Rattle.lattice.proofs.Laws.{accepted-size}
 use Rattle.encode.specs.declared.Written.{Written}
 use Rattle.encode.specs.Encode.{encoded, writtenOut}
-use Rattle.encode.specs.Renumber.{Renumbers}
+use Rattle.encode.specs.Copies.{Renumbers}
 use Rattle.record.specs.Read.{reading}
 use Rattle.record.proofs.Accepted.{Rules, accepted-rules, rules-of-any-size, rules-fit}
 use Rattle.record.proofs.Rewritten.{form-rules, rules-read}
@@ -32,60 +35,67 @@ use Rattle.subsume.specs.declared.Order.{Order}
 use Rattle.subsume.specs.declared.Order.the-variants as order
 use Rattle.subsume.specs.Promise.{Orders}
 use Rattle.difference.specs.Promise.{wantedType, differenceOf}
-use Rattle.difference.specs.Wanted.{MeetsHeld}
+use Rattle.difference.specs.Asked.{Asked}
 use Rattle.engine.specs.declared.Reply.{Reply}
 use Rattle.engine.specs.declared.Reply.the-variants.{Table, NotBelow, NotAdmitted}
 use Rattle.engine.specs.Reply.{Result, resultOf, replyOf, refusing, readBoth}
 use Rattle.engine.specs.Difference.{over, wanted, differenceRows, differed, numbered, differedRows, differing}
-use Rattle.engine.specs.Renumbering.{Acceptable}
-use Rattle.engine.proofs.Readings.{SoundIn, Accepts, accepts-rules, accepts-types, accepts-reached, both-next}
+use Rattle.engine.specs.Renumbering.{Acceptable, Loaded, Comparable}
+use Rattle.engine.proofs.Readings.{Accepts, accepts-rules, accepts-reached, accepts-recorded, both-next}
 use Rattle.engine.proofs.Replies.{Gives, gives-as, table-refused, table-accepted}
 use Rattle.engine.proofs.Orders.{order-test}
 use Rattle.engine.proofs.Over.{over-only}
 
--- the rows of an accepted record are acceptable
-pub accepts-acceptable : {n : ℕ} {bytes : List ℕ} {g : Compressed} → Accepts n bytes g → Acceptable n (rowsIn g)
-accepts-acceptable {n} {g = g} given = rules-read n (rowsIn g) (accepts-rules given)
+-- an accepted record's words hold acceptable rows
+pub accepts-loaded : {n : ℕ} {bytes ws : List ℕ} → Accepts n bytes ws → Loaded n ws
+accepts-loaded {n} {ws = ws} given =
+    record {
+      acceptable = rules-read n (rowsOf ws) (accepts-rules given);
+      sound = given .sound;
+      small = given .small;
+      typed = given .typed;
+    }
 
--- and graphs with acceptable rows are accepted
-pub both-acceptable : (n : ℕ) (g s : Compressed) {R : Type 0} →
-    SoundIn g ×
-    (SoundIn s ×
-    (((g .nodes ≤ 255) × (s .nodes ≤ 255)) ×
-    (Acceptable n (rowsIn g) ×
-    (Acceptable n (rowsIn s) × (((getD (g .first) (g .nodes) 0 ≤ 2048) × (getD (s .first) (s .nodes) 0 ≤ 2048)) × R))))) →
-    Accepts n (encoded (rowsIn g)) g × Accepts n (encoded (rowsIn s)) s
-both-acceptable n g s (one, (other, (small, (is, (too, (few, _)))))) = (
-  record { is = is; small = small .0; sound = one; few = few .0 },
-  record { is = too; small = small .1; sound = other; few = few .1 },
-)
+-- and such words are those of an accepted record
+pub loaded-accepts : {n : ℕ} {ws : List ℕ} → Loaded n ws → Accepts n (encoded (rowsOf ws)) ws
+loaded-accepts given = record { is = given .acceptable; sound = given .sound; small = given .small; typed = given .typed }
 
 -- Renumbering.
 
--- the arrays hold the rows of the written form, whose record is accepted
-pub record Renumbered (n : ℕ) (rows : List (Row ℕ)) (g : Compressed) : Type 0 where
-  pub acceptable : Acceptable n (rowsIn g)
-  pub rows-are : rowsIn g ≡ numbered (canonical eqb (graphOfRows rows))
-  pub small : g .nodes ≤ 255
-  pub sound : SoundIn g
+-- the words hold the rows of the written form, whose record is accepted
+pub record Renumbered (n : ℕ) (rows : List (Row Label)) (ws : List ℕ) : Type 0 where
+  pub loaded : Loaded n ws
+  pub rows-are : rowsOf ws ≡ numbered (canonical eqb (graphOfRows rows))
 
-pub renumbered : (n : ℕ) (g : Compressed) → Acceptable n (rowsIn g) → {count : ℕ} {types first features targets : List ℕ} →
-    Renumbers (canonical eqb (graphIn g)) count types first features targets → Renumbered n (rowsIn g) (lent count types first features targets)
-renumbered n g given holds =
-    let rules = accepted-rules n (encoded (rowsIn g)) (rowsIn g) given in
-    let (form, fits) = rules-fit n (rowsIn g) rules in
+-- the labels of words that hold rows are types
+rows-typed : {n : ℕ} {form : List (Row Label)} (ws : List ℕ) → Rules n form → rowsOf ws ≡ form → (v : ℕ) → v < size ws → labelAt ws v < n
+rows-typed ws rules same v h =
+    rules .ranged (labelAt ws v, linksAt ws v)
+    (subst (λ (rs : List (Row Label)). List·Memᴰ {A = Row Label} (labelAt ws v, linksAt ws v) rs) same
+    (rows-member ws (size ws) 0 v v (omega arith) h)) .1
+
+pub renumbered : (n : ℕ) (g : List ℕ) → Loaded n g → {answer : Bool} {ws : List ℕ} →
+    Renumbers (canonical eqb (graphIn g)) answer ws → Renumbered n (rowsOf g) ws
+renumbered n g given {ws = ws} holds =
+    let rules = accepted-rules n (encoded (rowsOf g)) (rowsOf g) (given .acceptable) in
+    let (form, fits) = rules-fit n (rowsOf g) rules in
     let is : Acceptable n form =
-    rules-read n form (form-rules n [] eqb tells-eqb (graphIn g) (rules-of-any-size n (rowsIn g) rules []) form fits) in
+    rules-read n form (form-rules n [] eqb tells-eqb (graphIn g) (rules-of-any-size n (rowsOf g) rules []) form fits) in
+    let same = holds .rows-are form fits in
     record {
-      acceptable = subst (Acceptable n) (sym (holds .rows-are form fits)) is;
-      rows-are = holds .rows-are form fits ∙ sym (ap numbered fits);
-      small = holds .small form fits;
-      sound = holds .sound form fits;
+      loaded =
+          record {
+            acceptable = subst (Acceptable n) (sym same) is;
+            sound = holds .sound form fits;
+            small = holds .small form fits;
+            typed = λ v h. rows-typed ws (accepted-rules n (encoded form) form is) same v h;
+          };
+      rows-are = same ∙ sym (ap numbered fits);
     }
 
 -- The difference along a node map.
 
-module _ (n : ℕ) (t : List ℕ) (s g : List (Row ℕ)) (map : List ℕ) (general : Rules n g)
+module _ (n : ℕ) (t : List ℕ) (s g : List (Row Label)) (map : List ℕ) (general : Rules n g)
     (along : NodeMap (typeLabels n t) (graphOfRows s) (graphOfRows g) (λ y. getD map y 0)) where
   lies : (y : ℕ) → y < length g → getD map y 0 ≡ over s g y
   lies y h = sym (over-only n t g s general (map-below along) (λ y. getD map y 0) along y h)
@@ -101,79 +111,65 @@ module _ (n : ℕ) (t : List ℕ) (s g : List (Row ℕ)) (map : List ℕ) (gener
       (λ y m. lies y (omega (arith, from-range 0 (length g) y m))) v))
 
 -- what the difference asks
-pub ready-below : (n : ℕ) (t : List ℕ) {a b : List ℕ} {g s : Compressed} (meets : List (List ℕ)) {answer : Order} {map : List ℕ} {R : Type 0} →
-    Accepts n a g → Accepts n b s → (types.accepted n t ≡ true) × (types.admits n t ≡ true) × MeetsHeld n t meets →
-    Orders n t (rowsIn s) (rowsIn g) answer map → answer ≡ order.Below → length map ≡ 255 → R →
-    ((types.accepted n t ≡ true) × (types.admits n t ≡ true) × MeetsHeld n t meets) ×
-    (SoundIn g ×
-    (SoundIn s ×
-    (((g .nodes ≤ 255) × (s .nodes ≤ 255) × (getD (s .first) (s .nodes) 0 ≤ 2048) × (length map ≡ 255)) ×
-    (((y : ℕ) → y < g .nodes → getD (g .types) y 0 < n) ×
-    (((v : ℕ) → v < s .nodes → getD (s .types) v 0 < n) ×
-    (((y : ℕ) → y < g .nodes → Reached (graphIn g) y) ×
-    (((v : ℕ) → v < s .nodes → Reached (graphIn s) v) ×
-    (AnySize (typeLabels n t) (graphIn s) × (NodeMap (typeLabels n t) (graphIn s) (graphIn g) (λ y. getD map y 0) × R)))))))))
-ready-below n t {s = s} meets one other opens orders below long room = (
-  opens,
-  (
-    one .sound,
-    (
-      other .sound,
-      (
-        (one .small, other .small, other .few, long),
-        (
-          accepts-types one,
-          (
-            accepts-types other,
-            (
-              accepts-reached one,
-              (accepts-reached other, (rules-of-any-size n (rowsIn s) (accepts-rules other) t .any-size, (orders .yes-stands below, room))),
-            ),
-          ),
-        ),
-      ),
-    ),
-  ),
-)
+pub ready-below : (n : ℕ) (t : List ℕ) (meets : List (List ℕ)) (g s : List ℕ) {answer : Order} {map : List ℕ} →
+    Comparable n t meets g s → Orders n t (rowsOf s) (rowsOf g) answer map → answer ≡ order.Below → Asked n t meets g s map
+ready-below n t meets g s given orders below =
+    let few = accepted-size n t (given .accepts) .1 in
+    let one = loaded-accepts (given .general) in
+    let other = loaded-accepts (given .specific) in
+    record {
+      ok = given .accepts;
+      differs = given .admits;
+      held = given .met;
+      upper = accepts-recorded few one;
+      lower = accepts-recorded few other;
+      short = given .short;
+      upper-typed = one .typed;
+      lower-typed = other .typed;
+      upper-reached = accepts-reached one;
+      lower-reached = accepts-reached other;
+      any-size = rules-of-any-size n (rowsOf s) (accepts-rules other) t .any-size;
+      lies = orders .yes-stands below;
+    }
 
-module _ (n : ℕ) (t out : List ℕ) {a : List ℕ} (g s : Compressed) (given : Accepts n a g) {answer : Order} {map : List ℕ}
-    (orders : Orders n t (rowsIn s) (rowsIn g) answer map) where
+module _ (n : ℕ) (t out : List ℕ) {a : List ℕ} (g s : List ℕ) (given : Accepts n a g) {answer : Order} {map : List ℕ}
+    (orders : Orders n t (rowsOf s) (rowsOf g) answer map) where
   abbrev below : Bool
-  below = subsumes (typeLabels n t) eqb eqb (graphIn s) (graphIn g) (length (rowsIn g))
+  below = subsumes (typeLabels n t) eqb eqb (graphIn s) (graphIn g) (length (rowsOf g))
 
   abbrev chosen : Bool → Result
-  chosen b = cond b (resultOf (writtenOut (canonical eqb (differenceRows n t (rowsIn g) (rowsIn s))) out)) (refusing NotBelow out)
+  chosen b = cond b (resultOf (writtenOut (canonical eqb (differenceRows n t (rowsOf g) (rowsOf s))) out)) (refusing NotBelow out)
 
   -- 12
-  pub differed-refused : answer ≡ order.NotBelow → Gives (differed n t out (rowsIn g) (rowsIn s)) NotBelow out
+  pub differed-refused : answer ≡ order.NotBelow → Gives (differed n t out (rowsOf g) (rowsOf s)) NotBelow out
   unfolding differed
   differed-refused e = gives-as (ap chosen (go below refl)) (refl, refl)
     where
       go : (b : Bool) → below ≡ b → b ≡ false
       go false q = refl
-      go true q = absurd (orders .no-stands e (order-test n t (rowsIn s) (rowsIn g) (accepts-rules given) .0 q))
+      go true q = absurd (orders .no-stands e (order-test n t (rowsOf s) (rowsOf g) (accepts-rules given) .0 q))
 
   pub differed-as : answer ≡ order.Below → {w : Written} {r : Reply} {new : List ℕ} →
-      w ≡ writtenOut (canonical eqb (differenceOf n t (rowsIn s) (rowsIn g) map)) out .answer →
-      new ≡ writtenOut (canonical eqb (differenceOf n t (rowsIn s) (rowsIn g) map)) out .output →
-      r ≡ replyOf w → Gives (differed n t out (rowsIn g) (rowsIn s)) r new
+      w ≡ writtenOut (canonical eqb (differenceOf n t (rowsOf s) (rowsOf g) map)) out .answer →
+      new ≡ writtenOut (canonical eqb (differenceOf n t (rowsOf s) (rowsOf g) map)) out .output →
+      r ≡ replyOf w → Gives (differed n t out (rowsOf g) (rowsOf s)) r new
   unfolding differed
   differed-as e answers leaves said =
       gives-as
-      (ap chosen (order-test n t (rowsIn s) (rowsIn g) (accepts-rules given) .1 (map-below (orders .yes-stands e))) ∙
+      (ap chosen (order-test n t (rowsOf s) (rowsOf g) (accepts-rules given) .1 (map-below (orders .yes-stands e))) ∙
       sym
       (ap (λ k. resultOf (writtenOut (canonical eqb k) out))
-      (difference-along n t (rowsIn s) (rowsIn g) map (accepts-rules given) (orders .yes-stands e))))
+      (difference-along n t (rowsOf s) (rowsOf g) map (accepts-rules given) (orders .yes-stands e))))
       (said ∙ ap replyOf answers, leaves)
 
 -- Over an accepted table.
 
-module _ (n : ℕ) (t a b out : List ℕ) {g s : Compressed} (given : Accepts n a g × Accepts n b s) where
+module _ (n : ℕ) (t a b out : List ℕ) {g s : List ℕ} (given : Accepts n a g × Accepts n b s) where
   abbrev replied : Result
   replied = readBoth (λ r. refusing r out) (reading n a) (reading n b) (differedRows n t out)
 
-  abbrev picked : Bool → List (Row ℕ) → Result
-  picked admitted rows = cond admitted (differed n t out (rowsIn g) rows) (refusing NotAdmitted out)
+  abbrev picked : Bool → List (Row Label) → Result
+  picked admitted rows = cond admitted (differed n t out (rowsOf g) rows) (refusing NotAdmitted out)
 
   -- 13
   pub not-admitted : types.admits n t ≡ false → Gives replied NotAdmitted out
@@ -184,8 +180,8 @@ module _ (n : ℕ) (t a b out : List ℕ) {g s : Compressed} (given : Accepts n 
       ap (λ (c : Bool). picked c (numbered (canonical eqb (graphIn s)))) e)
       (refl, refl)
 
-  pub replies-difference : types.admits n t ≡ true → {h : Compressed} → Renumbered n (rowsIn s) h → {r : Reply} {new : List ℕ} →
-      Gives (differed n t out (rowsIn g) (rowsIn h)) r new → Gives replied r new
+  pub replies-difference : types.admits n t ≡ true → {h : List ℕ} → Renumbered n (rowsOf s) h → {r : Reply} {new : List ℕ} →
+      Gives (differed n t out (rowsOf g) (rowsOf h)) r new → Gives replied r new
   unfolding differedRows
   replies-difference e {h} numbers =
       gives-as

@@ -16,7 +16,8 @@ use Rattle.graphs.proofs.Lists.{tells-eqb}
 use Rattle.graphs.proofs.Below.{map-below}
 use Rattle.graphs.proofs.Finite.{short-paths}
 use Rattle.graphs.proofs.Order.{subsumes-exact}
-use Rattle.visits.specs.Arrays.{Compressed, graphOfRows, rowsIn}
+use Rattle.lattice.specs.Label.{Label}
+use Rattle.layout.specs.Layout.{graphOfRows, rowsOf}
 use Rattle.lattice.specs.declared.TableFault.{TableFault}
 use Rattle.lattice.specs.declared.Opened.the-variants as opened
 use Rattle.lattice.specs.Reply as table
@@ -33,7 +34,7 @@ use Rattle.engine.specs.Reply.{readBoth, ordered, ordering}
 use Rattle.engine.proofs.Readings.{Accepts, accepts-rules, both-next}
 use Rattle.engine.proofs.Replies.{table-refused, table-accepted}
 
-module _ (n : ℕ) (t : List ℕ) (s g : List (Row ℕ)) (rules : Rules n g) where
+module _ (n : ℕ) (t : List ℕ) (s g : List (Row Label)) (rules : Rules n g) where
   -- a walk is shorter than the rows
   pub short : (p : List ℕ) (v : ℕ) → walk (graphOfRows g) p ≡ some v → length p < length g
   short p v e =
@@ -64,15 +65,15 @@ module _ (n : ℕ) (t : List ℕ) (s g : List (Row ℕ)) (rules : Rules n g) whe
         go true q = absurd (orders .no-stands e (order-test .0 q))
 
 -- over an accepted table: yes and no
-module _ (n : ℕ) (t a b : List ℕ) {s g : Compressed} (given : Accepts n a s × Accepts n b g) {answer : Order} {map : List ℕ}
-    (orders : Orders n t (rowsIn s) (rowsIn g) answer map) where
+module _ (n : ℕ) (t a b : List ℕ) {s g : List ℕ} (given : Accepts n a s × Accepts n b g) {answer : Order} {map : List ℕ}
+    (orders : Orders n t (rowsOf s) (rowsOf g) answer map) where
   pub replies-yes : answer ≡ order.Below → Yes ≡ readBoth (λ r. r) (reading n a) (reading n b) (ordered n t)
   replies-yes e =
-      ordered-yes n t (rowsIn s) (rowsIn g) (accepts-rules (given .1)) orders e ∙ sym (both-next n a b (λ r. r) (ordered n t) given)
+      ordered-yes n t (rowsOf s) (rowsOf g) (accepts-rules (given .1)) orders e ∙ sym (both-next n a b (λ r. r) (ordered n t) given)
 
   pub replies-no : answer ≡ order.NotBelow → No ≡ readBoth (λ r. r) (reading n a) (reading n b) (ordered n t)
   replies-no e =
-      ordered-no n t (rowsIn s) (rowsIn g) (accepts-rules (given .1)) orders e ∙ sym (both-next n a b (λ r. r) (ordered n t) given)
+      ordered-no n t (rowsOf s) (rowsOf g) (accepts-rules (given .1)) orders e ∙ sym (both-next n a b (λ r. r) (ordered n t) given)
 
 module _ (n : ℕ) (t a b : List ℕ) where
   pub ordering-refused : (fault : TableFault) → table.opened n t ≡ opened.Refused fault → Table fault ≡ ordering n t a b

@@ -18,6 +18,7 @@ use Rattle.graphs.proofs.Lists.{tells-eqb}
 use Rattle.graphs.proofs.Search.{true-false}
 use Rattle.graphs.proofs.Below.{walk-map, carries-map}
 use Rattle.graphs.proofs.Order.{listed-together, together-listed}
+use Rattle.lattice.specs.Label.{Label}
 use Rattle.lattice.specs.Labels.{typeLabels}
 use Rattle.record.specs.Read.{graphOfRows}
 use Rattle.record.proofs.Accepted.{Rules, rules-of-any-size}
@@ -38,7 +39,7 @@ first-listed y (z ∷ xs) x m = go (eqb (z .1) y) refl (first-listed y xs x)
         (λ (q : _≡_ {A = ℕ × ℕ} (x, y) z). true-false (eq-eqb (z .1) y (sym (ap (λ (i : ℕ × ℕ). i .1) q))) e)
         (λ i. List·Memᴰ·tail (later i)) (List·Memᴰ·cases-cons m)
 
-module _ (n : ℕ) (t : List ℕ) (g s : List (Row ℕ)) (general : Rules n g)
+module _ (n : ℕ) (t : List ℕ) (g s : List (Row Label)) (general : Rules n g)
     (below : Below (typeLabels n t) (graphOfRows s) (graphOfRows g)) where
   -- "Each path of g leads to one node of s"
   over-carries : (p : List ℕ) (y : ℕ) → walk (graphOfRows g) p ≡ some y → walk (graphOfRows s) p ≡ some (over s g y)

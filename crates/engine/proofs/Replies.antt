@@ -5,7 +5,8 @@ use Prim.Native.Nat.{ℕ}
 use lib.Dec.{eqb}
 use Rattle.graphs.specs.Rows.{Row}
 use Rattle.graphs.specs.Number.{canonical}
-use Rattle.visits.specs.Arrays.{Compressed, graphIn}
+use Rattle.lattice.specs.Label.{Label}
+use Rattle.layout.specs.Layout.{graphIn}
 use Rattle.lattice.specs.declared.TableFault.{TableFault}
 use Rattle.lattice.specs.declared.Opened.{Opened}
 use Rattle.lattice.specs.declared.Opened.the-variants as opened
@@ -13,10 +14,10 @@ use Rattle.lattice.specs.Reply as table
 use Rattle.encode.specs.declared.Written.{Written}
 use Rattle.encode.specs.Encode.{writtenOut}
 use Rattle.record.specs.declared.GraphFault.{GraphFault}
-use Rattle.record.specs.declared.Verdict.{Verdict}
-use Rattle.record.specs.declared.Verdict.the-variants.{Refused}
+use Rattle.record.specs.declared.reading.Verdict.{Verdict}
+use Rattle.record.specs.declared.reading.Verdict.the-variants.{Refused}
 use Rattle.record.specs.Read.{Reading, reading}
-use Rattle.record.specs.Promise.{Reads}
+use Rattle.record.specs.Reads.{Reads}
 use Rattle.engine.specs.declared.Side.{Side}
 use Rattle.engine.specs.declared.Side.the-variants.{First}
 use Rattle.engine.specs.declared.PairVerdict.{PairVerdict}
@@ -43,21 +44,19 @@ module _ {X : Type 0} (refuse : Reply → X) (next : X) {o : Opened} where
   table-accepted e = ap (λ p. checked refuse p next) e
 
 -- 4 to 7 of a lone graph
-pub refused-as : {n : ℕ} {bytes types first features targets : List ℕ} {v : Verdict} → Reads n bytes v types first features targets →
-    (fault : GraphFault) (out : List ℕ) →
+pub refused-as : {n : ℕ} {bytes ws : List ℕ} {v : Verdict} → Reads n bytes v ws → (fault : GraphFault) (out : List ℕ) →
     v ≡ Refused fault → Gives (rewritten (reading n bytes) out) (Graph fault First) out
 refused-as reads fault out e =
     gives-as (ap (λ (o : Reading). rewritten o out) (refuses reads fault e)) (refl, refl)
 
 -- 4 to 7 of two graphs
-pub refused-both : {n : ℕ} {a b : List ℕ} {v : PairVerdict} {types first features targets types₂ first₂ features₂ targets₂ : List ℕ} →
-    ReadsBoth n a b v types first features targets types₂ first₂ features₂ targets₂ → (out : List ℕ)
-    (next : List (Row ℕ) → List (Row ℕ) → Result) (fault : GraphFault) (side : Side) → v ≡ pair.Refused fault side →
+pub refused-both : {n : ℕ} {a b : List ℕ} {v : PairVerdict} {ws ws₂ : List ℕ} → ReadsBoth n a b v ws ws₂ → (out : List ℕ)
+    (next : List (Row Label) → List (Row Label) → Result) (fault : GraphFault) (side : Side) → v ≡ pair.Refused fault side →
     Gives (readBoth (λ r. refusing r out) (reading n a) (reading n b) next) (Graph fault side) out
 refused-both reads out next fault side e = gives-as (both-refused reads (λ r. refusing r out) next fault side e) (refl, refl)
 
 -- the record in written form
-pub rewritten-as : {n : ℕ} {bytes : List ℕ} {g : Compressed} → Accepts n bytes g → (out : List ℕ) {w : Written} {r : Reply} {new : List ℕ} →
+pub rewritten-as : {n : ℕ} {bytes : List ℕ} {g : List ℕ} → Accepts n bytes g → (out : List ℕ) {w : Written} {r : Reply} {new : List ℕ} →
     w ≡ writtenOut (canonical eqb (graphIn g)) out .answer →
     new ≡ writtenOut (canonical eqb (graphIn g)) out .output →
     r ≡ replyOf w → Gives (rewritten (reading n bytes) out) r new

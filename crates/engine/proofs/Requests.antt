@@ -11,6 +11,7 @@ use lib.ListN.{length, getD, take}
 use Rattle.graphs.specs.Graph.{Graph, Tells, Below}
 use Rattle.graphs.specs.Rows.{Row}
 use Rattle.graphs.specs.Generalize.{generalization}
+use Rattle.lattice.specs.Label.{Label}
 use Rattle.lattice.specs.declared.Opened.the-variants.{Accepted}
 use Rattle.lattice.specs.Reply.{opened}
 use Rattle.lattice.specs.Labels.{typeLabels, OfAnySize, LeastOfAnySize, GreatestOfAnySize, IsCombination}
@@ -49,7 +50,7 @@ module _ (n : ℕ) (t a b c d : List ℕ) (first : ordering n t a b ≡ Yes) (se
       (Broader.common-part-below n t a b c d (answer-below n t a b first) (answer-below n t c d second) out out′ l l′ p q)
 
 -- Over paths: g, k, h and m are the rows of a, b, c and d, and x and y the rows of what is written.
-module _ (n : ℕ) (t a b c d : List ℕ) (g k h m : List (Row ℕ)) (narrow : Given n t a c g h) (broad : Given n t b d k m)
+module _ (n : ℕ) (t a b c d : List ℕ) (g k h m : List (Row Label)) (narrow : Given n t a c g h) (broad : Given n t b d k m)
     (first : Below (typeLabels n t) (graphOfRows g) (graphOfRows k)) (second : Below (typeLabels n t) (graphOfRows h) (graphOfRows m))
     (out out′ : List ℕ) where
   a-below : RecordBelow n t a b
@@ -63,43 +64,43 @@ module _ (n : ℕ) (t a b c d : List ℕ) (g k h m : List (Row ℕ)) (narrow : G
   paths-combine = Broader.combines n t a b c d a-below c-below out out′
 
   pub paths-combination : (l l′ : ℕ) → unifying n t a c out .reply ≡ Length l → unifying n t b d out′ .reply ≡ Length l′ →
-      (x y : List (Row ℕ)) → reading n (take l (unifying n t a c out .output)) ≡ accepted x →
+      (x y : List (Row Label)) → reading n (take l (unifying n t a c out .output)) ≡ accepted x →
       reading n (take l′ (unifying n t b d out′ .output)) ≡ accepted y → Below (typeLabels n t) (graphOfRows x) (graphOfRows y)
   paths-combination l l′ p q = below-paths n t _ _ (Broader.combination-below n t a b c d a-below c-below out out′ l l′ p q)
 
   pub paths-common-part : (l l′ : ℕ) → generalizing n t a c out .reply ≡ Length l → generalizing n t b d out′ .reply ≡ Length l′ →
-      (x y : List (Row ℕ)) → reading n (take l (generalizing n t a c out .output)) ≡ accepted x →
+      (x y : List (Row Label)) → reading n (take l (generalizing n t a c out .output)) ≡ accepted x →
       reading n (take l′ (generalizing n t b d out′ .output)) ≡ accepted y → Below (typeLabels n t) (graphOfRows x) (graphOfRows y)
   paths-common-part l l′ p q = below-paths n t _ _ (Broader.common-part-below n t a b c d a-below c-below out out′ l l′ p q)
 
 -- Graphs of any size always have a common part.
-pub any-size-common-part-exists : (n : ℕ) (t : List ℕ) → opened n t ≡ Accepted → {A B : Type 0} (g : Graph ℕ A) (h : Graph ℕ B) →
+pub any-size-common-part-exists : (n : ℕ) (t : List ℕ) → opened n t ≡ Accepted → {A B : Type 0} (g : Graph Label A) (h : Graph Label B) →
     OfAnySize n t g → OfAnySize n t h → LeastOfAnySize n t g h (generalization (typeLabels n t) g h)
 any-size-common-part-exists n t opens = generalization-least n t (opened-accepted n t (opened n t) refl opens)
 
 -- Of graphs of any size, on whatever nodes: g below k, and h below m.
-module _ (n : ℕ) (t : List ℕ) (opens : opened n t ≡ Accepted) {A B C D : Type 0} (g : Graph ℕ A) (k : Graph ℕ B) (h : Graph ℕ C)
-    (m : Graph ℕ D) (g-size : OfAnySize n t g) (k-size : OfAnySize n t k) (h-size : OfAnySize n t h) (m-size : OfAnySize n t m)
+module _ (n : ℕ) (t : List ℕ) (opens : opened n t ≡ Accepted) {A B C D : Type 0} (g : Graph Label A) (k : Graph Label B) (h : Graph Label C)
+    (m : Graph Label D) (g-size : OfAnySize n t g) (k-size : OfAnySize n t k) (h-size : OfAnySize n t h) (m-size : OfAnySize n t m)
     (first : Below (typeLabels n t) g k) (second : Below (typeLabels n t) h m) where
   -- A combination of the narrower pair lies below every one of the broader pair.
-  pub any-size-combination : {U W : Type 0} (u : Graph ℕ U) (w : Graph ℕ W) → GreatestOfAnySize n t g h u → GreatestOfAnySize n t k m w →
+  pub any-size-combination : {U W : Type 0} (u : Graph Label U) (w : Graph Label W) → GreatestOfAnySize n t g h u → GreatestOfAnySize n t k m w →
       Below (typeLabels n t) u w
   any-size-combination = greatest-monotone n t (opened-accepted n t (opened n t) refl opens) g k h m g-size k-size h-size m-size first second
 
   -- Where there is one of the narrower pair, there is one of the broader pair, namely what the classes give, where the nodes of the
   -- broader graphs are told apart;
-  pub any-size-combines : (sameB : B → B → Bool) (sameD : D → D → Bool) → Tells sameB → Tells sameD → {U : Type 0} (u : Graph ℕ U) →
+  pub any-size-combines : (sameB : B → B → Bool) (sameD : D → D → Bool) → Tells sameB → Tells sameD → {U : Type 0} (u : Graph Label U) →
       GreatestOfAnySize n t g h u →
-      (w : Graph ℕ (B ⊎ D)) × IsCombination n t k m w × GreatestOfAnySize n t k m w × Below (typeLabels n t) u w
+      (w : Graph Label (B ⊎ D)) × IsCombination n t k m w × GreatestOfAnySize n t k m w × Below (typeLabels n t) u w
   any-size-combines = combines-broader n t (opened-accepted n t (opened n t) refl opens) g k h m g-size k-size h-size m-size first second
 
   -- and on whatever nodes, that there is none is refuted.
-  pub any-size-not-none : {U : Type 0} (u : Graph ℕ U) → GreatestOfAnySize n t g h u →
-      ((W : Type 0) (w : Graph ℕ W) → GreatestOfAnySize n t k m w → ⊥) → ⊥
+  pub any-size-not-none : {U : Type 0} (u : Graph Label U) → GreatestOfAnySize n t g h u →
+      ((W : Type 0) (w : Graph Label W) → GreatestOfAnySize n t k m w → ⊥) → ⊥
   any-size-not-none = combines-not-refuted n t (opened-accepted n t (opened n t) refl opens) g k h m g-size k-size h-size m-size first second
 
   -- The common part of the narrower pair lies below that of the broader pair.
-  pub any-size-common-part : {U W : Type 0} (u : Graph ℕ U) (w : Graph ℕ W) → LeastOfAnySize n t g h u → LeastOfAnySize n t k m w →
+  pub any-size-common-part : {U W : Type 0} (u : Graph Label U) (w : Graph Label W) → LeastOfAnySize n t g h u → LeastOfAnySize n t k m w →
       Below (typeLabels n t) u w
   any-size-common-part = least-monotone n t (opened-accepted n t (opened n t) refl opens) g k h m g-size k-size h-size m-size first second
 

@@ -15,6 +15,7 @@ use Rattle.graphs.specs.Graph.{Graph, Tells, Reached}
 use Rattle.graphs.specs.Rows.{Row}
 use Rattle.graphs.specs.Number.{Canonical, canonical, manyNodes, manyLinks, written}
 use Rattle.graphs.proofs.Form.Large.{canonical-many-nodes, canonical-many-links, canonical-fits}
+use Rattle.lattice.specs.Label.{Label}
 use Rattle.lattice.specs.declared.Opened.the-variants.{Accepted}
 use Rattle.lattice.specs.Reply.{opened}
 use Rattle.lattice.specs.Labels.{OfAnySize}
@@ -29,11 +30,11 @@ use Rattle.engine.specs.Reply.{Result, refusing, resultOf, rewriting}
 use Rattle.engine.specs.Demand.{Large, Wrote, Writes}
 
 -- a graph as a call's result
-abbrev pub resultFor : {C : Type 0} → (C → C → Bool) → Graph ℕ C → List ℕ → Result
+abbrev pub resultFor : {C : Type 0} → (C → C → Bool) → Graph Label C → List ℕ → Result
 resultFor same k out = resultOf (writtenOut (canonical same k) out)
 
 -- rewriting an accepted record writes its graph
-pub rewriting-is : (n : ℕ) (t bytes : List ℕ) (rows : List (Row ℕ)) → opened n t ≡ Accepted → reading n bytes ≡ accepted rows → (out : List ℕ) →
+pub rewriting-is : (n : ℕ) (t bytes : List ℕ) (rows : List (Row Label)) → opened n t ≡ Accepted → reading n bytes ≡ accepted rows → (out : List ℕ) →
     rewriting n t bytes out ≡ resultFor eqb (graphOfRows rows) out
 unfolding rewriting
 rewriting-is n t bytes rows opens reads out = rw (opens, reads)
@@ -45,14 +46,14 @@ holding bytes out = record { reply = Length (length bytes); output = bytes ++ dr
 length-injective : {l m : ℕ} → _≡_ {A = Reply} (Length l) (Length m) → l ≡ m
 length-injective e = cc
 
-module _ {C : Type 0} (same : C → C → Bool) (k : Graph ℕ C) (out : List ℕ) where
+module _ {C : Type 0} (same : C → C → Bool) (k : Graph Label C) (out : List ℕ) where
   -- the three results, each with its reason
   data Told : Result → Type 0 where
     large : Large k → Told (refusing TooLarge out)
-    short : (form : List (Row ℕ)) → canonical same k ≡ written form → length out < length (encoded form) → Told (refusing NoRoom out)
-    held : (form : List (Row ℕ)) → canonical same k ≡ written form → length (encoded form) ≤ length out → Told (holding (encoded form) out)
+    short : (form : List (Row Label)) → canonical same k ≡ written form → length out < length (encoded form) → Told (refusing NoRoom out)
+    held : (form : List (Row Label)) → canonical same k ≡ written form → length (encoded form) ≤ length out → Told (holding (encoded form) out)
 
-module _ (n : ℕ) (t : List ℕ) {C : Type 0} (same : C → C → Bool) (tells : Tells same) (k : Graph ℕ C) (size : OfAnySize n t k) (out : List ℕ) where
+module _ (n : ℕ) (t : List ℕ) {C : Type 0} (same : C → C → Bool) (tells : Tells same) (k : Graph Label C) (size : OfAnySize n t k) (out : List ℕ) where
   told : Told same k out (resultFor same k out)
   unfolding writtenOut fitted
   told = go (canonical same k) refl
@@ -60,7 +61,7 @@ module _ (n : ℕ) (t : List ℕ) {C : Type 0} (same : C → C → Bool) (tells 
       small : (v w : C) (f : ℕ) → Reached k v → k .link v f ≡ some w → f < 64
       small = size .any-size .features
 
-      room : (form : List (Row ℕ)) → canonical same k ≡ written form → (b : Bool) → leb (length (encoded form)) (length out) ≡ b →
+      room : (form : List (Row Label)) → canonical same k ≡ written form → (b : Bool) → leb (length (encoded form)) (length out) ≡ b →
           Told same k out
           (resultOf
           (cond b
@@ -69,23 +70,23 @@ module _ (n : ℕ) (t : List ℕ) {C : Type 0} (same : C → C → Bool) (tells 
       room form e true h = held form e (leb-true (length (encoded form)) (length out) h)
       room form e false h = short form e (leb-false (length (encoded form)) (length out) h)
 
-      go : (c : Canonical ℕ) → canonical same k ≡ c → Told same k out (resultOf (writtenOut c out))
+      go : (c : Canonical Label) → canonical same k ≡ c → Told same k out (resultOf (writtenOut c out))
       go manyNodes e = large (inl (canonical-many-nodes same tells k small .0 e))
       go manyLinks e = large (inr (canonical-many-links same tells k small .0 e .1))
       go (written form) e = room form e (leb (length (encoded form)) (length out)) refl
 
   -- a graph with a form is not too large
-  form-fits : (form : List (Row ℕ)) → canonical same k ≡ written form → Large k → ⊥
+  form-fits : (form : List (Row Label)) → canonical same k ≡ written form → Large k → ⊥
   form-fits form e =
       let (nodes, links) = canonical-fits same tells k (size .any-size .features) .1 (form, e) in
       ⊎-elim nodes links
 
   -- there is one form, hence one length
-  one-length : (form other : List (Row ℕ)) → canonical same k ≡ written form → canonical same k ≡ written other →
+  one-length : (form other : List (Row Label)) → canonical same k ≡ written form → canonical same k ≡ written other →
       length (encoded form) ≡ length (encoded other)
-  one-length form other e d = ap (λ (f : List (Row ℕ)). length (encoded f)) (written-injective (sym e ∙ d))
+  one-length form other e d = ap (λ (f : List (Row Label)). length (encoded f)) (written-injective (sym e ∙ d))
 
-  wrote-form : (form : List (Row ℕ)) → canonical same k ≡ written form → (l : ℕ) → length (encoded form) ≡ l →
+  wrote-form : (form : List (Row Label)) → canonical same k ≡ written form → (l : ℕ) → length (encoded form) ≡ l →
       Wrote n t same k out l (holding (encoded form) out .output)
   wrote-form form e l is =
       let output : List ℕ = holding (encoded form) out .output in

@@ -13,7 +13,8 @@ use Rattle.graphs.specs.Rows.{Row}
 use Rattle.graphs.specs.Number.{canonical}
 use Rattle.graphs.proofs.Form.Bisimilar.{Alike, absent, present}
 use Rattle.graphs.proofs.Form.Invariant.{bisimilar-canonical}
-use Rattle.visits.specs.Arrays.{graphOfRows}
+use Rattle.lattice.specs.Label.{Label}
+use Rattle.layout.specs.Layout.{graphOfRows}
 use Rattle.lattice.specs.Table.{accepted, meet, join, cell, filled}
 use Rattle.lattice.specs.declared.Opened.{Opened}
 use Rattle.lattice.specs.declared.Opened.the-variants.{Accepted}
@@ -28,12 +29,12 @@ pub few-types : (n : ℕ) (t : List ℕ) (answer : Opened) → answer ≡ opened
 few-types n t answer e told = accepted-size n t (opened-accepted n t answer e told) .1
 
 -- every label of accepted rows is a type, also the one past their end
-pub label-known : {n : ℕ} {rows : List (Row ℕ)} → 0 < n → Rules n rows → (v : ℕ) → graphOfRows rows .label v < n
+pub label-known : {n : ℕ} {rows : List (Row Label)} → 0 < n → Rules n rows → (v : ℕ) → graphOfRows rows .label v < n
 label-known {n} {rows} types rules v = go (decLe (length rows) v)
   where
     go : Dec (length rows ≤ v) → graphOfRows rows .label v < n
     go (yes past) =
-        let e : graphOfRows rows .label v ≡ 0 = ap (λ (r : Row ℕ). r .0) (List·getD-eq-default rows (0, []) past) in
+        let e : graphOfRows rows .label v ≡ 0 = ap (λ (r : Row Label). r .0) (List·getD-eq-default rows (0, []) past) in
         omega arith
     go (no inside) = rules .ranged (getD rows v (0, [])) (node-row rows v (omega arith)) .1
 

@@ -1,11 +1,33 @@
--- What the difference asks of rows.
+-- What the difference asks of a table and of two graphs in words.
 use mathlib.Core.Path.{_≡_}
+use mathlib.Core.Bool.{true}
 use mathlib.Core.List.{List}
-use Prim.Native.Nat.{ℕ}
+use Prim.Native.Nat.{ℕ, _≤_, _<_}
+use lib.ListN.{length}
 use Rattle.graphs.specs.Rows.{Row}
+use Rattle.lattice.specs.Label.{Label}
+use Rattle.lattice.specs.Table as types
+use Rattle.layout.specs.Layout.{Sound, labelAt, rowsOf, size}
 use Rattle.encode.specs.Encode.{encoded}
 use Rattle.record.specs.Read.{accepted, reading}
+use Rattle.difference.specs.Wanted.{MeetsHeld}
 
 -- rows whose record is accepted over a table with n types
-abbrev pub Acceptable : ℕ → List (Row ℕ) → Type 0
+abbrev pub Acceptable : ℕ → List (Row Label) → Type 0
 Acceptable n rows = reading n (encoded rows) ≡ accepted rows
+
+-- words that hold such rows
+pub record Loaded (n : ℕ) (ws : List ℕ) : Type 0 where
+  pub acceptable : Acceptable n (rowsOf ws)
+  pub sound : Sound ws
+  pub small : size ws ≤ 255
+  pub typed : (v : ℕ) → v < size ws → labelAt ws v < n
+
+-- two graphs over an accepted table that admits differences
+pub record Comparable (n : ℕ) (t : List ℕ) (meets : List (List ℕ)) (g s : List ℕ) : Type 0 where
+  pub accepts : types.accepted n t ≡ true
+  pub admits : types.admits n t ≡ true
+  pub met : MeetsHeld n t meets
+  pub general : Loaded n g
+  pub specific : Loaded n s
+  pub short : length s ≤ 2560

@@ -9,6 +9,7 @@ use Rattle.graphs.specs.Rows.{Row}
 use Rattle.graphs.specs.Number.{canonical}
 use Rattle.graphs.specs.Order.{subsumes}
 use Rattle.graphs.specs.Generalize.{generalization}
+use Rattle.lattice.specs.Label.{Label}
 use Rattle.lattice.specs.declared.Opened.{Opened}
 use Rattle.lattice.specs.declared.Opened.the-variants as opened
 use Rattle.lattice.specs.Reply as table
@@ -75,7 +76,7 @@ checked refuse (opened.Refused fault) next = refuse (Table fault)
 checked refuse opened.Accepted next = next
 
 -- the first graph's 4 to 7, then the second's
-abbrev pub readBoth : {X : Type 0} → (Reply → X) → graph.Reading → graph.Reading → (List (Row ℕ) → List (Row ℕ) → X) → X
+abbrev pub readBoth : {X : Type 0} → (Reply → X) → graph.Reading → graph.Reading → (List (Row Label) → List (Row Label) → X) → X
 readBoth refuse (graph.refused fault) second next = refuse (Graph fault First)
 readBoth refuse (graph.accepted rows) (graph.refused fault) next = refuse (Graph fault Second)
 readBoth refuse (graph.accepted rows) (graph.accepted others) next = next rows others
@@ -90,7 +91,7 @@ unfoldable pub rewriting : ℕ → List ℕ → List ℕ → List ℕ → Result
 rewriting n t bytes out = checked (λ r. refusing r out) (table.opened n t) (rewritten (graph.reading n bytes) out)
 
 -- whether the first of two graphs is below the second
-unfoldable pub ordered : ℕ → List ℕ → List (Row ℕ) → List (Row ℕ) → Reply
+unfoldable pub ordered : ℕ → List ℕ → List (Row Label) → List (Row Label) → Reply
 ordered n t s g = cond (subsumes (typeLabels n t) eqb eqb (graph.graphOfRows s) (graph.graphOfRows g) (length g)) Yes No
 
 -- the order: "is the first below the second"
@@ -98,7 +99,7 @@ unfoldable pub ordering : ℕ → List ℕ → List ℕ → List ℕ → Reply
 ordering n t a b = checked (λ r. r) (table.opened n t) (readBoth (λ r. r) (graph.reading n a) (graph.reading n b) (ordered n t))
 
 -- the common part of two graphs in written form
-unfoldable pub generalized : ℕ → List ℕ → List ℕ → List (Row ℕ) → List (Row ℕ) → Result
+unfoldable pub generalized : ℕ → List ℕ → List ℕ → List (Row Label) → List (Row Label) → Result
 generalized n t out g h =
     resultOf (writtenOut (canonical samePair (generalization (typeLabels n t) (graph.graphOfRows g) (graph.graphOfRows h))) out)
 

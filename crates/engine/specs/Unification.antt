@@ -7,6 +7,7 @@ use lib.ListN.{length}
 use Rattle.graphs.specs.Rows.{Row, from}
 use Rattle.graphs.specs.Number.{canonical}
 use Rattle.graphs.specs.Unify.{Unified, cycle, clash, unified, unification}
+use Rattle.lattice.specs.Label.{Label}
 use Rattle.lattice.specs.Reply.{opened}
 use Rattle.lattice.specs.Labels.{typeLabels}
 use Rattle.encode.specs.Encode.{writtenOut}
@@ -16,13 +17,13 @@ use Rattle.engine.specs.declared.Reply.the-variants.{Cycle, Clash}
 use Rattle.engine.specs.Reply.{Result, resultOf, refusing, checked, readBoth}
 
 -- a loop, a clash and no loop, or the record in written form
-abbrev pub combined : Unified ℕ (ℕ ⊎ ℕ) → List ℕ → Result
+abbrev pub combined : Unified Label (ℕ ⊎ ℕ) → List ℕ → Result
 combined cycle out = refusing Cycle out
 combined clash out = refusing Clash out
 combined (unified u) out = resultOf (writtenOut (canonical sameEither u) out)
 
 -- the combination of two graphs in written form
-unfoldable pub unifiedRows : ℕ → List ℕ → List ℕ → List (Row ℕ) → List (Row ℕ) → Result
+unfoldable pub unifiedRows : ℕ → List ℕ → List ℕ → List (Row Label) → List (Row Label) → Result
 unifiedRows n t out g h =
     combined
     (unification (typeLabels n t) eqb eqb (graphOfRows g) (from 0 (length g)) (graphOfRows h) (from 0 (length h)))

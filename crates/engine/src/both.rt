@@ -2,31 +2,24 @@
 
 use crate::PairVerdict;
 use crate::Side;
-use record::Verdict;
+use record::reading::Verdict;
 ghost use mathlib.Core.Path.{_≡_};
-ghost use Rattle.decode.specs.Promise.{Sized};
+ghost use lib.ListN.{length};
 ghost use Rattle.engine.specs.Pair.{ReadsBoth, jointVerdict};
 
-// Reads two records over a table with n types, each into lent arrays.
+// Reads two records over a table with n types, each into lent words.
 pub fn read_both(
     n: usize,
     first: &[u8],
     second: &[u8],
-    a_types: &mut [u8; 255],
-    a_first: &mut [u16; 256],
-    a_features: &mut [u8; 2048],
-    a_targets: &mut [u16; 2048],
-    b_types: &mut [u8; 255],
-    b_first: &mut [u16; 256],
-    b_features: &mut [u8; 2048],
-    b_targets: &mut [u16; 2048],
+    a: &mut [u16; 2560],
+    b: &mut [u16; 2560],
 ) -> PairVerdict
-    requires { ⌜ Sized (now «a_types») (now «a_first») (now «a_features») (now «a_targets») ⌝ }
-    requires { ⌜ Sized (now «b_types») (now «b_first») (now «b_features») (now «b_targets») ⌝ }
-    ensures { λ r. ⌜ ReadsBoth n (now (first .entry)) (now (second .entry)) r (now («a_types» .exit)) (now («a_first» .exit)) (now («a_features» .exit)) (now («a_targets» .exit)) (now («b_types» .exit)) (now («b_first» .exit)) (now («b_features» .exit)) (now («b_targets» .exit)) ⌝ }
+    requires { ⌜ (length (now a) ≡ 2560) × (length (now b) ≡ 2560) ⌝ }
+    ensures { λ r. ⌜ ReadsBoth n (now (first .entry)) (now (second .entry)) r (now (a .exit)) (now (b .exit)) ⌝ }
 {
-    let first_verdict = record::read(n, first, a_types, a_first, a_features, a_targets);
-    let second_verdict = record::read(n, second, b_types, b_first, b_features, b_targets);
+    let first_verdict = record::reading::read(n, first, a);
+    let second_verdict = record::reading::read(n, second, b);
     joint_verdict(first_verdict, second_verdict)
 }
 
@@ -36,9 +29,9 @@ pub fn joint_verdict(first: Verdict, second: Verdict) -> PairVerdict
 {
     match first {
         Verdict::Refused(fault) => PairVerdict::Refused(fault, Side::First),
-        Verdict::Accepted(a_nodes) => match second {
+        Verdict::Accepted => match second {
             Verdict::Refused(fault) => PairVerdict::Refused(fault, Side::Second),
-            Verdict::Accepted(b_nodes) => PairVerdict::Both(a_nodes, b_nodes),
+            Verdict::Accepted => PairVerdict::Both,
         },
     }
 }

@@ -5,7 +5,7 @@ use encode::Written;
 use lattice::Opened;
 use lattice::TableFault;
 use record::GraphFault;
-use record::Verdict;
+use record::reading::Verdict;
 use subsume::Order;
 use unify::Combined;
 ghost use mathlib.Core.Path.{_≡_};
@@ -41,9 +41,9 @@ pub enum Reply {
     NotAdmitted,
 }
 
-// Whether two records are accepted, and with how many nodes; else the first refusal and which graph it tells of.
+// Whether two records are accepted; else the first refusal and which graph it tells of.
 pub enum PairVerdict {
-    Both(usize, usize),
+    Both,
     Refused(GraphFault, Side),
 }
 
@@ -64,28 +64,11 @@ fn rewrite_over(n: usize, bytes: &[u8], out: &mut [u8]) -> Reply
     ensures { λ r. ⌜ r ≡ rewritten (reading n (now (bytes .entry))) (now (out .entry)) .reply ⌝ }
     ensures { λ r. ⌜ now (out .exit) ≡ rewritten (reading n (now (bytes .entry))) (now (out .entry)) .output ⌝ }
 {
-    let mut types = [0u8; 255];
-    let mut first = [0u16; 256];
-    let mut features = [0u8; 2048];
-    let mut targets = [0u16; 2048];
-    let verdict = record::read(
-        n,
-        bytes,
-        &mut types,
-        &mut first,
-        &mut features,
-        &mut targets,
-    );
+    let mut graph = [0u16; 2560];
+    let verdict = record::reading::read(n, bytes, &mut graph);
     match verdict {
         Verdict::Refused(fault) => Reply::Graph(fault, Side::First),
-        Verdict::Accepted(nodes) => reply_of(encode::write(
-            nodes,
-            &types,
-            &first,
-            &features,
-            &targets,
-            out,
-        )),
+        Verdict::Accepted => reply_of(encode::canonical::write(&graph, out)),
     }
 }
 
@@ -116,46 +99,14 @@ fn order_over(n: usize, table: &[u8], first: &[u8], second: &[u8]) -> Reply
     requires { ⌜ n ≤ 64 ⌝ }
     ensures { λ r. ⌜ r ≡ readBoth (λ q. q) (reading n (now (first .entry))) (reading n (now (second .entry))) (ordered n (now (table .entry))) ⌝ }
 {
-    let mut s_types = [0u8; 255];
-    let mut s_first = [0u16; 256];
-    let mut s_features = [0u8; 2048];
-    let mut s_targets = [0u16; 2048];
-    let mut g_types = [0u8; 255];
-    let mut g_first = [0u16; 256];
-    let mut g_features = [0u8; 2048];
-    let mut g_targets = [0u16; 2048];
-    let verdict = both::read_both(
-        n,
-        first,
-        second,
-        &mut s_types,
-        &mut s_first,
-        &mut s_features,
-        &mut s_targets,
-        &mut g_types,
-        &mut g_first,
-        &mut g_features,
-        &mut g_targets,
-    );
+    let mut s = [0u16; 2560];
+    let mut g = [0u16; 2560];
+    let verdict = both::read_both(n, first, second, &mut s, &mut g);
     match verdict {
         PairVerdict::Refused(fault, side) => Reply::Graph(fault, side),
-        PairVerdict::Both(s_nodes, g_nodes) => {
-            let mut map = [subsume::NONE; 255];
-            let order = subsume::subsume(
-                n,
-                table,
-                s_nodes,
-                &s_types,
-                &s_first,
-                &s_features,
-                &s_targets,
-                g_nodes,
-                &g_types,
-                &g_first,
-                &g_features,
-                &g_targets,
-                &mut map,
-            );
+        PairVerdict::Both => {
+            let ordered = subsume::subsume(table, &s, &g);
+            let order = ordered.order;
             match order {
                 Order::Below => Reply::Yes,
                 Order::NotBelow => Reply::No,
@@ -189,43 +140,12 @@ fn generalize_over(
     ensures { λ r. ⌜ r ≡ joining n (now (joins .entry)) (now (first .entry)) (now (second .entry)) (now (out .entry)) .reply ⌝ }
     ensures { λ r. ⌜ now (out .exit) ≡ joining n (now (joins .entry)) (now (first .entry)) (now (second .entry)) (now (out .entry)) .output ⌝ }
 {
-    let mut a_types = [0u8; 255];
-    let mut a_first = [0u16; 256];
-    let mut a_features = [0u8; 2048];
-    let mut a_targets = [0u16; 2048];
-    let mut b_types = [0u8; 255];
-    let mut b_first = [0u16; 256];
-    let mut b_features = [0u8; 2048];
-    let mut b_targets = [0u16; 2048];
-    let verdict = both::read_both(
-        n,
-        first,
-        second,
-        &mut a_types,
-        &mut a_first,
-        &mut a_features,
-        &mut a_targets,
-        &mut b_types,
-        &mut b_first,
-        &mut b_features,
-        &mut b_targets,
-    );
+    let mut a = [0u16; 2560];
+    let mut b = [0u16; 2560];
+    let verdict = both::read_both(n, first, second, &mut a, &mut b);
     match verdict {
         PairVerdict::Refused(fault, side) => Reply::Graph(fault, side),
-        PairVerdict::Both(a_nodes, b_nodes) => reply_of(generalize::generalize(
-            joins,
-            a_nodes,
-            &a_types,
-            &a_first,
-            &a_features,
-            &a_targets,
-            b_nodes,
-            &b_types,
-            &b_first,
-            &b_features,
-            &b_targets,
-            out,
-        )),
+        PairVerdict::Both => reply_of(generalize::generalize(joins, &a, &b, out)),
     }
 }
 
@@ -255,44 +175,12 @@ fn unify_over(
     ensures { λ r. ⌜ r ≡ meeting n (now (meets .entry)) (now (first .entry)) (now (second .entry)) (now (out .entry)) .reply ⌝ }
     ensures { λ r. ⌜ now (out .exit) ≡ meeting n (now (meets .entry)) (now (first .entry)) (now (second .entry)) (now (out .entry)) .output ⌝ }
 {
-    let mut a_types = [0u8; 255];
-    let mut a_first = [0u16; 256];
-    let mut a_features = [0u8; 2048];
-    let mut a_targets = [0u16; 2048];
-    let mut b_types = [0u8; 255];
-    let mut b_first = [0u16; 256];
-    let mut b_features = [0u8; 2048];
-    let mut b_targets = [0u16; 2048];
-    let verdict = both::read_both(
-        n,
-        first,
-        second,
-        &mut a_types,
-        &mut a_first,
-        &mut a_features,
-        &mut a_targets,
-        &mut b_types,
-        &mut b_first,
-        &mut b_features,
-        &mut b_targets,
-    );
+    let mut a = [0u16; 2560];
+    let mut b = [0u16; 2560];
+    let verdict = both::read_both(n, first, second, &mut a, &mut b);
     match verdict {
         PairVerdict::Refused(fault, side) => Reply::Graph(fault, side),
-        PairVerdict::Both(a_nodes, b_nodes) => combined_reply(unify::unify(
-            n,
-            meets,
-            a_nodes,
-            &a_types,
-            &a_first,
-            &a_features,
-            &a_targets,
-            b_nodes,
-            &b_types,
-            &b_first,
-            &b_features,
-            &b_targets,
-            out,
-        )),
+        PairVerdict::Both => combined_reply(unify::unify(n, meets, &a, &b, out)),
     }
 }
 

@@ -1,31 +1,36 @@
 -- The rows of the result as they are built: the pairs before `head` have their rows, and every pair in the queue is reached.
 use mathlib.Core.Path.{_≡_, refl, sym, _∙_, ap, ap₂, subst}
-use mathlib.Core.List.{List, []}
-use mathlib.Core.Option.{none, some}
-use Prim.Native.Nat.{ℕ, suc, _+_, _*_, _/_, _%_, _≤_, _<_}
-use native.Mathlib.Decide.{decLt, ℕ-discrete}
-use native.Mathlib.Numerals.{add-one}
+use mathlib.Core.List.{List, [], _∷_, _++_}
+use Prim.Native.Nat.{ℕ, _+_, _*_, _/_, _%_, _≤_, _<_}
+use native.Mathlib.Decide.{decLt}
 use native.Mathlib.Omega.{arith}
-use lib.ListN.{length, getD, set, take, drop, length-set}
-use lib.Seq.{slice, length-take-le, getD-take, getD-set-same, getD-set-other, ext-getD}
+use lib.ListN.{length, getD, set, length-set, List·getD-append}
+use lib.Seq.{getD-set-same, getD-set-other, getD-at}
 use Rattle.graphs.specs.Graph.{Reached}
-use Rattle.graphs.specs.Rows.{target}
+use Rattle.graphs.specs.Rows.{Row}
 use Rattle.graphs.proofs.Walk.{reached-root, reached-link}
-use Rattle.visits.specs.Arrays.{Compressed, paired, linksAt}
-use Rattle.generalize.specs.Product.{Held, product}
-use Rattle.generalize.specs.Queue.{Marked, Numbered, Adds}
+use Rattle.lattice.specs.Label.{Label, noLabel}
+use Rattle.layout.specs.Layout.{Recorded, Node, header, size, labelFrom, labelAt, linksBetween, linksAt, rowsFrom}
+use Rattle.layout.specs.Builder.{Built, Open, Same}
+use Rattle.layout.proofs.Rows.{row-at, length-rows}
+use Rattle.layout.proofs.Builder.{same-before, built-begin, built-kept, rows-kept, row-closes, closed-rows}
+use Rattle.generalize.specs.declared.Spread.{Spread}
+use Rattle.generalize.specs.Pairs.{joinIn}
+use Rattle.generalize.specs.Product.{product}
+use Rattle.generalize.specs.Queue.{clear, common, Marked, Matched, Numbered, Adds}
 use Rattle.generalize.proofs.Marking.{mark-root}
-use Rattle.generalize.proofs.Sides.{commonIn, product-root, product-link, product-known}
+use Rattle.generalize.proofs.Merging.{matched-on}
+use Rattle.generalize.proofs.Sides.{pairOf, product-root, product-link, common-known}
 
--- the pair with a number
-abbrev pub pairOf : ℕ → ℕ × ℕ
-pairOf p = (p / 255, p % 255)
+-- where the rows begin: behind the number of nodes and 256 places
+abbrev pub base : ℕ
+base = 257
 
 -- what a pair's number says of it
-pub code-left : (u v : ℕ) → v < 255 → (u * 255 + v) / 255 ≡ u
+code-left : (u v : ℕ) → v < 255 → (u * 255 + v) / 255 ≡ u
 code-left u v h = omega arith
 
-pub code-right : (u v : ℕ) → v < 255 → (u * 255 + v) % 255 ≡ v
+code-right : (u v : ℕ) → v < 255 → (u * 255 + v) % 255 ≡ v
 code-right u v h = omega arith
 
 pub pair-numbered : {queue : List ℕ} {count : ℕ} (x : ℕ × ℕ) (i : ℕ) → Numbered queue count x i → pairOf (getD queue i 0) ≡ x
@@ -33,279 +38,193 @@ pair-numbered {queue} x i n =
     ap pairOf (n .stands) ∙
     ap₂ {C = ℕ × ℕ} (λ s t. (s, t)) (code-left (x .0) (x .1) (n .right)) (code-right (x .0) (x .1) (n .right))
 
--- lists that agree up to a place
-slice-same : (l m : List ℕ) (s e : ℕ) → e ≤ length l → e ≤ length m → ((k : ℕ) → k < e → getD l k 0 ≡ getD m k 0) →
-    slice s e l ≡ slice s e m
-slice-same l m s e long wide same =
-    ap (drop s)
-    (ext-getD 0 (take e l) (take e m) (length-take-le e l long ∙ sym (length-take-le e m wide))
-    (λ k h. at k (omega (arith, length-take-le e l long))))
-  where
-    at : (k : ℕ) → k < e → getD (take e l) k 0 ≡ getD (take e m) k 0
-    at k h = getD-take e l k 0 h ∙ same k h ∙ sym (getD-take e m k 0 h)
+-- the join of the labels of a pair
+abbrev pub joined : List (List ℕ) → List ℕ → List ℕ → ℕ × ℕ → Label
+joined joins a b x = joinIn joins (labelAt a (x .0)) (labelAt b (x .1))
 
--- rows at the same places of such lists
-links-same : (first features targets first′ features′ targets′ : List ℕ) (i : ℕ) → getD first′ i 0 ≡ getD first i 0 →
-    getD first′ (suc i) 0 ≡ getD first (suc i) 0 → getD first (suc i) 0 ≤ length features → getD first (suc i) 0 ≤ length targets →
-    getD first (suc i) 0 ≤ length features′ → getD first (suc i) 0 ≤ length targets′ →
-    ((k : ℕ) → k < getD first (suc i) 0 → getD features′ k 0 ≡ getD features k 0) →
-    ((k : ℕ) → k < getD first (suc i) 0 → getD targets′ k 0 ≡ getD targets k 0) →
-    linksAt first′ features′ targets′ i ≡ linksAt first features targets i
-unfolding linksAt
-links-same first features targets first′ features′ targets′ i e d fs-long ts-long fs-long′ ts-long′ fs-same ts-same =
-    ap₂ (λ (p q : ℕ). paired (slice p q features′) (slice p q targets′)) e d ∙
-    ap₂ paired (slice-same features′ features (getD first i 0) (getD first (suc i) 0) fs-long′ fs-long fs-same)
-    (slice-same targets′ targets (getD first i 0) (getD first (suc i) 0) ts-long′ ts-long ts-same)
-
-links-are : (first features targets : List ℕ) (i p q : ℕ) → getD first i 0 ≡ p → getD first (suc i) 0 ≡ q →
-    linksAt first features targets i ≡ paired (slice p q features) (slice p q targets)
-unfolding linksAt
-links-are first features targets i p q e d = ap₂ (λ (s t : ℕ). paired (slice s t features) (slice s t targets)) e d
-
-pub record Building (joins : List (List ℕ)) (a b : Compressed) (head count links : ℕ)
-    (marks queue types first features targets : List ℕ) : Type 0 where
+pub record Building (joins : List (List ℕ)) (a b : List ℕ) (head count at : ℕ) (marks queue words : List ℕ) : Type 0 where
+  pub left : Recorded a
+  pub right : Recorded b
   pub marked : Marked marks queue count
-  pub enough : a .nodes * 255 ≤ length marks
   pub begun : 0 < count
   pub behind : head ≤ count
-  pub room : links ≤ 2112
   pub root : getD queue 0 0 ≡ 0
-  pub inside : (i : ℕ) → i < count → (getD queue i 0 / 255 < a .nodes) × (getD queue i 0 % 255 < b .nodes)
+  pub inside : (i : ℕ) → i < count → (getD queue i 0 / 255 < size a) × (getD queue i 0 % 255 < size b)
   pub reached : (i : ℕ) → i < count → Reached (product joins a b) (pairOf (getD queue i 0))
-  pub types-long : length types ≡ 255
-  pub first-long : length first ≡ 256
-  pub features-long : length features ≡ 2112
-  pub targets-long : length targets ≡ 2112
-  pub start : getD first 0 0 ≡ 0
-  pub end : getD first head 0 ≡ links
-  pub rising : (i : ℕ) → i < head → getD first i 0 ≤ getD first (suc i) 0
-  pub bounded : (i : ℕ) → i ≤ head → getD first i 0 ≤ links
-  pub known : (k : ℕ) → k < links → getD features k 0 < 64
-  pub ascending : (i k : ℕ) → i < head → getD first i 0 ≤ k → suc k < getD first (suc i) 0 → getD features k 0 < getD features (suc k) 0
-  pub within : (k : ℕ) → k < links → getD targets k 0 < count
-  pub labels : (i : ℕ) → i < head →
-      getD types i 0 ≡ getD (getD joins (getD (a .types) (getD queue i 0 / 255) 0) []) (getD (b .types) (getD queue i 0 % 255) 0) 0
-  pub present : (i f : ℕ) → i < head → f < 64 → (x : ℕ × ℕ) →
-      commonIn a b (getD queue i 0 / 255) (getD queue i 0 % 255) f ≡ some x →
-      (n : ℕ) × (target (linksAt first features targets i) f ≡ some n) × Numbered queue count x n
-  pub missing : (i f : ℕ) → i < head → f < 64 → commonIn a b (getD queue i 0 / 255) (getD queue i 0 % 255) f ≡ none →
-      target (linksAt first features targets i) f ≡ none
+  pub long : length words ≡ 2624
+  pub built : Built words base head at
+  pub first : getD words 1 0 ≡ base
+  pub bytes : (i : ℕ) → i < head → labelAt words i < 256
+  pub labels : (i : ℕ) → i < head → labelAt words i ≡ joined joins a b (pairOf (getD queue i 0))
+  pub rows : (i : ℕ) → i < head → Matched (common a b (pairOf (getD queue i 0))) queue count 64 (linksAt words i)
 
 -- The root's pair is known, and has no row yet.
-pub build-start : (joins : List (List ℕ)) {a b : Compressed} → Held a → Held b → (marks queue types first features targets : List ℕ) →
-    a .nodes * 255 ≤ length marks → length marks ≤ 65025 → ((p : ℕ) → p < length marks → getD marks p 0 ≡ 65535) →
-    length queue ≡ 319 → getD queue 0 0 ≡ 0 → length types ≡ 255 → length first ≡ 256 → getD first 0 0 ≡ 0 →
-    length features ≡ 2112 → length targets ≡ 2112 → Building joins a b 0 1 0 (set marks 0 0) queue types first features targets
-build-start joins {a} {b} left right marks queue types first features targets enough few clear queue-long root types-long first-long start
-    features-long targets-long =
+pub build-start : (joins : List (List ℕ)) {a b : List ℕ} → Recorded a → Recorded b → (marks queue words : List ℕ) →
+    length marks ≡ 65025 → ((p : ℕ) → p < 65025 → getD marks p 0 ≡ clear) → length queue ≡ 319 → getD queue 0 0 ≡ 0 →
+    length words ≡ 2624 → Building joins a b 0 1 base (set marks 0 0) queue (set words 1 base)
+build-start joins {a} {b} left right marks queue words marks-long none queue-long root long =
     record {
-      marked = mark-root marks queue (omega (arith, left .sound .shaped .laid .nonempty)) few queue-long root clear;
-      enough = omega (arith, length-set marks 0 0);
+      left = left;
+      right = right;
+      marked = mark-root marks queue marks-long queue-long root none;
       begun = omega arith;
       behind = omega arith;
-      room = omega arith;
       root = root;
       inside = λ i h. let e : getD queue i 0 ≡ 0 = first-pair i h in (
-        omega (arith, left .sound .shaped .laid .nonempty),
-        omega (arith, right .sound .shaped .laid .nonempty),
+        omega (arith, left .sound .shaped .nonempty),
+        omega (arith, right .sound .shaped .nonempty),
       );
       reached = λ i h.
-          subst (Reached (product joins a b)) (product-root joins left right ∙ sym (ap pairOf (first-pair i h)))
-          (reached-root (product joins a b));
-      types-long = types-long;
-      first-long = first-long;
-      features-long = features-long;
-      targets-long = targets-long;
-      start = start;
-      end = start;
-      rising = λ i h. absurd (omega arith);
-      bounded = λ i h. let e : i ≡ 0 = omega arith in omega (arith, ap (λ (n : ℕ). getD first n 0) e);
-      known = λ k h. absurd (omega arith);
-      ascending = λ i k h. absurd (omega arith);
-      within = λ k h. absurd (omega arith);
+          subst (Reached (product joins a b)) (product-root joins a b ∙ sym (ap pairOf (first-pair i h))) (reached-root (product joins a b));
+      long = length-set words 1 base ∙ long;
+      built = built-begin words base (omega arith) (omega arith);
+      first = getD-set-same words 1 base 0 (omega arith);
+      bytes = λ i h. absurd (omega arith);
       labels = λ i h. absurd (omega arith);
-      present = λ i f h. absurd (omega arith);
-      missing = λ i f h. absurd (omega arith);
+      rows = λ i h. absurd (omega arith);
     }
   where
     first-pair : (i : ℕ) → i < 1 → getD queue i 0 ≡ 0
     first-pair i h = let e : i ≡ 0 = omega arith in ap (λ (n : ℕ). getD queue n 0) e ∙ root
 
-module _ {joins : List (List ℕ)} {a b : Compressed} (left : Held a) (right : Held b) {head count links : ℕ}
-    {marks queue types first features targets : List ℕ}
-    (s : Building joins a b head count links marks queue types first features targets) (next : head < count) (few : count ≤ 255)
-    (short : links ≤ 2048) where
+module _ {joins : List (List ℕ)} {a b : List ℕ} {head count at : ℕ} {marks queue words : List ℕ}
+    (s : Building joins a b head count at marks queue words) (next : head < count) where
+  -- the next pair's nodes
+  pub left-node : Node a (getD queue head 0 / 255)
+  left-node = s .left .sound .shaped .node (getD queue head 0 / 255) (s .inside head next .0)
+
+  pub right-node : Node b (getD queue head 0 % 255)
+  right-node = s .right .sound .shaped .node (getD queue head 0 % 255) (s .inside head next .1)
+
+  pub types-known : (labelAt a (getD queue head 0 / 255) < 64) × (labelAt b (getD queue head 0 % 255) < 64)
+  types-known = (
+    s .left .typed (getD queue head 0 / 255) (s .inside head next .0),
+    s .right .typed (getD queue head 0 % 255) (s .inside head next .1),
+  )
+
+module _ {joins : List (List ℕ)} {a b : List ℕ} {head count at : ℕ} {marks queue words : List ℕ}
+    (s : Building joins a b head count at marks queue words) (next : head < count) (few : count ≤ 255)
+    (short : at ≤ base + head * header + 2048) where
   -- The next pair gets its row.
-  pub build-step : (marks′ queue′ features′ targets′ : List ℕ) (links′ count′ : ℕ) →
-      Adds (commonIn a b (getD queue head 0 / 255) (getD queue head 0 % 255)) marks queue features targets links count 64
-      marks′ queue′ features′ targets′ links′ count′ →
-      Building joins a b (head + 1) count′ links′ marks′ queue′
-      (set types head (getD (getD joins (getD (a .types) (getD queue head 0 / 255) 0) []) (getD (b .types) (getD queue head 0 % 255) 0) 0))
-      (set first (head + 1) links′) features′ targets′
-  build-step marks′ queue′ features′ targets′ links′ count′ added =
-      subst (λ (n : ℕ). Building joins a b n count′ links′ marks′ queue′ newTypes (set first n links′) features′ targets′)
-      (sym (add-one head))
-      record {
-        marked = added .after;
-        enough = omega (arith, added .marks-long, s .enough);
-        begun = omega (arith, s .begun, added .grows);
-        behind = omega (arith, added .grows);
-        room = omega (arith, added .short);
-        root = added .queue-kept 0 (s .begun) ∙ s .root;
-        inside = λ i h. inside i h (decLt i count);
-        reached = λ i h. reached i h (decLt i count);
-        types-long = length-set types head label ∙ s .types-long;
-        first-long = length-set first (suc head) links′ ∙ s .first-long;
-        features-long = added .features-long ∙ s .features-long;
-        targets-long = added .targets-long ∙ s .targets-long;
-        start = first-kept 0 (omega arith) ∙ s .start;
-        end = first-next;
-        rising = λ i h. rising i h (decLt i head);
-        bounded = λ i h. bounded i h (ℕ-discrete i (suc head));
-        known = λ k h. known k h (decLt k links);
-        ascending = λ i k h low high. ascending i k h low high (decLt i head);
-        within = λ k h. within k h (decLt k links);
-        labels = λ i h. labels i h (decLt i head);
-        present = λ i f h small x e. present i f h small x e (decLt i head);
-        missing = λ i f h small e. missing i f h small e (decLt i head);
-      }
-    where
-      p : ℕ
-      p = getD queue head 0
+  module _ (label : Label) (is : label ≡ joined joins a b (pairOf (getD queue head 0))) (byte : label < 256)
+      (marks′ queue′ words′ : List ℕ) (now : Spread)
+      (added : Adds (common a b (pairOf (getD queue head 0))) queue (set words at label) (record { at = at + header; count = count }) 64
+      marks′ queue′ words′ now) where
+    low : head + 2 ≤ at
+    low = omega (arith, s .built .listed, s .built .low)
 
-      label : ℕ
-      label = getD (getD joins (getD (a .types) (getD queue head 0 / 255) 0) []) (getD (b .types) (getD queue head 0 % 255) 0) 0
+    -- what stands before the row is kept
+    kept : Same words words′ 0 at
+    kept k l h = added .kept k l (omega arith) ∙ same-before words at label 0 at (omega arith) k l h
 
-      newTypes : List ℕ
-      newTypes =
-          set types head (getD (getD joins (getD (a .types) (getD queue head 0 / 255) 0) []) (getD (b .types) (getD queue head 0 % 255) 0) 0)
+    long-now : length words′ ≡ length words
+    long-now = added .long ∙ length-set words at label
 
-      newFirst : List ℕ
-      newFirst = set first (suc head) links′
+    filled : Open words′ base head at (now .at)
+    filled =
+        record {
+          built = built-kept (s .built) words′ long-now (λ k l h. kept k (omega arith) (omega (arith, low)));
+          headed = added .rises;
+          inside = omega (arith, added .short, long-now, s .long);
+        }
 
-      first-kept : (i : ℕ) → i ≤ head → getD newFirst i 0 ≡ getD first i 0
-      first-kept i h = getD-set-other first (suc head) i links′ 0 (λ q. omega arith)
+    room : head + 2 < base
+    room = omega arith
 
-      first-next : getD newFirst (suc head) 0 ≡ links′
-      first-next = getD-set-same first (suc head) links′ 0 (omega (arith, s .first-long))
+    abbrev new : List ℕ
+    new = set words′ (head + 2) (now .at)
 
-      -- a pair that comes anew hangs below the one whose row is added
-      leads-on : (f : ℕ) (x : ℕ × ℕ) → commonIn a b (getD queue head 0 / 255) (getD queue head 0 % 255) f ≡ some x →
-          product joins a b .link (pairOf (getD queue head 0)) f ≡ some x
-      leads-on f x e =
-          product-link joins left right (getD queue head 0 / 255) (getD queue head 0 % 255) f (s .inside head next .0) (s .inside head next .1) ∙ e
+    label-now : labelFrom words′ at ≡ label
+    label-now = added .kept at (omega arith) (omega arith) ∙ getD-set-same words at label 0 (omega (arith, s .long))
 
-      inside : (i : ℕ) → i < count′ → Dec (i < count) → (getD queue′ i 0 / 255 < a .nodes) × (getD queue′ i 0 % 255 < b .nodes)
-      inside i h (yes l) =
-          subst (λ (q : ℕ). (q / 255 < a .nodes) × (q % 255 < b .nodes)) (sym (added .queue-kept i l)) (s .inside i l)
-      inside i h (no n) =
-          let (f, x, e, num) = added .fresh i (omega arith) h in
-          let (_, low, high) = product-known joins left right (pairOf (getD queue head 0)) x f (leads-on f x e) in
-          let q = pair-numbered x i num in (
-            subst (λ (n : ℕ). n < a .nodes) (sym (ap (λ (y : ℕ × ℕ). y .0) q)) low,
-            subst (λ (n : ℕ). n < b .nodes) (sym (ap (λ (y : ℕ × ℕ). y .1) q)) high,
-          )
+    rows-are : rowsFrom new 0 (head + 1) ≡ rowsFrom words 0 head ++ ((label, linksBetween words′ (at + header) (now .at)) ∷ [])
+    rows-are =
+        closed-rows filled room ∙
+        ap₂ (λ (rs : List (Row Label)) (l : Label). rs ++ ((l, linksBetween words′ (at + header) (now .at)) ∷ []))
+        (rows-kept (s .built) words′ long-now (λ k l h. kept k (omega arith) (omega (arith, low))) (λ k l h. kept k (omega arith) h)) label-now
 
-      reached : (i : ℕ) → i < count′ → Dec (i < count) → Reached (product joins a b) (pairOf (getD queue′ i 0))
-      reached i h (yes l) = subst (λ (q : ℕ). Reached (product joins a b) (pairOf q)) (sym (added .queue-kept i l)) (s .reached i l)
-      reached i h (no n) =
-          let (f, x, e, num) = added .fresh i (omega arith) h in
-          subst (Reached (product joins a b)) (sym (pair-numbered x i num))
-          (reached-link (product joins a b) f (s .reached head next) (leads-on f x e))
+    -- an earlier row
+    row-kept : (i : ℕ) → i < head → _≡_ {A = Row Label} (labelAt new i, linksAt new i) (labelAt words i, linksAt words i)
+    row-kept i h =
+        sym (row-at new (head + 1) 0 i i (noLabel, []) (omega arith) (omega arith)) ∙
+        ap (λ (rs : List (Row Label)). getD rs i (noLabel, [])) rows-are ∙
+        List·getD-append (rowsFrom words 0 head) ((label, linksBetween words′ (at + header) (now .at)) ∷ []) (noLabel, []) i
+        (omega (arith, length-rows words 0 head)) ∙
+        row-at words head 0 i i (noLabel, []) (omega arith) h
 
-      rising : (i : ℕ) → i < suc head → Dec (i < head) → getD newFirst i 0 ≤ getD newFirst (suc i) 0
-      rising i h (yes l) = omega (arith, first-kept i (omega arith), first-kept (suc i) l, s .rising i l)
-      rising i h (no n) =
-          let e : i ≡ head = omega arith in
-          subst (λ (w : ℕ). getD newFirst w 0 ≤ getD newFirst (suc w) 0) (sym e)
-          (omega (arith, first-kept head (omega arith), first-next, s .end, added .rises))
+    -- and the last
+    row-last : (i : ℕ) → i ≡ head → _≡_ {A = Row Label} (labelAt new i, linksAt new i) (label, linksBetween words′ (at + header) (now .at))
+    row-last i e =
+        sym (row-at new (head + 1) 0 i i (noLabel, []) (omega arith) (omega arith)) ∙
+        ap (λ (rs : List (Row Label)). getD rs i (noLabel, [])) rows-are ∙
+        getD-at (rowsFrom words 0 head) (label, linksBetween words′ (at + header) (now .at)) [] (noLabel, []) i (length-rows words 0 head ∙ sym e)
 
-      bounded : (i : ℕ) → i ≤ suc head → Dec (i ≡ suc head) → getD newFirst i 0 ≤ links′
-      bounded i h (yes e) = subst (λ (w : ℕ). getD newFirst w 0 ≤ links′) (sym e) (omega (arith, first-next))
-      bounded i h (no d) = omega (arith, first-kept i (omega arith), s .bounded i (omega arith), added .rises)
+    -- a pair that comes anew hangs below the one whose row is added
+    inside : (i : ℕ) → i < now .count → Dec (i < count) → (getD queue′ i 0 / 255 < size a) × (getD queue′ i 0 % 255 < size b)
+    inside i h (yes l) =
+        subst (λ (q : ℕ). (q / 255 < size a) × (q % 255 < size b)) (sym (added .queue-kept i l)) (s .inside i l)
+    inside i h (no n) =
+        let (f, x, e, num) = added .fresh i (omega arith) h in
+        let (_, lower, higher) = common-known (s .left) (s .right) (pairOf (getD queue head 0)) x f e in
+        let q = pair-numbered x i num in (
+          subst (λ (n : ℕ). n < size a) (sym (ap (λ (y : ℕ × ℕ). y .0) q)) lower,
+          subst (λ (n : ℕ). n < size b) (sym (ap (λ (y : ℕ × ℕ). y .1) q)) higher,
+        )
 
-      known : (k : ℕ) → k < links′ → Dec (k < links) → getD features′ k 0 < 64
-      known k h (yes l) = omega (arith, added .features-kept k l, s .known k l)
-      known k h (no n) = added .known k (omega arith) h
+    reached : (i : ℕ) → i < now .count → Dec (i < count) → Reached (product joins a b) (pairOf (getD queue′ i 0))
+    reached i h (yes l) = subst (λ (q : ℕ). Reached (product joins a b) (pairOf q)) (sym (added .queue-kept i l)) (s .reached i l)
+    reached i h (no n) =
+        let (f, x, e, num) = added .fresh i (omega arith) h in
+        subst (Reached (product joins a b)) (sym (pair-numbered x i num))
+        (reached-link (product joins a b) f (s .reached head next) (product-link joins a b (pairOf (getD queue head 0)) f ∙ e))
 
-      ascending : (i k : ℕ) → i < suc head → getD newFirst i 0 ≤ k → suc k < getD newFirst (suc i) 0 → Dec (i < head) →
-          getD features′ k 0 < getD features′ (suc k) 0
-      ascending i k h low high (yes l) =
-          let from : getD first i 0 ≤ k = omega (arith, first-kept i (omega arith)) in
-          let to : suc k < getD first (suc i) 0 = omega (arith, first-kept (suc i) l) in
-          let most : getD first (suc i) 0 ≤ links = s .bounded (suc i) l in
-          omega (
-            arith,
-            added .features-kept k (omega arith),
-            added .features-kept (suc k) (omega arith),
-            s .ascending i k l from to,
-          )
-      ascending i k h low high (no n) =
-          let e : i ≡ head = omega arith in
-          let from : links ≤ k = omega (arith, ap (λ (w : ℕ). getD newFirst w 0) e, first-kept head (omega arith), s .end) in
-          let to : suc k < links′ = omega (arith, ap (λ (w : ℕ). getD newFirst (suc w) 0) e, first-next) in
-          added .ascending k from to
+    -- a row's pair stands where it stood
+    same-pair : (i j : ℕ) → i ≡ j → j < count → pairOf (getD queue j 0) ≡ pairOf (getD queue′ i 0)
+    same-pair i j e h = ap pairOf (sym (added .queue-kept j h) ∙ ap (λ (n : ℕ). getD queue′ n 0) (sym e))
 
-      within : (k : ℕ) → k < links′ → Dec (k < links) → getD targets′ k 0 < count′
-      within k h (yes l) = omega (arith, added .targets-kept k l, s .within k l, added .grows)
-      within k h (no n) = added .within k (omega arith) h
+    bytes : (i : ℕ) → i < head + 1 → Dec (i < head) → labelAt new i < 256
+    bytes i h (yes l) =
+        subst (λ (x : Label). x < 256) (sym (ap (λ (r : Row Label). r .0) (row-kept i l))) (s .bytes i l)
+    bytes i h (no n) =
+        subst (λ (x : Label). x < 256) (sym (ap (λ (r : Row Label). r .0) (row-last i (omega arith)))) byte
 
-      labels : (i : ℕ) → i < suc head → Dec (i < head) →
-          getD newTypes i 0 ≡ getD (getD joins (getD (a .types) (getD queue′ i 0 / 255) 0) []) (getD (b .types) (getD queue′ i 0 % 255) 0) 0
-      labels i h (yes l) =
-          getD-set-other types head i label 0 (λ q. omega arith) ∙ s .labels i l ∙
-          ap (λ (q : ℕ). getD (getD joins (getD (a .types) (q / 255) 0) []) (getD (b .types) (q % 255) 0) 0)
-          (sym (added .queue-kept i (omega arith)))
-      labels i h (no n) =
-          let e : i ≡ head = omega arith in
-          ap (λ (w : ℕ). getD newTypes w 0) e ∙ getD-set-same types head label 0 (omega (arith, s .types-long)) ∙
-          ap (λ (q : ℕ). getD (getD joins (getD (a .types) (q / 255) 0) []) (getD (b .types) (q % 255) 0) 0)
-          (sym (added .queue-kept head next) ∙ ap (λ (w : ℕ). getD queue′ w 0) (sym e))
+    labels : (i : ℕ) → i < head + 1 → Dec (i < head) → labelAt new i ≡ joined joins a b (pairOf (getD queue′ i 0))
+    labels i h (yes l) =
+        ap (λ (r : Row Label). r .0) (row-kept i l) ∙ s .labels i l ∙ ap (joined joins a b) (same-pair i i refl (omega arith))
+    labels i h (no n) =
+        let e : i ≡ head = omega arith in
+        ap (λ (r : Row Label). r .0) (row-last i e) ∙ is ∙ ap (joined joins a b) (same-pair i head e next)
 
-      links-kept : (i : ℕ) → i < head → linksAt newFirst features′ targets′ i ≡ linksAt first features targets i
-      links-kept i h =
-          links-same first features targets newFirst features′ targets′ i (first-kept i (omega arith)) (first-kept (suc i) h)
-          (omega (arith, s .bounded (suc i) h, s .features-long)) (omega (arith, s .bounded (suc i) h, s .targets-long))
-          (omega (arith, s .bounded (suc i) h, s .features-long, added .features-long))
-          (omega (arith, s .bounded (suc i) h, s .targets-long, added .targets-long))
-          (λ k l. added .features-kept k (omega (arith, s .bounded (suc i) h)))
-          (λ k l. added .targets-kept k (omega (arith, s .bounded (suc i) h)))
+    rows : (i : ℕ) → i < head + 1 → Dec (i < head) → Matched (common a b (pairOf (getD queue′ i 0))) queue′ (now .count) 64 (linksAt new i)
+    rows i h (yes l) =
+        subst (λ (ls : List (ℕ × ℕ)). Matched (common a b (pairOf (getD queue′ i 0))) queue′ (now .count) 64 ls)
+        (sym (ap (λ (r : Row Label). r .1) (row-kept i l)))
+        (subst (λ (x : ℕ × ℕ). Matched (common a b x) queue′ (now .count) 64 (linksAt words i)) (same-pair i i refl (omega arith))
+        (matched-on (s .rows i l) queue′ (now .count) (added .grows) (added .queue-kept)))
+    rows i h (no n) =
+        let e : i ≡ head = omega arith in
+        subst (λ (ls : List (ℕ × ℕ)). Matched (common a b (pairOf (getD queue′ i 0))) queue′ (now .count) 64 ls)
+        (sym (ap (λ (r : Row Label). r .1) (row-last i e)))
+        (subst (λ (x : ℕ × ℕ). Matched (common a b x) queue′ (now .count) 64 (linksBetween words′ (at + header) (now .at)))
+        (same-pair i head e next) (added .row))
 
-      links-next : (i : ℕ) → i ≡ head → linksAt newFirst features′ targets′ i ≡ paired (slice links links′ features′) (slice links links′ targets′)
-      links-next i e =
-          ap (linksAt newFirst features′ targets′) e ∙
-          links-are newFirst features′ targets′ head links links′ (first-kept head (omega arith) ∙ s .end) first-next
-
-      numbered-on : (x : ℕ × ℕ) (n : ℕ) → Numbered queue count x n → Numbered queue′ count′ x n
-      numbered-on x n num =
-          record {
-            left = num .left;
-            right = num .right;
-            below = omega (arith, num .below, added .grows);
-            stands = added .queue-kept n (num .below) ∙ num .stands;
-          }
-
-      leads-same : (i j f : ℕ) → i ≡ j → j < count →
-          commonIn a b (getD queue j 0 / 255) (getD queue j 0 % 255) f ≡ commonIn a b (getD queue′ i 0 / 255) (getD queue′ i 0 % 255) f
-      leads-same i j f e l =
-          ap (λ (q : ℕ). commonIn a b (q / 255) (q % 255) f) (sym (added .queue-kept j l) ∙ ap (λ (w : ℕ). getD queue′ w 0) (sym e))
-
-      present : (i f : ℕ) → i < suc head → f < 64 → (x : ℕ × ℕ) →
-          commonIn a b (getD queue′ i 0 / 255) (getD queue′ i 0 % 255) f ≡ some x → Dec (i < head) →
-          (n : ℕ) × (target (linksAt newFirst features′ targets′ i) f ≡ some n) × Numbered queue′ count′ x n
-      present i f h small x e (yes l) =
-          let (n, t, num) = s .present i f l small x (leads-same i i f refl (omega arith) ∙ e) in
-          (n, ap (λ (ls : List (ℕ × ℕ)). target ls f) (links-kept i l) ∙ t, numbered-on x n num)
-      present i f h small x e (no d) =
-          let same : i ≡ head = omega arith in
-          let (n, t, num) = added .present f small x (leads-same i head f same next ∙ e) in
-          (n, ap (λ (ls : List (ℕ × ℕ)). target ls f) (links-next i same) ∙ t, num)
-
-      missing : (i f : ℕ) → i < suc head → f < 64 → commonIn a b (getD queue′ i 0 / 255) (getD queue′ i 0 % 255) f ≡ none →
-          Dec (i < head) → target (linksAt newFirst features′ targets′ i) f ≡ none
-      missing i f h small e (yes l) =
-          ap (λ (ls : List (ℕ × ℕ)). target ls f) (links-kept i l) ∙ s .missing i f l small (leads-same i i f refl (omega arith) ∙ e)
-      missing i f h small e (no d) =
-          let same : i ≡ head = omega arith in
-          ap (λ (ls : List (ℕ × ℕ)). target ls f) (links-next i same) ∙
-          added .missing f small (leads-same i head f same next ∙ e)
+    pub build-step : Building joins a b (head + 1) (now .count) (now .at) marks′ queue′ (set words′ (head + 2) (now .at))
+    build-step =
+        record {
+          left = s .left;
+          right = s .right;
+          marked = added .after;
+          begun = omega (arith, s .begun, added .grows);
+          behind = omega (arith, added .grows);
+          root = added .queue-kept 0 (s .begun) ∙ s .root;
+          inside = λ i h. inside i h (decLt i count);
+          reached = λ i h. reached i h (decLt i count);
+          long = length-set words′ (head + 2) (now .at) ∙ long-now ∙ s .long;
+          built = row-closes filled room;
+          first =
+              getD-set-other words′ (head + 2) 1 (now .at) 0 (λ (e : 1 ≡ head + 2). omega arith) ∙ kept 1 (omega arith) (omega (arith, low)) ∙
+              s .first;
+          bytes = λ i h. bytes i h (decLt i head);
+          labels = λ i h. labels i h (decLt i head);
+          rows = λ i h. rows i h (decLt i head);
+        }

@@ -1,57 +1,44 @@
 -- The queue of pairs: a pair gets the next number and a mark, or keeps those that it has.
 use mathlib.Core.Path.{_≡_, refl, sym, _∙_, ap}
 use mathlib.Core.List.{List}
-use Prim.Native.Nat.{ℕ, _+_, _*_, _≤_, _<_}
+use Prim.Native.Nat.{ℕ, _+_, _<_}
 use native.Mathlib.Decide.{ℕ-discrete}
 use native.Mathlib.Omega.{arith}
-use lib.ListN.{length, getD, set, replicate, length-set, length-replicate, getD-replicate}
+use lib.ListN.{length, getD, set, length-set}
 use lib.Seq.{getD-set-same, getD-set-other}
-use Rattle.generalize.specs.Queue.{Marked, Enlisted}
-
--- Clear marks, as many as the pairs with one of the nodes on the left.
-pub clear-marks : (nodes n : ℕ) → nodes * 255 ≤ n → n ≤ 65025 →
-    ((nodes * 255 ≤ length (replicate {A = ℕ} n 65535)) × (length (replicate {A = ℕ} n 65535) ≤ 65025)) ×
-    ((p : ℕ) → p < length (replicate {A = ℕ} n 65535) → getD (replicate {A = ℕ} n 65535) p 0 ≡ 65535)
-clear-marks nodes n enough few = (
-  (omega (arith, long), omega (arith, long)),
-  λ p h. getD-replicate {A = ℕ} n p 65535 0 (omega (arith, long)),
-)
-  where
-    long : length (replicate {A = ℕ} n 65535) ≡ n
-    long = length-replicate {A = ℕ} n 65535
+use Rattle.generalize.specs.Queue.{clear, Marked, Enlisted}
 
 -- The first pair alone.
-pub mark-root : (marks queue : List ℕ) → 0 < length marks → length marks ≤ 65025 → length queue ≡ 319 → getD queue 0 0 ≡ 0 →
-    ((p : ℕ) → p < length marks → getD marks p 0 ≡ 65535) → Marked (set marks 0 0) queue 1
-mark-root marks queue begun few queue-long root clear =
+pub mark-root : (marks queue : List ℕ) → length marks ≡ 65025 → length queue ≡ 319 → getD queue 0 0 ≡ 0 →
+    ((p : ℕ) → p < 65025 → getD marks p 0 ≡ clear) → Marked (set marks 0 0) queue 1
+mark-root marks queue marks-long queue-long root none =
     record {
-      marks-few = omega (arith, length-set marks 0 0);
+      marks-long = length-set marks 0 0 ∙ marks-long;
       queue-long = queue-long;
       few = omega arith;
-      inside = λ i h. let e : i ≡ 0 = omega arith in omega (arith, length-set marks 0 0, ap (λ (n : ℕ). getD queue n 0) e);
+      inside = λ i h. let e : i ≡ 0 = omega arith in omega (arith, ap (λ (n : ℕ). getD queue n 0) e);
       placed = λ i h.
           let e : i ≡ 0 = omega arith in
           ap (λ (n : ℕ). getD (set marks 0 0) (getD queue n 0) 0) e ∙ ap (λ (n : ℕ). getD (set marks 0 0) n 0) root ∙ here ∙ sym e;
-      queued = λ p h stands. queued p (omega (arith, length-set marks 0 0)) stands (ℕ-discrete p 0);
+      queued = λ p h stands. queued p h stands (ℕ-discrete p 0);
     }
   where
     here : getD (set marks 0 0) 0 0 ≡ 0
     here = getD-set-same marks 0 0 0 (omega arith)
 
-    queued : (p : ℕ) → p < length marks → (getD (set marks 0 0) p 0 ≡ 65535 → ⊥) → Dec (p ≡ 0) →
+    queued : (p : ℕ) → p < 65025 → (getD (set marks 0 0) p 0 ≡ clear → ⊥) → Dec (p ≡ 0) →
         (getD (set marks 0 0) p 0 < 1) × (getD queue (getD (set marks 0 0) p 0) 0 ≡ p)
     queued p h stands (yes e) =
         let q : getD (set marks 0 0) p 0 ≡ 0 = ap (λ (n : ℕ). getD (set marks 0 0) n 0) e ∙ here in
         (omega arith, ap (λ (n : ℕ). getD queue n 0) q ∙ root ∙ sym e)
-    queued p h stands (no d) = absurd (stands (getD-set-other marks 0 p 0 0 d ∙ clear p h))
+    queued p h stands (no d) = absurd (stands (getD-set-other marks 0 p 0 0 d ∙ none p h))
 
-module _ (marks queue : List ℕ) (pair count : ℕ) (m : Marked marks queue count) (inside : pair < length marks) (room : count < 319) where
+module _ (marks queue : List ℕ) (pair count : ℕ) (m : Marked marks queue count) (inside : pair < 65025) (room : count < 319) where
   -- It has a number.
-  pub enlist-old : (getD marks pair 0 ≡ 65535 → ⊥) → Enlisted marks queue pair count marks queue count
+  pub enlist-old : (getD marks pair 0 ≡ clear → ⊥) → Enlisted queue pair count marks queue count
   enlist-old stands =
       record {
         after = m;
-        marks-long = refl;
         least = omega arith;
         most = omega arith;
         kept = λ i h. refl;
@@ -61,18 +48,17 @@ module _ (marks queue : List ℕ) (pair count : ℕ) (m : Marked marks queue cou
       }
 
   -- It gets the next number.
-  pub enlist-new : getD marks pair 0 ≡ 65535 → Enlisted marks queue pair count (set marks pair count) (set queue count pair) (count + 1)
-  enlist-new clear =
+  pub enlist-new : getD marks pair 0 ≡ clear → Enlisted queue pair count (set marks pair count) (set queue count pair) (count + 1)
+  enlist-new free =
       record {
         after = record {
-          marks-few = omega (arith, length-set marks pair count, m .marks-few);
+          marks-long = length-set marks pair count ∙ m .marks-long;
           queue-long = length-set queue count pair ∙ m .queue-long;
           few = omega arith;
-          inside = λ i h. omega (arith, length-set marks pair count, inside-at i h (ℕ-discrete i count));
+          inside = λ i h. inside-at i h (ℕ-discrete i count);
           placed = λ i h. placed i h (ℕ-discrete i count);
-          queued = λ p h stands. queued p (omega (arith, length-set marks pair count)) stands (ℕ-discrete p pair);
+          queued = λ p h stands. queued p h stands (ℕ-discrete p pair);
         };
-        marks-long = length-set marks pair count;
         least = omega arith;
         most = omega arith;
         kept = λ i h. queue-kept i (λ e. omega arith);
@@ -82,7 +68,7 @@ module _ (marks queue : List ℕ) (pair count : ℕ) (m : Marked marks queue cou
       }
     where
       mark-here : getD (set marks pair count) pair 0 ≡ count
-      mark-here = getD-set-same marks pair count 0 inside
+      mark-here = getD-set-same marks pair count 0 (omega (arith, m .marks-long))
 
       queue-here : getD (set queue count pair) count 0 ≡ pair
       queue-here = getD-set-same queue count pair 0 (omega (arith, m .queue-long))
@@ -97,7 +83,7 @@ module _ (marks queue : List ℕ) (pair count : ℕ) (m : Marked marks queue cou
       apart : (i : ℕ) → i < count → getD queue i 0 ≡ pair → ⊥
       apart i h e = omega (arith, m .placed i h, ap (λ (n : ℕ). getD marks n 0) e)
 
-      inside-at : (i : ℕ) → i < count + 1 → Dec (i ≡ count) → getD (set queue count pair) i 0 < length marks
+      inside-at : (i : ℕ) → i < count + 1 → Dec (i ≡ count) → getD (set queue count pair) i 0 < 65025
       inside-at i h (yes e) = omega (arith, ap (λ (n : ℕ). getD (set queue count pair) n 0) e, queue-here)
       inside-at i h (no d) = omega (arith, queue-kept i d, m .inside i (omega arith))
 
@@ -109,7 +95,7 @@ module _ (marks queue : List ℕ) (pair count : ℕ) (m : Marked marks queue cou
           ap (λ (n : ℕ). getD (set marks pair count) n 0) (queue-kept i d) ∙
           mark-kept (getD queue i 0) (apart i (omega arith)) ∙ m .placed i (omega arith)
 
-      queued : (p : ℕ) → p < length marks → (getD (set marks pair count) p 0 ≡ 65535 → ⊥) → Dec (p ≡ pair) →
+      queued : (p : ℕ) → p < 65025 → (getD (set marks pair count) p 0 ≡ clear → ⊥) → Dec (p ≡ pair) →
           (getD (set marks pair count) p 0 < count + 1) × (getD (set queue count pair) (getD (set marks pair count) p 0) 0 ≡ p)
       queued p h stands (yes e) =
           let q : getD (set marks pair count) p 0 ≡ count = ap (λ (n : ℕ). getD (set marks pair count) n 0) e ∙ mark-here in

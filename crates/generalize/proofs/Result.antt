@@ -1,47 +1,51 @@
 -- What the rows are once no pair is left: a graph that is alike with the product, by the places of the pairs in the queue. And
--- why a result is too large: the pairs in the queue are different nodes of the product, the places different links.
+-- why a result is too large: the pairs in the queue are different nodes of the product, the links of their rows different links.
 use mathlib.Core.Path.{_≡_, refl, sym, _∙_, ap, subst}
-use mathlib.Core.List.{List, [], _∷_, List·Memᴰ, List·Memᴰ·not-nil, List·Memᴰ·cases-cons}
-use mathlib.Core.Logic.{_⊎_, inl, inr, ⊎-elim}
+use mathlib.Core.List.{List, [], _∷_, _++_, map, List·Memᴰ, List·Memᴰ·not-nil, List·Memᴰ·cases-cons, List·Memᴰ·append-cases, Memᴰ·of-map}
+use mathlib.Core.Logic.{_⊎_, ⊎-elim}
 use mathlib.Core.Option.{Option, none, some}
-use Prim.Native.Nat.{ℕ, zero, suc, _+_, _-_, _/_, _%_, _≤_, _<_}
+use Prim.Native.Nat.{ℕ, zero, suc, _+_, _-_, _*_, _/_, _%_, _≤_, _<_}
 use native.Mathlib.Omega.{arith}
 use lib.Dec.{eqb}
-use lib.ListN.{length, getD}
-use Rattle.graphs.specs.Graph.{Graph, Reached}
-use Rattle.graphs.specs.Rows.{Row, target}
+use lib.ListN.{length, getD, set, length-append, length-map}
+use Rattle.graphs.specs.Graph.{Reached}
+use Rattle.graphs.specs.Rows.{Row}
 use Rattle.graphs.specs.Number.{Canonical, canonical, manyNodes, manyLinks, written}
-use Rattle.graphs.specs.Large.{Distinct, ManyNodes, ManyLinks}
+use Rattle.graphs.specs.Large.{Distinct, Ascending, ManyNodes, ManyLinks}
 use Rattle.graphs.proofs.Form.Bisimilar.{Alike, absent, present, Bisimilar}
 use Rattle.graphs.proofs.Form.Invariant.{bisimilar-canonical}
 use Rattle.graphs.proofs.Form.Large.{canonical-fits}
-use Rattle.graphs.proofs.Lists.{tells-eqb}
+use Rattle.graphs.proofs.Lists.{tells-eqb, distinct-append}
 use Rattle.graphs.proofs.Walk.{none-some, some-injective}
-use Rattle.visits.specs.Arrays.{Compressed, Sound, linksAt, rowsOf, graphOfRows}
-use Rattle.visits.proofs.VisitRows.{row-at, link-known}
+use Rattle.lattice.specs.Label.{Label, noLabel}
+use Rattle.layout.specs.Layout.{Recorded, Sound, header, size, labelAt, linksFrom, rowEnd, targetAt, linksAt, rowsFrom, rowsOf, graphIn}
+use Rattle.layout.specs.Builder.{Built}
+use Rattle.layout.proofs.Spans.{linkAt, length-links, links-at, links-member}
+use Rattle.layout.proofs.Rows.{row-at, rows-source}
+use Rattle.layout.proofs.Places.{label-at, link-at, link-place}
+use Rattle.layout.proofs.Builder.{Orderly, Aimed, size-kept, size-rows, size-is, built-shaped, built-sound}
 use Rattle.encode.specs.Encode.{writtenOut}
 use Rattle.encode.specs.declared.Written.the-variants as outcome
 use Rattle.generalize.specs.Pairs.{samePair}
-use Rattle.generalize.specs.Product.{Held, product, productOut}
-use Rattle.generalize.specs.Queue.{codeOf, RowAt, Numbered}
-use Rattle.generalize.proofs.Merging.{row-rises, row-target}
-use Rattle.generalize.proofs.Sides.{commonIn, product-root, product-link, product-label, product-known, tells-pair}
-use Rattle.generalize.proofs.Building.{Building, pairOf, pair-numbered}
+use Rattle.generalize.specs.Product.{product, productOut}
+use Rattle.generalize.specs.Queue.{codeOf, common, Numbered}
+use Rattle.generalize.proofs.Sides.{pairOf, product-root, product-link, product-label, common-known, tells-pair}
+use Rattle.generalize.proofs.Building.{Building, base, pair-numbered}
 
 -- A graph with too many nodes or links is not written.
-pub too-large : (joins : List (List ℕ)) {a b : Compressed} → Held a → Held b → (old : List ℕ) →
+pub too-large : (joins : List (List ℕ)) {a b : List ℕ} → Recorded a → Recorded b → (old : List ℕ) →
     ManyNodes (product joins a b) ⊎ ManyLinks (product joins a b) →
     productOut joins a b old ≡ record { answer = outcome.TooLarge; output = old }
 unfolding writtenOut
 too-large joins {a} {b} left right old many = go (canonical samePair (product joins a b)) refl
   where
-    go : (c : Canonical ℕ) → canonical samePair (product joins a b) ≡ c →
+    go : (c : Canonical Label) → canonical samePair (product joins a b) ≡ c →
         productOut joins a b old ≡ record { answer = outcome.TooLarge; output = old }
-    go manyNodes e = ap (λ (c : Canonical ℕ). writtenOut c old) e
-    go manyLinks e = ap (λ (c : Canonical ℕ). writtenOut c old) e
+    go manyNodes e = ap (λ (c : Canonical Label). writtenOut c old) e
+    go manyLinks e = ap (λ (c : Canonical Label). writtenOut c old) e
     go (written form) e =
         let (few, short) = canonical-fits samePair tells-pair (product joins a b)
-        (λ v w f r l. product-known joins left right v w f l .0) .1 (form, e) in
+        (λ v w f r l. common-known left right v w f (sym (product-link joins a b v f) ∙ l) .0) .1 (form, e) in
         absurd (⊎-elim few short many)
 
 -- the first n pairs of the queue, the last first
@@ -62,50 +66,39 @@ pairs-source queue (suc n) x m =
     (λ (i : List·Memᴰ x (pairs queue n)). let (k, h, e) = pairs-source queue n x i in (k, omega arith, e))
     (List·Memᴰ·cases-cons m)
 
--- the links of the pair x by the features at n places from s on, before others
-placed : (x : ℕ × ℕ) → List ℕ → ℕ → ℕ → List ((ℕ × ℕ) × ℕ) → List ((ℕ × ℕ) × ℕ)
-placed x fs s zero rest = rest
-placed x fs s (suc n) rest = (x, getD fs (s + n) 0) ∷ placed x fs s n rest
+-- the links of the pair x by the features of a row
+leaving : ℕ × ℕ → List (ℕ × ℕ) → List ((ℕ × ℕ) × ℕ)
+leaving x links = map (λ l. (x, l .0)) links
 
-placed-length : (x : ℕ × ℕ) (fs : List ℕ) (s n : ℕ) (rest : List ((ℕ × ℕ) × ℕ)) → length (placed x fs s n rest) ≡ n + length rest
-unfolding placed
-placed-length x fs s zero rest = omega arith
-placed-length x fs s (suc n) rest = omega (arith, placed-length x fs s n rest)
-
-placed-source : (x : ℕ × ℕ) (fs : List ℕ) (s n : ℕ) (rest : List ((ℕ × ℕ) × ℕ)) (l : (ℕ × ℕ) × ℕ) →
-    List·Memᴰ l (placed x fs s n rest) → ((k : ℕ) × (s ≤ k) × (k < s + n) × (l ≡ (x, getD fs k 0))) ⊎ List·Memᴰ l rest
-unfolding placed
-placed-source x fs s zero rest l m = inr m
-placed-source x fs s (suc n) rest l m =
-    ⊎-elim (λ (e : l ≡ (x, getD fs (s + n) 0)). inl (s + n, omega arith, omega arith, e))
-    (λ (i : List·Memᴰ l (placed x fs s n rest)).
-    ⊎-elim (λ (q : (k : ℕ) × (s ≤ k) × (k < s + n) × (l ≡ (x, getD fs k 0))). inl (q .0, q .1, omega (arith, q .2), q .3))
-    (λ (j : List·Memᴰ l rest). inr j) (placed-source x fs s n rest l i))
-    (List·Memᴰ·cases-cons m)
-
-placed-distinct : (x : ℕ × ℕ) (fs : List ℕ) (s n : ℕ) (rest : List ((ℕ × ℕ) × ℕ)) → Distinct rest →
-    ((l : (ℕ × ℕ) × ℕ) → List·Memᴰ l rest → l .0 ≡ x → ⊥) →
-    ((j k : ℕ) → s ≤ j → j < k → k < s + n → getD fs j 0 < getD fs k 0) → Distinct (placed x fs s n rest)
-unfolding placed
-placed-distinct x fs s zero rest d apart up = d
-placed-distinct x fs s (suc n) rest d apart up = (
-  λ m.
-      ⊎-elim (λ (q : (k : ℕ) × (s ≤ k) × (k < s + n) × ((x, getD fs (s + n) 0) ≡ (x, getD fs k 0))).
-      omega (arith, up (q .0) (s + n) (q .1) (q .2) (omega arith), ap (λ (y : (ℕ × ℕ) × ℕ). y .1) (q .3)))
-      (λ (i : List·Memᴰ (x, getD fs (s + n) 0) rest). apart (x, getD fs (s + n) 0) i refl)
-      (placed-source x fs s n rest (x, getD fs (s + n) 0) m),
-  placed-distinct x fs s n rest d apart (λ j k low h high. up j k low h (omega arith)),
+leaving-distinct : (x : ℕ × ℕ) (links : List (ℕ × ℕ)) → Ascending links → Distinct (leaving x links)
+unfolding leaving
+leaving-distinct x [] up = tt
+leaving-distinct x (l ∷ ls) up = (
+  λ m. let (k, i, e) = Memᴰ·of-map {B = (ℕ × ℕ) × ℕ} (λ l. (x, l .0)) ls m in omega (arith, up .0 k i, ap (λ (y : (ℕ × ℕ) × ℕ). y .1) e),
+  leaving-distinct x ls (up .1),
 )
 
--- the links of the first m pairs
-allPlaced : List ℕ → List ℕ → List ℕ → ℕ → List ((ℕ × ℕ) × ℕ)
-allPlaced queue first fs zero = []
-allPlaced queue first fs (suc m) =
-    placed (pairOf (getD queue m 0)) fs (getD first m 0) (getD first (suc m) 0 - getD first m 0) (allPlaced queue first fs m)
+-- the links of the first m rows
+leavingAll : List ℕ → List ℕ → ℕ → List ((ℕ × ℕ) × ℕ)
+leavingAll queue words zero = []
+leavingAll queue words (suc m) = leaving (pairOf (getD queue m 0)) (linksAt words m) ++ leavingAll queue words m
 
-module _ {joins : List (List ℕ)} {a b : Compressed} (left : Held a) (right : Held b) {head count links : ℕ}
-    {marks queue types first features targets : List ℕ}
-    (s : Building joins a b head count links marks queue types first features targets) where
+all-source : (queue words : List ℕ) (m : ℕ) (l : (ℕ × ℕ) × ℕ) → List·Memᴰ l (leavingAll queue words m) →
+    (i : ℕ) × (k : ℕ × ℕ) × (i < m) × List·Memᴰ k (linksAt words i) × (l ≡ (pairOf (getD queue i 0), k .0))
+unfolding leavingAll leaving
+all-source queue words zero l i = absurd (List·Memᴰ·not-nil i)
+all-source queue words (suc m) l i =
+    ⊎-elim
+    (λ (j : List·Memᴰ l (map (λ k. (pairOf (getD queue m 0), k .0)) (linksAt words m))).
+    let (k, n, e) = Memᴰ·of-map {B = (ℕ × ℕ) × ℕ} (λ k. (pairOf (getD queue m 0), k .0)) (linksAt words m) j in
+    (m, k, omega arith, n, sym e))
+    (λ (j : List·Memᴰ l (leavingAll queue words m)).
+    let (v, k, h, n, e) = all-source queue words m l j in
+    (v, k, omega arith, n, e))
+    (List·Memᴰ·append-cases (map (λ k. (pairOf (getD queue m 0), k .0)) (linksAt words m)) i)
+
+module _ {joins : List (List ℕ)} {a b : List ℕ} {head count at : ℕ} {marks queue words : List ℕ}
+    (s : Building joins a b head count at marks queue words) where
   -- pairs at different places are different
   same-place : (i j : ℕ) → i < count → j < count → getD queue i 0 ≡ getD queue j 0 → i ≡ j
   same-place i j h k e = sym (s .marked .placed i h) ∙ ap (λ (n : ℕ). getD marks n 0) e ∙ s .marked .placed j k
@@ -133,173 +126,178 @@ module _ {joins : List (List ℕ)} {a b : Compressed} (left : Held a) (right : H
 
   -- More than 2,048 links.
 
-  result-row : (i : ℕ) → i < head → count ≤ 255 → RowAt 255 first features targets i
-  result-row i h few =
-      record {
-        bounded = omega (arith, s .first-long, s .behind);
-        rising = s .rising i h;
-        featured = omega (arith, s .bounded (suc i) h, s .room, s .features-long);
-        aimed = omega (arith, s .bounded (suc i) h, s .room, s .targets-long);
-        known = λ k low high. s .known k (omega (arith, s .bounded (suc i) h));
-        ascending = λ k low high. s .ascending i k h low high;
-        within = λ k low high. omega (arith, s .within k (omega (arith, s .bounded (suc i) h)));
-      }
-
-  placed-all : (m : ℕ) → m ≤ head → length (allPlaced queue first features m) ≡ getD first m 0
-  unfolding allPlaced
-  placed-all zero h = sym (s .start)
-  placed-all (suc m) h =
+  all-length : (m : ℕ) → m ≤ head → getD words (m + 1) 0 ≡ base + m * header + length (leavingAll queue words m)
+  unfolding leavingAll leaving
+  all-length zero h = s .first ∙ omega arith
+  all-length (suc m) h =
+      let one : suc m + 1 ≡ m + 2 = omega arith in
+      ap (λ (i : ℕ). getD words i 0) one ∙
       omega (
         arith,
-        placed-length (pairOf (getD queue m 0)) features (getD first m 0) (getD first (suc m) 0 - getD first m 0)
-            (allPlaced queue first features m),
-        placed-all m (omega arith),
-        s .rising m h,
+        all-length m (omega arith),
+        length-append (map (λ k. (pairOf (getD queue m 0), k .0)) (linksAt words m)) (leavingAll queue words m),
+        length-map {B = (ℕ × ℕ) × ℕ} (linksAt words m) (λ k. (pairOf (getD queue m 0), k .0)),
+        length-links words (linksFrom words m) (rowEnd words m) (omega (arith, s .built .ended m h, s .built .high)),
+        s .built .begun m h,
       )
 
-  all-source : (m : ℕ) → m ≤ head → (l : (ℕ × ℕ) × ℕ) → List·Memᴰ l (allPlaced queue first features m) →
-      (i : ℕ) × (k : ℕ) × (i < m) × (getD first i 0 ≤ k) × (k < getD first (suc i) 0) × (l ≡ (pairOf (getD queue i 0), getD features k 0))
-  unfolding allPlaced
-  all-source zero h l m = absurd (List·Memᴰ·not-nil m)
-  all-source (suc n) h l m =
-      ⊎-elim (λ (q : (k : ℕ) × (getD first n 0 ≤ k) × (k < getD first n 0 + (getD first (suc n) 0 - getD first n 0)) ×
-      (l ≡ (pairOf (getD queue n 0), getD features k 0))).
-      (n, q .0, omega arith, q .1, omega (arith, q .2, s .rising n h), q .3))
-      (λ (i : List·Memᴰ l (allPlaced queue first features n)).
-      let (j, k, below, low, high, e) = all-source n (omega arith) l i in
-      (j, k, omega arith, low, high, e))
-      (placed-source (pairOf (getD queue n 0)) features (getD first n 0) (getD first (suc n) 0 - getD first n 0)
-      (allPlaced queue first features n) l m)
-
-  all-distinct : count ≤ 255 → (m : ℕ) → m ≤ head → Distinct (allPlaced queue first features m)
-  unfolding allPlaced
-  all-distinct few zero h = tt
-  all-distinct few (suc m) h =
-      placed-distinct (pairOf (getD queue m 0)) features (getD first m 0) (getD first (suc m) 0 - getD first m 0)
-      (allPlaced queue first features m) (all-distinct few m (omega arith))
-      (λ l i e.
-      let (j, k, below, low, high, d) = all-source m (omega arith) l i in
-      omega (arith, same-pair j m (omega (arith, s .behind)) (omega (arith, s .behind)) (sym (ap (λ (y : (ℕ × ℕ) × ℕ). y .0) d) ∙ e)))
-      (λ j k low less high. row-rises (result-row m h few) j k low less (omega (arith, s .rising m h)))
-
-  -- a link of the product for a place
-  place-link : count ≤ 255 → (i k : ℕ) → i < head → getD first i 0 ≤ k → k < getD first (suc i) 0 →
-      (w : ℕ × ℕ) × (product joins a b .link (pairOf (getD queue i 0)) (getD features k 0) ≡ some w)
-  place-link few i k h low high =
-      go (commonIn a b (getD queue i 0 / 255) (getD queue i 0 % 255) (getD features k 0)) refl
+  all-distinct : (m : ℕ) → m ≤ head → Distinct (leavingAll queue words m)
+  unfolding leavingAll leaving
+  all-distinct zero h = tt
+  all-distinct (suc m) h =
+      distinct-append (leaving (pairOf (getD queue m 0)) (linksAt words m)) (leavingAll queue words m)
+      (leaving-distinct (pairOf (getD queue m 0)) (linksAt words m) (s .rows m h .ascends)) (all-distinct m (omega arith)) apart
     where
-      inside : i < count
-      inside = omega (arith, s .behind)
+      apart : (l : (ℕ × ℕ) × ℕ) → List·Memᴰ l (leaving (pairOf (getD queue m 0)) (linksAt words m)) → List·Memᴰ l (leavingAll queue words m) → ⊥
+      apart l i j =
+          let (k, n, e) = Memᴰ·of-map {B = (ℕ × ℕ) × ℕ} (λ k. (pairOf (getD queue m 0), k .0)) (linksAt words m) i in
+          let (v, p, h′, n′, d) = all-source queue words m l j in
+          omega (
+            arith,
+            same-pair m v (omega (arith, s .behind)) (omega (arith, s .behind))
+                (ap (λ (y : (ℕ × ℕ) × ℕ). y .0) (e ∙ d)),
+          )
 
-      go : (o : Option (ℕ × ℕ)) → commonIn a b (getD queue i 0 / 255) (getD queue i 0 % 255) (getD features k 0) ≡ o →
-          (w : ℕ × ℕ) × (product joins a b .link (pairOf (getD queue i 0)) (getD features k 0) ≡ some w)
-      go none e =
-          none-some
-          (sym (s .missing i (getD features k 0) h (s .known k (omega (arith, s .bounded (suc i) h))) e) ∙
-          row-target (result-row i h few) k low high)
-      go (some w) e = (
-        w,
-        product-link joins left right (getD queue i 0 / 255) (getD queue i 0 % 255) (getD features k 0) (s .inside i inside .0)
-            (s .inside i inside .1) ∙ e,
-      )
-
-  pub many-places : count ≤ 255 → 2048 < links → ManyLinks (product joins a b)
-  many-places few h = (
-    allPlaced queue first features head,
-    all-distinct few head (omega arith),
+  pub many-links : base + head * header + 2048 < at → ManyLinks (product joins a b)
+  many-links h = (
+    leavingAll queue words head,
+    all-distinct head (omega arith),
     λ l m.
-        let (i, k, below, low, high, e) = all-source head (omega arith) l m in
-        let (w, d) = place-link few i k below low high in (
+        let (i, k, below, n, e) = all-source queue words head l m in
+        let (x, leads, num) = s .rows i below .led k n in (
           subst (λ (y : (ℕ × ℕ) × ℕ). Reached (product joins a b) (y .0)) (sym e) (s .reached i (omega (arith, s .behind))),
-          (w, ap (λ (y : (ℕ × ℕ) × ℕ). product joins a b .link (y .0) (y .1)) e ∙ d),
+          (
+            x,
+            ap (λ (y : (ℕ × ℕ) × ℕ). product joins a b .link (y .0) (y .1)) e ∙ product-link joins a b (pairOf (getD queue i 0)) (k .0) ∙ leads,
+          ),
         ),
-    omega (arith, placed-all head (omega arith), s .end),
+    omega (arith, all-length head (omega arith), s .built .next),
   )
 
-  -- No pair is left.
+  -- No pair is left: the number of nodes is stated.
 
   module _ (over : count ≤ head) (few : count ≤ 255) where
     all-rows : head ≡ count
     all-rows = omega (arith, s .behind)
 
-    pub build-sound : links ≤ 2048 → Sound count types first features targets
-    build-sound short =
+    abbrev result : List ℕ
+    result = set words 0 count
+
+    sized : size result ≡ head
+    sized = size-is (s .built) count ∙ sym all-rows
+
+    built : Built result base head at
+    built = size-kept (s .built) count
+
+    rows-are : rowsOf result ≡ rowsFrom words 0 head
+    rows-are = ap (rowsFrom result 0) sized ∙ size-rows (s .built) count
+
+    -- a row of the result is that of a pair
+    row-of : (r : Row Label) → List·Memᴰ r (rowsOf result) → (i : ℕ) × (i < head) × (r ≡ (labelAt words i, linksAt words i))
+    row-of r m =
+        let (i, h, e) = rows-source words head 0 r (subst (λ (rs : List (Row Label)). List·Memᴰ r rs) rows-are m) in
+        (i, omega arith, e)
+
+    orderly : Orderly (rowsOf result)
+    orderly =
         record {
-          shaped = record {
-            laid = record {
-              nonempty = s .begun;
-              few = omega arith;
-              bounded = omega (arith, s .first-long);
-              start = s .start;
-              rising = λ i h. s .rising i (omega arith);
-              linked = omega (arith, at-end);
-              aimed = omega (arith, at-end, s .targets-long);
-            };
-            typed = omega (arith, s .types-long);
-            featured = omega (arith, at-end, s .features-long);
-            known = λ k h. s .known k (omega (arith, at-end));
-            ascending = λ i k h low high. s .ascending i k (omega arith) low high;
-          };
-          within = λ k h. s .within k (omega (arith, at-end));
+          labels = λ r m. let (i, h, e) = row-of r m in subst (λ (x : Label). x < 256) (sym (ap (λ (q : Row Label). q .0) e)) (s .bytes i h);
+          ascends = λ r m. let (i, h, e) = row-of r m in subst Ascending (sym (ap (λ (q : Row Label). q .1) e)) (s .rows i h .ascends);
+          features = λ r m l n.
+              let (i, h, e) = row-of r m in
+              s .rows i h .known l (subst (λ (ls : List (ℕ × ℕ)). List·Memᴰ l ls) (ap (λ (q : Row Label). q .1) e) n);
         }
-      where
-        at-end : getD first count 0 ≡ links
-        at-end = ap (λ (n : ℕ). getD first n 0) (sym all-rows) ∙ s .end
 
-    abbrev result : Graph ℕ ℕ
-    result = graphOfRows (rowsOf count types first features targets)
+    aimed : Aimed head (rowsOf result)
+    aimed =
+        record {
+          targets = λ r m l n.
+              let (i, h, e) = row-of r m in
+              let (x, leads, num) = s .rows i h .led l (subst (λ (ls : List (ℕ × ℕ)). List·Memᴰ l ls) (ap (λ (q : Row Label). q .1) e) n) in
+              omega (arith, num .below);
+        }
 
-    result-at : (i : ℕ) → i < count → getD (rowsOf count types first features targets) i (0, []) ≡ (getD types i 0, linksAt first features targets i)
-    result-at i h = row-at types first features targets count 0 i i (omega arith) h
+    pub build-sound : Sound (set words 0 count)
+    build-sound = built-sound built sized (built-shaped built sized (omega (arith, s .begun)) (omega arith) orderly) aimed
 
-    result-link : (i f : ℕ) → i < count → result .link i f ≡ target (linksAt first features targets i) f
-    result-link i f h = ap (λ (r : Row ℕ). target (r .1) f) (result-at i h)
+    row-is : (i : ℕ) → i < head → _≡_ {A = Row Label} (labelAt result i, linksAt result i) (labelAt words i, linksAt words i)
+    row-is i h =
+        sym (row-at result head 0 i i (noLabel, []) (omega arith) h) ∙
+        ap (λ (rs : List (Row Label)). getD rs i (noLabel, [])) (size-rows (s .built) count) ∙
+        row-at words head 0 i i (noLabel, []) (omega arith) h
 
-    -- the pair of a number
-    pair-is : (x : ℕ × ℕ) (i : ℕ) → Numbered queue count x i → pairOf (getD queue i 0) ≡ x
-    pair-is x i n = pair-numbered x i n
+    numbered-in : (x : ℕ × ℕ) (i : ℕ) → Numbered queue count x i → (i < head) × (i < size result)
+    numbered-in x i n = (omega (arith, n .below), omega (arith, n .below, sized))
 
-    alike-labels : (x : ℕ × ℕ) (i : ℕ) → Numbered queue count x i → product joins a b .label x ≡ result .label i
+    alike-labels : (x : ℕ × ℕ) (i : ℕ) → Numbered queue count x i → product joins a b .label x ≡ graphIn result .label i
     alike-labels x i n =
-        ap (product joins a b .label) (sym (pair-is x i n)) ∙
-        product-label joins left right (getD queue i 0 / 255) (getD queue i 0 % 255) (s .inside i (n .below) .0) (s .inside i (n .below) .1) ∙
-        sym (s .labels i (omega (arith, n .below))) ∙ sym (ap (λ (r : Row ℕ). r .0) (result-at i (n .below)))
+        let (low, high) = numbered-in x i n in
+        ap (product joins a b .label) (sym (pair-numbered x i n)) ∙
+        product-label joins a b (getD queue i 0 / 255) (getD queue i 0 % 255) (s .inside i (n .below) .0) (s .inside i (n .below) .1) ∙
+        sym (s .labels i low) ∙ sym (ap (λ (r : Row Label). r .0) (row-is i low)) ∙ sym (label-at result i high)
 
-    alike-links : links ≤ 2048 → (x : ℕ × ℕ) (i f : ℕ) → Numbered queue count x i →
-        Alike (Numbered queue count) (product joins a b .link x f) (result .link i f)
-    alike-links short x i f n = go (product joins a b .link x f) (result .link i f) refl refl
+    sound : Sound result
+    sound = build-sound
+
+    -- a link of the result leads to the number of the pair that the product's leads to
+    link-led : (i f m : ℕ) → i < head → i < size result → graphIn result .link i f ≡ some m →
+        (x : ℕ × ℕ) × (common a b (pairOf (getD queue i 0)) f ≡ some x) × Numbered queue count x m
+    link-led i f m low high d =
+        let (k, from, to, p, q) = link-place sound i f m high d in
+        let (x, leads, num) = s .rows i low .led (linkAt result k)
+        (subst (λ (ls : List (ℕ × ℕ)). List·Memᴰ {A = ℕ × ℕ} (linkAt result k) ls) (ap (λ (r : Row Label). r .1) (row-is i low))
+        (links-at result (rowEnd result i) (sound .shaped .node i high .ended) (rowEnd result i - linksFrom result i) (linksFrom result i)
+        (omega (arith, sound .shaped .node i high .begun)) k from to)) in
+        (x, ap (common a b (pairOf (getD queue i 0))) (sym p) ∙ leads, subst (λ (j : ℕ). Numbered queue count x j) q num)
+
+    -- and there is one for each of the product's
+    link-there : (i f : ℕ) (x : ℕ × ℕ) → i < head → i < size result → common a b (pairOf (getD queue i 0)) f ≡ some x →
+        (m : ℕ) × (graphIn result .link i f ≡ some m)
+    link-there i f x low high e =
+        let (j, mem) = s .rows i low .present f (common-known (s .left) (s .right) (pairOf (getD queue i 0)) x f e .0) x e in
+        let (k, from, to, p, q) = links-member result (rowEnd result i) (sound .shaped .node i high .ended) (rowEnd result i - linksFrom result i)
+        (linksFrom result i) (omega (arith, sound .shaped .node i high .begun)) (f, j)
+        (subst (λ (ls : List (ℕ × ℕ)). List·Memᴰ {A = ℕ × ℕ} (f, j) ls) (sym (ap (λ (r : Row Label). r .1) (row-is i low))) mem) in
+        (targetAt result k, ap (graphIn result .link i) p ∙ link-at sound i k high from to)
+
+    alike-links : (x : ℕ × ℕ) (i f : ℕ) → Numbered queue count x i →
+        Alike (Numbered queue count) (product joins a b .link x f) (graphIn result .link i f)
+    alike-links x i f n = go (product joins a b .link x f) (graphIn result .link i f) refl refl
       where
-        leads : product joins a b .link x f ≡ commonIn a b (getD queue i 0 / 255) (getD queue i 0 % 255) f
-        leads =
-            ap (λ (y : ℕ × ℕ). product joins a b .link y f) (sym (pair-is x i n)) ∙
-            product-link joins left right (getD queue i 0 / 255) (getD queue i 0 % 255) f (s .inside i (n .below) .0) (s .inside i (n .below) .1)
+        low : i < head
+        low = numbered-in x i n .0
 
-        go : (o : Option (ℕ × ℕ)) (r : Option ℕ) → product joins a b .link x f ≡ o → result .link i f ≡ r →
+        high : i < size result
+        high = numbered-in x i n .1
+
+        leads : product joins a b .link x f ≡ common a b (pairOf (getD queue i 0)) f
+        leads = product-link joins a b x f ∙ ap (λ (y : ℕ × ℕ). common a b y f) (sym (pair-numbered x i n))
+
+        go : (o : Option (ℕ × ℕ)) (r : Option ℕ) → product joins a b .link x f ≡ o → graphIn result .link i f ≡ r →
             Alike (Numbered queue count) o r
         go none none e d = absent
         go none (some m) e d =
-            none-some
-            (sym (s .missing i f (omega (arith, n .below)) (link-known (build-sound short) i f m (n .below) d .0) (sym leads ∙ e)) ∙
-            sym (result-link i f (n .below)) ∙ d)
+            let (y, q, num) = link-led i f m low high d in
+            none-some (sym e ∙ leads ∙ q)
         go (some y) none e d =
-            let (m, t, num) = s .present i f (omega (arith, n .below)) (product-known joins left right x y f e .0) y (sym leads ∙ e) in
-            none-some (sym d ∙ result-link i f (n .below) ∙ t)
+            let (m, q) = link-there i f y low high (sym leads ∙ e) in
+            none-some (sym d ∙ q)
         go (some y) (some m) e d =
-            let (k, t, num) = s .present i f (omega (arith, n .below)) (product-known joins left right x y f e .0) y (sym leads ∙ e) in
-            present (subst (λ (j : ℕ). Numbered queue count y j) (some-injective (sym t ∙ sym (result-link i f (n .below)) ∙ d)) num)
+            let (z, q, num) = link-led i f m low high d in
+            present (subst (λ (t : ℕ × ℕ). Numbered queue count t m) (some-injective (sym q ∙ sym leads ∙ e)) num)
 
-    alike : links ≤ 2048 → Bisimilar (Numbered queue count) (product joins a b) result
-    alike short =
+    alike : Bisimilar (Numbered queue count) (product joins a b) (graphIn result)
+    alike =
         record {
-          root = subst (λ (x : ℕ × ℕ). Numbered queue count x 0) (sym (product-root joins left right))
+          root = subst (λ (x : ℕ × ℕ). Numbered queue count x 0) (sym (product-root joins a b))
               (record { left = omega arith; right = omega arith; below = s .begun; stands = s .root });
           labels = alike-labels;
-          links = alike-links short;
+          links = alike-links;
           forth = λ x y i j m n e. same-place i j (m .below) (n .below) (m .stands ∙ ap codeOf e ∙ sym (n .stands));
-          back = λ x y i j m n e. sym (pair-is x i m) ∙ ap (λ (k : ℕ). pairOf (getD queue k 0)) e ∙ pair-is y j n;
+          back = λ x y i j m n e. sym (pair-numbered x i m) ∙ ap (λ (k : ℕ). pairOf (getD queue k 0)) e ∙ pair-numbered y j n;
         }
 
     -- The rows have the product's written form.
-    pub build-canonical : links ≤ 2048 → canonical samePair (product joins a b) ≡ canonical eqb (graphOfRows (rowsOf count types first features targets))
-    build-canonical short =
-        bisimilar-canonical samePair eqb tells-pair tells-eqb (Numbered queue count) (product joins a b) result (alike short)
+    pub build-canonical : canonical samePair (product joins a b) ≡ canonical eqb (graphIn (set words 0 count))
+    build-canonical =
+        bisimilar-canonical samePair eqb tells-pair tells-eqb (Numbered queue count) (product joins a b) (graphIn result) alike

@@ -60,6 +60,10 @@ module _ {p : List ℕ} (forest : Forest p) where
   unfolding root
   root-low x small = climb-low 255 x small
 
+-- the class that is found
+pub class-low : {p : List ℕ} {x c : ℕ} → Forest p → x < 255 → c ≡ root p x → c < 255
+class-low {p} {x} forest small e = omega (arith, e, root-low forest x small)
+
 -- one root below another
 module _ {p : List ℕ} (forest : Forest p) (hi lo : ℕ) (small : hi < 255) (hi-root : getD p hi 0 ≡ hi) (lo-root : getD p lo 0 ≡ lo)
     (order : lo ≤ hi) where

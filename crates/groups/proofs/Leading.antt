@@ -5,8 +5,9 @@ use mathlib.Core.Bool.{Bool, true, false}
 use mathlib.Core.List.{List}
 use mathlib.Core.Logic.{_⊎_, inl, inr, ⊎-elim}
 use mathlib.Core.Option.{some}
-use Prim.Native.Nat.{ℕ, zero, suc, _+_, _-_, _≤_, _<_}
+use Prim.Native.Nat.{ℕ, _<_}
 use native.Mathlib.Decide.{ℕ-discrete, decLt}
+use native.Mathlib.Nat.{lt-irrefl, lt-trans}
 use native.Mathlib.Omega.{arith}
 use lib.Dec.{eqb}
 use lib.ListN.{getD}
@@ -23,166 +24,127 @@ use Rattle.graphs.proofs.Difference.Kept.{enters-into}
 use Rattle.graphs.proofs.Difference.Lead.{grouped-into, lead-least, lead-unique}
 use Rattle.graphs.proofs.Difference.ByNumber.{Before, by-number, by-number-order}
 use Rattle.lattice.specs.Labels.{typeLabels}
-use Rattle.visits.specs.Arrays.{Sound, rowsOf, graphOfRows}
-use Rattle.visits.proofs.Colours.{ends}
-use Rattle.visits.proofs.Places.{link-at, link-place}
+use Rattle.lattice.specs.Label.{Label}
+use Rattle.layout.specs.Layout.{size, featureAt, targetAt, graphIn, Sound, Place, rowsEnd}
+use Rattle.layout.proofs.Places.{link-at, link-place}
+use Rattle.layout.proofs.Order.{earlier-row, place-before, one-row, place-rises, one-feature}
 use Rattle.groups.specs.Cover.{Lying, Covers, Tied, same, shared, back, next, Grouping}
 use Rattle.groups.specs.Marks.{Together, Mark, follows, leads, bare, Marked}
 use Rattle.groups.proofs.Covering.{owner-low}
 
 -- Places of one graph.
-module _ {nodes : ℕ} {types first fs ts : List ℕ} (sound : Sound nodes types first fs ts) where
-  -- the link l stands at place k
-  pub record At (k : ℕ) (l : Link ℕ) : Type 0 where
-    pub inside : l .0 < nodes
-    pub low : getD first (l .0) 0 ≤ k
-    pub high : k < getD first (suc (l .0)) 0
-    pub feature : getD fs k 0 ≡ l .1
 
-  rows-rise : (n a b : ℕ) → b ≡ a + n → b ≤ nodes → getD first a 0 ≤ getD first b 0
-  rows-rise zero a b e h = let z : a ≡ b = omega arith in omega (arith, ap (λ (i : ℕ). getD first i 0) z)
-  rows-rise (suc n) a b e h =
-      omega (arith, sound .shaped .laid .rising a (omega arith), rows-rise n (suc a) b (omega arith) h)
+-- the link l stands at place k
+pub record At (ws : List ℕ) (k : ℕ) (l : Link ℕ) : Type 0 where
+  pub place : Place ws (l .0) k
+  pub feature : featureAt ws k ≡ l .1
 
-  -- a place in an earlier row comes before
-  earlier-row : (a b j k : ℕ) → a < b → b < nodes → j < getD first (suc a) 0 → getD first b 0 ≤ k → j < k
-  earlier-row a b j k h hb high low = omega (arith, rows-rise (b - suc a) (suc a) b (omega arith) (omega arith))
-
-  features-rise : (v : ℕ) → v < nodes → (n i j : ℕ) → j ≡ i + suc n → getD first v 0 ≤ i → j < getD first (suc v) 0 →
-      getD fs i 0 < getD fs j 0
-  features-rise v hv zero i j e low high =
-      let z : j ≡ suc i = omega arith in
-      omega (arith, ap (λ (k : ℕ). getD fs k 0) z, sound .shaped .ascending v i hv low (omega arith))
-  features-rise v hv (suc n) i j e low high =
-      omega (arith, sound .shaped .ascending v i hv low (omega arith), features-rise v hv n (suc i) j (omega arith) (omega arith) high)
+module _ {ws : List ℕ} (sound : Sound ws) where
+  moved : {v w k : ℕ} → v ≡ w → Place ws w k → Place ws v k
+  moved {k = k} e p = subst (λ (u : ℕ). Place ws u k) (sym e) p
 
   -- the order of places is the order of links by number
-  at-before : (j k : ℕ) (l m : Link ℕ) → At j l → At k m → Before l m → j < k
-  at-before j k l m a b (inl h) = earlier-row (l .0) (m .0) j k h (b .inside) (a .high) (b .low)
+  at-before : (j k : ℕ) (l m : Link ℕ) → At ws j l → At ws k m → Before l m → j < k
+  at-before j k l m a b (inl h) =
+      omega (arith, earlier-row (sound .shaped) (l .0) (m .0) j h (omega (arith, b .place .inside)) (a .place .high), b .place .low)
   at-before j k l m a b (inr (e, h)) = go (decLt j k) (ℕ-discrete j k)
     where
-      low : getD first (l .0) 0 ≤ k
-      low = omega (arith, ap (λ (v : ℕ). getD first v 0) e, b .low)
+      less : featureAt ws j < featureAt ws k
+      less = rw (a .feature, b .feature) h
 
       go : Dec (j < k) → Dec (j ≡ k) → j < k
       go (yes x) y = x
-      go (no x) (yes y) = absurd (omega (arith, ap (λ (i : ℕ). getD fs i 0) y, a .feature, b .feature))
+      go (no x) (yes y) = absurd (lt-irrefl (featureAt ws k) (subst (λ (i : ℕ). featureAt ws i < featureAt ws k) y less))
       go (no x) (no y) =
-          absurd (omega (arith, features-rise (l .0) (a .inside) (j - suc k) k j (omega arith) low (a .high), a .feature, b .feature))
+          absurd
+          (lt-irrefl (featureAt ws j) (lt-trans less (place-rises (sound .shaped) (moved e (b .place)) (a .place) (omega arith))))
 
-  pub before-at : (j k : ℕ) (l m : Link ℕ) → At j l → At k m → j < k → Before l m
+  pub before-at : (j k : ℕ) (l m : Link ℕ) → At ws j l → At ws k m → j < k → Before l m
   before-at j k l m a b h = go (decLt (l .0) (m .0)) (decLt (m .0) (l .0))
     where
       go : Dec (l .0 < m .0) → Dec (m .0 < l .0) → Before l m
       go (yes x) y = inl x
-      go (no x) (yes y) = absurd (omega (arith, earlier-row (m .0) (l .0) k j y (a .inside) (b .high) (a .low)))
+      go (no x) (yes y) =
+          absurd (omega (
+            arith,
+            earlier-row (sound .shaped) (m .0) (l .0) k y (omega (arith, a .place .inside)) (b .place .high),
+            a .place .low,
+          ))
       go (no x) (no y) =
           let e : l .0 ≡ m .0 = omega arith in
-          inr (
-            e,
-            omega (
-              arith,
-              features-rise (l .0) (a .inside) (k - suc j) j k (omega arith) (a .low)
-                  (omega (arith, ap (λ (v : ℕ). getD first (suc v) 0) e, b .high)),
-              a .feature,
-              b .feature,
-            ),
-          )
+          inr (e, rw (sym (a .feature), sym (b .feature)) (place-rises (sound .shaped) (a .place) (moved e (b .place)) h))
 
   -- a link stands at one place, and at a place one link
-  pub at-one : (j k : ℕ) (l : Link ℕ) → At j l → At k l → j ≡ k
-  at-one j k l a b = go (decLt j k) (decLt k j)
-    where
-      itself : Before l l → ⊥
-      itself (inl h) = omega arith
-      itself (inr h) = omega arith
+  pub at-one : (j k : ℕ) (l : Link ℕ) → At ws j l → At ws k l → j ≡ k
+  at-one j k l a b = one-feature (sound .shaped) (a .place) (b .place) (a .feature ∙ sym (b .feature))
 
-      go : Dec (j < k) → Dec (k < j) → j ≡ k
-      go (yes h) x = absurd (itself (before-at j k l l a b h))
-      go (no h) (yes x) = absurd (itself (before-at k j l l b a x))
-      go (no h) (no x) = omega arith
+  pub one-at : (k : ℕ) (l m : Link ℕ) → At ws k l → At ws k m → l .0 ≡ m .0
+  one-at k l m a b = one-row (sound .shaped) (a .place) (b .place)
 
-  pub one-at : (k : ℕ) (l m : Link ℕ) → At k l → At k m → l .0 ≡ m .0
-  one-at k l m a b = go (decLt (l .0) (m .0)) (decLt (m .0) (l .0))
-    where
-      go : Dec (l .0 < m .0) → Dec (m .0 < l .0) → l .0 ≡ m .0
-      go (yes h) x = absurd (omega (arith, earlier-row (l .0) (m .0) k k h (b .inside) (a .high) (b .low)))
-      go (no h) (yes x) = absurd (omega (arith, earlier-row (m .0) (l .0) k k x (a .inside) (b .high) (a .low)))
-      go (no h) (no x) = omega arith
-
-  pub at-link : (k : ℕ) (l : Link ℕ) → At k l → graphOfRows (rowsOf nodes types first fs ts) .link (l .0) (l .1) ≡ some (getD ts k 0)
+  pub at-link : (k : ℕ) (l : Link ℕ) → At ws k l → graphIn ws .link (l .0) (l .1) ≡ some (targetAt ws k)
   at-link k l a =
-      ap (graphOfRows (rowsOf nodes types first fs ts) .link (l .0)) (sym (a .feature)) ∙
-      link-at sound (l .0) k (a .inside) (a .low) (a .high)
+      ap (graphIn ws .link (l .0)) (sym (a .feature)) ∙
+      link-at sound (l .0) k (a .place .inside) (a .place .low) (a .place .high)
 
-  pub link-stands : (l : Link ℕ) (w : ℕ) → l .0 < nodes → graphOfRows (rowsOf nodes types first fs ts) .link (l .0) (l .1) ≡ some w →
-      (k : ℕ) × At k l × (getD ts k 0 ≡ w)
+  pub link-stands : (l : Link ℕ) (w : ℕ) → l .0 < size ws → graphIn ws .link (l .0) (l .1) ≡ some w →
+      (k : ℕ) × At ws k l × (targetAt ws k ≡ w)
   link-stands l w h e =
       let (k, low, high, f, t) = link-place sound (l .0) (l .1) w h e in
-      (k, record { inside = h; low = low; high = high; feature = f }, t)
-
-  pub at-within : (k : ℕ) (l : Link ℕ) → At k l → k < getD first nodes 0
-  at-within k l a = omega (arith, a .high, ends (sound .shaped .laid) (l .0) (a .inside))
+      (k, record { place = record { inside = h; low = low; high = high }; feature = f }, t)
 
 -- A link of a place, and the place of a link, in two graphs.
-module _ (n : ℕ) (t : List ℕ) {sn : ℕ} {sy S sf st : List ℕ} {gn : ℕ} {gy G gf gt map : List ℕ} (s-sound : Sound sn sy S sf st)
-    (g-sound : Sound gn gy G gf gt)
-    (operands : Operands eqb eqb (graphOfRows (rowsOf sn sy S sf st)) (from 0 sn) (graphOfRows (rowsOf gn gy G gf gt)) (from 0 gn))
-    (lies : NodeMap (typeLabels n t) (graphOfRows (rowsOf sn sy S sf st)) (graphOfRows (rowsOf gn gy G gf gt)) (λ y. getD map y 0))
-    (lying : Lying sn S sf gn G gf gt map) where
-  abbrev s : Graph ℕ ℕ
-  s = graphOfRows (rowsOf sn sy S sf st)
+module _ (n : ℕ) (t : List ℕ) {sw gw map : List ℕ} (lying : Lying sw gw map)
+    (operands : Operands eqb eqb (graphIn sw) (from 0 (size sw)) (graphIn gw) (from 0 (size gw)))
+    (lies : NodeMap (typeLabels n t) (graphIn sw) (graphIn gw) (λ y. getD map y 0)) where
+  abbrev s : Graph Label ℕ
+  s = graphIn sw
 
-  abbrev g : Graph ℕ ℕ
-  g = graphOfRows (rowsOf gn gy G gf gt)
+  abbrev g : Graph Label ℕ
+  g = graphIn gw
+
+  abbrev s-sound : Sound sw
+  s-sound = lying .lower .sound
+
+  abbrev g-sound : Sound gw
+  g-sound = lying .upper .sound
 
   abbrev over : ℕ → ℕ
   over y = getD map y 0
 
   abbrev Joins : ℕ → Link ℕ → Link ℕ → Type 0
-  Joins v l m = Grouped {L = ℕ} g over v l m
+  Joins v l m = Grouped {L = Label} g over v l m
 
   abbrev Goes : ℕ → Link ℕ → Type 0
-  Goes z l = Enters {L = ℕ} g over z l
+  Goes z l = Enters {L = Label} g over z l
 
-  abbrev all : ℕ
-  all = getD G gn 0
+  into-inside : (v : ℕ) (l : Link ℕ) → Into s v l → l .0 < size sw
+  into-inside v l (r, e) = omega (arith, from-range 0 (size sw) (l .0) (operands .lists-left .listed (l .0) .0 r))
 
-  into-inside : (v : ℕ) (l : Link ℕ) → Into s v l → l .0 < sn
-  into-inside v l (r, e) = omega (arith, from-range 0 sn (l .0) (operands .lists-left .listed (l .0) .0 r))
-
-  into-at : (v : ℕ) (l : Link ℕ) → Into s v l → (k : ℕ) × At s-sound k l × (getD st k 0 ≡ v)
+  into-at : (v : ℕ) (l : Link ℕ) → Into s v l → (k : ℕ) × At sw k l × (targetAt sw k ≡ v)
   into-at v l i = link-stands s-sound l v (into-inside v l i) (i .1)
 
-  covers-at : {j z : ℕ} → Covers sn S sf gn G gf gt map all j z → (l : Link ℕ) × At s-sound j l
+  covers-at : {j z : ℕ} → Covers sw gw map (rowsEnd gw) j z → (l : Link ℕ) × At sw j l
   covers-at {j} (i, h, o, e) =
-      ((over (o .node), getD sf j 0), record { inside = lying .mapped (o .node) (o .inside); low = o .s-low; high = o .s-high; feature = refl })
+      ((over (o .node), featureAt sw j), record { place = o .under; feature = refl })
 
-  covers-enters : {j z : ℕ} (l : Link ℕ) → At s-sound j l → Covers sn S sf gn G gf gt map all j z → Goes z l
+  covers-enters : {j z : ℕ} (l : Link ℕ) → At sw j l → Covers sw gw map (rowsEnd gw) j z → Goes z l
   covers-enters {j} {z} l a (i, h, o, e) =
-      let b : At s-sound j (over (o .node), getD sf j 0) =
-      record { inside = lying .mapped (o .node) (o .inside); low = o .s-low; high = o .s-high; feature = refl } in (
+      let b : At sw j (over (o .node), featureAt sw j) =
+      record { place = o .under; feature = refl } in (
         o .node,
-        operands .lists-right .listed (o .node) .1 (from-member 0 gn (o .node) (omega arith) (omega (arith, o .inside))),
-        one-at s-sound j (over (o .node), getD sf j 0) l b a,
-        ap (g .link (o .node)) (sym (a .feature) ∙ o .feature) ∙ link-at g-sound (o .node) i (o .inside) (o .low) (o .high) ∙ ap some e,
+        operands .lists-right .listed (o .node) .1 (from-member 0 (size gw) (o .node) (omega arith) (omega (arith, o .place .inside))),
+        one-at s-sound j (over (o .node), featureAt sw j) l b a,
+        ap (g .link (o .node)) (sym (a .feature) ∙ o .feature) ∙ link-at g-sound (o .node) i (o .place .inside) (o .place .low) (o .place .high) ∙ ap some e,
       )
 
-  enters-covers : {j z : ℕ} (l : Link ℕ) → At s-sound j l → Goes z l → Covers sn S sf gn G gf gt map all j z
+  enters-covers : {j z : ℕ} (l : Link ℕ) → At sw j l → Goes z l → Covers sw gw map (rowsEnd gw) j z
   enters-covers {j} {z} l a (y, r, o, e) =
-      let h : y < gn = omega (arith, from-range 0 gn y (operands .lists-right .listed y .0 r)) in
-      let (i, low, high, f, w) = link-place g-sound y (l .1) z h e in (
+      let h : y < size gw = omega (arith, from-range 0 (size gw) y (operands .lists-right .listed y .0 r)) in
+      let (i, low, high, f, w) = link-place g-sound y (l .1) z h e in
+      let p : Place gw y i = record { inside = h; low = low; high = high } in (
         i,
-        omega (arith, ends (g-sound .shaped .laid) y h),
-        record {
-          node = y;
-          inside = h;
-          low = low;
-          high = high;
-          s-low = omega (arith, ap (λ (v : ℕ). getD S v 0) o, a .low);
-          s-high = omega (arith, ap (λ (v : ℕ). getD S (suc v) 0) o, a .high);
-          feature = a .feature ∙ sym f;
-        },
+        place-before (g-sound .shaped) p,
+        record { node = y; place = p; under = subst (λ (u : ℕ). Place sw u j) (sym o) (a .place); feature = a .feature ∙ sym f },
         w,
       )
 
@@ -196,7 +158,7 @@ module _ (n : ℕ) (t : List ℕ) {sn : ℕ} {sy S sf st : List ℕ} {gn : ℕ} 
     pub grouped : Joins (over x) from-link to-link
     pub under : over x ≡ over y
 
-  meets : {x y : ℕ} → Tied sn S sf gn G gf gt map x y → (x ≡ y) ⊎ Meeting x y
+  meets : {x y : ℕ} → Tied sw gw map x y → (x ≡ y) ⊎ Meeting x y
   meets same = inl refl
   meets (shared {x} {y} j a b) =
       let (l, at) = covers-at a in
@@ -241,15 +203,16 @@ module _ (n : ℕ) (t : List ℕ) {sn : ℕ} {sy S sf st : List ℕ} {gn : ℕ} 
       (meets d))
       (meets c)
 
-  module _ {owner parent : List ℕ} (grouping : Grouping sn S sf gn G gf gt map all owner parent) where
+  module _ {owner parent : List ℕ} (grouping : Grouping sw gw map (rowsEnd gw) owner parent) where
     abbrev Beside : ℕ → ℕ → Type 0
     Beside j k = Together owner parent j k
 
-    within : (k : ℕ) (l : Link ℕ) → At s-sound k l → k < 2048
-    within k l a = omega (arith, at-within s-sound k l a, lying .s-few)
+    within : (k : ℕ) (l : Link ℕ) → At sw k l → k < 2560
+    within k l a =
+        omega (arith, a .place .high, s-sound .shaped .node (l .0) (a .place .inside) .ended, lying .short)
 
     -- places with owners of one class are those of links of one group
-    together-grouped : (j k : ℕ) (l m : Link ℕ) → At s-sound j l → At s-sound k m → Beside j k → Joins (getD st j 0) l m
+    together-grouped : (j k : ℕ) (l m : Link ℕ) → At sw j l → At sw k m → Beside j k → Joins (targetAt sw j) l m
     together-grouped j k l m a b t =
         let hx = owner-low lying grouping j (within j l a) (t .left) in
         let hy = owner-low lying grouping k (within k m b) (t .right) in
@@ -267,10 +230,10 @@ module _ (n : ℕ) (t : List ℕ) {sn : ℕ} {sy S sf st : List ℕ} {gn : ℕ} 
         q : Goes y m
         q = covers-enters m b (grouping .owned k (within k m b) (t .right))
 
-        u : over x ≡ getD st j 0
+        u : over x ≡ targetAt sw j
         u = some-unique (enters-into lies x l p .1) (at-link s-sound j l a)
 
-        go : (x ≡ y) ⊎ Meeting x y → Joins (getD st j 0) l m
+        go : (x ≡ y) ⊎ Meeting x y → Joins (targetAt sw j) l m
         go (inl e) = touching x u p (subst (λ z. Goes z m) (sym e) q)
         go (inr c) =
             subst (λ v. Joins v l m) u
@@ -281,7 +244,7 @@ module _ (n : ℕ) (t : List ℕ) {sn : ℕ} {sy S sf st : List ℕ} {gn : ℕ} 
     together-sym t = record { left = t .right; right = t .left; class = sym (t .class) }
 
     -- and links of one group stand at such places
-    grouped-together : (v : ℕ) (j k : ℕ) {l m : Link ℕ} → Joins v l m → Into s v l → At s-sound j l → At s-sound k m → (j ≡ k) ⊎ Beside j k
+    grouped-together : (v : ℕ) (j k : ℕ) {l m : Link ℕ} → Joins v l m → Into s v l → At sw j l → At sw k m → (j ≡ k) ⊎ Beside j k
     grouped-together v j k (touching {l} {m} z o p q) i a b =
         let (x, e) = grouping .covered j z (enters-covers l a p) in
         let (y, d) = grouping .covered k z (enters-covers m b q) in
@@ -301,47 +264,47 @@ module _ (n : ℕ) (t : List ℕ) {sn : ℕ} {sy S sf st : List ℕ} {gn : ℕ} 
         (grouped-together v j h c i a at)
 
     abbrev first : ℕ → Link ℕ → Link ℕ
-    first v l = lead eqb eqb s (from 0 sn) g (from 0 gn) over byNumber v l
+    first v l = lead eqb eqb s (from 0 (size sw)) g (from 0 (size gw)) over byNumber v l
 
     -- a link leads its group where no place before is one with its class
-    place-leads : (k : ℕ) (l : Link ℕ) → At s-sound k l → Into s (getD st k 0) l → ((j : ℕ) → j < k → Beside j k → ⊥) →
-        first (getD st k 0) l ≡ l
+    place-leads : (k : ℕ) (l : Link ℕ) → At sw k l → Into s (targetAt sw k) l → ((j : ℕ) → j < k → Beside j k → ⊥) →
+        first (targetAt sw k) l ≡ l
     place-leads k l a i alone =
-        sym (lead-unique operands lies byNumber by-number-order (getD st k 0) l l i alike λ m c. go m c (byNumber m l) refl)
+        sym (lead-unique operands lies byNumber by-number-order (targetAt sw k) l l i alike λ m c. go m c (byNumber m l) refl)
       where
-        go : (m : Link ℕ) → Joins (getD st k 0) l m → (b : Bool) → byNumber m l ≡ b → byNumber m l ≡ false
+        go : (m : Link ℕ) → Joins (targetAt sw k) l m → (b : Bool) → byNumber m l ≡ b → byNumber m l ≡ false
         go m c false e = e
         go m c true e =
-            let (j, at, _) = into-at (getD st k 0) m (grouped-into operands lies (getD st k 0) c .0 i) in
+            let (j, at, _) = into-at (targetAt sw k) m (grouped-into operands lies (targetAt sw k) c .0 i) in
             let h : j < k = at-before s-sound j k m l at a (by-number m l .0 e) in
             absurd (⊎-elim (λ (z : k ≡ j). omega arith) (λ (t : Beside k j). alone j h (together-sym t))
-            (grouped-together (getD st k 0) k j c i a at))
+            (grouped-together (targetAt sw k) k j c i a at))
 
     -- and else it does not
-    place-follows : (j k : ℕ) (l : Link ℕ) → At s-sound k l → Into s (getD st k 0) l → j < k → Beside j k → first (getD st k 0) l ≡ l → ⊥
+    place-follows : (j k : ℕ) (l : Link ℕ) → At sw k l → Into s (targetAt sw k) l → j < k → Beside j k → first (targetAt sw k) l ≡ l → ⊥
     place-follows j k l a i h t e =
         let (m, b) = covers-at (grouping .owned j (omega (arith, within k l a)) (t .left)) in
         true-false (by-number m l .1 (before-at s-sound j k m l b a h))
         (ap (byNumber m) (sym e) ∙
-        lead-least operands lies byNumber by-number-order (getD st k 0) l m i
+        lead-least operands lies byNumber by-number-order (targetAt sw k) l m i
         (together-grouped k j l m a b (together-sym t)))
 
-  module _ {marks : List ℕ} (marked : Marked sn S sf gn G gf gt map marks) (k : ℕ) (l : Link ℕ) (at : At s-sound k l) where
-    into : Into s (getD st k 0) l
-    into = (operands .lists-left .listed (l .0) .1 (from-member 0 sn (l .0) (omega arith) (omega (arith, at .inside))), at-link s-sound k l at)
+  module _ {marks : List ℕ} (marked : Marked sw gw map marks) (k : ℕ) (l : Link ℕ) (at : At sw k l) where
+    into : Into s (targetAt sw k) l
+    into = (operands .lists-left .listed (l .0) .1 (from-member 0 (size sw) (l .0) (omega arith) (omega (arith, at .place .inside))), at-link s-sound k l at)
 
     -- What the mark of a place says of the link there.
     pub data Says : Type 0 where
-      follows-it : getD marks k 0 ≡ 0 → (lead eqb eqb s (from 0 sn) g (from 0 gn) over byNumber (getD st k 0) l ≡ l → ⊥) → Says
-      leads-covered : getD marks k 0 ≡ 1 → Leader s (lead eqb eqb s (from 0 sn) g (from 0 gn) over byNumber) (getD st k 0) l →
+      follows-it : getD marks k 0 ≡ 0 → (lead eqb eqb s (from 0 (size sw)) g (from 0 (size gw)) over byNumber (targetAt sw k) l ≡ l → ⊥) → Says
+      leads-covered : getD marks k 0 ≡ 1 → Leader s (lead eqb eqb s (from 0 (size sw)) g (from 0 (size gw)) over byNumber) (targetAt sw k) l →
           (z : ℕ) → Goes z l → Says
-      leads-bare : getD marks k 0 ≡ 2 → Leader s (lead eqb eqb s (from 0 sn) g (from 0 gn) over byNumber) (getD st k 0) l →
+      leads-bare : getD marks k 0 ≡ 2 → Leader s (lead eqb eqb s (from 0 (size sw)) g (from 0 (size gw)) over byNumber) (targetAt sw k) l →
           ((z : ℕ) → Goes z l → ⊥) → Says
 
     pub mark-says : Says
-    mark-says = go (marked .stands .each k (at-within s-sound k l at))
+    mark-says = go (marked .stands .each (l .0) k (at .place) (place-before (s-sound .shaped) (at .place)))
       where
-        grouping : Grouping sn S sf gn G gf gt map all (marked .owner) (marked .parent)
+        grouping : Grouping sw gw map (rowsEnd gw) (marked .owner) (marked .parent)
         grouping = marked .grouping
 
         go : Mark (marked .owner) (marked .parent) k (getD marks k 0) → Says

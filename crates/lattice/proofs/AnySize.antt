@@ -26,6 +26,7 @@ use Rattle.graphs.proofs.Unification.Outcome as Outcome
 use Rattle.graphs.proofs.Difference.Computed.{Setting}
 use Rattle.graphs.proofs.Difference.Computed as Computed
 use Rattle.graphs.proofs.Theorems as Theorems
+use Rattle.lattice.specs.Label.{Label}
 use Rattle.lattice.specs.Table.{below, accepted}
 use Rattle.lattice.specs.Labels.{typeLabels, OfAnySize, LeastOfAnySize, GreatestOfAnySize, TypesMeet, TypeClash, IsCombination}
 use Rattle.lattice.proofs.Laws.{zero-type}
@@ -64,7 +65,7 @@ module _ (n : ℕ) (t : List ℕ) (ok : accepted n t ≡ true) where
 
   -- The order among graphs of any size.
 
-  pub below-transitive : {A B C : Type 0} (s : Graph ℕ A) (g : Graph ℕ B) (h : Graph ℕ C) → OfAnySize n t s → OfAnySize n t g →
+  pub below-transitive : {A B C : Type 0} (s : Graph Label A) (g : Graph Label B) (h : Graph Label C) → OfAnySize n t s → OfAnySize n t g →
       OfAnySize n t h → Below raw s g → Below raw g h → Below raw s h
   below-transitive s g h a b c x y =
       below-lift n t ok s h (a .typed) (c .typed) .1
@@ -72,7 +73,7 @@ module _ (n : ℕ) (t : List ℕ) (ok : accepted n t ≡ true) where
       (below-lift n t ok g h (b .typed) (c .typed) .0 y))
 
   -- "Graphs of equal meaning, and no others, are below each other."
-  pub below-both : {A B : Type 0} (g : Graph ℕ A) (h : Graph ℕ B) → OfAnySize n t g → OfAnySize n t h →
+  pub below-both : {A B : Type 0} (g : Graph Label A) (h : Graph Label B) → OfAnySize n t g → OfAnySize n t h →
       SameMeaning raw g h ↔ (Below raw g h × Below raw h g)
   below-both g h a b =
       let (there, back) = same-meaning (lawful-lattice n t ok) (lift n t ok g) (lift n t ok h) in (
@@ -85,7 +86,7 @@ module _ (n : ℕ) (t : List ℕ) (ok : accepted n t ≡ true) where
       )
 
   -- "Common part": it is a graph of any size, and the least of those above both
-  pub generalization-least : {A B : Type 0} (g : Graph ℕ A) (h : Graph ℕ B) → OfAnySize n t g → OfAnySize n t h →
+  pub generalization-least : {A B : Type 0} (g : Graph Label A) (h : Graph Label B) → OfAnySize n t g → OfAnySize n t h →
       LeastOfAnySize n t g h (generalization raw g h)
   generalization-least g h size other =
       let best = Product.generalization-least (lawful-lattice n t ok) (Product.product-is-generalization law (lift n t ok g) (lift n t ok h)) in
@@ -107,7 +108,7 @@ module _ (n : ℕ) (t : List ℕ) (ok : accepted n t ≡ true) where
       }
 
   -- what means the same as the least graph is it
-  pub same-least : {A B C D : Type 0} (g : Graph ℕ A) (h : Graph ℕ B) (k : Graph ℕ C) (m : Graph ℕ D) → SameMeaning raw k m →
+  pub same-least : {A B C D : Type 0} (g : Graph Label A) (h : Graph Label B) (k : Graph Label C) (m : Graph Label D) → SameMeaning raw k m →
       LeastOfAnySize n t g h k → LeastOfAnySize n t g h m
   same-least g h k m same best =
       record {
@@ -118,7 +119,7 @@ module _ (n : ℕ) (t : List ℕ) (ok : accepted n t ≡ true) where
       }
 
   -- what means the same as the greatest graph is it, and so for the graphs that it is below
-  pub same-greatest : {A B C D E : Type 0} (g : Graph ℕ A) (h : Graph ℕ B) (k : Graph ℕ C) (i : Graph ℕ D) (m : Graph ℕ E) →
+  pub same-greatest : {A B C D E : Type 0} (g : Graph Label A) (h : Graph Label B) (k : Graph Label C) (i : Graph Label D) (m : Graph Label E) →
       SameMeaning raw g i → SameMeaning raw k m → GreatestOfAnySize n t g h k → GreatestOfAnySize n t i h m
   same-greatest g h k i m same means best =
       record {
@@ -129,7 +130,7 @@ module _ (n : ℕ) (t : List ℕ) (ok : accepted n t ≡ true) where
       }
 
   -- the sides do not matter
-  pub greatest-sides : {A B C : Type 0} (g : Graph ℕ A) (h : Graph ℕ B) (k : Graph ℕ C) → GreatestOfAnySize n t g h k →
+  pub greatest-sides : {A B C : Type 0} (g : Graph Label A) (h : Graph Label B) (k : Graph Label C) → GreatestOfAnySize n t g h k →
       GreatestOfAnySize n t h g k
   greatest-sides g h k best =
       record {
@@ -140,7 +141,7 @@ module _ (n : ℕ) (t : List ℕ) (ok : accepted n t ≡ true) where
       }
 
   -- greatest graphs below one pair have equal meaning
-  pub greatest-unique : {A B C D : Type 0} (g : Graph ℕ A) (h : Graph ℕ B) (k : Graph ℕ C) (m : Graph ℕ D) →
+  pub greatest-unique : {A B C D : Type 0} (g : Graph Label A) (h : Graph Label B) (k : Graph Label C) (m : Graph Label D) →
       GreatestOfAnySize n t g h k → GreatestOfAnySize n t g h m → SameMeaning raw k m
   greatest-unique g h k m best other =
       below-both k m (best .of-any-size) (other .of-any-size) .1 (
@@ -149,7 +150,7 @@ module _ (n : ℕ) (t : List ℕ) (ok : accepted n t ≡ true) where
       )
 
   -- Classes of paths, of numbers and of types.
-  module _ {A B : Type 0} (g : Graph ℕ A) (h : Graph ℕ B) (a : OfAnySize n t g) (b : OfAnySize n t h) where
+  module _ {A B : Type 0} (g : Graph Label A) (h : Graph Label B) (a : OfAnySize n t g) (b : OfAnySize n t h) where
     under-lift : (p : List ℕ) (x : TypeBelow n) → UnderClass raw g h p (x .0) ↔ UnderClass law (lift n t ok g) (lift n t ok h) p x
     under-lift p x = (
       λ u.
@@ -179,7 +180,7 @@ module _ (n : ℕ) (t : List ℕ) (ok : accepted n t ≡ true) where
     )
 
     -- What the classes give is the greatest graph of any size below both.
-    pub combination-greatest : {C : Type 0} (u : Graph ℕ C) → OfAnySize n t u → IsCombination n t g h u → GreatestOfAnySize n t g h u
+    pub combination-greatest : {C : Type 0} (u : Graph Label C) → OfAnySize n t u → IsCombination n t g h u → GreatestOfAnySize n t g h u
     combination-greatest {C} u size is =
         record {
           of-any-size = size;
@@ -204,7 +205,7 @@ module _ (n : ℕ) (t : List ℕ) (ok : accepted n t ≡ true) where
             }
 
     -- what means the same as what the classes give is given by them
-    pub same-combination : {C D : Type 0} (u : Graph ℕ C) (w : Graph ℕ D) → SameMeaning raw u w → IsCombination n t g h u → IsCombination n t g h w
+    pub same-combination : {C D : Type 0} (u : Graph Label C) (w : Graph Label D) → SameMeaning raw u w → IsCombination n t g h u → IsCombination n t g h w
     same-combination u w same is =
         record {
           corefers = λ p q. Iff·trans (same .corefers p q .1, same .corefers p q .0) (is .corefers p q);
@@ -212,10 +213,10 @@ module _ (n : ℕ) (t : List ℕ) (ok : accepted n t ≡ true) where
         }
 
   -- "Combination", of two graphs of any size.
-  module _ {A B : Type 0} (sameA : A → A → Bool) (sameB : B → B → Bool) (tellsA : Tells sameA) (tellsB : Tells sameB) (g : Graph ℕ A)
-      (h : Graph ℕ B) (a : OfAnySize n t g) (b : OfAnySize n t h) where
+  module _ {A B : Type 0} (sameA : A → A → Bool) (sameB : B → B → Bool) (tellsA : Tells sameA) (tellsB : Tells sameB) (g : Graph Label A)
+      (h : Graph Label B) (a : OfAnySize n t g) (b : OfAnySize n t h) where
     -- what unification answers, over numbers and over types
-    abbrev pub answer : Unified ℕ (A ⊎ B)
+    abbrev pub answer : Unified Label (A ⊎ B)
     answer = unification raw sameA sameB g (a .any-size .nodes) h (b .any-size .nodes)
 
     abbrev answers : Unified (TypeBelow n) (A ⊎ B)
@@ -228,7 +229,7 @@ module _ (n : ℕ) (t : List ℕ) (ok : accepted n t ≡ true) where
 
     -- no graph of any size lies below both
     abbrev pub NoneBelow : Type 1
-    NoneBelow = (C : Type 0) (k : Graph ℕ C) → OfAnySize n t k → Below raw k g → Below raw k h → ⊥
+    NoneBelow = (C : Type 0) (k : Graph Label C) → OfAnySize n t k → Below raw k g → Below raw k h → ⊥
 
     unified-combination : (w : Graph (TypeBelow n) (A ⊎ B)) → answers ≡ unified w → OfAnySize n t (lower w) × IsCombination n t g h (lower w)
     unfolding any-size-lift lift-any-size
@@ -247,7 +248,7 @@ module _ (n : ℕ) (t : List ℕ) (ok : accepted n t ≡ true) where
         )
 
     -- A graph that is answered is what the classes give,
-    pub unification-combination : (u : Graph ℕ (A ⊎ B)) → answer ≡ unified u → OfAnySize n t u × IsCombination n t g h u
+    pub unification-combination : (u : Graph Label (A ⊎ B)) → answer ≡ unified u → OfAnySize n t u × IsCombination n t g h u
     unification-combination u e = go answers refl (sym answer-lower ∙ e)
       where
         go : (o : Unified (TypeBelow n) (A ⊎ B)) → answers ≡ o → relabelUnified (λ x. x .0) o ≡ unified u → OfAnySize n t u × IsCombination n t g h u
@@ -255,10 +256,10 @@ module _ (n : ℕ) (t : List ℕ) (ok : accepted n t ≡ true) where
         go clash q r = let z : _≡_ {A = ℕ} 0 1 = cc in absurd (omega arith)
         go (unified w) q r =
             let same : lower w ≡ u = cc in
-            subst (λ (k : Graph ℕ (A ⊎ B)). OfAnySize n t k × IsCombination n t g h k) same (unified-combination w q)
+            subst (λ (k : Graph Label (A ⊎ B)). OfAnySize n t k × IsCombination n t g h k) same (unified-combination w q)
 
     -- so the greatest graph of any size below both.
-    pub unification-greatest : (u : Graph ℕ (A ⊎ B)) → answer ≡ unified u → GreatestOfAnySize n t g h u
+    pub unification-greatest : (u : Graph Label (A ⊎ B)) → answer ≡ unified u → GreatestOfAnySize n t g h u
     unification-greatest u e = let (size, is) = unification-combination u e in combination-greatest g h a b u size is
 
     answer-cycle : (answer ≡ cycle) ↔ (answers ≡ cycle)
@@ -339,36 +340,36 @@ module _ (n : ℕ) (t : List ℕ) (ok : accepted n t ≡ true) where
             absurd (no-graph (A ⊎ B) (lower w) size (best .left) (best .right))
 
     -- Where some graph of any size lies below both, a graph is answered.
-    pub unification-exists : {C : Type 0} (k : Graph ℕ C) → OfAnySize n t k → Below raw k g → Below raw k h →
-        (u : Graph ℕ (A ⊎ B)) × (answer ≡ unified u)
+    pub unification-exists : {C : Type 0} (k : Graph Label C) → OfAnySize n t k → Below raw k g → Below raw k h →
+        (u : Graph Label (A ⊎ B)) × (answer ≡ unified u)
     unification-exists {C} k size x y = go answer refl
       where
-        go : (o : Unified ℕ (A ⊎ B)) → answer ≡ o → (u : Graph ℕ (A ⊎ B)) × (answer ≡ unified u)
+        go : (o : Unified Label (A ⊎ B)) → answer ≡ o → (u : Graph Label (A ⊎ B)) × (answer ≡ unified u)
         go cycle q = absurd (unification-none .0 (inl q) C k size x y)
         go clash q = absurd (unification-none .0 (inr q) C k size x y)
         go (unified u) q = (u, q)
 
   -- Bounds keep the order: g lies below k, and h below m.
-  module _ {A B C D : Type 0} (g : Graph ℕ A) (k : Graph ℕ B) (h : Graph ℕ C) (m : Graph ℕ D) (a : OfAnySize n t g) (b : OfAnySize n t k)
+  module _ {A B C D : Type 0} (g : Graph Label A) (k : Graph Label B) (h : Graph Label C) (m : Graph Label D) (a : OfAnySize n t g) (b : OfAnySize n t k)
       (c : OfAnySize n t h) (d : OfAnySize n t m) (x : Below raw g k) (y : Below raw h m) where
-    pub least-monotone : {U W : Type 0} (u : Graph ℕ U) (w : Graph ℕ W) → LeastOfAnySize n t g h u → LeastOfAnySize n t k m w → Below raw u w
+    pub least-monotone : {U W : Type 0} (u : Graph Label U) (w : Graph Label W) → LeastOfAnySize n t g h u → LeastOfAnySize n t k m w → Below raw u w
     least-monotone u w best other =
         best .least w (other .of-any-size) (below-transitive g k w a b (other .of-any-size) x (other .left))
         (below-transitive h m w c d (other .of-any-size) y (other .right))
 
     -- what lies below g and h lies below k and m
-    pub below-broader : {U : Type 0} (u : Graph ℕ U) → OfAnySize n t u → Below raw u g → Below raw u h → Below raw u k × Below raw u m
+    pub below-broader : {U : Type 0} (u : Graph Label U) → OfAnySize n t u → Below raw u g → Below raw u h → Below raw u k × Below raw u m
     below-broader u size left right = (below-transitive u g k size a b left x, below-transitive u h m size c d right y)
 
-    pub greatest-monotone : {U W : Type 0} (u : Graph ℕ U) (w : Graph ℕ W) → GreatestOfAnySize n t g h u → GreatestOfAnySize n t k m w →
+    pub greatest-monotone : {U W : Type 0} (u : Graph Label U) (w : Graph Label W) → GreatestOfAnySize n t g h u → GreatestOfAnySize n t k m w →
         Below raw u w
     greatest-monotone u w best other =
         let (left, right) = below-broader u (best .of-any-size) (best .left) (best .right) in
         other .greatest u (best .of-any-size) left right
 
     -- where g and h combine, so do k and m, if their nodes are told apart;
-    pub combines-broader : (sameB : B → B → Bool) (sameD : D → D → Bool) → Tells sameB → Tells sameD → {U : Type 0} (u : Graph ℕ U) →
-        GreatestOfAnySize n t g h u → (w : Graph ℕ (B ⊎ D)) × IsCombination n t k m w × GreatestOfAnySize n t k m w × Below raw u w
+    pub combines-broader : (sameB : B → B → Bool) (sameD : D → D → Bool) → Tells sameB → Tells sameD → {U : Type 0} (u : Graph Label U) →
+        GreatestOfAnySize n t g h u → (w : Graph Label (B ⊎ D)) × IsCombination n t k m w × GreatestOfAnySize n t k m w × Below raw u w
     combines-broader sameB sameD tellsB tellsD u best =
         let (left, right) = below-broader u (best .of-any-size) (best .left) (best .right) in
         let (w, e) = unification-exists sameB sameD tellsB tellsD k m b d u (best .of-any-size) left right in
@@ -377,8 +378,8 @@ module _ (n : ℕ) (t : List ℕ) (ok : accepted n t ≡ true) where
         (w, is, other, greatest-monotone u w best other)
 
     -- on any nodes, that they do not is refuted
-    pub combines-not-refuted : {U : Type 0} (u : Graph ℕ U) → GreatestOfAnySize n t g h u →
-        ((W : Type 0) (w : Graph ℕ W) → GreatestOfAnySize n t k m w → ⊥) → ⊥
+    pub combines-not-refuted : {U : Type 0} (u : Graph Label U) → GreatestOfAnySize n t g h u →
+        ((W : Type 0) (w : Graph Label W) → GreatestOfAnySize n t k m w → ⊥) → ⊥
     combines-not-refuted u best refuted =
         let (left, right) = below-broader u (best .of-any-size) (best .left) (best .right) in
         refute-on-numbers k (b .any-size) λ i same.
@@ -394,11 +395,11 @@ module _ (n : ℕ) (t : List ℕ) (ok : accepted n t ≡ true) where
         refuted (ℕ ⊎ ℕ) w (greatest-sides m k w second)
 
   -- "Difference", of graphs of any size: `set` is what the theory of graphs asks for, over types.
-  module _ {A B : Type 0} (sameA : A → A → Bool) (sameB : B → B → Bool) (earlier : Link A → Link A → Bool) (s : Graph ℕ A) (ss : List A)
-      (g : Graph ℕ B) (gs : List B) (over : B → A) (wanted : A → TypeBelow n) (a : OfAnySize n t s) (b : OfAnySize n t g)
+  module _ {A B : Type 0} (sameA : A → A → Bool) (sameB : B → B → Bool) (earlier : Link A → Link A → Bool) (s : Graph Label A) (ss : List A)
+      (g : Graph Label B) (gs : List B) (over : B → A) (wanted : A → TypeBelow n) (a : OfAnySize n t s) (b : OfAnySize n t g)
       (set : Setting law sameA sameB earlier (lift n t ok s) ss (lift n t ok g) gs over wanted) where
     -- the difference over numbers and over types
-    abbrev pub d : Graph ℕ A
+    abbrev pub d : Graph Label A
     d = difference raw sameA sameB earlier s ss g gs over (λ v. wanted v .0)
 
     abbrev dᴸ : Graph (TypeBelow n) A
@@ -416,13 +417,13 @@ module _ (n : ℕ) (t : List ℕ) (ok : accepted n t ≡ true) where
     -- its links are links of s,
     pub difference-links : (u v : A) (f : ℕ) → Reached d u → d .link u f ≡ some v → Reached s u × (s .link u f ≡ some v)
     difference-links =
-        subst (λ (k : Graph ℕ A). (u v : A) (f : ℕ) → Reached k u → k .link u f ≡ some v → Reached s u × (s .link u f ≡ some v)) (sym d-lower)
+        subst (λ (k : Graph Label A). (u v : A) (f : ℕ) → Reached k u → k .link u f ≡ some v → Reached s u × (s .link u f ≡ some v)) (sym d-lower)
         (Computed.difference-links law sameA sameB earlier (lift n t ok s) ss (lift n t ok g) gs over wanted set)
 
     -- and s is the greatest graph of any size below it and g.
     pub difference-restores : GreatestOfAnySize n t d g s
     difference-restores =
-        subst (λ (k : Graph ℕ A). GreatestOfAnySize n t k g s) (sym d-lower)
+        subst (λ (k : Graph Label A). GreatestOfAnySize n t k g s) (sym d-lower)
         (record {
           of-any-size = a;
           left = same-below-left (same-sym (lower-lift-same n t ok s (a .typed)))
@@ -436,13 +437,13 @@ module _ (n : ℕ) (t : List ℕ) (ok : accepted n t ≡ true) where
         })
 
     -- Of what lies strictly above it, on numbers, no greatest graph below it and g lies below s.
-    numbers-most-general : (e : Graph ℕ ℕ) (c : OfAnySize n t e) → Below raw d e → (Below raw e d → ⊥) → {C : Type 0} (u : Graph ℕ C) →
+    numbers-most-general : (e : Graph Label ℕ) (c : OfAnySize n t e) → Below raw d e → (Below raw e d → ⊥) → {C : Type 0} (u : Graph Label C) →
         GreatestOfAnySize n t e g u → Below raw u s → ⊥
     numbers-most-general e c above strict u best below =
         let lattice = lawful-lattice n t ok in
         let operands = any-size-operands tells-eqb (set .operands .tells-right) (lift-any-size n t ok e c) (lift-any-size n t ok g b) in
         let higher : Below law dᴸ (lift n t ok e) =
-        below-lower n t ok .1 (subst (λ (k : Graph ℕ A). Below raw k (lower (lift n t ok e))) d-lower
+        below-lower n t ok .1 (subst (λ (k : Graph Label A). Below raw k (lower (lift n t ok e))) d-lower
         (same-below-right (lower-lift-same n t ok e (c .typed)) above)) in
         let w = classGraph law eqb sameB (lift n t ok e) (lift-any-size n t ok e c .nodes) (lift n t ok g) (lift-any-size n t ok g b .nodes) in
         let (size, is) =
@@ -457,7 +458,7 @@ module _ (n : ℕ) (t : List ℕ) (ok : accepted n t ≡ true) where
         (same-below-right (same-sym (lower-lift-same n t ok g (b .typed))) (below-lower n t ok .0 (unification-right is))) in
         Computed.difference-nothing-more-general law sameA sameB earlier (lift n t ok s) ss (lift n t ok g) gs over wanted set (lift n t ok e) w
         higher
-        (λ lies. strict (subst (λ (k : Graph ℕ A). Below raw e k) (sym d-lower)
+        (λ lies. strict (subst (λ (k : Graph Label A). Below raw e k) (sym d-lower)
         (same-below-left (same-sym (lower-lift-same n t ok e (c .typed))) (below-lower n t ok .0 lies))))
         is .1
         (below-lower n t ok .1
@@ -465,8 +466,8 @@ module _ (n : ℕ) (t : List ℕ) (ok : accepted n t ≡ true) where
         (below-transitive (lower w) u s lower-size (best .of-any-size) a under below)))
 
     -- It is most general: what lies strictly above it, on whatever nodes, gives with g what lies strictly above s.
-    pub difference-most-general : {E C : Type 0} (e : Graph ℕ E) → OfAnySize n t e → Below raw d e → (Below raw e d → ⊥) →
-        (u : Graph ℕ C) → GreatestOfAnySize n t e g u → Below raw s u × (Below raw u s → ⊥)
+    pub difference-most-general : {E C : Type 0} (e : Graph Label E) → OfAnySize n t e → Below raw d e → (Below raw e d → ⊥) →
+        (u : Graph Label C) → GreatestOfAnySize n t e g u → Below raw s u × (Below raw u s → ⊥)
     difference-most-general e c above strict u best = (
       best .greatest s a (below-transitive s d e a difference-of-any-size c (difference-restores .left) above) (difference-restores .right),
       λ below.

@@ -37,13 +37,14 @@ use Rattle.graphs.proofs.Below.{exact-same, same-sym, same-trans, walk-map}
 use Rattle.graphs.proofs.Finite.{same-any-size}
 use Rattle.graphs.proofs.Form.Invariant.{same-canonical}
 use Rattle.graphs.proofs.Product as Product
+use Rattle.lattice.specs.Label.{Label}
 use Rattle.lattice.specs.Table.{below, accepted, cell, meet, join}
 use Rattle.lattice.specs.Labels.{typeLabels, Typed, OfAnySize}
 use Rattle.lattice.proofs.Relabel.{relabel, relabelForm, relabelUnified, canonical-relabel, same-below-left, same-below-right}
 use Rattle.lattice.proofs.Lawful.{TypeBelow, typed, typed-number, type-path, lawful, lawful-lattice, meet-number, join-number}
 
 -- a graph's types as numbers
-abbrev pub lower : {n : ℕ} {A : Type 0} → Graph (TypeBelow n) A → Graph ℕ A
+abbrev pub lower : {n : ℕ} {A : Type 0} → Graph (TypeBelow n) A → Graph Label A
 lower g = relabel (λ x. x .0) g
 
 onward-same : {A : Type 0} (o : Option A) → o ≡ onward (λ v. v) o
@@ -66,13 +67,13 @@ module _ (n : ℕ) (t : List ℕ) (ok : accepted n t ≡ true) where
   law = lawful n t ok
 
   -- a graph's numbers as types
-  abbrev pub lift : {A : Type 0} → Graph ℕ A → Graph (TypeBelow n) A
+  abbrev pub lift : {A : Type 0} → Graph Label A → Graph (TypeBelow n) A
   lift g = relabel (typed n t ok) g
 
   pub lower-typed : {A : Type 0} (g : Graph (TypeBelow n) A) → Typed n (lower g)
   lower-typed g v r = g .label v .1
 
-  module _ {A : Type 0} (g : Graph ℕ A) (types : Typed n g) where
+  module _ {A : Type 0} (g : Graph Label A) (types : Typed n g) where
     -- a node's label, lifted and lowered
     pub lifted-label : (v : A) → Reached g v → typed n t ok (g .label v) .0 ≡ g .label v
     lifted-label v r = typed-number n t ok (g .label v) (types v r)
@@ -134,7 +135,7 @@ module _ (n : ℕ) (t : List ℕ) (ok : accepted n t ≡ true) where
 
   -- Lifting: from numbers below n to types and back.
 
-  module _ {A B : Type 0} (s : Graph ℕ A) (g : Graph ℕ B) (left : Typed n s) (right : Typed n g) where
+  module _ {A B : Type 0} (s : Graph Label A) (g : Graph Label B) (left : Typed n s) (right : Typed n g) where
     pub below-lift : Below raw s g ↔ Below law (lift s) (lift g)
     below-lift = (
       λ b. below-lower .1 (same-below-left (lower-lift-same s left) (same-below-right (lower-lift-same g right) b)),
@@ -169,7 +170,7 @@ module _ (n : ℕ) (t : List ℕ) (ok : accepted n t ≡ true) where
             below t (typed n t ok (s .label (to v)) .0) (typed n t ok (g .label v) .0) ≡ below t (s .label (to v)) (g .label v)
         labels v r w = ap₂ (below t) (lifted-label s left (to v) (r .0, w)) (lifted-label g right v r)
 
-  module _ {A : Type 0} (g : Graph ℕ A) where
+  module _ {A : Type 0} (g : Graph Label A) where
     -- with the same list of nodes
     unfoldable pub any-size-lift : Typed n g → AnySize raw g ↔ AnySize law (lift g)
     any-size-lift types = (
@@ -202,7 +203,7 @@ module _ (n : ℕ) (t : List ℕ) (ok : accepted n t ≡ true) where
         canonical-relabel (λ (x : TypeBelow n). x .0) same (lift g)
 
   -- what means the same as a graph of any size is one
-  pub same-of-any-size : {A B : Type 0} (g : Graph ℕ A) (h : Graph ℕ B) → SameMeaning raw g h → OfAnySize n t g → OfAnySize n t h
+  pub same-of-any-size : {A B : Type 0} (g : Graph Label A) (h : Graph Label B) → SameMeaning raw g h → OfAnySize n t g → OfAnySize n t h
   same-of-any-size {B = B} g h m size =
       record {
         any-size = any-size-lift h types .1
@@ -217,7 +218,7 @@ module _ (n : ℕ) (t : List ℕ) (ok : accepted n t ≡ true) where
 
   -- Generalization.
 
-  module _ {A B : Type 0} (g : Graph ℕ A) (h : Graph ℕ B) (left : Typed n g) (right : Typed n h) where
+  module _ {A B : Type 0} (g : Graph Label A) (h : Graph Label B) (left : Typed n g) (right : Typed n h) where
     -- the generalization of numbers is that of types, lowered
     pub generalization-exact : Exact (λ (x : A × B). x) (generalization raw g h) (lower (generalization law (lift g) (lift h)))
     unfolding generalization
@@ -254,7 +255,7 @@ module _ (n : ℕ) (t : List ℕ) (ok : accepted n t ≡ true) where
           ap₂ (λ (i j : ℕ). cell (meet n t i j)) (sym (are x (List·Memᴰ·head refl))) e ∙ sym (meet-number n t ok (type x) c)
       go false a c e = e
 
-  module _ {A B : Type 0} (sameA : A → A → Bool) (sameB : B → B → Bool) (g : Graph ℕ A) (gs : List A) (h : Graph ℕ B) (hs : List B)
+  module _ {A B : Type 0} (sameA : A → A → Bool) (sameB : B → B → Bool) (g : Graph Label A) (gs : List A) (h : Graph Label B) (hs : List B)
       (left : (v : A) → List·Memᴰ v gs → g .label v < n) (right : (w : B) → List·Memᴰ w hs → h .label w < n) where
     class-label : (c : A ⊎ B) →
         classGraph raw sameA sameB g gs h hs .label c ≡ classGraph law sameA sameB (lift g) gs (lift h) hs .label c .0
@@ -313,7 +314,7 @@ module _ (n : ℕ) (t : List ℕ) (ok : accepted n t ≡ true) where
 
   -- Difference.
 
-  module _ {A B : Type 0} (sameA : A → A → Bool) (g : Graph ℕ B) (gs : List B) (over : B → A) where
+  module _ {A B : Type 0} (sameA : A → A → Bool) (g : Graph Label B) (gs : List B) (over : B → A) where
     -- the meet of all numbers over a node is that of the types
     pub meetOver-number : ((w : B) → List·Memᴰ w gs → g .label w < n) → (v : A) →
         meetOver raw sameA g gs over v ≡ meetOver law sameA (lift g) gs over v .0
@@ -323,8 +324,8 @@ module _ (n : ℕ) (t : List ℕ) (ok : accepted n t ≡ true) where
         meets-number (λ y. sameA (over y) v) (g .label) (lift g .label) gs (λ w m. typed-number n t ok (g .label w) (right w m)) ∙
         sym (ap (λ (x : TypeBelow n). x .0) (meets-folded law (λ y. sameA (over y) v) (lift g .label) gs))
 
-  module _ {A B : Type 0} (sameA : A → A → Bool) (sameB : B → B → Bool) (earlier : Link A → Link A → Bool) (s : Graph ℕ A) (ss : List A)
-      (g : Graph ℕ B) (gs : List B) (over : B → A) (wanted : A → TypeBelow n) where
+  module _ {A B : Type 0} (sameA : A → A → Bool) (sameB : B → B → Bool) (earlier : Link A → Link A → Bool) (s : Graph Label A) (ss : List A)
+      (g : Graph Label B) (gs : List B) (over : B → A) (wanted : A → TypeBelow n) where
     -- the difference by numbers is that by types, lowered
     pub difference-lower : difference raw sameA sameB earlier s ss g gs over (λ v. wanted v .0) ≡
         lower (difference law sameA sameB earlier (lift s) ss (lift g) gs over wanted)

@@ -11,12 +11,13 @@ use lib.Dec.{eqb}
 use Rattle.graphs.specs.Label.{Labels}
 use Rattle.graphs.specs.Graph.{Graph, walk, Reached, Corefer, Below, AnySize}
 use Rattle.graphs.specs.Unify.{Joined, UnderClass}
+use Rattle.lattice.specs.Label.{Label}
 use Rattle.lattice.specs.Table.{below, meet, join, cell}
 
 abbrev pub typeLabels : ℕ → List ℕ → Labels
 typeLabels n t =
     record {
-      L = ℕ;
+      L = Label;
       le = below t;
       meet = λ a b. cell (meet n t a b);
       join = λ a b. cell (join n t a b);
@@ -25,39 +26,39 @@ typeLabels n t =
     }
 
 -- every node has one of the table's n types
-abbrev pub Typed : {A : Type 0} → ℕ → Graph ℕ A → Type 0
+abbrev pub Typed : {A : Type 0} → ℕ → Graph Label A → Type 0
 Typed {A} n g = (v : A) → Reached g v → g .label v < n
 
 -- "A graph of any size keeps every rule of an accepted record but the counts of nodes and links": with them the rule that no type
 -- is "at least n".
-pub record OfAnySize (n : ℕ) (t : List ℕ) {A : Type 0} (g : Graph ℕ A) : Type 0 where
+pub record OfAnySize (n : ℕ) (t : List ℕ) {A : Type 0} (g : Graph Label A) : Type 0 where
   pub any-size : AnySize (typeLabels n t) g
   pub typed : Typed n g
 
 -- k is a graph of any size above both graphs, and below every graph of any size that lies above both.
-pub record LeastOfAnySize (n : ℕ) (t : List ℕ) {A B C : Type 0} (g : Graph ℕ A) (h : Graph ℕ B) (k : Graph ℕ C) : Type 1 where
+pub record LeastOfAnySize (n : ℕ) (t : List ℕ) {A B C : Type 0} (g : Graph Label A) (h : Graph Label B) (k : Graph Label C) : Type 1 where
   pub of-any-size : OfAnySize n t k
   pub left : Below (typeLabels n t) g k
   pub right : Below (typeLabels n t) h k
-  pub least : {D : Type 0} (m : Graph ℕ D) → OfAnySize n t m → Below (typeLabels n t) g m → Below (typeLabels n t) h m →
+  pub least : {D : Type 0} (m : Graph Label D) → OfAnySize n t m → Below (typeLabels n t) g m → Below (typeLabels n t) h m →
       Below (typeLabels n t) k m
 
 -- k is a graph of any size below both graphs, and above every graph of any size that lies below both.
-pub record GreatestOfAnySize (n : ℕ) (t : List ℕ) {A B C : Type 0} (g : Graph ℕ A) (h : Graph ℕ B) (k : Graph ℕ C) : Type 1 where
+pub record GreatestOfAnySize (n : ℕ) (t : List ℕ) {A B C : Type 0} (g : Graph Label A) (h : Graph Label B) (k : Graph Label C) : Type 1 where
   pub of-any-size : OfAnySize n t k
   pub left : Below (typeLabels n t) k g
   pub right : Below (typeLabels n t) k h
-  pub greatest : {D : Type 0} (m : Graph ℕ D) → OfAnySize n t m → Below (typeLabels n t) m g → Below (typeLabels n t) m h →
+  pub greatest : {D : Type 0} (m : Graph Label D) → OfAnySize n t m → Below (typeLabels n t) m g → Below (typeLabels n t) m h →
       Below (typeLabels n t) m k
 
-module _ (n : ℕ) (t : List ℕ) {A B : Type 0} (g : Graph ℕ A) (h : Graph ℕ B) where
+module _ (n : ℕ) (t : List ℕ) {A B : Type 0} (g : Graph Label A) (h : Graph Label B) where
   -- "A class has the meet of all types in it": the greatest of the table's n types below each.
   pub record TypesMeet (p : List ℕ) (a : ℕ) : Type 0 where
     pub under : UnderClass (typeLabels n t) g h p a
     pub greatest : (b : ℕ) → b < n → UnderClass (typeLabels n t) g h p b → below t b a ≡ true
 
   -- "Combination": the paths of u and which of them share are those of the classes, and so are its types.
-  pub record IsCombination {C : Type 0} (u : Graph ℕ C) : Type 0 where
+  pub record IsCombination {C : Type 0} (u : Graph Label C) : Type 0 where
     pub corefers : (p q : List ℕ) → Corefer u p q ↔ Joined g h p q
     pub types : (p : List ℕ) (x : C) → walk u p ≡ some x → TypesMeet p (u .label x)
 

@@ -2,4 +2,5 @@
 pub mod Table
 pub mod Reply
 pub mod Words
+pub mod Label
 pub mod Labels

@@ -14,25 +14,25 @@ use Rattle.graphs.specs.Large.{linksIn}
 use Rattle.graphs.proofs.Lists.{from-range, tells-eqb}
 use Rattle.graphs.proofs.Search.{true-false}
 use Rattle.graphs.proofs.Form.Large.{canonical-fits}
+use Rattle.lattice.specs.Label.{Label}
 use Rattle.lattice.specs.Labels.{typeLabels, OfAnySize}
 use Rattle.record.specs.Read.{graphOfRows, reading, accepted}
 use Rattle.record.proofs.Readings.{Stands, InRange, reading-says, in-range}
-use Rattle.record.proofs.Decoded.{decoded-says}
-use Rattle.record.proofs.RoundTrip.{Proper}
+use Rattle.decode.proofs.Decoded.{Proper, decoded-says}
 use Rattle.record.proofs.Nodes.{Linked, decoded-linked, node-row, reached-inside, reached-listed, narrow, few-nodes, few-links}
 use Rattle.record.proofs.Reaching.{SelfReach, AllReached, cyclic-exact, reaches-exact}
 
 -- What 4 to 7 ask of rows over a table with n types.
-pub record Rules (n : ℕ) (rows : List (Row ℕ)) : Type 0 where
+pub record Rules (n : ℕ) (rows : List (Row Label)) : Type 0 where
   pub nonempty : 0 < length rows
   pub short : length rows ≤ 255
   pub links : linksIn rows ≤ 2048
-  pub ordered : (r : Row ℕ) → List·Memᴰ r rows → Proper r
+  pub ordered : (r : Row Label) → List·Memᴰ r rows → Proper r
   pub ranged : InRange n rows
   pub acyclic : SelfReach rows → ⊥
   pub reached : AllReached rows
 
-pub rules-linked : {n : ℕ} {rows : List (Row ℕ)} → Rules n rows → Linked rows
+pub rules-linked : {n : ℕ} {rows : List (Row Label)} → Rules n rows → Linked rows
 rules-linked rules =
     record {
       nonempty = rules .nonempty;
@@ -41,7 +41,7 @@ rules-linked rules =
     }
 
 -- an accepted record keeps the rules
-pub accepted-rules : (n : ℕ) (bytes : List ℕ) (rows : List (Row ℕ)) → reading n bytes ≡ accepted rows → Rules n rows
+pub accepted-rules : (n : ℕ) (bytes : List ℕ) (rows : List (Row Label)) → reading n bytes ≡ accepted rows → Rules n rows
 accepted-rules n bytes rows ok = rules (reading-says n bytes (accepted rows) .0 ok)
   where
     rules : Stands n bytes (accepted rows) → Rules n rows
@@ -60,7 +60,7 @@ accepted-rules n bytes rows ok = rules (reading-says n bytes (accepted rows) .0 
           reached = reached;
         }
 
-module _ (n : ℕ) (rows : List (Row ℕ)) (rules : Rules n rows) where
+module _ (n : ℕ) (rows : List (Row Label)) (rules : Rules n rows) where
   -- "A graph of any size keeps every rule of an accepted record but the counts"
   rules-any-size : (t : List ℕ) → AnySize (typeLabels n t) (graphOfRows rows)
   rules-any-size t =
@@ -93,7 +93,7 @@ module _ (n : ℕ) (rows : List (Row ℕ)) (rules : Rules n rows) where
   rules-nodes t = refl
 
   -- neither count is passed, so there is a written form
-  pub rules-fit : (form : List (Row ℕ)) × (canonical eqb (graphOfRows rows) ≡ written form)
+  pub rules-fit : (form : List (Row Label)) × (canonical eqb (graphOfRows rows) ≡ written form)
   rules-fit =
       canonical-fits eqb tells-eqb (graphOfRows rows) (narrow rows (rules-linked rules)) .0
       (few-nodes rows (rules-linked rules) (rules .short), few-links rows (rules .links))

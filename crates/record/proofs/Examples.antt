@@ -10,9 +10,10 @@ use Rattle.record.specs.declared.GraphFault.the-variants.{Malformed, Out
 use Rattle.decode.specs.Decode.{bitOf, takeLinks, takeRow, takeRows, decoded}
 use Rattle.encode.specs.Encode.{bitsFrom, encodedRow, encodedRows, encoded}
 use Rattle.graphs.specs.Order.{allOf}
+use Rattle.lattice.specs.Label.{Label}
 use Rattle.record.specs.Read.{inRange, cyclic, reachesAll, reading, accepted, refused}
 
-rows : List (Row ℕ)
+rows : List (Row Label)
 rows = (3, (0, 1) ∷ []) ∷ (1, []) ∷ []
 
 bytes : List ℕ

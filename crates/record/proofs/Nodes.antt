@@ -31,17 +31,18 @@ use Rattle.graphs.specs.Large.{Distinct, ManyNodes, ManyLinks, linksIn}
 use Rattle.graphs.proofs.Walk.{some-injective, none-some, follow-start}
 use Rattle.graphs.proofs.Lists.{from-member, distinct-bound, tells-eqb}
 use Rattle.graphs.proofs.Below.{member-decided}
+use Rattle.lattice.specs.Label.{Label}
 use Rattle.record.specs.Read.{graphOfRows}
-use Rattle.record.proofs.Decoded.{getD-member, Decoded}
+use Rattle.decode.proofs.Decoded.{getD-member, Decoded}
 use Rattle.record.proofs.Readings.{InRange}
 
-pub record Linked (rows : List (Row ℕ)) : Type 0 where
+pub record Linked (rows : List (Row Label)) : Type 0 where
   pub nonempty : 0 < length rows
-  pub features : (r : Row ℕ) → List·Memᴰ r rows → (l : ℕ × ℕ) → List·Memᴰ l (r .1) → l .0 < 64
-  pub targets : (r : Row ℕ) → List·Memᴰ r rows → (l : ℕ × ℕ) → List·Memᴰ l (r .1) → l .1 < length rows
+  pub features : (r : Row Label) → List·Memᴰ r rows → (l : ℕ × ℕ) → List·Memᴰ l (r .1) → l .0 < 64
+  pub targets : (r : Row Label) → List·Memᴰ r rows → (l : ℕ × ℕ) → List·Memᴰ l (r .1) → l .1 < length rows
 
 -- a record that is well formed and in range
-pub decoded-linked : {n : ℕ} {bytes : List ℕ} {rows : List (Row ℕ)} → Decoded bytes rows → InRange n rows → Linked rows
+pub decoded-linked : {n : ℕ} {bytes : List ℕ} {rows : List (Row Label)} → Decoded bytes rows → InRange n rows → Linked rows
 decoded-linked says ranged =
     record {
       nonempty = says .nonempty;
@@ -83,7 +84,7 @@ target-source (l ∷ ls) f w e = go (eqb (l .0) f) refl e (target-source ls f w)
     go false h q later = List·Memᴰ·tail (later q)
 
 -- only a row has links
-link-node : (rows : List (Row ℕ)) (v w f : ℕ) → graphOfRows rows .link v f ≡ some w → v < length rows
+link-node : (rows : List (Row Label)) (v w f : ℕ) → graphOfRows rows .link v f ≡ some w → v < length rows
 unfolding target
 link-node rows v w f e = go (leb (suc v) (length rows)) refl
   where
@@ -91,14 +92,14 @@ link-node rows v w f e = go (leb (suc v) (length rows)) refl
     go true h = leb-true (suc v) (length rows) h
     go false h =
         let past : length rows ≤ v = omega (arith, leb-false (suc v) (length rows) h) in
-        none-some (sym (ap (λ (r : Row ℕ). target (r .1) f) (List·getD-eq-default rows (0, []) past)) ∙ e)
+        none-some (sym (ap (λ (r : Row Label). target (r .1) f) (List·getD-eq-default rows (0, []) past)) ∙ e)
 
 -- the links of rows that are numbered from k up, each a node and a feature
-linksFrom : ℕ → List (Row ℕ) → List (ℕ × ℕ)
+linksFrom : ℕ → List (Row Label) → List (ℕ × ℕ)
 linksFrom k [] = []
 linksFrom k (r ∷ rs) = map (λ l. (k, l .0)) (r .1) ++ linksFrom (suc k) rs
 
-linksFrom-length : (k : ℕ) (rows : List (Row ℕ)) → length (linksFrom k rows) ≡ linksIn rows
+linksFrom-length : (k : ℕ) (rows : List (Row Label)) → length (linksFrom k rows) ≡ linksIn rows
 unfolding linksFrom linksIn
 linksFrom-length k [] = refl
 linksFrom-length k (r ∷ rs) =
@@ -109,7 +110,7 @@ linksFrom-length k (r ∷ rs) =
       linksFrom-length (suc k) rs,
     )
 
-linksFrom-member : (rows : List (Row ℕ)) (k v i f w : ℕ) → i ≡ k + v → target (getD rows v (0, []) .1) f ≡ some w →
+linksFrom-member : (rows : List (Row Label)) (k v i f w : ℕ) → i ≡ k + v → target (getD rows v (0, []) .1) f ≡ some w →
     List·Memᴰ (i, f) (linksFrom k rows)
 unfolding linksFrom target
 linksFrom-member [] k v i f w q e = none-some e
@@ -120,16 +121,16 @@ linksFrom-member (r ∷ rs) k (suc v) i f w q e =
     Memᴰ·append-right (map (λ l. (k, l .0)) (r .1)) (linksFrom-member rs (suc k) v i f w (omega arith) e)
 
 -- no more links than the rows list
-pub few-links : (rows : List (Row ℕ)) → linksIn rows ≤ 2048 → ManyLinks (graphOfRows rows) → ⊥
+pub few-links : (rows : List (Row Label)) → linksIn rows ≤ 2048 → ManyLinks (graphOfRows rows) → ⊥
 few-links rows few (ls, d, all, h) =
     let listed = distinct-bound ls (linksFrom 0 rows) d
     (λ l m. let (w, e) = all l m .1 in linksFrom-member rows 0 (l .0) (l .0) (l .1) w (omega arith) e) in
     omega (arith, linksFrom-length 0 rows)
 
-pub node-row : (rows : List (Row ℕ)) (v : ℕ) → v < length rows → List·Memᴰ (getD rows v (0, [])) rows
+pub node-row : (rows : List (Row Label)) (v : ℕ) → v < length rows → List·Memᴰ (getD rows v (0, [])) rows
 node-row rows v h = getD-member rows v (0, []) h
 
-module _ (rows : List (Row ℕ)) (linked : Linked rows) where
+module _ (rows : List (Row Label)) (linked : Linked rows) where
   pub link-small : (v w f : ℕ) → graphOfRows rows .link v f ≡ some w → f < 64
   link-small v w f e =
       linked .features (getD rows v (0, [])) (node-row rows v (link-node rows v w f e)) (f, w)

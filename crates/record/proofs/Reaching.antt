@@ -22,19 +22,20 @@ use Rattle.graphs.proofs.Search.{true-false, anyOf-true, anyOf-finds}
 use Rattle.graphs.proofs.Unification.Deep.{deep-walk, walk-deep, long-loop, loop-walk}
 use Rattle.graphs.proofs.Form.Visited.{visit-many}
 use Rattle.graphs.proofs.Form.Canonical.{seen-reached, reached-seen, seen-distinct, seen-short}
+use Rattle.lattice.specs.Label.{Label}
 use Rattle.record.specs.Read.{graphOfRows, cyclic, reachesAll}
 use Rattle.record.proofs.Nodes.{Linked, length-from, full-list, link-small, follow-inside, reached-inside, reached-listed, narrow, few-nodes}
 
 -- "a node reaches itself"
-abbrev pub SelfReach : List (Row ℕ) → Type 0
+abbrev pub SelfReach : List (Row Label) → Type 0
 SelfReach rows =
     (v : ℕ) × (v < length rows) × (f : ℕ) × (p : List ℕ) × (follow (graphOfRows rows .link) (some v) (f ∷ p) ≡ some v)
 
 -- no "node the root does not reach"
-abbrev pub AllReached : List (Row ℕ) → Type 0
+abbrev pub AllReached : List (Row Label) → Type 0
 AllReached rows = (v : ℕ) → v < length rows → Reached (graphOfRows rows) v
 
-module _ (rows : List (Row ℕ)) (linked : Linked rows) where
+module _ (rows : List (Row Label)) (linked : Linked rows) where
   pub cyclic-exact : (cyclic rows ≡ true) ↔ SelfReach rows
   unfolding cyclic
   cyclic-exact = (there, back)

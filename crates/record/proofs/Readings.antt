@@ -15,16 +15,17 @@ use Rattle.graphs.specs.Rows.{Row}
 use Rattle.record.specs.declared.GraphFault.the-variants.{Malformed, OutOfRange, Cyclic, Unreached}
 use Rattle.decode.specs.Decode.{decoded}
 use Rattle.graphs.specs.Order.{allOf}
+use Rattle.lattice.specs.Label.{Label}
 use Rattle.record.specs.Read.{Reading, refused, accepted, judged, reading, inRange, cyclic, reachesAll}
 
 -- the tests behind each reading
 abbrev pub Stands : ℕ → List ℕ → Reading → Type 0
 Stands n bytes (refused Malformed) = decoded bytes ≡ none
-Stands n bytes (refused OutOfRange) = (rows : List (Row ℕ)) × (decoded bytes ≡ some rows) × (inRange n rows ≡ false)
+Stands n bytes (refused OutOfRange) = (rows : List (Row Label)) × (decoded bytes ≡ some rows) × (inRange n rows ≡ false)
 Stands n bytes (refused Cyclic) =
-    (rows : List (Row ℕ)) × (decoded bytes ≡ some rows) × (inRange n rows ≡ true) × (cyclic rows ≡ true)
+    (rows : List (Row Label)) × (decoded bytes ≡ some rows) × (inRange n rows ≡ true) × (cyclic rows ≡ true)
 Stands n bytes (refused Unreached) =
-    (rows : List (Row ℕ)) ×
+    (rows : List (Row Label)) ×
     (decoded bytes ≡ some rows) ×
     (inRange n rows ≡ true) ×
     (cyclic rows ≡ false) ×
@@ -37,17 +38,17 @@ module _ (n : ℕ) (bytes : List ℕ) where
   unfolding reading
   reading-stands = parsed (decoded bytes) refl
     where
-      reached : (rows : List (Row ℕ)) → decoded bytes ≡ some rows → inRange n rows ≡ true → cyclic rows ≡ false →
+      reached : (rows : List (Row Label)) → decoded bytes ≡ some rows → inRange n rows ≡ true → cyclic rows ≡ false →
           (t : Bool) → reachesAll rows ≡ t → Stands n bytes (cond t (accepted rows) (refused Unreached))
       reached rows e i c true a = (e, i, c, a)
       reached rows e i c false a = (rows, e, i, c, a)
 
-      acyclic : (rows : List (Row ℕ)) → decoded bytes ≡ some rows → inRange n rows ≡ true → (t : Bool) → cyclic rows ≡ t →
+      acyclic : (rows : List (Row Label)) → decoded bytes ≡ some rows → inRange n rows ≡ true → (t : Bool) → cyclic rows ≡ t →
           Stands n bytes (cond t (refused Cyclic) (cond (reachesAll rows) (accepted rows) (refused Unreached)))
       acyclic rows e i true c = (rows, e, i, c)
       acyclic rows e i false c = reached rows e i c (reachesAll rows) refl
 
-      ranged : (rows : List (Row ℕ)) → decoded bytes ≡ some rows → (t : Bool) → inRange n rows ≡ t →
+      ranged : (rows : List (Row Label)) → decoded bytes ≡ some rows → (t : Bool) → inRange n rows ≡ t →
           Stands n bytes
           (cond t
           (cond (cyclic rows) (refused Cyclic) (cond (reachesAll rows) (accepted rows) (refused Unreached)))
@@ -55,7 +56,7 @@ module _ (n : ℕ) (bytes : List ℕ) where
       ranged rows e true i = acyclic rows e i (cyclic rows) refl
       ranged rows e false i = (rows, e, i)
 
-      parsed : (o : Option (List (Row ℕ))) → decoded bytes ≡ o → Stands n bytes (judged n o)
+      parsed : (o : Option (List (Row Label))) → decoded bytes ≡ o → Stands n bytes (judged n o)
       parsed none e = e
       parsed (some rows) e = ranged rows e (inRange n rows) refl
 
@@ -87,18 +88,18 @@ module _ {X : Type 0} (test : X → Bool) where
       (all x (List·Memᴰ·head refl), allOf-finds xs (λ z m. all z (List·Memᴰ·tail m)))
 
 -- "a type that is 0 or at least n; a target at least N" of no row
-abbrev pub InRange : ℕ → List (Row ℕ) → Type 0
-InRange n rows = (r : Row ℕ) → List·Memᴰ r rows →
+abbrev pub InRange : ℕ → List (Row Label) → Type 0
+InRange n rows = (r : Row Label) → List·Memᴰ r rows →
     (0 < r .0) × (r .0 < n) × ((l : ℕ × ℕ) → List·Memᴰ l (r .1) → l .1 < length rows)
 
-pub in-range : (n : ℕ) (rows : List (Row ℕ)) → (inRange n rows ≡ true) ↔ InRange n rows
+pub in-range : (n : ℕ) (rows : List (Row Label)) → (inRange n rows ≡ true) ↔ InRange n rows
 unfolding inRange
 in-range n rows = (there, back)
   where
     targeted : ℕ × ℕ → Bool
     targeted l = leb (suc (l .1)) (length rows)
 
-    tested : Row ℕ → Bool
+    tested : Row Label → Bool
     tested r = not (eqb (r .0) 0) && leb (suc (r .0)) n && allOf (r .1) targeted
 
     there : allOf rows tested ≡ true → InRange n rows

@@ -18,6 +18,7 @@ use Rattle.graphs.proofs.Walk.{some-injective, walk-append}
 use Rattle.graphs.proofs.Lists.{tells-eqb}
 use Rattle.graphs.proofs.Search.{not-true}
 use Rattle.graphs.proofs.Form.Canonical.{canonical-idempotent, canonical-exact}
+use Rattle.lattice.specs.Label.{Label}
 use Rattle.graphs.proofs.Form.Rules.{
   form-nodes,
   form-short,
@@ -39,14 +40,14 @@ use Rattle.record.proofs.Reaching.{SelfReach, AllReached, cyclic-exact,
 use Rattle.record.proofs.Accepted.{Rules, rules-linked, rules-of-any-size}
 
 -- equal forms are written of one list of rows
-pub written-injective : {form other : List (Row ℕ)} → _≡_ {A = Canonical ℕ} (written form) (written other) → form ≡ other
+pub written-injective : {form other : List (Row Label)} → _≡_ {A = Canonical Label} (written form) (written other) → form ≡ other
 written-injective e = cc
 
-rules-decoded : {n : ℕ} {rows : List (Row ℕ)} → Rules n rows → decoded (encoded rows) ≡ some rows
+rules-decoded : {n : ℕ} {rows : List (Row Label)} → Rules n rows → decoded (encoded rows) ≡ some rows
 rules-decoded {rows = rows} rules = decode-encode rows (rules .nonempty) (rules .links) (rules .ordered)
 
 -- rows that keep the rules are read from their bytes
-pub rules-read : (n : ℕ) (rows : List (Row ℕ)) → Rules n rows → reading n (encoded rows) ≡ accepted rows
+pub rules-read : (n : ℕ) (rows : List (Row Label)) → Rules n rows → reading n (encoded rows) ≡ accepted rows
 rules-read n rows rules =
     reading-says n (encoded rows) (accepted rows) .1 (
       rules-decoded rules,
@@ -55,8 +56,8 @@ rules-read n rows rules =
       reaches-exact rows (rules-linked rules) .1 (rules .short, rules .reached),
     )
 
-module _ (n : ℕ) (t : List ℕ) {A : Type 0} (same : A → A → Bool) (tells : Tells same) (g : Graph ℕ A) (size : OfAnySize n t g)
-    (form : List (Row ℕ)) (e : canonical same g ≡ written form) where
+module _ (n : ℕ) (t : List ℕ) {A : Type 0} (same : A → A → Bool) (tells : Tells same) (g : Graph Label A) (size : OfAnySize n t g)
+    (form : List (Row Label)) (e : canonical same g ≡ written form) where
   small : (v w : A) (f : ℕ) → Reached g v → g .link v f ≡ some w → f < 64
   small = size .any-size .features
 
@@ -115,13 +116,13 @@ module _ (n : ℕ) (t : List ℕ) {A : Type 0} (same : A → A → Bool) (tells 
   written-reads = (rules-read n form form-rules, form-meaning)
 
 -- so their bytes determine them
-encoded-injective : {n : ℕ} (rows other : List (Row ℕ)) → Rules n rows → Rules n other → encoded rows ≡ encoded other → rows ≡ other
+encoded-injective : {n : ℕ} (rows other : List (Row Label)) → Rules n rows → Rules n other → encoded rows ≡ encoded other → rows ≡ other
 encoded-injective rows other rules same q =
     some-injective (sym (rules-decoded rules) ∙ ap decoded q ∙ rules-decoded same)
 
 -- equal meaning is equal bytes once written
-pub meaning-by-bytes : (n : ℕ) (t : List ℕ) (rows other : List (Row ℕ)) → Rules n rows → Rules n other →
-    (form form′ : List (Row ℕ)) → canonical eqb (graphOfRows rows) ≡ written form →
+pub meaning-by-bytes : (n : ℕ) (t : List ℕ) (rows other : List (Row Label)) → Rules n rows → Rules n other →
+    (form form′ : List (Row Label)) → canonical eqb (graphOfRows rows) ≡ written form →
     canonical eqb (graphOfRows other) ≡ written form′ →
     SameMeaning (typeLabels n t) (graphOfRows rows) (graphOfRows other) ↔ (encoded form ≡ encoded form′)
 meaning-by-bytes n t rows other rules same form form′ e e′ = (

@@ -18,7 +18,9 @@ use Rattle.graphs.specs.Rows.{Row, from, target}
 use Rattle.graphs.specs.Number.{countSome, canonical, written}
 use Rattle.graphs.specs.Large.{Ascending, linksIn}
 use Rattle.graphs.proofs.Form.Rules.{form-nonempty, form-links, form-ascending, form-features}
+use Rattle.lattice.specs.Label.{Label}
 use Rattle.decode.specs.Decode.{Taken, changed, takeTarget, takeLinks, takeRow, takeRows, bitOf, whole, decoded}
+use Rattle.decode.proofs.Decoded.{Proper}
 use Rattle.encode.specs.Encode.{bitsFrom, encodedRow, encodedRows, encoded}
 use Rattle.encode.proofs.FeatureMap.{Within, bit-small, target-absent, target-first, target-later}
 
@@ -134,11 +136,7 @@ module _ (stands : ℕ → Bool) (room : ℕ) (rest : List ℕ) where
           ∙ ap (λ (o : Option ℕ). eqb (countSome o) 1) (target-absent f (l ∷ ls) (λ m i (e : m .0 ≡ f). omega (arith, above m i))))
           ∙ whole (λ m i. omega (arith, above m i, inside m i)) (λ g low high. agree g (omega arith) (omega arith))
 
--- a row whose features ascend and are below 64
-abbrev pub Proper : Row ℕ → Type 0
-Proper r = Ascending (r .1) × ((l : ℕ × ℕ) → List·Memᴰ l (r .1) → l .0 < 64)
-
-row-taken : (r : Row ℕ) (room : ℕ) (rest : List ℕ) → Proper r →
+row-taken : (r : Row Label) (room : ℕ) (rest : List ℕ) → Proper r →
     takeRow (length (r .1) + room) (encodedRow r ++ rest) ≡ took r room rest
 unfolding takeRow encodedRow from
 row-taken r room rest (up, low) =
@@ -156,12 +154,12 @@ row-taken r room rest (up, low) =
     ap (λ (bs : List ℕ). bitOf bs g) (append-assoc (mapBytes (r .1)) numbers rest) ∙ bit-stood (r .1) (numbers ++ rest) g high)
     refl)
 
-rows-taken : (rows : List (Row ℕ)) (room total : ℕ) (rest : List ℕ) → ((r : Row ℕ) → List·Memᴰ r rows → Proper r) →
+rows-taken : (rows : List (Row Label)) (room total : ℕ) (rest : List ℕ) → ((r : Row Label) → List·Memᴰ r rows → Proper r) →
     total ≡ linksIn rows + room → takeRows (length rows) total (encodedRows rows ++ rest) ≡ took rows room rest
 unfolding takeRows encodedRows linksIn
 rows-taken [] room total rest proper e =
     let q : total ≡ room = omega arith in
-    ap (λ (n : ℕ). took {X = List (Row ℕ)} [] n rest) q
+    ap (λ (n : ℕ). took {X = List (Row Label)} [] n rest) q
 rows-taken (r ∷ rs) room total rest proper e =
     let q : total ≡ length (r .1) + (linksIn rs + room) = omega arith in
     ap₂
@@ -170,13 +168,13 @@ rows-taken (r ∷ rs) room total rest proper e =
     q
     (append-assoc (encodedRow r) (encodedRows rs) rest)
     ∙ ap
-    (λ (o : Option (Taken (Row ℕ))).
+    (λ (o : Option (Taken (Row Label))).
     andThen o λ t. onward (changed λ rs. t .value ∷ rs) (takeRows (length rs) (t .room) (t .rest)))
     (row-taken r (linksIn rs + room) (encodedRows rs ++ rest) (proper r (List·Memᴰ·head refl)))
     ∙ ap (onward (changed λ rs. r ∷ rs)) (rows-taken rs room (linksIn rs + room) rest (λ x m. proper x (List·Memᴰ·tail m)) refl)
 
 -- The round trip.
-pub decode-encode : (rows : List (Row ℕ)) → 0 < length rows → linksIn rows ≤ 2048 → ((r : Row ℕ) → List·Memᴰ r rows → Proper r) →
+pub decode-encode : (rows : List (Row Label)) → 0 < length rows → linksIn rows ≤ 2048 → ((r : Row Label) → List·Memᴰ r rows → Proper r) →
     decoded (encoded rows) ≡ some rows
 unfolding decoded encoded
 decode-encode rows some-row few proper =
@@ -186,8 +184,8 @@ decode-encode rows some-row few proper =
     ∙ ap whole (rows-taken rows (2048 - linksIn rows) 2048 [] proper (omega arith))
 
 -- So what is written of a graph is read again.
-pub written-decodes : {A : Type 0} (same : A → A → Bool) (tells : Tells same) (g : Graph ℕ A) →
-    ((v w : A) (f : ℕ) → Reached g v → g .link v f ≡ some w → f < 64) → (form : List (Row ℕ)) → canonical same g ≡ written form →
+pub written-decodes : {A : Type 0} (same : A → A → Bool) (tells : Tells same) (g : Graph Label A) →
+    ((v w : A) (f : ℕ) → Reached g v → g .link v f ≡ some w → f < 64) → (form : List (Row Label)) → canonical same g ≡ written form →
     decoded (encoded form) ≡ some form
 written-decodes same tells g narrow form e =
     decode-encode form (form-nonempty same tells g narrow form e) (form-links same tells g narrow form e)

@@ -14,13 +14,14 @@ use Rattle.graphs.specs.Rows.{Row, from}
 use Rattle.graphs.specs.Number.{canonical, written}
 use Rattle.graphs.specs.Large.{linksIn, Ascending}
 use Rattle.graphs.proofs.Lists.{tells-eqb}
+use Rattle.lattice.specs.Label.{Label}
 use Rattle.record.specs.declared.GraphFault.the-variants.{Malformed, OutOfRange, Cyclic, Unreached}
 use Rattle.lattice.specs.Labels.{typeLabels, OfAnySize}
 use Rattle.decode.specs.Decode.{decoded}
 use Rattle.encode.specs.Encode.{encoded}
 use Rattle.record.specs.Read.{graphOfRows, inRange, cyclic, reachesAll, reading, accepted, refused}
 use Rattle.record.proofs.Readings.{reading-says, in-range}
-use Rattle.record.proofs.Decoded.{AreBytes, decoded-says, decoded-short, decoded-label, decoded-target}
+use Rattle.decode.proofs.Decoded.{AreBytes, decoded-says, decoded-short, decoded-label, decoded-target}
 use Rattle.record.proofs.Nodes.{Linked, decoded-linked}
 use Rattle.record.proofs.Reaching.{cyclic-exact, reaches-exact}
 use Rattle.record.proofs.Accepted.{accepted-rules, rules-of-any-size, rules-nodes, rules-fit}
@@ -30,7 +31,7 @@ module _ (n : ℕ) (bytes : List ℕ) where
   -- 1. What is accepted and what is refused: "A graph is accepted when none of 4 to 7 applies"; each refusal says that those
   -- before it do not apply.
 
-  pub accepted-exactly : (rows : List (Row ℕ)) →
+  pub accepted-exactly : (rows : List (Row Label)) →
       (reading n bytes ≡ accepted rows) ↔
       ((decoded bytes ≡ some rows) × (inRange n rows ≡ true) × (cyclic rows ≡ false) × (reachesAll rows ≡ true))
   accepted-exactly rows = reading-says n bytes (accepted rows)
@@ -39,36 +40,36 @@ module _ (n : ℕ) (bytes : List ℕ) where
   malformed-exactly = reading-says n bytes (refused Malformed)
 
   pub out-of-range-exactly : (reading n bytes ≡ refused OutOfRange) ↔
-      ((rows : List (Row ℕ)) × (decoded bytes ≡ some rows) × (inRange n rows ≡ false))
+      ((rows : List (Row Label)) × (decoded bytes ≡ some rows) × (inRange n rows ≡ false))
   out-of-range-exactly = reading-says n bytes (refused OutOfRange)
 
   pub cyclic-exactly : (reading n bytes ≡ refused Cyclic) ↔
-      ((rows : List (Row ℕ)) × (decoded bytes ≡ some rows) × (inRange n rows ≡ true) × (cyclic rows ≡ true))
+      ((rows : List (Row Label)) × (decoded bytes ≡ some rows) × (inRange n rows ≡ true) × (cyclic rows ≡ true))
   cyclic-exactly = reading-says n bytes (refused Cyclic)
 
   pub unreached-exactly : (reading n bytes ≡ refused Unreached) ↔
-      ((rows : List (Row ℕ)) × (decoded bytes ≡ some rows) × (inRange n rows ≡ true) × (cyclic rows ≡ false) × (reachesAll rows ≡ false))
+      ((rows : List (Row Label)) × (decoded bytes ≡ some rows) × (inRange n rows ≡ true) × (cyclic rows ≡ false) × (reachesAll rows ≡ false))
   unreached-exactly = reading-says n bytes (refused Unreached)
 
   -- the test for 5: no "type that is 0 or at least n", no "target at least N"
-  pub range-exact : (rows : List (Row ℕ)) →
+  pub range-exact : (rows : List (Row Label)) →
       (inRange n rows ≡ true) ↔
-      ((r : Row ℕ) → List·Memᴰ r rows →
+      ((r : Row Label) → List·Memᴰ r rows →
       (0 < r .0) × (r .0 < n) × ((l : ℕ × ℕ) → List·Memᴰ l (r .1) → l .1 < length rows))
   range-exact rows = in-range n rows
 
-  module _ (rows : List (Row ℕ)) (parsed : decoded bytes ≡ some rows) where
+  module _ (rows : List (Row Label)) (parsed : decoded bytes ≡ some rows) where
     -- "Byte 0 is the node count N .. feature f, 0 to 63 .. lowest feature first .. At most 2,048 links in all"
     pub well-formed : (0 < length rows) ×
         (length rows ≡ getD bytes 0 0) ×
         (linksIn rows ≤ 2048) ×
-        ((r : Row ℕ) → List·Memᴰ r rows → Ascending (r .1) × ((l : ℕ × ℕ) → List·Memᴰ l (r .1) → l .0 < 64))
+        ((r : Row Label) → List·Memᴰ r rows → Ascending (r .1) × ((l : ℕ × ℕ) → List·Memᴰ l (r .1) → l .0 < 64))
     well-formed = let says = decoded-says bytes rows parsed in (says .nonempty, says .count, says .few-links, says .ordered)
 
     -- "1 to 255 .. one type byte .. one target byte"
     pub in-bytes : AreBytes bytes →
         (length rows ≤ 255) ×
-        ((r : Row ℕ) → List·Memᴰ r rows → (r .0 < 256) × ((l : ℕ × ℕ) → List·Memᴰ l (r .1) → l .1 < 256))
+        ((r : Row Label) → List·Memᴰ r rows → (r .0 < 256) × ((l : ℕ × ℕ) → List·Memᴰ l (r .1) → l .1 < 256))
     in-bytes small =
         let says = decoded-says bytes rows parsed in
         (decoded-short bytes rows says small, λ r m. (decoded-label bytes rows says small r m, decoded-target bytes rows says small r m))
@@ -92,7 +93,7 @@ module _ (n : ℕ) (bytes : List ℕ) where
       pub reach-exact : length rows ≤ 255 → (reachesAll rows ≡ true) ↔ ((v : ℕ) → v < length rows → Reached (graphOfRows rows) v)
       reach-exact short = (λ q. reaches-exact rows linked .0 q .1, λ all. reaches-exact rows linked .1 (short, all))
 
-module _ (n : ℕ) (bytes : List ℕ) (rows : List (Row ℕ)) (ok : reading n bytes ≡ accepted rows) where
+module _ (n : ℕ) (bytes : List ℕ) (rows : List (Row Label)) (ok : reading n bytes ≡ accepted rows) where
   -- 4. "A graph of any size keeps every rule of an accepted record but the counts of nodes and links": so an accepted one is such.
 
   pub accepted-of-any-size : (t : List ℕ) → OfAnySize n t (graphOfRows rows)
@@ -104,13 +105,13 @@ module _ (n : ℕ) (bytes : List ℕ) (rows : List (Row ℕ)) (ok : reading n by
 
   -- 5. An accepted record fits: 11 never applies to it.
 
-  pub accepted-fits : (form : List (Row ℕ)) × (canonical eqb (graphOfRows rows) ≡ written form)
+  pub accepted-fits : (form : List (Row Label)) × (canonical eqb (graphOfRows rows) ≡ written form)
   accepted-fits = rules-fit n rows (accepted-rules n bytes rows ok)
 
 -- 6. Accepted records have equal meaning exactly when they are written as equal bytes.
 
-pub meaning-exact : (n : ℕ) (t : List ℕ) (bytes bytes′ : List ℕ) (rows rows′ : List (Row ℕ)) →
-    reading n bytes ≡ accepted rows → reading n bytes′ ≡ accepted rows′ → (form form′ : List (Row ℕ)) →
+pub meaning-exact : (n : ℕ) (t : List ℕ) (bytes bytes′ : List ℕ) (rows rows′ : List (Row Label)) →
+    reading n bytes ≡ accepted rows → reading n bytes′ ≡ accepted rows′ → (form form′ : List (Row Label)) →
     canonical eqb (graphOfRows rows) ≡ written form → canonical eqb (graphOfRows rows′) ≡ written form′ →
     SameMeaning (typeLabels n t) (graphOfRows rows) (graphOfRows rows′) ↔ (encoded form ≡ encoded form′)
 meaning-exact n t bytes bytes′ rows rows′ ok ok′ form form′ e e′ =
@@ -119,15 +120,15 @@ meaning-exact n t bytes bytes′ rows rows′ ok ok′ form form′ e e′ =
 
 -- 7. What is written of a graph of any size is accepted, and means what was written.
 
-pub written-reads : (n : ℕ) (t : List ℕ) {A : Type 0} (same : A → A → Bool) → Tells same → (g : Graph ℕ A) → OfAnySize n t g →
-    (form : List (Row ℕ)) → canonical same g ≡ written form →
+pub written-reads : (n : ℕ) (t : List ℕ) {A : Type 0} (same : A → A → Bool) → Tells same → (g : Graph Label A) → OfAnySize n t g →
+    (form : List (Row Label)) → canonical same g ≡ written form →
     (reading n (encoded form) ≡ accepted form) × SameMeaning (typeLabels n t) g (graphOfRows form)
 written-reads n t same tells g size form e = Rewritten.written-reads n t same tells g size form e
 
 -- 8. A written record is accepted, is its own written record, and means what was written.
 
-pub written-accepted : (n : ℕ) (t : List ℕ) (bytes : List ℕ) (rows : List (Row ℕ)) →
-    reading n bytes ≡ accepted rows → (form : List (Row ℕ)) → canonical eqb (graphOfRows rows) ≡ written form →
+pub written-accepted : (n : ℕ) (t : List ℕ) (bytes : List ℕ) (rows : List (Row Label)) →
+    reading n bytes ≡ accepted rows → (form : List (Row Label)) → canonical eqb (graphOfRows rows) ≡ written form →
     (reading n (encoded form) ≡ accepted form) ×
     (canonical eqb (graphOfRows form) ≡ written form) ×
     SameMeaning (typeLabels n t) (graphOfRows rows) (graphOfRows form)

@@ -1,4 +1,4 @@
 -- Definitions of reading records.
 pub mod Read
-pub mod Sources
-pub mod Promise
+pub mod Counts
+pub mod Reads

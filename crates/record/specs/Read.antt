@@ -10,10 +10,11 @@ use Rattle.graphs.specs.Rows.{Row, from}
 use Rattle.graphs.specs.Number.{visit}
 use Rattle.graphs.specs.Order.{allOf}
 use Rattle.graphs.specs.Unify.{anyOf, deep, holds}
+use Rattle.lattice.specs.Label.{Label}
 use Rattle.record.specs.declared.GraphFault.{GraphFault}
 use Rattle.record.specs.declared.GraphFault.the-variants.{Malformed, OutOfRange, Cyclic, Unreached}
 use Rattle.decode.specs.Decode.{decoded}
-pub use Rattle.visits.specs.Arrays.{graphOfRows}
+pub use Rattle.layout.specs.Layout.{graphOfRows}
 
 abbrev pub graphNumber : GraphFault → ℕ
 graphNumber Malformed = 4
@@ -22,23 +23,23 @@ graphNumber Cyclic = 6
 graphNumber Unreached = 7
 
 -- not "a type that is 0 or at least n; a target at least N"
-unfoldable pub inRange : ℕ → List (Row ℕ) → Bool
+unfoldable pub inRange : ℕ → List (Row Label) → Bool
 inRange n rows =
     allOf rows λ r. not (eqb (r .0) 0) && leb (suc (r .0)) n && allOf (r .1) λ l. leb (suc (l .1)) (length rows)
 
 -- "a node reaches itself": from some node there is a walk of as many links as there are nodes
-unfoldable pub cyclic : List (Row ℕ) → Bool
+unfoldable pub cyclic : List (Row Label) → Bool
 cyclic rows = anyOf (from 0 (length rows)) λ v. deep (graphOfRows rows .link) (length rows) v
 
 -- not "a node the root does not reach": the visit from the root finds as many nodes as there are
-unfoldable pub reachesAll : List (Row ℕ) → Bool
+unfoldable pub reachesAll : List (Row Label) → Bool
 reachesAll rows = holds (λ seen. eqb (length seen) (length rows)) (visit eqb (graphOfRows rows .link) 255 0 [])
 
 pub data Reading : Type 0 where
   refused : GraphFault → Reading
-  accepted : List (Row ℕ) → Reading
+  accepted : List (Row Label) → Reading
 
-abbrev pub judged : ℕ → Option (List (Row ℕ)) → Reading
+abbrev pub judged : ℕ → Option (List (Row Label)) → Reading
 judged n none = refused Malformed
 judged n (some rows) =
     cond (inRange n rows)

@@ -15,6 +15,7 @@ use Rattle.graphs.specs.Order.{subsumes}
 use Rattle.graphs.specs.Generalize.{generalization}
 use Rattle.graphs.specs.Unify.{Unified, cycle, clash, unified, unification}
 use Rattle.graphs.proofs.Walk.{none-some}
+use Rattle.lattice.specs.Label.{Label}
 use Rattle.lattice.specs.declared.Opened.{Opened}
 use Rattle.lattice.specs.declared.Opened.the-variants as opened
 use Rattle.lattice.specs.declared.TableFault.{TableFault}
@@ -55,13 +56,13 @@ module _ {X : Type 0} (refuse : Reply → X) (good : X → Type 0) (refused-good
     checked-good (opened.Refused fault) next h = refused-good (Table fault) (refused-bounded (Table fault) _ refl)
     checked-good opened.Accepted next h = h
 
-    both-good : (x y : graph.Reading) (next : List (Row ℕ) → List (Row ℕ) → X) → ((g h : List (Row ℕ)) → good (next g h)) →
+    both-good : (x y : graph.Reading) (next : List (Row Label) → List (Row Label) → X) → ((g h : List (Row Label)) → good (next g h)) →
         good (readBoth refuse x y next)
     both-good (graph.refused fault) y next h = refused-good (Graph fault First) (refused-bounded (Graph fault First) _ refl)
     both-good (graph.accepted rows) (graph.refused fault) next h = refused-good (Graph fault Second) (refused-bounded (Graph fault Second) _ refl)
     both-good (graph.accepted rows) (graph.accepted others) next h = h rows others
 
-    call-good : (n : ℕ) (t a b : List ℕ) (next : List (Row ℕ) → List (Row ℕ) → X) → ((g h : List (Row ℕ)) → good (next g h)) →
+    call-good : (n : ℕ) (t a b : List ℕ) (next : List (Row Label) → List (Row Label) → X) → ((g h : List (Row Label)) → good (next g h)) →
         good (checked refuse (table.opened n t) (readBoth refuse (graph.reading n a) (graph.reading n b) next))
     call-good n t a b next h =
         checked-good (table.opened n t) (readBoth refuse (graph.reading n a) (graph.reading n b) next)
@@ -78,7 +79,7 @@ fitted-bounded bytes out = go (leb (length bytes) (length out)) refl
     go true h = λ l e. let same : length bytes ≡ l = cc in omega (arith, leb-true (length bytes) (length out) h)
     go false h = refused-bounded NoRoom 8 refl (length out)
 
-written-bounded : (c : Canonical ℕ) (out : List ℕ) → Bounded (resultOf (writtenOut c out) .reply) (length out)
+written-bounded : (c : Canonical Label) (out : List ℕ) → Bounded (resultOf (writtenOut c out) .reply) (length out)
 unfolding writtenOut
 written-bounded manyNodes out = refused-bounded TooLarge 11 refl (length out)
 written-bounded manyLinks out = refused-bounded TooLarge 11 refl (length out)
@@ -88,7 +89,7 @@ cond-bounded : (b : Bool) (x y : Result) (most : ℕ) → Bounded (x .reply) mos
 cond-bounded true x y most h k = h
 cond-bounded false x y most h k = k
 
-combined-bounded : (u : Unified ℕ (ℕ ⊎ ℕ)) (out : List ℕ) → Bounded (combined u out .reply) (length out)
+combined-bounded : (u : Unified Label (ℕ ⊎ ℕ)) (out : List ℕ) → Bounded (combined u out .reply) (length out)
 combined-bounded cycle out = refused-bounded Cycle 9 refl (length out)
 combined-bounded clash out = refused-bounded Clash 10 refl (length out)
 combined-bounded (unified u) out = written-bounded (canonical sameEither u) out
@@ -99,8 +100,8 @@ ordered-bounded most false l e = let z : _≡_ {A = ℕ} 0 1 = cc in absurd (ome
 
 module _ (n : ℕ) (t a b : List ℕ) where
   -- a call that writes a record
-  writing-bounded : (out : List ℕ) (next : List (Row ℕ) → List (Row ℕ) → Result) →
-      ((g h : List (Row ℕ)) → Bounded (next g h .reply) (length out)) →
+  writing-bounded : (out : List ℕ) (next : List (Row Label) → List (Row Label) → Result) →
+      ((g h : List (Row Label)) → Bounded (next g h .reply) (length out)) →
       Bounded (checked (λ r. refusing r out) (table.opened n t) (readBoth (λ r. refusing r out) (graph.reading n a) (graph.reading n b) next) .reply) (length out)
   writing-bounded out = call-good (λ r. refusing r out) (λ (x : Result). Bounded (x .reply) (length out)) (λ r h. h (length out)) n t a b
 

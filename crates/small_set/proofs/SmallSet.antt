@@ -24,6 +24,7 @@ use Rattle.graphs.specs.Unify.{
   classLink,
   classLabel,
 }
+use Rattle.lattice.specs.Label.{Label}
 use Rattle.graphs.specs.Difference.{
   difference,
   keptLink,
@@ -119,7 +120,7 @@ three-middles-admits = refl
 
 -- 13 for all accepted graphs, where the table is accepted and does not admit differences
 not-admitted :
-    (n : ℕ) (t first second out : List ℕ) (g s : List (Row ℕ)) →
+    (n : ℕ) (t first second out : List ℕ) (g s : List (Row Label)) →
     opened n t ≡ Accepted →
     admits n t ≡ false →
     reading n first ≡ accepted g →

@@ -6,6 +6,7 @@ use mathlib.Core.Option.{Option, some}
 use Prim.Native.Nat.{ℕ}
 use lib.ListN.{length, drop, replicate}
 use Rattle.graphs.specs.Rows.{Row}
+use Rattle.lattice.specs.Label.{Label}
 use Rattle.record.specs.Read.{reading, accepted}
 use Rattle.engine.specs.declared.Reply.the-variants.{Length}
 use Rattle.engine.specs.Reply.{Result, refusal, generalizing}
@@ -151,7 +152,7 @@ cases =
 -- every difference of two graphs accepted over a table gives 13, whatever output is lent
 abbrev pub NoDifference : Types → Type 0
 NoDifference types =
-    (first second out : List ℕ) (g s : List (Row ℕ)) →
+    (first second out : List ℕ) (g s : List (Row Label)) →
     reading (types .count) first ≡ accepted g →
     reading (types .count) second ≡ accepted s →
     Answers out (refuses 13) (differing (types .count) (types .table) first second out)

@@ -1,34 +1,42 @@
 -- Following the links of one node: what seeking a feature passes over, what mapping one node more keeps, and what each turn of the
 -- loop over a row makes of the map and the queue.
-use mathlib.Core.Path.{_≡_, refl, sym, _∙_, ap}
+use mathlib.Core.Path.{_≡_, refl, sym, _∙_, ap, subst}
 use mathlib.Core.Bool.{Bool, true, false, cond}
 use mathlib.Core.List.{List, [], _∷_}
-use Prim.Native.Nat.{ℕ, zero, suc, _+_, _-_, _≤_, _<_}
+use Prim.Native.Nat.{ℕ, zero, suc, _+_, _-_, _*_, _/_, _≤_, _<_}
 use native.Mathlib.Decide.{ℕ-discrete, decLt}
-use native.Mathlib.Numerals.{add-one}
+use native.Mathlib.Nat.{lt-trans}
 use native.Mathlib.Omega.{arith}
 use borrow.Author.Tests.{eq-eqb, ne-eqb}
 use lib.Dec.{eqb}
 use lib.ListN.{length, getD, set, length-set}
 use lib.Seq.{getD-set-same, getD-set-other}
-use Rattle.subsume.specs.Following.{Sought, Span, Queued, Meets, Comes, Clash, Followed, Follows, unmapped}
+use Rattle.layout.specs.Layout.{scale, size, linksFrom, rowEnd, featureAt, targetAt, Node, Recorded}
+use Rattle.layout.proofs.Spans.{features-rise}
+use Rattle.subsume.specs.Following.{Sought, Queued, Meets, Comes, Clash, Followed, Follows, unmapped}
 use Rattle.subsume.specs.Following.Comes.{kept, led}
 use Rattle.subsume.specs.Following.Clash.{lacks, splits}
 
 -- Seeking.
 
-pub record Seeking (features : List ℕ) (at end f k : ℕ) : Type 0 where
+pub record Seeking (ws : List ℕ) (at end f k : ℕ) : Type 0 where
   pub low : at ≤ k
   pub high : k ≤ end
-  pub before : (i : ℕ) → at ≤ i → i < k → getD features i 0 < f
+  pub before : (i : ℕ) → at ≤ i → i < k → featureAt ws i < f
 
-pub seek-on : {features : List ℕ} {at end f k : ℕ} → Seeking features at end f k → k < end → getD features k 0 < f →
-    Seeking features at end f (k + 1)
-seek-on {features} {at} {end} {f} {k} s h less =
+-- the feature of a word by the least word of a feature
+pub feature-under : (w f : ℕ) → w < f * scale → w / scale < f
+feature-under w f h = omega arith
+
+pub feature-over : (w f : ℕ) → f * scale ≤ w → f ≤ w / scale
+feature-over w f h = omega arith
+
+pub seek-on : {ws : List ℕ} {at end f k : ℕ} → Seeking ws at end f k → k < end → getD ws k 0 < f * scale → Seeking ws at end f (k + 1)
+seek-on {ws} {at} {end} {f} {k} s h less =
     record { low = omega (arith, s .low); high = omega arith; before = λ i low high. go i low high (ℕ-discrete i k) }
   where
-    go : (i : ℕ) → at ≤ i → i < k + 1 → Dec (i ≡ k) → getD features i 0 < f
-    go i low high (yes e) = rw e less
+    go : (i : ℕ) → at ≤ i → i < k + 1 → Dec (i ≡ k) → featureAt ws i < f
+    go i low high (yes e) = rw e (feature-under (getD ws k 0) f less)
     go i low high (no d) = s .before i low (omega arith)
 
 -- Mapping one node more.
@@ -106,25 +114,64 @@ module _ {map queue : List ℕ} {count w x : ℕ} (q : Queued map queue count) (
 
 -- The loop over a row.
 
-module _ (sf st gf gt : List ℕ) (s₀ s₁ g₀ g₁ : ℕ) where
-  -- At place k of g's row and place j of s's row: no place before j has the feature at k, nor a later one.
-  pub record Following (map queue : List ℕ) (count : ℕ) (later longer : List ℕ) (k j more : ℕ) : Type 0 where
-    pub low : g₀ ≤ k
-    pub high : k ≤ g₁
-    pub s-low : s₀ ≤ j
-    pub s-high : j ≤ s₁
-    pub before : k < g₁ → (i : ℕ) → s₀ ≤ i → i < j → getD sf i 0 < getD gf k 0
-    pub followed : Followed sf st gf gt s₀ s₁ g₀ g₁ map queue count later longer more k
+-- Numbers that cannot be.
 
-module _ {sf st gf gt : List ℕ} {s₀ s₁ g₀ g₁ : ℕ} where
-  pub following-start : {map queue : List ℕ} {count : ℕ} → Span sf st s₀ s₁ → Span gf gt g₀ g₁ → Queued map queue count →
-      Following sf st gf gt s₀ s₁ g₀ g₁ map queue count map queue g₀ s₀ count
-  following-start s g q =
+apart : {a b : ℕ} → a < b → a ≡ b → ⊥
+apart h e = omega arith
+
+above : {a b c : ℕ} → a < b → c ≤ a → b ≡ c → ⊥
+above h k e = omega arith
+
+missing : {x : ℕ} → x < 255 → x ≡ 65535 → ⊥
+missing h e = omega arith
+
+-- The row of a node: places whose features ascend, with targets below 255.
+pub record Span (ws : List ℕ) (v : ℕ) : Type 0 where
+  pub node : Node ws v
+  pub ascending : (k : ℕ) → linksFrom ws v ≤ k → k + 1 < rowEnd ws v → featureAt ws k < featureAt ws (k + 1)
+  pub within : (k : ℕ) → linksFrom ws v ≤ k → k < rowEnd ws v → targetAt ws k < 255
+
+pub spans : {ws : List ℕ} → Recorded ws → (v : ℕ) → v < size ws → Span ws v
+spans r v h =
+    record {
+      node = r .sound .shaped .node v h;
+      ascending = λ k low high. r .sound .shaped .ascending v k h low high;
+      within = λ k low high. omega (arith, r .sound .targets v k h low high, r .small);
+    }
+
+-- The places that say where the row of a node lies.
+pub record Small (ws : List ℕ) (v : ℕ) : Type 0 where
+  pub few : v < 255
+  pub listed : v + 2 < length ws
+
+pub nodes : {ws : List ℕ} {v : ℕ} → Recorded ws × (v < size ws) → Small ws v
+nodes {ws} {v} r =
+    let node = r .0 .sound .shaped .node v (r .1) in
+    record { few = omega (arith, r .1, r .0 .small); listed = node .listed }
+
+module _ (s g : List ℕ) (u v : ℕ) where
+  -- At place k of v's row in g and place j of u's row in s: no place before j has the feature at k, nor a later one.
+  pub record Following (map queue : List ℕ) (count : ℕ) (later longer : List ℕ) (k j more : ℕ) : Type 0 where
+    pub s-row : Span s u
+    pub g-row : Span g v
+    pub low : linksFrom g v ≤ k
+    pub high : k ≤ rowEnd g v
+    pub s-low : linksFrom s u ≤ j
+    pub s-high : j ≤ rowEnd s u
+    pub before : k < rowEnd g v → (i : ℕ) → linksFrom s u ≤ i → i < j → featureAt s i < featureAt g k
+    pub followed : Followed s g u v map queue count later longer more k
+
+module _ {s g : List ℕ} {u v : ℕ} where
+  pub following-start : {map queue : List ℕ} {count : ℕ} → Span s u → Span g v → Queued map queue count →
+      Following s g u v map queue count map queue (linksFrom g v) (linksFrom s u) count
+  following-start a b q =
       record {
+        s-row = a;
+        g-row = b;
         low = omega arith;
-        high = g .rising;
+        high = b .node .begun;
         s-low = omega arith;
-        s-high = s .rising;
+        s-high = a .node .begun;
         before = λ h i low high. absurd (omega arith);
         followed =
             record {
@@ -137,80 +184,78 @@ module _ {sf st gf gt : List ℕ} {s₀ s₁ g₀ g₁ : ℕ} where
             };
       }
 
-  pub following-done : {map queue later longer : List ℕ} {count k j more : ℕ} → Following sf st gf gt s₀ s₁ g₀ g₁ map queue count later longer k j more →
-      g₁ ≤ k → Follows sf st gf gt s₀ s₁ g₀ g₁ map queue count later longer more
+  pub following-done : {map queue later longer : List ℕ} {count k j more : ℕ} → Following s g u v map queue count later longer k j more →
+      rowEnd g v ≤ k → Follows s g u v map queue count later longer more
   following-done {map} {queue} {later} {longer} {count} {k} {j} {more} f h =
-      let e : k ≡ g₁ = omega (arith, f .high) in
-      let done : Followed sf st gf gt s₀ s₁ g₀ g₁ map queue count later longer more g₁ = rw e at (f .followed) in
+      let e : k ≡ rowEnd g v = omega (arith, f .high) in
+      let done : Followed s g u v map queue count later longer more (rowEnd g v) =
+      subst (λ (i : ℕ). Followed s g u v map queue count later longer more i) e (f .followed) in
       record { goes = λ _. done; fails = λ over. absurd (omega (arith, f .followed .queued .counted)) }
 
-  pub fails : {map queue later longer : List ℕ} {count : ℕ} → Clash sf st gf gt s₀ s₁ g₀ g₁ map →
-      Follows sf st gf gt s₀ s₁ g₀ g₁ map queue count later longer 256
+  pub fails : {map queue later longer : List ℕ} {count : ℕ} → Clash s g u v map → Follows s g u v map queue count later longer 256
   fails c = record { goes = λ h. absurd (omega arith); fails = λ _. c }
 
-  module _ (s : Span sf st s₀ s₁) (g : Span gf gt g₀ g₁) {map queue later longer : List ℕ} {count k j more : ℕ}
-      (f : Following sf st gf gt s₀ s₁ g₀ g₁ map queue count later longer k j more) (inside : k < g₁) {place : ℕ}
-      (sought : Sought sf j s₁ (getD gf k 0) place) where
-    pub target-in : getD gt k 0 < 255
-    target-in = g .within k (f .low) inside
+  module _ {map queue later longer : List ℕ} {count k j more : ℕ} (f : Following s g u v map queue count later longer k j more)
+      (inside : k < rowEnd g v) {place : ℕ} (sought : Sought s j (rowEnd s u) (featureAt g k) place) where
+    pub target-in : targetAt g k < 255
+    target-in = f .g-row .within k (f .low) inside
+
+    place-low : linksFrom s u ≤ place
+    place-low = omega (arith, f .s-low, sought .low)
 
     -- no place before has the feature
-    passed : (i : ℕ) → s₀ ≤ i → i < place → getD sf i 0 < getD gf k 0
+    passed : (i : ℕ) → linksFrom s u ≤ i → i < place → featureAt s i < featureAt g k
     passed i low high = go (decLt i j)
       where
-        go : Dec (i < j) → getD sf i 0 < getD gf k 0
+        go : Dec (i < j) → featureAt s i < featureAt g k
         go (yes h) = f .before inside i low h
         go (no h) = sought .before i (omega arith) high
 
-    -- features ascend from a place on
-    later-above : (d i : ℕ) → s₀ ≤ i → i + d < s₁ → getD sf i 0 ≤ getD sf (i + d) 0
-    later-above zero i low high = let e : i + 0 ≡ i = omega arith in rw e (omega arith)
-    later-above (suc d) i low high =
-        let e : i + suc d ≡ suc (i + d) = omega arith in
-        rw e (omega (arith, later-above d i low (omega arith), s .ascending (i + d) (omega arith) (omega arith)))
-
     -- s has no link by the feature
-    pub lacks-end : s₁ ≤ place → Clash sf st gf gt s₀ s₁ g₀ g₁ map
-    lacks-end h = lacks k (f .low) inside λ j low high e. omega (arith, passed j low (omega arith))
+    pub lacks-end : rowEnd s u ≤ place → Clash s g u v map
+    lacks-end h = lacks k (f .low) inside λ i low high e. apart (passed i low (omega arith)) e
 
-    pub lacks-feature : (getD sf place 0 ≡ getD gf k 0 → ⊥) → place < s₁ → Clash sf st gf gt s₀ s₁ g₀ g₁ map
-    lacks-feature d h = lacks k (f .low) inside λ i low high e. go i low high e (decLt i place)
+    pub lacks-feature : (featureAt s place ≡ featureAt g k → ⊥) → place < rowEnd s u → Clash s g u v map
+    lacks-feature d h = lacks k (f .low) inside λ i low high e. go i low high e (decLt i place) (ℕ-discrete i place)
       where
-        go : (i : ℕ) → s₀ ≤ i → i < s₁ → getD sf i 0 ≡ getD gf k 0 → Dec (i < place) → ⊥
-        go i low high e (yes b) = omega (arith, passed i low b)
-        go i low high e (no b) =
-            let q : place + (i - place) ≡ i = omega arith in
-            d (omega (arith, sought .found h, rw q at (later-above (i - place) place (omega (arith, f .s-low, sought .low)) (omega arith))))
+        go : (i : ℕ) → linksFrom s u ≤ i → i < rowEnd s u → featureAt s i ≡ featureAt g k → Dec (i < place) → Dec (i ≡ place) → ⊥
+        go i low high e (yes b) q = apart (passed i low b) e
+        go i low high e (no b) (yes q) = d (ap (featureAt s) (sym q) ∙ e)
+        go i low high e (no b) (no q) =
+            above
+            (features-rise s (rowEnd s u) (f .s-row .node .ended) (linksFrom s u) (f .s-row .ascending)
+            (i - suc place) place i place-low (omega arith) high)
+            (sought .found h) e
 
-    module _ (h : place < s₁) (e : getD sf place 0 ≡ getD gf k 0) where
-      meets : Meets sf gf s₀ s₁ g₀ g₁ k place
-      meets = record { g-low = f .low; g-high = inside; s-low = omega (arith, f .s-low, sought .low); s-high = h; feature = e }
+    module _ (h : place < rowEnd s u) (e : featureAt s place ≡ featureAt g k) where
+      meets : Meets s g u v k place
+      meets = record { g-low = f .low; g-high = inside; s-low = place-low; s-high = h; feature = e }
 
-      comes-here : Comes sf st gf gt s₀ s₁ g₀ g₁ map (getD gt k 0) (getD st place 0)
+      comes-here : Comes s g u v map (targetAt g k) (targetAt s place)
       comes-here = led k place meets refl refl
 
-      image : getD st place 0 ≡ 65535 → ⊥
-      image z = omega (arith, s .within place (omega (arith, f .s-low, sought .low)) h)
+      image : targetAt s place ≡ 65535 → ⊥
+      image z = missing (f .s-row .within place place-low h) z
 
-      on-before : k + 1 < g₁ → (i : ℕ) → s₀ ≤ i → i < place → getD sf i 0 < getD gf (k + 1) 0
-      on-before more i low high =
-          rw add-one (omega (arith, passed i low high, g .ascending k (f .low) (omega arith)))
+      on-before : k + 1 < rowEnd g v → (i : ℕ) → linksFrom s u ≤ i → i < place → featureAt s i < featureAt g (k + 1)
+      on-before more i low high = lt-trans (passed i low high) (f .g-row .ascending k (f .low) more)
 
       -- the target has another image
-      pub splits-here : (getD later (getD gt k 0) 0 ≡ 65535 → ⊥) → (getD later (getD gt k 0) 0 ≡ getD st place 0 → ⊥) →
-          Clash sf st gf gt s₀ s₁ g₀ g₁ map
+      pub splits-here : (getD later (targetAt g k) 0 ≡ 65535 → ⊥) → (getD later (targetAt g k) 0 ≡ targetAt s place → ⊥) → Clash s g u v map
       splits-here m d =
-          splits (getD gt k 0) (getD later (getD gt k 0) 0) (getD st place 0) target-in
-          (f .followed .comes (getD gt k 0) target-in m) comes-here d
+          splits (targetAt g k) (getD later (targetAt g k) 0) (targetAt s place) target-in
+          (f .followed .comes (targetAt g k) target-in m) comes-here d
 
       -- the target has this image already
-      pub following-met : getD later (getD gt k 0) 0 ≡ getD st place 0 →
-          Following sf st gf gt s₀ s₁ g₀ g₁ map queue count later longer (k + 1) place more
+      pub following-met : getD later (targetAt g k) 0 ≡ targetAt s place →
+          Following s g u v map queue count later longer (k + 1) place more
       following-met same =
           record {
+            s-row = f .s-row;
+            g-row = f .g-row;
             low = omega (arith, f .low);
             high = omega arith;
-            s-low = omega (arith, f .s-low, sought .low);
+            s-low = place-low;
             s-high = sought .high;
             before = on-before;
             followed =
@@ -224,19 +269,21 @@ module _ {sf st gf gt : List ℕ} {s₀ s₁ g₀ g₁ : ℕ} where
                 };
           }
         where
-          go : (i : ℕ) → g₀ ≤ i → i < k + 1 → Dec (i ≡ k) →
-              (p : ℕ) × Meets sf gf s₀ s₁ g₀ g₁ i p × (getD later (getD gt i 0) 0 ≡ getD st p 0)
+          go : (i : ℕ) → linksFrom g v ≤ i → i < k + 1 → Dec (i ≡ k) →
+              (p : ℕ) × Meets s g u v i p × (getD later (targetAt g i) 0 ≡ targetAt s p)
           go i low high (yes z) = rw z (place, meets, same)
           go i low high (no d) = f .followed .leads i low (omega arith)
 
       -- the target is given this image
-      pub following-new : getD later (getD gt k 0) 0 ≡ 65535 →
-          Following sf st gf gt s₀ s₁ g₀ g₁ map queue count (set later (getD gt k 0) (getD st place 0)) (set longer more (getD gt k 0)) (k + 1) place (more + 1)
+      pub following-new : getD later (targetAt g k) 0 ≡ 65535 →
+          Following s g u v map queue count (set later (targetAt g k) (targetAt s place)) (set longer more (targetAt g k)) (k + 1) place (more + 1)
       following-new fresh =
           record {
+            s-row = f .s-row;
+            g-row = f .g-row;
             low = omega (arith, f .low);
             high = omega arith;
-            s-low = omega (arith, f .s-low, sought .low);
+            s-low = place-low;
             s-high = sought .high;
             before = on-before;
             followed =
@@ -245,13 +292,13 @@ module _ {sf st gf gt : List ℕ} {s₀ s₁ g₀ g₁ : ℕ} where
                   grows = omega (arith, f .followed .grows);
                   keeps = λ w b d. still w (λ z. d (sym (f .followed .keeps w b d) ∙ z)) ∙ f .followed .keeps w b d;
                   stays = λ i b. queue-kept old target-in fresh image i (omega (arith, f .followed .grows)) ∙ f .followed .stays i b;
-                  comes = λ w b d. comes w b d (ℕ-discrete w (getD gt k 0));
+                  comes = λ w b d. comes w b d (ℕ-discrete w (targetAt g k));
                   leads = λ i low high. go i low high (ℕ-discrete i k);
                 };
           }
         where
           new : List ℕ
-          new = set later (getD gt k 0) (getD st place 0)
+          new = set later (targetAt g k) (targetAt s place)
 
           old : Queued later longer more
           old = f .followed .queued
@@ -259,22 +306,21 @@ module _ {sf st gf gt : List ℕ} {s₀ s₁ g₀ g₁ : ℕ} where
           still : (w : ℕ) → (getD later w 0 ≡ 65535 → ⊥) → getD new w 0 ≡ getD later w 0
           still w d = set-kept old target-in fresh image w d
 
-          comes : (w : ℕ) → w < 255 → (getD new w 0 ≡ 65535 → ⊥) → Dec (w ≡ getD gt k 0) →
-              Comes sf st gf gt s₀ s₁ g₀ g₁ map w (getD new w 0)
+          comes : (w : ℕ) → w < 255 → (getD new w 0 ≡ 65535 → ⊥) → Dec (w ≡ targetAt g k) → Comes s g u v map w (getD new w 0)
           comes w b d (yes z) = rw (z, set-here old target-in fresh image) comes-here
           comes w b d (no n) =
-              let same : getD new w 0 ≡ getD later w 0 = getD-set-other later (getD gt k 0) w (getD st place 0) 0 n in
+              let same : getD new w 0 ≡ getD later w 0 = getD-set-other later (targetAt g k) w (targetAt s place) 0 n in
               rw same (f .followed .comes w b λ z. d (same ∙ z))
 
-          go : (i : ℕ) → g₀ ≤ i → i < k + 1 → Dec (i ≡ k) →
-              (p : ℕ) × Meets sf gf s₀ s₁ g₀ g₁ i p × (getD new (getD gt i 0) 0 ≡ getD st p 0)
+          go : (i : ℕ) → linksFrom g v ≤ i → i < k + 1 → Dec (i ≡ k) →
+              (p : ℕ) × Meets s g u v i p × (getD new (targetAt g i) 0 ≡ targetAt s p)
           go i low high (yes z) = rw z (place, meets, set-here old target-in fresh image)
           go i low high (no d) =
               let (p, m, same) = f .followed .leads i low (omega arith) in
-              (p, m, still (getD gt i 0) (λ z. omega (arith, sym same ∙ z, s .within p (m .s-low) (m .s-high))) ∙ same)
+              (p, m, still (targetAt g i) (λ z. missing (f .s-row .within p (m .s-low) (m .s-high)) (sym same ∙ z)) ∙ same)
 
   -- the same, of arrays that are equal
   pub following-as : {map queue later longer later′ longer′ : List ℕ} {count k j more more′ : ℕ} → later′ ≡ later → longer′ ≡ longer →
-      more′ ≡ more → Following sf st gf gt s₀ s₁ g₀ g₁ map queue count later longer k j more →
-      Following sf st gf gt s₀ s₁ g₀ g₁ map queue count later′ longer′ k j more′
+      more′ ≡ more → Following s g u v map queue count later longer k j more →
+      Following s g u v map queue count later′ longer′ k j more′
   following-as p q e f = rw (p, q, e) f

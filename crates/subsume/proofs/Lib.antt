@@ -1,4 +1,3 @@
 -- Laws of the order's search.
 pub mod Following
-pub mod Places
 pub mod Searching

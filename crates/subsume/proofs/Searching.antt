@@ -6,7 +6,6 @@ use mathlib.Core.List.{List, [], _∷_, _++_}
 use mathlib.Core.Option.{some}
 use Prim.Native.Nat.{ℕ, suc, _+_, _≤_, _<_}
 use native.Mathlib.Decide.{ℕ-discrete}
-use native.Mathlib.Numerals.{add-one}
 use native.Mathlib.Omega.{arith}
 use borrow.Author.Tests.{eq-eqb}
 use lib.ListN.{length, getD, set, replicate, length-set, length-replicate, getD-replicate}
@@ -17,25 +16,21 @@ use Rattle.graphs.proofs.Walk.{some-injective, some-unique, snoc-induction, fol
 use Rattle.graphs.proofs.Below.{below-labels}
 use Rattle.lattice.specs.Table.{below}
 use Rattle.lattice.specs.Labels.{typeLabels}
-use Rattle.visits.specs.Arrays.{Sound, rowsOf, graphOfRows}
+use Rattle.lattice.specs.Label.{Label}
+use Rattle.layout.specs.Layout.{size, rowFrom, linksFrom, rowEnd, labelAt, featureAt, targetAt, rowsOf, graphIn, Node, Recorded}
+use Rattle.layout.proofs.Places.{label-at, link-at, link-place}
 use Rattle.subsume.specs.declared.Order.the-variants as order
 use Rattle.subsume.specs.Promise.{Orders}
-use Rattle.subsume.specs.Following.{Span, Queued, Meets, Comes, Clash, Followed, unmapped}
+use Rattle.subsume.specs.Following.{Queued, Meets, Comes, Clash, Followed, unmapped}
 use Rattle.subsume.specs.Following.Comes.{kept, led}
 use Rattle.subsume.specs.Following.Clash.{lacks, splits}
 use Rattle.subsume.proofs.Following.{unmapped-fall}
-use Rattle.visits.proofs.Places.{label-at, link-at, link-place, target-inside}
-use Rattle.subsume.proofs.Places.{spans}
-
--- the graph that arrays hold
-abbrev held : ℕ → List ℕ → List ℕ → List ℕ → List ℕ → Graph ℕ ℕ
-held nodes types first features targets = graphOfRows (rowsOf nodes types first features targets)
 
 -- One path leads to w in g and to x in s.
-abbrev pub Together : Graph ℕ ℕ → Graph ℕ ℕ → ℕ → ℕ → Type 0
+abbrev pub Together : Graph Label ℕ → Graph Label ℕ → ℕ → ℕ → Type 0
 Together s g w x = (p : List ℕ) × (walk g p ≡ some w) × (walk s p ≡ some x)
 
-module _ (s g : Graph ℕ ℕ) where
+module _ (s g : Graph Label ℕ) where
   together-root : Together s g (g .root) (s .root)
   unfolding follow
   together-root = ([], refl, refl)
@@ -65,8 +60,13 @@ unmapped-all [] bare = refl
 unmapped-all (x ∷ l) bare =
     rw (eq-eqb x 65535 (bare 0 (omega arith))) (ap suc (unmapped-all l λ w h. bare (suc w) (omega arith)))
 
-module _ (map queue : List ℕ) (map-long : length map ≡ 255) (none-mapped : (w : ℕ) → w < 255 → getD map w 0 ≡ 65535)
-    (clear : queue ≡ replicate 255 0) where
+module _ (map queue : List ℕ) (bare : map ≡ replicate 255 65535) (clear : queue ≡ replicate 255 0) where
+  map-long : length map ≡ 255
+  map-long = ap length bare ∙ length-replicate {A = ℕ} 255 65535
+
+  none-mapped : (w : ℕ) → w < 255 → getD map w 0 ≡ 65535
+  none-mapped w h = ap (λ (l : List ℕ). getD l w 0) bare ∙ getD-replicate {A = ℕ} 255 w 65535 0 h
+
   queue-long : length queue ≡ 255
   queue-long = ap length clear ∙ length-replicate {A = ℕ} 255 0
 
@@ -102,117 +102,118 @@ module _ (map queue : List ℕ) (map-long : length map ≡ 255) (none-mapped : (
         placed = λ w h d. (0, omega arith, root-queued ∙ sym (only-root w h d));
       }
 
--- s is given by its nodes ns, types sy, first places s1, features sf and targets st, and g likewise; t is the type table.
-module _ (t : List ℕ) (ns : ℕ) (sy s1 sf st : List ℕ) (ng : ℕ) (gy g1 gf gt : List ℕ) where
+-- s and g are graphs of records, t is the type table.
+module _ (t s g : List ℕ) where
   -- Node v is passed: its type and links are those of its image.
   pub record Passed (map : List ℕ) (v : ℕ) : Type 0 where
-    pub ordered : below t (getD sy (getD map v 0) 0) (getD gy v 0) ≡ true
-    pub leads : (k : ℕ) → getD g1 v 0 ≤ k → k < getD g1 (suc v) 0 →
-        (j : ℕ) × Meets sf gf (getD s1 (getD map v 0) 0) (getD s1 (suc (getD map v 0)) 0) (getD g1 v 0) (getD g1 (suc v) 0) k j ×
-        (getD map (getD gt k 0) 0 ≡ getD st j 0)
-
-  -- The next node of the queue and its image: what the code asks of them.
-  pub record Next (map queue : List ℕ) (head : ℕ) : Type 0 where
-    pub small : getD queue head 0 < 255
-    pub inside : getD queue head 0 < ng
-    pub image : getD map (getD queue head 0) 0 < ns
-    pub image-small : getD map (getD queue head 0) 0 < 255
-    pub typed : getD gy (getD queue head 0) 0 < 64
-    pub image-typed : getD sy (getD map (getD queue head 0) 0) 0 < 64
-    pub bounded : getD queue head 0 + 1 < length g1
-    pub image-bounded : getD map (getD queue head 0) 0 + 1 < length s1
-    pub spanned : Span gf gt (getD g1 (getD queue head 0) 0) (getD g1 (getD queue head 0 + 1) 0)
-    pub image-spanned : Span sf st (getD s1 (getD map (getD queue head 0) 0) 0) (getD s1 (getD map (getD queue head 0) 0 + 1) 0)
+    pub ordered : below t (labelAt s (getD map v 0)) (labelAt g v) ≡ true
+    pub leads : (k : ℕ) → linksFrom g v ≤ k → k < rowEnd g v →
+        (j : ℕ) × Meets s g (getD map v 0) v k j × (getD map (targetAt g k) 0 ≡ targetAt s j)
 
   -- The nodes in the queue before `head` are passed.
   pub record Searched (map queue : List ℕ) (count head : ℕ) : Type 0 where
+    pub lower : Recorded s
+    pub upper : Recorded g
     pub queued : Queued map queue count
     pub ahead : head ≤ count
-    pub inside : (w : ℕ) → w < 255 → (getD map w 0 ≡ 65535 → ⊥) → w < ng
-    pub image : (w : ℕ) → w < 255 → (getD map w 0 ≡ 65535 → ⊥) → getD map w 0 < ns
-    pub together : (w : ℕ) → w < 255 → (getD map w 0 ≡ 65535 → ⊥) →
-        Together (held ns sy s1 sf st) (held ng gy g1 gf gt) w (getD map w 0)
+    pub inside : (w : ℕ) → w < 255 → (getD map w 0 ≡ 65535 → ⊥) → w < size g
+    pub image : (w : ℕ) → w < 255 → (getD map w 0 ≡ 65535 → ⊥) → getD map w 0 < size s
+    pub together : (w : ℕ) → w < 255 → (getD map w 0 ≡ 65535 → ⊥) → Together (graphIn s) (graphIn g) w (getD map w 0)
     pub rooted : getD map 0 0 ≡ 0
     pub passed : (i : ℕ) → i < head → Passed map (getD queue i 0)
 
-module _ {t : List ℕ} {ns : ℕ} {sy s1 sf st : List ℕ} {ng : ℕ} {gy g1 gf gt : List ℕ}
-    (sound : Sound ns sy s1 sf st) (sane : Sound ng gy g1 gf gt) (small : (ns ≤ 255) × (ng ≤ 255)) where
+-- The next node v of the queue and its image u: what the code asks of them.
+pub record Next (s g : List ℕ) (u v : ℕ) : Type 0 where
+  pub small : v < 255
+  pub image-small : u < 255
+  pub inside : v < size g
+  pub image : u < size s
+  pub node : Node g v
+  pub image-node : Node s u
+  pub from : rowFrom g v < length g
+  pub image-from : rowFrom s u < length s
+  pub typed : labelAt g v < 64
+  pub image-typed : labelAt s u < 64
+
+module _ {t s g : List ℕ} where
   -- at the root
-  pub searched-start : (map queue : List ℕ) → length map ≡ 255 → ((w : ℕ) → w < 255 → getD map w 0 ≡ 65535) →
-      queue ≡ replicate 255 0 → Searched t ns sy s1 sf st ng gy g1 gf gt (set map 0 0) queue 1 0
-  searched-start map queue long bare clear =
+  pub searched-start : (map queue : List ℕ) → Recorded s → Recorded g → map ≡ replicate 255 65535 → queue ≡ replicate 255 0 →
+      Searched t s g (set map 0 0) queue 1 0
+  searched-start map queue lower upper bare clear =
       record {
-        queued = queue-start map queue long bare clear;
+        lower = lower;
+        upper = upper;
+        queued = queue-start map queue bare clear;
         ahead = omega arith;
-        inside = λ w h d. omega (arith, only-root map queue long bare clear w h d, sane .shaped .laid .nonempty);
-        image = λ w h d. rw (at w h d) (sound .shaped .laid .nonempty);
+        inside = λ w h d. omega (arith, only-root map queue bare clear w h d, upper .sound .shaped .nonempty);
+        image = λ w h d. rw (at w h d) (lower .sound .shaped .nonempty);
         together = λ w h d.
-            let e : w ≡ 0 = only-root map queue long bare clear w h d in
-            rw (at w h d, e) (together-root (held ns sy s1 sf st) (held ng gy g1 gf gt));
-        rooted = root-mapped map queue long bare clear;
+            let e : w ≡ 0 = only-root map queue bare clear w h d in
+            rw (at w h d, e) (together-root (graphIn s) (graphIn g));
+        rooted = root-mapped map queue bare clear;
         passed = λ i h. absurd (omega arith);
       }
     where
       at : (w : ℕ) → w < 255 → (getD (set map 0 0) w 0 ≡ 65535 → ⊥) → getD (set map 0 0) w 0 ≡ 0
-      at w h d = ap (λ (i : ℕ). getD (set map 0 0) i 0) (only-root map queue long bare clear w h d) ∙ root-mapped map queue long bare clear
+      at w h d = ap (λ (i : ℕ). getD (set map 0 0) i 0) (only-root map queue bare clear w h d) ∙ root-mapped map queue bare clear
 
-  module _ {map queue : List ℕ} {count head : ℕ} (f : Searched t ns sy s1 sf st ng gy g1 gf gt map queue count head) where
+  module _ {map queue : List ℕ} {count head : ℕ} (f : Searched t s g map queue count head) where
     -- once all are passed
     module _ (all : count ≤ head) where
-      mapped-passed : (v : ℕ) → v < 255 → (getD map v 0 ≡ 65535 → ⊥) → Passed t ns sy s1 sf st ng gy g1 gf gt map v
+      mapped-passed : (v : ℕ) → v < 255 → (getD map v 0 ≡ 65535 → ⊥) → Passed t s g map v
       mapped-passed v h d =
           let (i, low, e) = f .queued .placed v h d in
           rw e at (f .passed i (omega arith))
 
       -- along a link of g
-      link-mapped : (v w a : ℕ) → v < 255 → (getD map v 0 ≡ 65535 → ⊥) → held ng gy g1 gf gt .link v a ≡ some w →
-          (w < 255) × (getD map w 0 < 255) × (held ns sy s1 sf st .link (getD map v 0) a ≡ some (getD map w 0))
+      link-mapped : (v w a : ℕ) → v < 255 → (getD map v 0 ≡ 65535 → ⊥) → graphIn g .link v a ≡ some w →
+          (w < 255) × (getD map w 0 < 255) × (graphIn s .link (getD map v 0) a ≡ some (getD map w 0))
       link-mapped v w a h d e =
-          let (k, low, high, fk, tk) = link-place sane v a w (f .inside v h d) e in
+          let (k, low, high, fk, tk) = link-place (f .upper .sound) v a w (f .inside v h d) e in
           let (j, m, same) = mapped-passed v h d .leads k low high in
-          let at : getD map w 0 ≡ getD st j 0 = ap (λ (i : ℕ). getD map i 0) (sym tk) ∙ same in (
-            omega (arith, target-inside sane v k (f .inside v h d) high),
-            omega (arith, target-inside sound (getD map v 0) j (f .image v h d) (m .s-high)),
-            ap (λ (i : ℕ). held ns sy s1 sf st .link (getD map v 0) i) (sym (m .feature ∙ fk)) ∙
-                link-at sound (getD map v 0) j (f .image v h d) (m .s-low) (m .s-high) ∙ ap some (sym at),
+          let at : getD map w 0 ≡ targetAt s j = ap (λ (i : ℕ). getD map i 0) (sym tk) ∙ same in (
+            omega (arith, f .upper .sound .targets v k (f .inside v h d) low high),
+            omega (arith, f .lower .sound .targets (getD map v 0) j (f .image v h d) (m .s-low) (m .s-high)),
+            ap (λ (i : ℕ). graphIn s .link (getD map v 0) i) (sym (m .feature ∙ fk)) ∙
+                link-at (f .lower .sound) (getD map v 0) j (f .image v h d) (m .s-low) (m .s-high) ∙ ap some (sym at),
           )
 
       -- every node that the root reaches is mapped
-      reached-mapped : (p : List ℕ) (v : ℕ) → walk (held ng gy g1 gf gt) p ≡ some v → (v < 255) × (getD map v 0 ≡ 65535 → ⊥)
+      reached-mapped : (p : List ℕ) (v : ℕ) → walk (graphIn g) p ≡ some v → (v < 255) × (getD map v 0 ≡ 65535 → ⊥)
       unfolding follow
       reached-mapped =
-          snoc-induction (λ p. (v : ℕ) → walk (held ng gy g1 gf gt) p ≡ some v → (v < 255) × (getD map v 0 ≡ 65535 → ⊥)) base more
+          snoc-induction (λ p. (v : ℕ) → walk (graphIn g) p ≡ some v → (v < 255) × (getD map v 0 ≡ 65535 → ⊥)) base more
         where
-          base : (v : ℕ) → walk (held ng gy g1 gf gt) [] ≡ some v → (v < 255) × (getD map v 0 ≡ 65535 → ⊥)
+          base : (v : ℕ) → walk (graphIn g) [] ≡ some v → (v < 255) × (getD map v 0 ≡ 65535 → ⊥)
           base v e =
               let z : v ≡ 0 = sym (some-injective e) in
               (omega arith, λ q. omega (arith, sym (f .rooted) ∙ ap (λ (i : ℕ). getD map i 0) (sym z) ∙ q))
 
-          more : (p : List ℕ) (a : ℕ) → ((v : ℕ) → walk (held ng gy g1 gf gt) p ≡ some v → (v < 255) × (getD map v 0 ≡ 65535 → ⊥)) →
-              (w : ℕ) → walk (held ng gy g1 gf gt) (p ++ (a ∷ [])) ≡ some w → (w < 255) × (getD map w 0 ≡ 65535 → ⊥)
+          more : (p : List ℕ) (a : ℕ) → ((v : ℕ) → walk (graphIn g) p ≡ some v → (v < 255) × (getD map v 0 ≡ 65535 → ⊥)) →
+              (w : ℕ) → walk (graphIn g) (p ++ (a ∷ [])) ≡ some w → (w < 255) × (getD map w 0 ≡ 65535 → ⊥)
           more p a ih w e =
-              let (v, q, l) = follow-last (held ng gy g1 gf gt .link) (some (held ng gy g1 gf gt .root)) p a w e in
+              let (v, q, l) = follow-last (graphIn g .link) (some (graphIn g .root)) p a w e in
               let (h, d) = ih v q in
               let (low, few, x) = link-mapped v w a h d l in
               (low, λ z. omega arith)
 
-      node-map : (n : ℕ) → NodeMap (typeLabels n t) (held ns sy s1 sf st) (held ng gy g1 gf gt) (λ v. getD map v 0)
+      node-map : (n : ℕ) → NodeMap (typeLabels n t) (graphIn s) (graphIn g) (λ v. getD map v 0)
       node-map n =
           record {
             root = f .rooted;
             links = λ v w a r l. let (h, d) = reached-mapped (r .0) v (r .1) in link-mapped v w a h d l .2;
             labels = λ v r.
                 let (h, d) = reached-mapped (r .0) v (r .1) in
-                ap₂ (below t) (label-at sound (getD map v 0) (f .image v h d)) (label-at sane v (f .inside v h d)) ∙
+                ap₂ (below t) (label-at s (getD map v 0) (f .image v h d)) (label-at g v (f .inside v h d)) ∙
                 mapped-passed v h d .ordered;
           }
 
-      pub order-yes : {n : ℕ} → Orders n t (rowsOf ns sy s1 sf st) (rowsOf ng gy g1 gf gt) order.Below map
-      order-yes {n} =
+      pub order-yes : (n : ℕ) → Orders n t (rowsOf s) (rowsOf g) order.Below map
+      order-yes n =
           record { yes-stands = λ _. node-map n; no-stands = λ e b. let z : _≡_ {A = ℕ} 0 1 = cc in omega arith }
 
-    order-no : {n : ℕ} {answer : List ℕ} → (Below (typeLabels n t) (held ns sy s1 sf st) (held ng gy g1 gf gt) → ⊥) →
-        Orders n t (rowsOf ns sy s1 sf st) (rowsOf ng gy g1 gf gt) order.NotBelow answer
+    order-no : {n : ℕ} {answer : List ℕ} → (Below (typeLabels n t) (graphIn s) (graphIn g) → ⊥) →
+        Orders n t (rowsOf s) (rowsOf g) order.NotBelow answer
     order-no never =
         record { yes-stands = λ e. let z : _≡_ {A = ℕ} 0 1 = cc in absurd (omega arith); no-stands = λ _. never }
 
@@ -227,63 +228,64 @@ module _ {t : List ℕ} {ns : ℕ} {sy s1 sf st : List ℕ} {ng : ℕ} {gy g1 gf
       node-small : v < 255
       node-small = f .queued .listed head next
 
-      node-in : v < ng
+      node-in : v < size g
       node-in = f .inside v node-small (f .queued .mapped head next)
 
-      image-in : u < ns
+      image-in : u < size s
       image-in = f .image v node-small (f .queued .mapped head next)
 
-      both : Together (held ns sy s1 sf st) (held ng gy g1 gf gt) v u
+      both : Together (graphIn s) (graphIn g) v u
       both = f .together v node-small (f .queued .mapped head next)
 
-      pub next-node : ((w : ℕ) → w < ns → getD sy w 0 < 64) → ((w : ℕ) → w < ng → getD gy w 0 < 64) →
-          Next t ns sy s1 sf st ng gy g1 gf gt map queue head
-      next-node few many =
+      pub next-node : Next s g u v
+      next-node =
           record {
             small = node-small;
+            image-small = omega (arith, image-in, f .lower .small);
             inside = node-in;
             image = image-in;
-            image-small = omega (arith, image-in, small .0);
-            typed = many v node-in;
-            image-typed = few u image-in;
-            bounded = omega (arith, node-in, sane .shaped .laid .bounded);
-            image-bounded = omega (arith, image-in, sound .shaped .laid .bounded);
-            spanned = spans sane (small .1) v node-in;
-            image-spanned = spans sound (small .0) u image-in;
+            node = f .upper .sound .shaped .node v node-in;
+            image-node = f .lower .sound .shaped .node u image-in;
+            from = omega (arith, f .upper .sound .shaped .node v node-in .begun, f .upper .sound .shaped .node v node-in .ended);
+            image-from = omega (arith, f .lower .sound .shaped .node u image-in .begun, f .lower .sound .shaped .node u image-in .ended);
+            typed = f .upper .typed v node-in;
+            image-typed = f .lower .typed u image-in;
           }
 
       -- its type is not below
-      pub order-label : {n : ℕ} {answer : List ℕ} → below t (getD sy u 0) (getD gy v 0) ≡ false →
-          Orders n t (rowsOf ns sy s1 sf st) (rowsOf ng gy g1 gf gt) order.NotBelow answer
-      order-label {n} e =
-          order-no λ b. label-refutes (held ns sy s1 sf st) (held ng gy g1 gf gt) n t b both (ap₂ (below t) (label-at sound u image-in) (label-at sane v node-in) ∙ e)
+      pub order-label : (n : ℕ) {answer : List ℕ} → below t (labelAt s u) (labelAt g v) ≡ false →
+          Orders n t (rowsOf s) (rowsOf g) order.NotBelow answer
+      order-label n e =
+          order-no λ b. label-refutes (graphIn s) (graphIn g) n t b both (ap₂ (below t) (label-at s u image-in) (label-at g v node-in) ∙ e)
 
-      come-together : {w x : ℕ} → w < 255 → Comes sf st gf gt (getD s1 u 0) (getD s1 (u + 1) 0) (getD g1 v 0) (getD g1 (v + 1) 0) map w x →
-          Together (held ns sy s1 sf st) (held ng gy g1 gf gt) w x
+      come-together : {w x : ℕ} → w < 255 → Comes s g u v map w x →
+          Together (graphIn s) (graphIn g) w x
       come-together {w} {x} h (kept d e) = rw e at (f .together w h d)
       come-together {w} {x} h (led k j m a b) =
-          together-link (held ns sy s1 sf st) (held ng gy g1 gf gt) (getD gf k 0) both
-          (link-at sane v k node-in (m .g-low) (rw add-one at (m .g-high)) ∙ ap some a)
-          (ap (λ (i : ℕ). held ns sy s1 sf st .link u i) (sym (m .feature)) ∙ link-at sound u j image-in (m .s-low) (rw add-one at (m .s-high)) ∙ ap some b)
+          together-link (graphIn s) (graphIn g) (featureAt g k) both
+          (link-at (f .upper .sound) v k node-in (m .g-low) (m .g-high) ∙ ap some a)
+          (ap (λ (i : ℕ). graphIn s .link u i) (sym (m .feature)) ∙ link-at (f .lower .sound) u j image-in (m .s-low) (m .s-high) ∙ ap some b)
 
       -- its links clash
-      pub order-clash : {n : ℕ} {answer : List ℕ} → Clash sf st gf gt (getD s1 u 0) (getD s1 (u + 1) 0) (getD g1 v 0) (getD g1 (v + 1) 0) map →
-          Orders n t (rowsOf ns sy s1 sf st) (rowsOf ng gy g1 gf gt) order.NotBelow answer
-      order-clash {n} (lacks k low high never) =
+      pub order-clash : (n : ℕ) {answer : List ℕ} → Clash s g u v map →
+          Orders n t (rowsOf s) (rowsOf g) order.NotBelow answer
+      order-clash n (lacks k low high never) =
           order-no λ b.
-          lack-refutes (held ns sy s1 sf st) (held ng gy g1 gf gt) n t b (getD gf k 0) both (link-at sane v k node-in low (rw add-one at high))
+          lack-refutes (graphIn s) (graphIn g) n t b (featureAt g k) both (link-at (f .upper .sound) v k node-in low high)
           λ x e.
-          let (j, a, c, same, to) = link-place sound u (getD gf k 0) x image-in e in
-          never j a (rw add-one c) same
-      order-clash {n} (splits w x y h c d never) = order-no λ b. split-refutes (held ns sy s1 sf st) (held ng gy g1 gf gt) n t b (come-together h c) (come-together h d) never
+          let (j, a, c, same, to) = link-place (f .lower .sound) u (featureAt g k) x image-in e in
+          never j a c same
+      order-clash n (splits w x y h c d never) = order-no λ b. split-refutes (graphIn s) (graphIn g) n t b (come-together h c) (come-together h d) never
 
       -- it is passed
-      pub searched-on : {later longer : List ℕ} {more : ℕ} → below t (getD sy u 0) (getD gy v 0) ≡ true →
-          Followed sf st gf gt (getD s1 u 0) (getD s1 (u + 1) 0) (getD g1 v 0) (getD g1 (v + 1) 0) map queue count later longer more
-          (getD g1 (v + 1) 0) →
-          Searched t ns sy s1 sf st ng gy g1 gf gt later longer more (head + 1)
+      pub searched-on : {later longer : List ℕ} {more : ℕ} → below t (labelAt s u) (labelAt g v) ≡ true →
+          Followed s g u v map queue count later longer more
+          (rowEnd g v) →
+          Searched t s g later longer more (head + 1)
       searched-on {later} {longer} {more} e d =
           record {
+            lower = f .lower;
+            upper = f .upper;
             queued = d .queued;
             ahead = omega (arith, d .grows);
             inside = λ w h m. come-inside h (d .comes w h m);
@@ -294,18 +296,18 @@ module _ {t : List ℕ} {ns : ℕ} {sy s1 sf st : List ℕ} {ng : ℕ} {gy g1 gf
           }
         where
           come-inside : {w x : ℕ} → w < 255 →
-              Comes sf st gf gt (getD s1 u 0) (getD s1 (u + 1) 0) (getD g1 v 0) (getD g1 (v + 1) 0) map w x → w < ng
+              Comes s g u v map w x → w < size g
           come-inside {w} h (kept a b) = f .inside w h a
-          come-inside {w} h (led k j m a b) = rw a at (target-inside sane v k node-in (rw add-one at (m .g-high)))
+          come-inside {w} h (led k j m a b) = rw a at (f .upper .sound .targets v k node-in (m .g-low) (m .g-high))
 
           come-image : {w x : ℕ} → w < 255 →
-              Comes sf st gf gt (getD s1 u 0) (getD s1 (u + 1) 0) (getD g1 v 0) (getD g1 (v + 1) 0) map w x → x < ns
+              Comes s g u v map w x → x < size s
           come-image {w} h (kept a b) = rw b at (f .image w h a)
-          come-image {w} h (led k j m a b) = rw b at (target-inside sound u j image-in (rw add-one at (m .s-high)))
+          come-image {w} h (led k j m a b) = rw b at (f .lower .sound .targets u j image-in (m .s-low) (m .s-high))
 
           -- what was passed stays so
-          stays : (w : ℕ) → w < ng → getD map w 0 < ns → Passed t ns sy s1 sf st ng gy g1 gf gt map w →
-              getD later w 0 ≡ getD map w 0 → Passed t ns sy s1 sf st ng gy g1 gf gt later w
+          stays : (w : ℕ) → w < size g → getD map w 0 < size s → Passed t s g map w →
+              getD later w 0 ≡ getD map w 0 → Passed t s g later w
           stays w inside image p same =
               record {
                 ordered = rw same (p .ordered);
@@ -313,12 +315,12 @@ module _ {t : List ℕ} {ns : ℕ} {sy s1 sf st : List ℕ} {ng : ℕ} {gy g1 gf
                     let (j, m, to) = p .leads k low high in (
                       j,
                       m,
-                      d .keeps (getD gt k 0) (omega (arith, target-inside sane w k inside high))
-                          (λ z. omega (arith, sym to ∙ z, target-inside sound (getD map w 0) j image (m .s-high))) ∙ to,
+                      d .keeps (targetAt g k) (omega (arith, f .upper .sound .targets w k inside low high))
+                          (λ z. omega (arith, sym to ∙ z, f .lower .sound .targets (getD map w 0) j image (m .s-low) (m .s-high))) ∙ to,
                     );
               }
 
-          passed : (i : ℕ) → i < head + 1 → Dec (i ≡ head) → Passed t ns sy s1 sf st ng gy g1 gf gt later (getD longer i 0)
+          passed : (i : ℕ) → i < head + 1 → Dec (i ≡ head) → Passed t s g later (getD longer i 0)
           passed i h (no x) =
               rw (d .stays i (omega arith))
               (stays (getD queue i 0)
@@ -328,7 +330,7 @@ module _ {t : List ℕ} {ns : ℕ} {sy s1 sf st : List ℕ} {ng : ℕ} {gy g1 gf
               (d .keeps (getD queue i 0) (f .queued .listed i (omega arith)) (f .queued .mapped i (omega arith))))
           passed i h (yes x) =
               rw (x, d .stays head next)
-              (record { ordered = rw same e; leads = rw same (rw (add-one u, add-one v) at (d .leads)) })
+              (record { ordered = rw same e; leads = rw same (d .leads) })
             where
               same : getD later v 0 ≡ getD map v 0
               same = d .keeps v node-small (f .queued .mapped head next)

@@ -1,36 +1,34 @@
--- The loop that fills the rows of the classes, each after those before it.
+-- The loop that builds the graph of the classes, each row after those before it.
 use mathlib.Core.Path.{_≡_, sym, _∙_, ap, subst}
 use mathlib.Core.Bool.{Bool, true, false, cond}
 use mathlib.Core.List.{List}
-use Prim.Native.Nat.{ℕ, suc, _+_, _-_, _≤_, _<_}
-use native.Mathlib.Decide.{decLt, ℕ-discrete}
+use Prim.Native.Nat.{ℕ, suc, _+_, _-_, _*_, _≤_, _<_}
+use native.Mathlib.Decide.{decLt}
 use native.Mathlib.Numerals.{add-one}
 use native.Mathlib.Omega.{arith}
 use borrow.Author.Tests.{eq-eqb}
 use lib.Dec.{eqb}
 use lib.ListN.{length, getD, set, length-set}
-use Rattle.classes.specs.Merge.{Room}
-use Rattle.classes.specs.Classes.{At, rowLength, sumTo}
+use Rattle.layout.specs.Layout.{header, size, rowFrom, linksFrom, rowEnd, labelFrom, labelAt, targetAt}
+use Rattle.layout.specs.Builder.{Built, Open}
+use Rattle.layout.proofs.Builder.{label-same, built-kept, built-begin, row-closes}
+use Rattle.classes.specs.Classes.{rowLength, sumTo}
 use Rattle.classes.proofs.Roots.{stored, unstored}
 use Rattle.classes.proofs.Sums.{sum-prefix}
-use Rattle.unify.specs.Rows.{RowCopied, ClassRows, rowEnd}
+use Rattle.unify.specs.Rows.{Fillable, RowCopied, ClassRows, ClassGraph, classWord, endOfRow}
 
--- What filling asks of the classes' rows.
-pub record Fillable (nodes : ℕ) (class start end pf pt : List ℕ) : Type 0 where
-  pub few : nodes ≤ 510
-  pub rising : (x : ℕ) → x < nodes → (getD start x 0 ≤ getD end x 0) × (getD end x 0 ≤ 36672) × Room (getD end x 0) pf pt
-  pub within : (x k : ℕ) → x < nodes → At start end x k → getD pt k 0 < 510
-  pub short : sumTo nodes (rowLength (λ y. getD class y 0) start end) ≤ 4096
-
-pub record Filling (nodes : ℕ) (class start end pf pt first features targets : List ℕ) (links x : ℕ) : Type 0 where
+pub record Filling (nodes : ℕ) (class labels start end pool graph : List ℕ) (at x : ℕ) : Type 0 where
+  pub given : Fillable nodes class start end pool
   pub most : x ≤ nodes
-  pub rows : ClassRows x class start end pf pt first features targets
-  pub last : getD first x 0 ≡ links
-  pub counted : (y : ℕ) → y ≤ x → getD first y 0 ≡ sumTo y (rowLength (λ y. getD class y 0) start end)
+  pub long : length graph ≡ 5118
+  pub sized : size graph ≡ nodes
+  pub built : Built graph (nodes + 2) x at
+  pub counted : at ≡ ((nodes + 2) + x * header) + sumTo x (rowLength (λ y. getD class y 0) start end)
+  pub rows : ClassRows x class labels start end pool graph
 
 -- a node's row by its end
 row-end-is : (class start end : List ℕ) (x : ℕ) → getD start x 0 ≤ getD end x 0 →
-    (getD start x 0 + rowLength (λ y. getD class y 0) start end x ≡ rowEnd class start end x) × (rowEnd class start end x ≤ getD end x 0)
+    (getD start x 0 + rowLength (λ y. getD class y 0) start end x ≡ endOfRow class start end x) × (endOfRow class start end x ≤ getD end x 0)
 row-end-is class start end x h = go (eqb (getD class x 0) x)
   where
     go : (t : Bool) →
@@ -39,153 +37,195 @@ row-end-is class start end x h = go (eqb (getD class x 0) x)
     go true = (omega arith, omega arith)
     go false = (omega arith, omega arith)
 
-pub fill-start : {nodes : ℕ} {class start end pf pt : List ℕ} (first features targets : List ℕ) → length first ≡ 511 →
-    length features ≡ 4096 → length targets ≡ 4096 → Filling nodes class start end pf pt (set first 0 0) features targets 0 0
+pub fill-start : {nodes : ℕ} {class start end pool : List ℕ} → Fillable nodes class start end pool → (labels graph : List ℕ) →
+    length graph ≡ 5118 → Filling nodes class labels start end pool (set (set graph 0 nodes) 1 (nodes + 2)) (nodes + 2) 0
 unfolding sumTo
-fill-start {nodes} {class} {start} {end} first features targets first-long features-long targets-long =
+fill-start {nodes} {class} {start} {end} given labels graph long =
     record {
+      given = given;
       most = omega arith;
-      rows = record {
-        first-long = length-set first 0 0 ∙ first-long;
-        features-long = features-long;
-        targets-long = targets-long;
-        zeroth = zeroth;
-        lengths = λ x h. absurd (omega arith);
-        features-are = λ x i h. absurd (omega arith);
-        targets-are = λ x i h. absurd (omega arith);
-      };
-      last = zeroth;
-      counted = λ y h.
-          let e : y ≡ 0 = omega arith in
-          ap (λ (z : ℕ). getD (set first 0 0) z 0) e ∙ zeroth ∙ sym (ap (λ (z : ℕ). sumTo z (rowLength (λ y. getD class y 0) start end)) e);
+      long = length-set (set graph 0 nodes) 1 (nodes + 2) ∙ long′;
+      sized = unstored (set graph 0 nodes) 1 (nodes + 2) 0 (λ e. omega arith) ∙ stored graph 0 nodes (omega (arith, long));
+      built = built-begin (set graph 0 nodes) (nodes + 2) (omega arith) (omega (arith, long′, given .few));
+      counted = omega arith;
+      rows =
+          record {
+            lengths = λ y h. absurd (omega arith);
+            labels-are = λ y h. absurd (omega arith);
+            words-are = λ y i h. absurd (omega arith);
+          };
     }
   where
-    zeroth : getD (set first 0 0) 0 0 ≡ 0
-    zeroth = stored first 0 0 (omega (arith, first-long))
+    long′ : length (set graph 0 nodes) ≡ 5118
+    long′ = length-set graph 0 nodes ∙ long
 
-module _ {nodes : ℕ} {class start end pf pt : List ℕ} (given : Fillable nodes class start end pf pt) {first features targets : List ℕ}
-    {links x : ℕ} (s : Filling nodes class start end pf pt first features targets links x) (more : x < nodes) where
-  ends : (getD start x 0 + rowLength (λ y. getD class y 0) start end x ≡ rowEnd class start end x) × (rowEnd class start end x ≤ getD end x 0)
-  ends = row-end-is class start end x (given .rising x more .0)
+module _ {nodes : ℕ} {class labels start end pool graph : List ℕ} {at x : ℕ} (s : Filling nodes class labels start end pool graph at x)
+    (more : x < nodes) where
+  abbrev rowSize : ℕ
+  rowSize = rowLength (λ y. getD class y 0) start end x
+
+  abbrev label : ℕ
+  label = getD labels (getD class x 0) 0
+
+  ends : (getD start x 0 + rowSize ≡ endOfRow class start end x) × (endOfRow class start end x ≤ getD end x 0)
+  ends = row-end-is class start end x (s .given .rising x more .0)
+
+  fits : at + header + rowSize ≤ 5118
+  unfolding sumTo
+  fits =
+      omega (
+        arith,
+        s .counted,
+        sum-prefix nodes (suc x) (rowLength (λ y. getD class y 0) start end) more,
+        s .given .short,
+        s .given .few,
+      )
+
+  pub fill-room : at < length graph
+  fill-room = omega (arith, fits, s .long)
 
   -- what copying the row asks
-  pub fill-asks : ((getD start x 0 ≤ rowEnd class start end x) × Room (rowEnd class start end x) pf pt ×
-      (links + rowEnd class start end x ≤ 4096 + getD start x 0)) ×
-      ((k : ℕ) → getD start x 0 ≤ k → k < rowEnd class start end x → getD pt k 0 < 510)
-  unfolding sumTo
+  pub fill-asks : ((getD start x 0 ≤ endOfRow class start end x) × (endOfRow class start end x ≤ length pool) ×
+      (at + header + endOfRow class start end x ≤ 5118 + getD start x 0) × (length (set graph at label) ≡ 5118)) ×
+      ((k : ℕ) → getD start x 0 ≤ k → k < endOfRow class start end x → (targetAt pool k < 510) × (getD class (targetAt pool k) 0 < 510))
   fill-asks = (
     (
       omega (arith, ends .0),
-      (omega (arith, ends .1, given .rising x more .2 .0), omega (arith, ends .1, given .rising x more .2 .1)),
-      omega (
-        arith,
-        ends .0,
-        s .last,
-        s .counted x (omega arith),
-        sum-prefix nodes (suc x) (rowLength (λ y. getD class y 0) start end) more,
-        given .short,
-      ),
+      omega (arith, ends .1, s .given .rising x more .2),
+      omega (arith, ends .0, fits),
+      length-set graph at label ∙ s .long,
     ),
-    λ k low high. given .within x k more (low, omega (arith, ends .1)),
+    λ k low high. s .given .within x k more (low, omega (arith, ends .1)),
   )
 
-  module _ {features′ targets′ : List ℕ} {next : ℕ}
-      (copied : RowCopied class pf pt (getD start x 0) (rowEnd class start end x) links features targets features′ targets′ next) where
-    length-is : next ≡ links + rowLength (λ y. getD class y 0) start end x
+  module _ {graph′ : List ℕ} {next : ℕ}
+      (copied : RowCopied class pool (getD start x 0) (endOfRow class start end x) (at + header) (set graph at label) graph′ next) where
+    length-is : next ≡ at + header + rowSize
     length-is = omega (arith, copied .counted, ends .0)
 
-    pub fill-bound : next ≤ 4096
-    fill-bound = omega (arith, copied .counted, fill-asks .0 .2)
+    pub fill-bound : next ≤ 5118
+    fill-bound = omega (arith, length-is, fits)
 
-    first-kept : (y : ℕ) → y ≤ x → getD (set first (suc x) next) y 0 ≡ getD first y 0
-    first-kept y h = unstored first (suc x) next y (λ e. omega arith)
+    long′ : length graph′ ≡ length graph
+    long′ = copied .long ∙ length-set graph at label
 
-    first-next : getD (set first (suc x) next) (suc x) 0 ≡ next
-    first-next = stored first (suc x) next (omega (arith, s .rows .first-long, given .few))
+    kept : (k : ℕ) → k < at → getD graph′ k 0 ≡ getD graph k 0
+    kept k h = copied .kept k (omega arith) ∙ unstored graph at label k (λ e. omega arith)
 
-    -- a row before x ends before the new one begins
-    before : (y i : ℕ) → y < x → getD class y 0 ≡ y → getD start y 0 + i < getD end y 0 → getD first y 0 + i < links
-    unfolding sumTo
-    before y i h own inside =
-        omega (
-          arith,
-          s .last,
-          s .counted x (omega arith),
-          s .counted (suc y) h,
-          s .rows .lengths y h,
-          sum-prefix x (suc y) (rowLength (λ y. getD class y 0) start end) h,
-          ap (λ (t : Bool). cond t (getD end y 0 - getD start y 0) 0) (eq-eqb (getD class y 0) y own),
-        )
+    low : x + 2 < at
+    low = omega (arith, s .built .low)
 
-    own-end : getD class x 0 ≡ x → rowEnd class start end x ≡ getD end x 0
+    opened : Open graph′ (nodes + 2) x at next
+    opened =
+        record {
+          built = built-kept (s .built) graph′ long′ (λ k _ h. kept k (omega (arith, low)));
+          headed = omega (arith, length-is);
+          inside = omega (arith, fill-bound, long′, s .long);
+        }
+
+    after : (k : ℕ) → (k ≡ x + 2 → ⊥) → getD (set graph′ (x + 2) next) k 0 ≡ getD graph′ k 0
+    after k d = unstored graph′ (x + 2) next k d
+
+    still : (k : ℕ) → k < at → (k ≡ x + 2 → ⊥) → getD (set graph′ (x + 2) next) k 0 ≡ getD graph k 0
+    still k h d = after k d ∙ kept k h
+
+    -- where rows begin and end
+    from-old : (y : ℕ) → y < x → rowFrom (set graph′ (x + 2) next) y ≡ rowFrom graph y
+    from-old y h = still (y + 1) (omega (arith, low)) (λ e. omega arith)
+
+    end-old : (y : ℕ) → y < x → rowEnd (set graph′ (x + 2) next) y ≡ rowEnd graph y
+    end-old y h = still (y + 2) (omega (arith, low)) (λ e. omega arith)
+
+    from-new : rowFrom (set graph′ (x + 2) next) x ≡ at
+    from-new = still (x + 1) (omega (arith, low)) (λ e. omega arith) ∙ s .built .next
+
+    end-new : rowEnd (set graph′ (x + 2) next) x ≡ next
+    end-new = stored graph′ (x + 2) next (omega (arith, long′, s .long, s .given .few))
+
+    own-end : getD class x 0 ≡ x → endOfRow class start end x ≡ getD end x 0
     own-end own = ap (λ (t : Bool). cond t (getD end x 0) (getD start x 0)) (eq-eqb (getD class x 0) x own)
 
-    pub fill-step : Filling nodes class start end pf pt (set first (x + 1) next) features′ targets′ next (x + 1)
-    unfolding sumTo
-    fill-step =
-        rw (add-one x)
-        (record {
-          most = more;
-          rows = record {
-            first-long = length-set first (suc x) next ∙ s .rows .first-long;
-            features-long = copied .features-long ∙ s .rows .features-long;
-            targets-long = copied .targets-long ∙ s .rows .targets-long;
-            zeroth = first-kept 0 (omega arith) ∙ s .rows .zeroth;
-            lengths = λ y h. lengths y h (decLt y x);
-            features-are = λ y i h own inside. features-are y i h own inside (decLt y x);
-            targets-are = λ y i h own inside. targets-are y i h own inside (decLt y x);
-          };
-          last = first-next;
-          counted = λ y h. counted y h (ℕ-discrete y (suc x));
-        })
+    rows′ : ClassRows (x + 1) class labels start end pool (set graph′ (x + 2) next)
+    rows′ =
+        record {
+          lengths = λ y h. lengths y h (decLt y x);
+          labels-are = λ y h. labels-are y h (decLt y x);
+          words-are = λ y i h own inside. words-are y i h own inside (decLt y x);
+        }
       where
-        lengths : (y : ℕ) → y < suc x → Dec (y < x) →
-            getD (set first (suc x) next) (suc y) 0 ≡ getD (set first (suc x) next) y 0 + rowLength (λ y. getD class y 0) start end y
-        lengths y h (yes l) = omega (arith, first-kept y (omega arith), first-kept (suc y) l, s .rows .lengths y l)
+        lengths : (y : ℕ) → y < x + 1 → Dec (y < x) →
+            rowEnd (set graph′ (x + 2) next) y ≡ linksFrom (set graph′ (x + 2) next) y + rowLength (λ y. getD class y 0) start end y
+        lengths y h (yes l) = omega (arith, from-old y l, end-old y l, s .rows .lengths y l)
         lengths y h (no n) =
             let e : x ≡ y = omega arith in
             subst
             (λ (z : ℕ).
-            getD (set first (suc x) next) (suc z) 0 ≡ getD (set first (suc x) next) z 0 + rowLength (λ y. getD class y 0) start end z)
-            e (omega (arith, first-kept x (omega arith), first-next, s .last, length-is))
+            rowEnd (set graph′ (x + 2) next) z ≡ linksFrom (set graph′ (x + 2) next) z + rowLength (λ y. getD class y 0) start end z)
+            e (omega (arith, from-new, end-new, length-is))
 
-        counted : (y : ℕ) → y ≤ suc x → Dec (y ≡ suc x) →
-            getD (set first (suc x) next) y 0 ≡ sumTo y (rowLength (λ y. getD class y 0) start end)
-        counted y h (yes e) =
-            subst (λ (z : ℕ). getD (set first (suc x) next) z 0 ≡ sumTo z (rowLength (λ y. getD class y 0) start end)) (sym e)
-            (omega (arith, first-next, length-is, s .last, s .counted x (omega arith)))
-        counted y h (no d) = first-kept y (omega arith) ∙ s .counted y (omega arith)
+        labels-are : (y : ℕ) → y < x + 1 → Dec (y < x) → labelAt (set graph′ (x + 2) next) y ≡ getD labels (getD class y 0) 0
+        labels-are y h (yes l) =
+            ap (labelFrom (set graph′ (x + 2) next)) (from-old y l) ∙
+            label-same graph (set graph′ (x + 2) next) (rowFrom graph y)
+            (λ k a b.
+            still k (omega (arith, s .built .begun y l, s .built .ended y l)) (λ e. omega (arith, s .built .lower y l))) ∙
+            s .rows .labels-are y l
+        labels-are y h (no n) =
+            let e : x ≡ y = omega arith in
+            subst (λ (z : ℕ). labelAt (set graph′ (x + 2) next) z ≡ getD labels (getD class z 0) 0) e
+            (ap (labelFrom (set graph′ (x + 2) next)) from-new ∙
+            after at (λ q. omega (arith, low)) ∙ copied .kept at (omega arith) ∙ stored graph at label fill-room)
 
-        features-are : (y i : ℕ) → y < suc x → getD class y 0 ≡ y → getD start y 0 + i < getD end y 0 → Dec (y < x) →
-            getD features′ (getD (set first (suc x) next) y 0 + i) 0 ≡ getD pf (getD start y 0 + i) 0
-        features-are y i h own inside (yes l) =
-            ap (λ (z : ℕ). getD features′ (z + i) 0) (first-kept y (omega arith)) ∙
-            copied .features-kept (getD first y 0 + i) (before y i l own inside) ∙ s .rows .features-are y i l own inside
-        features-are y i h own inside (no n) =
+        words-are : (y i : ℕ) → y < x + 1 → getD class y 0 ≡ y → getD start y 0 + i < getD end y 0 → Dec (y < x) →
+            getD (set graph′ (x + 2) next) (linksFrom (set graph′ (x + 2) next) y + i) 0 ≡ classWord class (getD pool (getD start y 0 + i) 0)
+        words-are y i h own inside (yes l) =
+            let own-length = ap (λ (t : Bool). cond t (getD end y 0 - getD start y 0) 0) (eq-eqb (getD class y 0) y own) in
+            let high : linksFrom graph y + i < at = omega (arith, own-length, s .rows .lengths y l, s .built .ended y l) in
+            ap (λ (z : ℕ). getD (set graph′ (x + 2) next) ((z + header) + i) 0) (from-old y l) ∙
+            still (linksFrom graph y + i) high (λ e. omega (arith, s .built .lower y l)) ∙
+            s .rows .words-are y i l own inside
+        words-are y i h own inside (no n) =
             let e : y ≡ x = omega arith in
             let own′ : getD class x 0 ≡ x = subst (λ (z : ℕ). getD class z 0 ≡ z) e own in
             let inside′ : getD start x 0 + i < getD end x 0 = subst (λ (z : ℕ). getD start z 0 + i < getD end z 0) e inside in
-            subst (λ (z : ℕ). getD features′ (getD (set first (suc x) next) z 0 + i) 0 ≡ getD pf (getD start z 0 + i) 0) (sym e)
-            (ap (λ (z : ℕ). getD features′ (z + i) 0) (first-kept x (omega arith) ∙ s .last) ∙
-            copied .features-are i (omega (arith, own-end own′)))
+            subst
+            (λ (z : ℕ).
+            getD (set graph′ (x + 2) next) (linksFrom (set graph′ (x + 2) next) z + i) 0 ≡ classWord class (getD pool (getD start z 0 + i) 0))
+            (sym e)
+            (ap (λ (z : ℕ). getD (set graph′ (x + 2) next) ((z + header) + i) 0) from-new ∙
+            after ((at + header) + i) (λ q. omega (arith, low)) ∙ copied .words-are i (omega (arith, own-end own′)))
 
-        targets-are : (y i : ℕ) → y < suc x → getD class y 0 ≡ y → getD start y 0 + i < getD end y 0 → Dec (y < x) →
-            getD targets′ (getD (set first (suc x) next) y 0 + i) 0 ≡ getD class (getD pt (getD start y 0 + i) 0) 0
-        targets-are y i h own inside (yes l) =
-            ap (λ (z : ℕ). getD targets′ (z + i) 0) (first-kept y (omega arith)) ∙
-            copied .targets-kept (getD first y 0 + i) (before y i l own inside) ∙ s .rows .targets-are y i l own inside
-        targets-are y i h own inside (no n) =
-            let e : y ≡ x = omega arith in
-            let own′ : getD class x 0 ≡ x = subst (λ (z : ℕ). getD class z 0 ≡ z) e own in
-            let inside′ : getD start x 0 + i < getD end x 0 = subst (λ (z : ℕ). getD start z 0 + i < getD end z 0) e inside in
-            subst (λ (z : ℕ). getD targets′ (getD (set first (suc x) next) z 0 + i) 0 ≡ getD class (getD pt (getD start z 0 + i) 0) 0) (sym e)
-            (ap (λ (z : ℕ). getD targets′ (z + i) 0) (first-kept x (omega arith) ∙ s .last) ∙
-            copied .targets-are i (omega (arith, own-end own′)))
+    pub fill-step : Filling nodes class labels start end pool (set graph′ (x + 2) next) next (x + 1)
+    unfolding sumTo
+    fill-step =
+        record {
+          given = s .given;
+          most = omega arith;
+          long = length-set graph′ (x + 2) next ∙ long′ ∙ s .long;
+          sized = still 0 (omega (arith, low)) (λ e. omega arith) ∙ s .sized;
+          built = row-closes opened (omega arith);
+          counted = counted;
+          rows = rows′;
+        }
+      where
+        counted : next ≡ ((nodes + 2) + (x + 1) * header) + sumTo (x + 1) (rowLength (λ y. getD class y 0) start end)
+        counted =
+            omega (
+              arith,
+              length-is,
+              s .counted,
+              ap (λ (z : ℕ). sumTo z (rowLength (λ y. getD class y 0) start end)) (add-one x),
+            )
 
--- All rows are filled.
-pub fill-done : {nodes : ℕ} {class start end pf pt first features targets : List ℕ} {links x : ℕ} →
-    Filling nodes class start end pf pt first features targets links x → nodes ≤ x →
-    ClassRows nodes class start end pf pt first features targets
-fill-done {nodes} {class} {start} {end} {pf} {pt} {first} {features} {targets} {links} {x} s h =
+-- All rows are built.
+pub fill-done : {nodes : ℕ} {class labels start end pool graph : List ℕ} {at x : ℕ} → Filling nodes class labels start end pool graph at x →
+    nodes ≤ x → ClassGraph nodes class labels start end pool graph
+fill-done {nodes} {class} {labels} {start} {end} {pool} {graph} {at} {x} s h =
     let e : x ≡ nodes = omega (arith, s .most) in
-    subst (λ (n : ℕ). ClassRows n class start end pf pt first features targets) e (s .rows)
+    record {
+      sized = s .sized;
+      long = s .long;
+      begun = λ y i. s .built .lower y (omega arith);
+      ended = λ y i. omega (arith, s .built .ended y (omega arith), s .built .high);
+      rows = subst (λ (n : ℕ). ClassRows n class labels start end pool graph) e (s .rows);
+    }

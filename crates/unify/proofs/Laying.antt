@@ -1,4 +1,4 @@
--- The rows of two graphs, laid side by side, are rows of nodes as merging asks them.
+-- The links of a graph in the pool; and the rows of two graphs side by side are rows of nodes as merging asks them.
 use mathlib.Core.Path.{_≡_, refl, sym, _∙_, ap, subst}
 use mathlib.Core.Bool.{Bool, cond}
 use mathlib.Core.List.{List}
@@ -7,184 +7,245 @@ use native.Mathlib.Decide.{decLt}
 use native.Mathlib.Omega.{arith}
 use borrow.Author.Tests.{eq-eqb}
 use lib.ListN.{length, getD}
-use Rattle.visits.proofs.Colours.{ends}
+use Rattle.graphs.specs.Large.{linksIn}
+use Rattle.layout.specs.Layout.{Recorded, scale, size, rowFrom, linksFrom, rowEnd, featureAt, targetAt, rowsFrom}
+use Rattle.layout.proofs.Sums.{links-of-more}
 use Rattle.classes.specs.Merge.{Span}
 use Rattle.classes.specs.Classes.{sumTo, rowLength, At, Rows, Closed}
-use Rattle.unify.specs.Rows.{Shape, LinksCopied, SpansCopied, Beside}
-use Rattle.unify.proofs.Filling.{Fillable}
+use Rattle.classes.proofs.Merging.{feature-same, target-same}
+use Rattle.unify.specs.Rows.{Fillable, WordsCopied, SpansCopied, Placed, lastEnd, wordsIn}
+use Rattle.unify.proofs.Words.{moved-feature, moved-target, row-low, row-last, words-few}
 
--- what copying the spans asks
-pub first-small : {nodes : ℕ} {first features targets : List ℕ} → Shape nodes first features targets → (v : ℕ) → v ≤ nodes →
-    getD first v 0 ≤ 2048
-first-small {nodes} {first} shape v h = go (decLt v nodes)
-  where
-    go : Dec (v < nodes) → getD first v 0 ≤ 2048
-    go (yes l) = omega (arith, shape .laid .rising v l, ends (shape .laid) v l, shape .short)
-    go (no n) = let e : v ≡ nodes = omega arith in omega (arith, ap (λ (u : ℕ). getD first u 0) e, shape .short)
+-- What is copied is placed, and stays so where its words and spans are kept.
+module _ {ws : List ℕ} (r : Recorded ws) {at shift : ℕ} {p₀ p₁ : List ℕ} {next : ℕ} {s₀ e₀ s₁ e₁ : List ℕ}
+    (words : WordsCopied ws (lastEnd ws) at shift p₀ p₁ next) (spans : SpansCopied ws (size ws) at shift s₀ e₀ s₁ e₁)
+    (start end pool : List ℕ) (pool-kept : (k : ℕ) → k < next → getD pool k 0 ≡ getD p₁ k 0)
+    (start-kept : (x : ℕ) → x < shift + size ws → getD start x 0 ≡ getD s₁ x 0)
+    (end-kept : (x : ℕ) → x < shift + size ws → getD end x 0 ≡ getD e₁ x 0) where
+  start-is : (v : ℕ) → v < size ws → getD start (shift + v) 0 + rowFrom ws 0 ≡ linksFrom ws v + at
+  start-is v h = omega (arith, start-kept (shift + v) (omega arith), spans .start-is v h, row-low r v (omega arith))
 
-pub target-small : {nodes : ℕ} {first features targets : List ℕ} → Shape nodes first features targets → (k : ℕ) →
-    k < getD first nodes 0 → getD targets k 0 < 255
-target-small shape k h = omega (arith, shape .within k h, shape .small)
+  end-is : (v : ℕ) → v < size ws → getD end (shift + v) 0 + rowFrom ws 0 ≡ rowEnd ws v + at
+  end-is v h =
+      let e : (v + 1) + 1 ≡ v + 2 = omega arith in
+      omega (
+        arith,
+        end-kept (shift + v) (omega arith),
+        spans .end-is v h,
+        row-low r (v + 1) (omega arith),
+        ap (λ (i : ℕ). getD ws i 0) e,
+      )
 
-module _ {N : ℕ} {a-first a-features a-targets : List ℕ} (a : Shape N a-first a-features a-targets) {M : ℕ}
-    {b-first b-features b-targets : List ℕ} (b : Shape M b-first b-features b-targets) where
-  pub lay-beside : {pf₀ pt₀ pf₁ pt₁ pf pt start₀ end₀ start₁ end₁ start end : List ℕ} →
-      LinksCopied a-features a-targets (getD a-first N 0) 0 0 pf₀ pt₀ pf₁ pt₁ →
-      LinksCopied b-features b-targets (getD b-first M 0) (getD a-first N 0) N pf₁ pt₁ pf pt →
-      SpansCopied a-first N 0 0 start₀ end₀ start₁ end₁ → SpansCopied b-first M (getD a-first N 0) N start₁ end₁ start end →
-      Beside N a-first a-features a-targets M b-first b-features b-targets start end pf pt
-  lay-beside {pf₁ = pf₁} {pt₁} {start₁ = start₁} {end₁} la lb sa sb =
+  pub placed-before : (v : ℕ) → v < size ws → getD end (shift + v) 0 ≤ next
+  placed-before v h = omega (arith, end-is v h, row-last r v h, words .counted)
+
+  pub placed : Placed ws shift start end pool
+  placed =
       record {
-        a-start = λ v h. sb .start-kept v h ∙ at start₁ v ∙ sa .start-is v h ∙ plus (getD a-first v 0);
-        a-end = λ v h. sb .end-kept v h ∙ at end₁ v ∙ sa .end-is v h ∙ plus (getD a-first (suc v) 0);
-        b-start = sb .start-is;
-        b-end = sb .end-is;
-        a-feature = λ k h. lb .features-kept k h ∙ at pf₁ k ∙ la .features-are k h;
-        a-target = λ k h. lb .targets-kept k h ∙ at pt₁ k ∙ la .targets-are k h ∙ plus (getD a-targets k 0);
-        b-feature = lb .features-are;
-        b-target = lb .targets-are;
+        spans = λ v h. omega (arith, start-is v h, end-is v h);
+        words = word;
       }
     where
-      at : (l : List ℕ) (k : ℕ) → getD l k 0 ≡ getD l (0 + k) 0
-      at l k = let e : k ≡ 0 + k = omega arith in ap (λ (i : ℕ). getD l i 0) e
+      word : (v i : ℕ) → v < size ws → linksFrom ws v + i < rowEnd ws v →
+          getD pool (getD start (shift + v) 0 + i) 0 ≡ getD ws (linksFrom ws v + i) 0 + shift
+      word v i h inside =
+          let low : rowFrom ws 0 ≤ rowFrom ws v = row-low r v (omega arith) in
+          let high : linksFrom ws v + i < lastEnd ws = omega (arith, row-last r v h) in
+          let j : rowFrom ws 0 + ((linksFrom ws v + i) - rowFrom ws 0) ≡ linksFrom ws v + i = omega arith in
+          let k : getD start (shift + v) 0 + i ≡ at + ((linksFrom ws v + i) - rowFrom ws 0) = omega (arith, start-is v h) in
+          pool-kept (getD start (shift + v) 0 + i) (omega (arith, start-is v h, words .counted)) ∙
+          ap (λ (z : ℕ). getD p₁ z 0) k ∙
+          words .words-are ((linksFrom ws v + i) - rowFrom ws 0) (omega arith) ∙
+          ap (λ (z : ℕ). getD ws z 0 + shift) j
 
-      plus : (k : ℕ) → k + 0 ≡ k
-      plus k = omega arith
+module _ {ws : List ℕ} (r : Recorded ws) {shift : ℕ} (few : shift ≤ 255) {start end pool : List ℕ} (p : Placed ws shift start end pool) where
+  -- the place of the graph that a place of the pool has the link of
+  abbrev pub origin : ℕ → ℕ → ℕ
+  origin v k = linksFrom ws v + (k - getD start (shift + v) 0)
 
-  module _ {start end pf pt : List ℕ} (s : Beside N a-first a-features a-targets M b-first b-features b-targets start end pf pt)
-      (start-long : length start ≡ 510) (end-long : length end ≡ 510) where
-    a-last : (v : ℕ) → v < N → getD a-first (suc v) 0 ≤ getD a-first N 0
-    a-last v h = ends (a .laid) v h
+  -- a place of the pool, and its link
+  module _ (v k : ℕ) (h : v < size ws) (place : At start end (shift + v) k) where
+    pub origin-in : (linksFrom ws v ≤ linksFrom ws v + (k - getD start (shift + v) 0)) ×
+        (linksFrom ws v + (k - getD start (shift + v) 0) < rowEnd ws v)
+    origin-in = (omega arith, omega (arith, p .spans v h, place .0, place .1))
 
-    b-last : (v : ℕ) → v < M → getD b-first (suc v) 0 ≤ getD b-first M 0
-    b-last v h = ends (b .laid) v h
+    origin-word : getD pool k 0 ≡ getD ws (origin v k) 0 + shift
+    origin-word =
+        let e : k ≡ getD start (shift + v) 0 + (k - getD start (shift + v) 0) = omega (arith, place .0) in
+        ap (λ (i : ℕ). getD pool i 0) e ∙ p .words v (k - getD start (shift + v) 0) h (origin-in .1)
 
-    -- a place of the second graph
-    b-feature-at : (k : ℕ) → getD a-first N 0 ≤ k → k < getD a-first N 0 + getD b-first M 0 →
-        getD pf k 0 ≡ getD b-features (k - getD a-first N 0) 0
-    b-feature-at k low high =
-        let e : k ≡ getD a-first N 0 + (k - getD a-first N 0) = omega arith in
-        ap (λ (i : ℕ). getD pf i 0) e ∙ s .b-feature (k - getD a-first N 0) (omega arith)
+    movable : targetAt ws (origin v k) + shift < scale
+    movable = omega (arith, r .sound .targets v (origin v k) h (origin-in .0) (origin-in .1), r .small)
 
-    b-target-at : (k : ℕ) → getD a-first N 0 ≤ k → k < getD a-first N 0 + getD b-first M 0 →
-        getD pt k 0 ≡ getD b-targets (k - getD a-first N 0) 0 + N
-    b-target-at k low high =
-        let e : k ≡ getD a-first N 0 + (k - getD a-first N 0) = omega arith in
-        ap (λ (i : ℕ). getD pt i 0) e ∙ s .b-target (k - getD a-first N 0) (omega arith)
+    pub origin-feature : featureAt pool k ≡ featureAt ws (linksFrom ws v + (k - getD start (shift + v) 0))
+    origin-feature = feature-same origin-word ∙ moved-feature (getD ws (origin v k) 0) shift movable
 
-    a-span : (v : ℕ) → v < N → Span pf (getD a-first N 0 + getD b-first M 0) (getD start v 0) (getD end v 0)
-    a-span v h =
-        subst (λ (i : ℕ). Span pf (getD a-first N 0 + getD b-first M 0) i (getD end v 0)) (sym (s .a-start v h))
-        (subst (λ (i : ℕ). Span pf (getD a-first N 0 + getD b-first M 0) (getD a-first v 0) i) (sym (s .a-end v h))
-        (record {
-          rising = a .laid .rising v h;
-          before = omega (arith, a-last v h);
-          known = λ k low high. let i : k < getD a-first N 0 = omega (arith, a-last v h) in omega (arith, s .a-feature k i, a .known k i);
-          ascending = λ k low high.
-              let i : suc k < getD a-first N 0 = omega (arith, a-last v h) in
-              omega (arith, s .a-feature k (omega arith), s .a-feature (suc k) i, a .ascending v k h low high);
-        }))
+    pub origin-target : targetAt pool k ≡ targetAt ws (linksFrom ws v + (k - getD start (shift + v) 0)) + shift
+    origin-target = target-same origin-word ∙ moved-target (getD ws (origin v k) 0) shift movable
 
-    b-span : (v : ℕ) → v < M → Span pf (getD a-first N 0 + getD b-first M 0) (getD start (N + v) 0) (getD end (N + v) 0)
-    b-span v h =
-        subst (λ (i : ℕ). Span pf (getD a-first N 0 + getD b-first M 0) i (getD end (N + v) 0)) (sym (s .b-start v h))
-        (subst (λ (i : ℕ). Span pf (getD a-first N 0 + getD b-first M 0) (getD b-first v 0 + getD a-first N 0) i) (sym (s .b-end v h))
-        (record {
-          rising = omega (arith, b .laid .rising v h);
-          before = omega (arith, b-last v h);
-          known = λ k low high.
-              omega (
-                arith,
-                b-feature-at k (omega arith) (omega (arith, b-last v h)),
-                b .known (k - getD a-first N 0) (omega (arith, b-last v h)),
-              );
-          ascending = λ k low high.
-              let e : suc k - getD a-first N 0 ≡ suc (k - getD a-first N 0) = omega arith in
-              omega (
-                arith,
-                b-feature-at k (omega arith) (omega (arith, b-last v h)),
-                b-feature-at (suc k) (omega arith) (omega (arith, b-last v h)),
-                ap (λ (i : ℕ). getD b-features i 0) e,
-                b .ascending v (k - getD a-first N 0) h (omega arith) (omega arith),
-              );
-        }))
+  -- a link of the graph, and its place in the pool
+  pub placed-link : (v j : ℕ) → v < size ws → linksFrom ws v ≤ j → j < rowEnd ws v →
+      (k : ℕ) × At start end (shift + v) k × (featureAt pool k ≡ featureAt ws j) × (targetAt pool k ≡ targetAt ws j + shift)
+  placed-link v j h low high =
+      let place : At start end (shift + v) (getD start (shift + v) 0 + (j - linksFrom ws v)) = (omega arith, omega (arith, p .spans v h)) in
+      let e : linksFrom ws v + ((getD start (shift + v) 0 + (j - linksFrom ws v)) - getD start (shift + v) 0) ≡ j = omega arith in (
+        getD start (shift + v) 0 + (j - linksFrom ws v),
+        place,
+        origin-feature v (getD start (shift + v) 0 + (j - linksFrom ws v)) h place ∙ ap (featureAt ws) e,
+        origin-target v (getD start (shift + v) 0 + (j - linksFrom ws v)) h place ∙ ap (λ (i : ℕ). targetAt ws i + shift) e,
+      )
 
-    pub lay-rows : Rows (N + M) start end pf pt (getD a-first N 0 + getD b-first M 0)
-    lay-rows =
-        record {
-          some = omega (arith, a .laid .nonempty);
-          few = omega (arith, a .small, b .small);
-          start-long = start-long;
-          end-long = end-long;
-          span = λ x h. span x h (decLt x N);
-          within = λ x k h place. within x k h place (decLt x N);
-        }
-      where
-        span : (x : ℕ) → x < N + M → Dec (x < N) → Span pf (getD a-first N 0 + getD b-first M 0) (getD start x 0) (getD end x 0)
-        span x h (yes l) = a-span x l
-        span x h (no n) =
-            let e : N + (x - N) ≡ x = omega arith in
-            subst (λ (y : ℕ). Span pf (getD a-first N 0 + getD b-first M 0) (getD start y 0) (getD end y 0)) e (b-span (x - N) (omega arith))
+  pub placed-span : {used : ℕ} (v : ℕ) → v < size ws → getD end (shift + v) 0 ≤ used →
+      Span pool used (getD start (shift + v) 0) (getD end (shift + v) 0)
+  placed-span v h high =
+      record {
+        rising = omega (arith, p .spans v h, r .sound .shaped .node v h .begun);
+        before = high;
+        known =
+            λ k a b.
+            let i = origin-in v k h (a, b) in
+            subst (λ (f : ℕ). f < 64) (sym (origin-feature v k h (a, b))) (r .sound .shaped .known v (origin v k) h (i .0) (i .1));
+        ascending =
+            λ k a b.
+            let i = origin-in v k h (a, omega arith) in
+            let j = origin-in v (suc k) h (omega arith, b) in
+            let e : linksFrom ws v + (suc k - getD start (shift + v) 0) ≡ origin v k + 1 = omega arith in
+            subst (λ (f : ℕ). f < featureAt pool (suc k)) (sym (origin-feature v k h (a, omega arith)))
+            (subst (λ (f : ℕ). featureAt ws (origin v k) < f)
+            (sym (origin-feature v (suc k) h (omega arith, b) ∙ ap (featureAt ws) e))
+            (r .sound .shaped .ascending v (origin v k) h (i .0) (omega (arith, e, j .1))));
+      }
 
-        within : (x k : ℕ) → x < N + M → At start end x k → Dec (x < N) → getD pt k 0 < N + M
-        within x k h place (yes l) =
-            let i : k < getD a-first N 0 = omega (arith, place .1, s .a-end x l, a-last x l) in
-            omega (arith, s .a-target k i, a .within k i)
-        within x k h place (no n) =
-            let e : N + (x - N) ≡ x = omega arith in
-            let low = subst (λ (y : ℕ). getD start y 0 ≤ k) (sym e) (place .0) in
-            let high = subst (λ (y : ℕ). k < getD end y 0) (sym e) (place .1) in
-            let l : x - N < M = omega arith in
-            omega (
-              arith,
-              b-target-at k (omega (arith, low, s .b-start (x - N) l)) (omega (arith, high, s .b-end (x - N) l, b-last (x - N) l)),
-              b .within (k - getD a-first N 0) (omega (arith, low, s .b-start (x - N) l, high, s .b-end (x - N) l, b-last (x - N) l)),
-            )
+  pub placed-within : (v k : ℕ) → v < size ws → At start end (shift + v) k → targetAt pool k < shift + size ws
+  placed-within v k h place =
+      let i = origin-in v k h place in
+      omega (arith, origin-target v k h place, r .sound .targets v (origin v k) h (i .0) (i .1))
 
-    own-length : (x : ℕ) → rowLength (λ y. y) start end x ≡ getD end x 0 - getD start x 0
-    own-length x = ap (λ (t : Bool). cond t (getD end x 0 - getD start x 0) 0) (eq-eqb x x refl)
+  -- the sum of the lengths
+  pub placed-sum : (k : ℕ) → k ≤ size ws →
+      sumTo (shift + k) (rowLength (λ y. y) start end) ≡ sumTo shift (rowLength (λ y. y) start end) + linksIn (rowsFrom ws 0 k)
+  unfolding sumTo rowsFrom linksIn
+  placed-sum zero h =
+      let e : shift + 0 ≡ shift = omega arith in
+      omega (arith, ap (λ (n : ℕ). sumTo n (rowLength (λ y. y) start end)) e)
+  placed-sum (suc k) h =
+      let e : shift + suc k ≡ suc (shift + k) = omega arith in
+      let own : rowLength (λ y. y) start end (shift + k) ≡ getD end (shift + k) 0 - getD start (shift + k) 0 =
+      ap (λ (t : Bool). cond t (getD end (shift + k) 0 - getD start (shift + k) 0) 0) (eq-eqb (shift + k) (shift + k) refl) in
+      omega (
+        arith,
+        ap (λ (n : ℕ). sumTo n (rowLength (λ y. y) start end)) e,
+        placed-sum k (omega arith),
+        own,
+        p .spans k (omega arith),
+        links-of-more ws k (r .sound .shaped .node k (omega arith) .ended),
+        r .sound .shaped .node k (omega arith) .begun,
+      )
 
-    a-sum : (n : ℕ) → n ≤ N → sumTo n (rowLength (λ y. y) start end) ≡ getD a-first n 0
-    unfolding sumTo
-    a-sum zero h = sym (a .laid .start)
-    a-sum (suc n) h =
-        omega (arith, a-sum n (omega arith), own-length n, s .a-start n h, s .a-end n h, a .laid .rising n h)
+-- Both graphs.
+module _ {a b : List ℕ} (ra : Recorded a) (rb : Recorded b) {start end pool : List ℕ} (pa : Placed a 0 start end pool)
+    (pb : Placed b (size a) start end pool) where
+  none : 0 ≤ 255
+  none = omega arith
 
-    b-sum : (n : ℕ) → n ≤ M → sumTo (N + n) (rowLength (λ y. y) start end) ≡ getD a-first N 0 + getD b-first n 0
-    unfolding sumTo
-    b-sum zero h =
-        let e : N + 0 ≡ N = omega arith in
-        omega (arith, ap (λ (n : ℕ). sumTo n (rowLength (λ y. y) start end)) e, a-sum N (omega arith), b .laid .start)
-    b-sum (suc n) h =
-        let e : N + suc n ≡ suc (N + n) = omega arith in
-        omega (
-          arith,
-          ap (λ (n : ℕ). sumTo n (rowLength (λ y. y) start end)) e,
-          b-sum n (omega arith),
-          own-length (N + n),
-          s .b-start n h,
-          s .b-end n h,
-          b .laid .rising n h,
-        )
+  pub lay-short : sumTo (size a + size b) (rowLength (λ y. y) start end) ≤ 4096
+  unfolding sumTo
+  lay-short =
+      let e : 0 + size a ≡ size a = omega arith in
+      omega (
+        arith,
+        ap (λ (n : ℕ). sumTo n (rowLength (λ y. y) start end)) e,
+        placed-sum ra none pa (size a) (omega arith),
+        placed-sum rb (ra .small) pb (size b) (omega arith),
+        ra .short,
+        rb .short,
+      )
 
-    pub lay-short : sumTo (N + M) (rowLength (λ y. y) start end) ≤ 4096
-    lay-short = omega (arith, b-sum M (omega arith), a .short, b .short)
+  pub lay-rows : {used : ℕ} → length start ≡ 510 → length end ≡ 510 → ((v : ℕ) → v < size a → getD end (0 + v) 0 ≤ used) →
+      ((v : ℕ) → v < size b → getD end (size a + v) 0 ≤ used) → Rows (size a + size b) start end pool used
+  lay-rows {used} start-long end-long a-high b-high =
+      record {
+        some = omega (arith, ra .sound .shaped .nonempty);
+        few = omega (arith, ra .small, rb .small);
+        start-long = start-long;
+        end-long = end-long;
+        span = λ x h. span x h (decLt x (size a));
+        within = λ x k h place. within x k h place (decLt x (size a));
+      }
+    where
+      span : (x : ℕ) → x < size a + size b → Dec (x < size a) → Span pool used (getD start x 0) (getD end x 0)
+      span x h (yes l) =
+          let e : 0 + x ≡ x = omega arith in
+          subst (λ (y : ℕ). Span pool used (getD start y 0) (getD end y 0)) e (placed-span ra none pa x l (a-high x l))
+      span x h (no n) =
+          let e : size a + (x - size a) ≡ x = omega arith in
+          let l : x - size a < size b = omega arith in
+          subst (λ (y : ℕ). Span pool used (getD start y 0) (getD end y 0)) e
+          (placed-span rb (ra .small) pb (x - size a) l (b-high (x - size a) l))
 
--- the classes' rows can be filled in
-pub closed-fillable : {nodes second : ℕ} {start end pf pt class start′ end′ pf′ pt′ : List ℕ} {used : ℕ} →
-    Closed nodes second start end pf pt class start′ end′ pf′ pt′ used → Fillable nodes class start′ end′ pf′ pt′
+      within : (x k : ℕ) → x < size a + size b → At start end x k → Dec (x < size a) → targetAt pool k < size a + size b
+      within x k h place (yes l) =
+          let e : x ≡ 0 + x = omega arith in
+          omega (arith, placed-within ra none pa x k l (subst (λ (y : ℕ). At start end y k) e place))
+      within x k h place (no n) =
+          let e : x ≡ size a + (x - size a) = omega arith in
+          placed-within rb (ra .small) pb (x - size a) k (omega arith) (subst (λ (y : ℕ). At start end y k) e place)
+
+-- Two graphs copied side by side.
+pub record Laid (a b start end pool : List ℕ) (used : ℕ) : Type 0 where
+  pub first : Placed a 0 start end pool
+  pub second : Placed b (size a) start end pool
+  pub rows : Rows (size a + size b) start end pool used
+  pub short : sumTo (size a + size b) (rowLength (λ y. y) start end) ≤ 4096
+  pub used-is : used ≡ wordsIn a + wordsIn b
+  pub few : used ≤ 4606
+
+pub lay : {a b : List ℕ} → Recorded a → Recorded b → {p₀ p₁ pool s₀ e₀ s₁ e₁ start end : List ℕ} {at used : ℕ} →
+    WordsCopied a (lastEnd a) 0 0 p₀ p₁ at → WordsCopied b (lastEnd b) at (size a) p₁ pool used →
+    SpansCopied a (size a) 0 0 s₀ e₀ s₁ e₁ → SpansCopied b (size b) at (size a) s₁ e₁ start end →
+    length start ≡ 510 → length end ≡ 510 → Laid a b start end pool used
+lay {a} {b} ra rb {p₀} {p₁} {pool} {s₀} {e₀} {s₁} {e₁} {start} {end} {at} {used} wa wb sa sb start-long end-long =
+    record {
+      first = first;
+      second = second;
+      rows =
+          lay-rows ra rb first second start-long end-long
+          (λ v h. omega (arith, placed-before ra wa sa start end pool pool-kept start-kept end-kept v h, wb .counted, row-low rb (size b) (omega arith)))
+          (λ v h. placed-before rb wb sb start end pool (λ k h. refl) (λ k h. refl) (λ k h. refl) v h);
+      short = lay-short ra rb first second;
+      used-is = omega (arith, wa .counted, wb .counted, row-low ra (size a) (omega arith), row-low rb (size b) (omega arith));
+      few = omega (arith, wa .counted, wb .counted, words-few ra, words-few rb);
+    }
+  where
+    pool-kept : (k : ℕ) → k < at → getD pool k 0 ≡ getD p₁ k 0
+    pool-kept = wb .kept
+
+    start-kept : (x : ℕ) → x < 0 + size a → getD start x 0 ≡ getD s₁ x 0
+    start-kept x h = sb .start-kept x (omega arith)
+
+    end-kept : (x : ℕ) → x < 0 + size a → getD end x 0 ≡ getD e₁ x 0
+    end-kept x h = sb .end-kept x (omega arith)
+
+    first : Placed a 0 start end pool
+    first = placed ra wa sa start end pool pool-kept start-kept end-kept
+
+    second : Placed b (size a) start end pool
+    second = placed rb wb sb start end pool (λ k h. refl) (λ k h. refl) (λ k h. refl)
+
+-- the graph of the classes can be built
+pub closed-fillable : {nodes second : ℕ} {start end pool class start′ end′ pool′ : List ℕ} {used : ℕ} →
+    Closed nodes second start end pool class start′ end′ pool′ used → Fillable nodes class start′ end′ pool′
 closed-fillable c =
     record {
       few = c .rows .few;
+      classed = λ x h. omega (arith, c .lowest x h, c .rows .few);
       rising = λ x h. (
         c .rows .span x h .rising,
         omega (arith, c .rows .span x h .before, c .bounded),
-        (omega (arith, c .rows .span x h .before, c .room .0), omega (arith, c .rows .span x h .before, c .room .1)),
+        omega (arith, c .rows .span x h .before, c .room),
       );
-      within = λ x k h place. omega (arith, c .rows .within x k h place, c .rows .few);
+      within = λ x k h place.
+          let t = c .rows .within x k h place in
+          (omega (arith, t, c .rows .few), omega (arith, c .lowest _ t, t, c .rows .few));
       short = c .short;
     }
-
-pub class-small : {nodes second : ℕ} {start end pf pt class start′ end′ pf′ pt′ : List ℕ} {used : ℕ} →
-    Closed nodes second start end pf pt class start′ end′ pf′ pt′ used → (x : ℕ) → x < nodes → getD class x 0 < 510
-class-small c x h = omega (arith, c .lowest x h, c .rows .few)

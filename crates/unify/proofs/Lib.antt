@@ -1,4 +1,5 @@
 -- Laws of unification.
+pub mod Words
 pub mod Copying
 pub mod Lowering
 pub mod Filling

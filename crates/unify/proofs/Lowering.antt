@@ -11,7 +11,8 @@ use lib.ListN.{length, getD, set, length-set}
 use Rattle.graphs.specs.Rows.{from}
 use Rattle.graphs.specs.Unify.{anyOf}
 use Rattle.classes.proofs.Roots.{stored, unstored}
-use Rattle.unify.specs.Lowered.{lowerBy, MeetsBelow}
+use Rattle.layout.specs.Layout.{size, labelAt}
+use Rattle.unify.specs.Lowered.{meetIn, lowerBy, Below, Lowerable}
 
 pub from-cons : (x n : ℕ) → x < n → from x (n - x) ≡ x ∷ from (suc x) (n - suc x)
 unfolding from
@@ -24,46 +25,42 @@ unfolding from
 from-empty n = let e : n - n ≡ 0 = omega arith in ap (from n) e
 
 -- The nodes from v on have lowered the labels of their classes.
-pub record Lowering (n : ℕ) (meets : List (List ℕ)) (types class : List ℕ) (shift nodes : ℕ) (labels₀ labels : List ℕ) (v : ℕ) :
-    Type 0 where
-  pub most : v ≤ nodes
+pub record Lowering (meets : List (List ℕ)) (ws class : List ℕ) (shift : ℕ) (labels₀ labels : List ℕ) (v : ℕ) : Type 0 where
+  pub most : v ≤ size ws
   pub long : length labels ≡ 510
-  pub below : (c : ℕ) → c < 510 → getD labels c 0 < n
+  pub below : (n : ℕ) → Lowerable n meets ws labels₀ → Below n labels
   pub is : (c : ℕ) → c < 510 →
-      getD labels c 0 ≡ foldr (lowerBy meets types class shift c) (getD labels₀ c 0) (from v (nodes - v))
+      getD labels c 0 ≡ foldr (lowerBy meets ws class shift c) (getD labels₀ c 0) (from v (size ws - v))
 
-pub lower-start : (n : ℕ) (meets : List (List ℕ)) (types class : List ℕ) (shift nodes : ℕ) (labels : List ℕ) → length labels ≡ 510 →
-    ((c : ℕ) → c < 510 → getD labels c 0 < n) → Lowering n meets types class shift nodes labels labels nodes
-lower-start n meets types class shift nodes labels long below =
+pub lower-start : (meets : List (List ℕ)) (ws class : List ℕ) (shift : ℕ) (labels : List ℕ) → length labels ≡ 510 →
+    Lowering meets ws class shift labels labels (size ws)
+lower-start meets ws class shift labels long =
     record {
       most = omega arith;
       long = long;
-      below = below;
-      is = λ c h. sym (ap (foldr (lowerBy meets types class shift c) (getD labels c 0)) (from-empty nodes));
+      below = λ n given. given .below;
+      is = λ c h. sym (ap (foldr (lowerBy meets ws class shift c) (getD labels c 0)) (from-empty (size ws)));
     }
 
-module _ {n : ℕ} {meets : List (List ℕ)} {types class : List ℕ} {shift nodes : ℕ} {labels₀ labels : List ℕ} {v : ℕ}
-    (s : Lowering n meets types class shift nodes labels₀ labels v) where
-  pub lower-done : v ≡ 0 → (length labels ≡ 510) × ((c : ℕ) → c < 510 → getD labels c 0 < n) ×
-      ((c : ℕ) → c < 510 → getD labels c 0 ≡ foldr (lowerBy meets types class shift c) (getD labels₀ c 0) (from 0 nodes))
-  lower-done e = let all : nodes - 0 ≡ nodes = omega arith in (
-    s .long,
-    s .below,
-    λ c h.
-        s .is c h ∙
-        ap (λ (u : ℕ). foldr (lowerBy meets types class shift c) (getD labels₀ c 0) (from u (nodes - u))) e ∙
-        ap (λ (k : ℕ). foldr (lowerBy meets types class shift c) (getD labels₀ c 0) (from 0 k)) all,
-  )
+module _ {meets : List (List ℕ)} {ws class : List ℕ} {shift : ℕ} {labels₀ labels : List ℕ} {v : ℕ}
+    (s : Lowering meets ws class shift labels₀ labels v) where
+  pub lower-done : v ≡ 0 → (c : ℕ) → c < 510 →
+      getD labels c 0 ≡ foldr (lowerBy meets ws class shift c) (getD labels₀ c 0) (from 0 (size ws))
+  lower-done e c h =
+      let all : size ws - 0 ≡ size ws = omega arith in
+      s .is c h ∙
+      ap (λ (u : ℕ). foldr (lowerBy meets ws class shift c) (getD labels₀ c 0) (from u (size ws - u))) e ∙
+      ap (λ (k : ℕ). foldr (lowerBy meets ws class shift c) (getD labels₀ c 0) (from 0 k)) all
 
-  pub lower-step : MeetsBelow n meets → 0 < v → getD types (v - 1) 0 < n → getD class (shift + (v - 1)) 0 < 510 →
-      Lowering n meets types class shift nodes labels₀
+  pub lower-step : 0 < v → getD class (shift + (v - 1)) 0 < 510 →
+      Lowering meets ws class shift labels₀
       (set labels (getD class (shift + (v - 1)) 0)
-      (getD (getD meets (getD types (v - 1) 0) []) (getD labels (getD class (shift + (v - 1)) 0) 0) 0)) (v - 1)
-  lower-step closed some typed placed =
+      (meetIn meets (labelAt ws (v - 1)) (getD labels (getD class (shift + (v - 1)) 0) 0))) (v - 1)
+  lower-step some placed =
       record {
         most = omega (arith, s .most);
         long = length-set labels c₀ new ∙ s .long;
-        below = λ c h. below c h (ℕ-discrete c c₀);
+        below = λ n given c h. below n given c h (ℕ-discrete c c₀);
         is = λ c h. is c h (ℕ-discrete c c₀);
       }
     where
@@ -71,7 +68,7 @@ module _ {n : ℕ} {meets : List (List ℕ)} {types class : List ℕ} {shift nod
       c₀ = getD class (shift + (v - 1)) 0
 
       new : ℕ
-      new = getD (getD meets (getD types (v - 1) 0) []) (getD labels (getD class (shift + (v - 1)) 0) 0) 0
+      new = meetIn meets (labelAt ws (v - 1)) (getD labels (getD class (shift + (v - 1)) 0) 0)
 
       here : (c : ℕ) → c ≡ c₀ → getD (set labels c₀ new) c 0 ≡ new
       here c e = ap (λ (i : ℕ). getD (set labels c₀ new) i 0) e ∙ stored labels c₀ new (omega (arith, s .long))
@@ -79,20 +76,26 @@ module _ {n : ℕ} {meets : List (List ℕ)} {types class : List ℕ} {shift nod
       elsewhere : (c : ℕ) → (c ≡ c₀ → ⊥) → getD (set labels c₀ new) c 0 ≡ getD labels c 0
       elsewhere c d = unstored labels c₀ new c d
 
-      below : (c : ℕ) → c < 510 → Dec (c ≡ c₀) → getD (set labels c₀ new) c 0 < n
-      below c h (yes e) = omega (arith, here c e, closed (getD types (v - 1) 0) (getD labels c₀ 0) typed (s .below c₀ placed))
-      below c h (no d) = omega (arith, elsewhere c d, s .below c h)
+      below : (n : ℕ) → Lowerable n meets ws labels₀ → (c : ℕ) → c < 510 → Dec (c ≡ c₀) → getD (set labels c₀ new) c 0 < n
+      below n given c h (yes e) =
+          omega (
+            arith,
+            here c e,
+            given .meets-below (labelAt ws (v - 1)) (getD labels c₀ 0) (given .labelled (v - 1) (omega (arith, s .most)))
+                (s .below n given c₀ placed),
+          )
+      below n given c h (no d) = omega (arith, elsewhere c d, s .below n given c h)
 
       -- one node more
       unfolded : (c : ℕ) →
-          foldr (lowerBy meets types class shift c) (getD labels₀ c 0) (from (v - 1) (nodes - (v - 1))) ≡
-          lowerBy meets types class shift c (v - 1) (foldr (lowerBy meets types class shift c) (getD labels₀ c 0) (from v (nodes - v)))
+          foldr (lowerBy meets ws class shift c) (getD labels₀ c 0) (from (v - 1) (size ws - (v - 1))) ≡
+          lowerBy meets ws class shift c (v - 1) (foldr (lowerBy meets ws class shift c) (getD labels₀ c 0) (from v (size ws - v)))
       unfolded c =
-          ap (foldr (lowerBy meets types class shift c) (getD labels₀ c 0)) (from-cons (v - 1) nodes (omega (arith, s .most))) ∙
+          ap (foldr (lowerBy meets ws class shift c) (getD labels₀ c 0)) (from-cons (v - 1) (size ws) (omega (arith, s .most))) ∙
           ap
           (λ (w : ℕ).
-          lowerBy meets types class shift c (v - 1)
-          (foldr (lowerBy meets types class shift c) (getD labels₀ c 0) (from w (nodes - w))))
+          lowerBy meets ws class shift c (v - 1)
+          (foldr (lowerBy meets ws class shift c) (getD labels₀ c 0) (from w (size ws - w))))
           next
         where
           next : suc (v - 1) ≡ v
@@ -100,19 +103,19 @@ module _ {n : ℕ} {meets : List (List ℕ)} {types class : List ℕ} {shift nod
 
       is : (c : ℕ) → c < 510 → Dec (c ≡ c₀) →
           getD (set labels c₀ new) c 0 ≡
-          foldr (lowerBy meets types class shift c) (getD labels₀ c 0) (from (v - 1) (nodes - (v - 1)))
+          foldr (lowerBy meets ws class shift c) (getD labels₀ c 0) (from (v - 1) (size ws - (v - 1)))
       is c h (yes e) =
           here c e ∙
-          ap (λ (i : ℕ). getD (getD meets (getD types (v - 1) 0) []) (getD labels i 0) 0) (sym e) ∙
+          ap (λ (i : ℕ). meetIn meets (labelAt ws (v - 1)) (getD labels i 0)) (sym e) ∙
           sym
-          (unfolded c ∙ ap (lowerBy meets types class shift c (v - 1)) (sym (s .is c h)) ∙
-          ap (λ (t : Bool). cond t (getD (getD meets (getD types (v - 1) 0) []) (getD labels c 0) 0) (getD labels c 0))
+          (unfolded c ∙ ap (lowerBy meets ws class shift c (v - 1)) (sym (s .is c h)) ∙
+          ap (λ (t : Bool). cond t (meetIn meets (labelAt ws (v - 1)) (getD labels c 0)) (getD labels c 0))
           (eq-eqb c₀ c (sym e)))
       is c h (no d) =
           elsewhere c d ∙
           sym
-          (unfolded c ∙ ap (lowerBy meets types class shift c (v - 1)) (sym (s .is c h)) ∙
-          ap (λ (t : Bool). cond t (getD (getD meets (getD types (v - 1) 0) []) (getD labels c 0) 0) (getD labels c 0))
+          (unfolded c ∙ ap (lowerBy meets ws class shift c (v - 1)) (sym (s .is c h)) ∙
+          ap (λ (t : Bool). cond t (meetIn meets (labelAt ws (v - 1)) (getD labels c 0)) (getD labels c 0))
           (ne-eqb c₀ c (λ q. d (sym q))))
 
 -- A test of numbers in turn.

@@ -1,4 +1,4 @@
--- The graph of the classes in the arrays is alike with the one that unification defines, by the classes of one node; so it has
+-- The graph of the classes in words is alike with the one that unification defines, by the classes of one node; so it has
 -- the same cycles, labels and written form, and what is answered is what the definition says.
 use mathlib.Core.Path.{_≡_, refl, sym, _∙_, ap, ap₂}
 use mathlib.Core.Bool.{Bool, true, false, cond, _||_}
@@ -9,7 +9,7 @@ use Prim.Native.Nat.{ℕ, zero, suc, _+_, _-_, _≤_, _<_}
 use native.Mathlib.Omega.{arith}
 use borrow.Author.Tests.{eq-eqb, eqb-true}
 use lib.Dec.{eqb}
-use lib.ListN.{length, getD, replicate, length-replicate}
+use lib.ListN.{length, getD}
 use Rattle.graphs.specs.Graph.{Graph, Tells, follow, walk}
 use Rattle.graphs.specs.Rows.{from, features}
 use Rattle.graphs.specs.Number.{Canonical, canonical}
@@ -47,15 +47,16 @@ use Rattle.graphs.proofs.Unification.Beside.{
 }
 use Rattle.graphs.proofs.Unification.ClassGraph.{classLink-source, classLink-of, name-classes, name-related}
 use Rattle.graphs.proofs.Unification.Deep.{deep-walk, walk-deep, loop-walk}
-use Rattle.visits.specs.Arrays.{Compressed, rowsOf, graphOfRows, graphIn, Reaches, one, more, TargetsFirst}
-use Rattle.visits.proofs.VisitRows.{link-known}
-use Rattle.visits.proofs.Places.{label-at, link-at, link-place}
+use Rattle.lattice.specs.Label.{Label}
+use Rattle.layout.specs.Layout.{size, featureAt, labelAt, graphIn}
+use Rattle.layout.proofs.Places.{label-at, link-at, link-place, link-known}
+use Rattle.visits.specs.Walks.{Reaches, one, more, TargetsFirst}
 use Rattle.encode.specs.Encode.{writtenOut}
 use Rattle.unify.specs.declared.Combined.the-variants as combined
-use Rattle.unify.specs.Lowered.{lowerBy, lowered}
-use Rattle.unify.specs.Outcome.{meetsOf, sameEither, Result, combinedOf, unifiedOut}
-use Rattle.unify.specs.Rows.{Merges}
-use Rattle.unify.proofs.Sides.{Held, operands, number, Inside, inside-reached, reached-in, number-in, node-of, link-in}
+use Rattle.unify.specs.Lowered.{meetIn, lowerBy}
+use Rattle.unify.specs.Outcome.{meetsOf, sameEither, Result, combinedOf, unifiedOut, unifyingOut}
+use Rattle.unify.specs.Rows.{Operand, Merges}
+use Rattle.unify.proofs.Sides.{operands, number, Inside, inside-reached, reached-in, number-in, node-of, link-in}
 use Rattle.unify.proofs.Sharing.{classOf, one-related, related-one, class-sound, class-link, class-source, leads-own}
 
 -- Lists.
@@ -108,16 +109,21 @@ module _ {L A B : Type 0} (R : A → B → Type 0) (g : Graph L A) (h : Graph L 
       (λ f.
       holds-alike (deep (g .link) k) (deep (h .link) k) (deep-alike k) (g .link v f) (h .link w f) (links v w f r))
 
-module _ (n : ℕ) (meets : List (List ℕ)) {a b : Compressed} (left : Held a) (right : Held b) {class first fs ts : List ℕ}
-    (m : Merges (a .nodes) (a .first) (a .features) (a .targets) (b .nodes) (b .first) (b .features) (b .targets) class first fs ts) where
-  given : Operands eqb eqb (graphIn a) (from 0 (a .nodes)) (graphIn b) (from 0 (b .nodes))
+module _ (n : ℕ) (meets : List (List ℕ)) {a b graph : List ℕ} (left : Operand n a) (right : Operand n b) (m : Merges n meets a b graph) where
+  abbrev class : List ℕ
+  class = m .class
+
+  abbrev rows : Graph Label ℕ
+  rows = graphIn graph
+
+  given : Operands eqb eqb (graphIn a) (from 0 (size a)) (graphIn b) (from 0 (size b))
   given = operands left right
 
   abbrev name : ℕ ⊎ ℕ → ℕ ⊎ ℕ
-  name = className eqb eqb (graphIn a) (from 0 (a .nodes)) (graphIn b) (from 0 (b .nodes))
+  name = className eqb eqb (graphIn a) (from 0 (size a)) (graphIn b) (from 0 (size b))
 
-  abbrev u : Graph ℕ (ℕ ⊎ ℕ)
-  u = classGraph (meetsOf n meets) eqb eqb (graphIn a) (from 0 (a .nodes)) (graphIn b) (from 0 (b .nodes))
+  abbrev u : Graph Label (ℕ ⊎ ℕ)
+  u = classGraph (meetsOf n meets) eqb eqb (graphIn a) (from 0 (size a)) (graphIn b) (from 0 (size b))
 
   abbrev cls : ℕ ⊎ ℕ → ℕ
   cls = classOf left right m
@@ -125,10 +131,10 @@ module _ (n : ℕ) (meets : List (List ℕ)) {a b : Compressed} (left : Held a) 
   tells : Tells sameEither
   tells = tells-beside given
 
-  listed : (x : ℕ ⊎ ℕ) → Inside left right x → List·Memᴰ x (nodesBeside (from 0 (a .nodes)) (from 0 (b .nodes)))
+  listed : (x : ℕ ⊎ ℕ) → Inside left right x → List·Memᴰ x (nodesBeside (from 0 (size a)) (from 0 (size b)))
   listed x i = reached-listed given x (inside-reached left right x i)
 
-  unlisted : (x : ℕ ⊎ ℕ) → List·Memᴰ x (nodesBeside (from 0 (a .nodes)) (from 0 (b .nodes))) → Inside left right x
+  unlisted : (x : ℕ ⊎ ℕ) → List·Memᴰ x (nodesBeside (from 0 (size a)) (from 0 (size b))) → Inside left right x
   unlisted x i = reached-in left right x (listed-reached given x i)
 
   -- two names are one exactly where two classes are
@@ -144,7 +150,7 @@ module _ (n : ℕ) (meets : List (List ℕ)) {a b : Compressed} (left : Held a) 
       u .link (name x) f ≡ some (name y)
   unfolding classGraph
   named-link x y f i e =
-      classLink-of tells (linkBeside (graphIn a) (graphIn b)) (nodesBeside (from 0 (a .nodes)) (from 0 (b .nodes))) name
+      classLink-of tells (linkBeside (graphIn a) (graphIn b)) (nodesBeside (from 0 (size a)) (from 0 (size b))) name
       (name-classes given) x y f (listed x i) e
 
   named-source : (c d : ℕ ⊎ ℕ) (f : ℕ) → u .link c f ≡ some d →
@@ -152,7 +158,7 @@ module _ (n : ℕ) (meets : List (List ℕ)) {a b : Compressed} (left : Held a) 
   unfolding classGraph
   named-source c d f e =
       let (x, y, i, p, l, q) = classLink-source tells (linkBeside (graphIn a) (graphIn b))
-      (nodesBeside (from 0 (a .nodes)) (from 0 (b .nodes))) name c d f e in
+      (nodesBeside (from 0 (size a)) (from 0 (size b))) name c d f e in
       (x, y, unlisted x i, p, l, q)
 
   -- the class of a node by its name and in the array
@@ -160,7 +166,7 @@ module _ (n : ℕ) (meets : List (List ℕ)) {a b : Compressed} (left : Held a) 
   Both c i = (x : ℕ ⊎ ℕ) × Inside left right x × (name x ≡ c) × (cls x ≡ i)
 
   root-in : Inside left right (inl 0)
-  root-in = left .sound .shaped .laid .nonempty
+  root-in = left .recorded .sound .shaped .nonempty
 
   class-zero : getD class 0 0 ≡ 0
   class-zero = omega (arith, m .closed .lowest 0 (m .closed .rows .some))
@@ -169,263 +175,272 @@ module _ (n : ℕ) (meets : List (List ℕ)) {a b : Compressed} (left : Held a) 
   unfolding classGraph
   both-root = (inl 0, root-in, refl, class-zero)
 
-  both-in : (c : ℕ ⊎ ℕ) (i : ℕ) → Both c i → i < a .nodes + b .nodes
+  both-in : (c : ℕ ⊎ ℕ) (i : ℕ) → Both c i → i < size a + size b
   both-in c i (x, x-in, _, e) =
-      omega (arith, e, m .closed .lowest (number (a .nodes) x) (number-in left right x x-in), number-in left right x x-in)
+      omega (arith, e, m .closed .lowest (number (size a) x) (number-in left right x x-in), number-in left right x x-in)
+
+  within : {i : ℕ} → i < size a + size b → i < size graph
+  within h = omega (arith, h, m .built .sized)
+
+  without : {i : ℕ} → i < size graph → i < size a + size b
+  without h = omega (arith, h, m .built .sized)
 
   -- The links, and with them the cycles, whatever the labels are.
-  module _ (types : List ℕ) (long : length types ≡ 510) where
-    abbrev rows : Graph ℕ ℕ
-    rows = graphOfRows (rowsOf (a .nodes + b .nodes) types first fs ts)
 
-    both-links : (c : ℕ ⊎ ℕ) (i f : ℕ) → Both c i → Alike Both (u .link c f) (rows .link i f)
-    both-links c i f (x, x-in, x-name, x-class) = go (u .link c f) (rows .link i f) refl refl
-      where
-        i-in : i < a .nodes + b .nodes
-        i-in = both-in c i (x, x-in, x-name, x-class)
+  both-links : (c : ℕ ⊎ ℕ) (i f : ℕ) → Both c i → Alike Both (u .link c f) (rows .link i f)
+  both-links c i f (x, x-in, x-name, x-class) = go (u .link c f) (rows .link i f) refl refl
+    where
+      i-in : i < size a + size b
+      i-in = both-in c i (x, x-in, x-name, x-class)
 
-        go : (o : Option (ℕ ⊎ ℕ)) (p : Option ℕ) → u .link c f ≡ o → rows .link i f ≡ p → Alike Both o p
-        go none none e d = absent
-        go none (some j) e d =
-            let (v, w, v-in, w-in, v-class, l, w-class) = class-source left right m types long i j f i-in d in
-            let v-name = class-name v x v-in x-in (v-class ∙ sym x-class) ∙ x-name in
-            none-some (sym e ∙ ap (λ z. u .link z f) (sym v-name) ∙ named-link v w f v-in l)
-        go (some d) none e q =
-            let (v, w, v-in, v-name, l, w-name) = named-source c d f e in
-            let v-class = name-class v x v-in x-in (v-name ∙ sym x-name) ∙ x-class in
-            none-some (sym q ∙ ap (λ (z : ℕ). rows .link z f) (sym v-class) ∙ class-link left right m types long v w f v-in l)
-        go (some d) (some j) e q =
-            let (v, w, v-in, v-name, l, w-name) = named-source c d f e in
-            let v-class = name-class v x v-in x-in (v-name ∙ sym x-name) ∙ x-class in
-            let w-in = link-in left right (m .beside) v w f v-in l .0 in
-            present (
-              w,
-              w-in,
-              w-name,
-              some-injective
-                  (sym (class-link left right m types long v w f v-in l) ∙ ap (λ (z : ℕ). rows .link z f) v-class ∙ q),
-            )
-
-    -- "A loop is a class that reaches itself."
-
-    cycle-is : hasCycle (meetsOf n meets) eqb eqb (graphIn a) (from 0 (a .nodes)) (graphIn b) (from 0 (b .nodes)) ≡
-        deep (rows .link) (a .nodes + b .nodes) 0
-    unfolding hasCycle
-    cycle-is =
-        deep-alike Both u rows both-links (length (from 0 (a .nodes)) + length (from 0 (b .nodes))) (u .root) 0 both-root ∙
-        ap₂ (λ (i j : ℕ). deep (rows .link) (i + j) 0) (length-from 0 (a .nodes)) (length-from 0 (b .nodes))
-
-    -- a path of either graph is one of the classes
-    class-walk : (p : List ℕ) (x : ℕ ⊎ ℕ) → Leads (graphIn a) (graphIn b) p x → walk rows p ≡ some (cls x)
-    unfolding follow
-    class-walk =
-        snoc-induction (λ p. (x : ℕ ⊎ ℕ) → Leads (graphIn a) (graphIn b) p x → walk rows p ≡ some (cls x))
-        (λ x e. start x (leads-nil (graphIn a) (graphIn b) x e))
-        (λ p f later y e.
-        let (x, l, d) = leads-last (graphIn a) (graphIn b) p f y e in
-        walk-snoc rows p f (later x l) ∙ class-link left right m types long x y f (reached-in left right x (p, l)) d)
-      where
-        start : (x : ℕ ⊎ ℕ) → (x ≡ inl 0) ⊎ (x ≡ inr 0) → walk rows [] ≡ some (cls x)
-        start x (inl e) = ap some (sym (ap cls e ∙ class-zero))
-        start x (inr e) =
-            let q : a .nodes + 0 ≡ a .nodes = omega arith in
-            ap some (sym (ap cls e ∙ ap (λ (i : ℕ). getD class i 0) q ∙ sym (m .closed .together) ∙ class-zero))
-
-    reach-walk : {v w : ℕ} → Reaches (a .nodes + b .nodes) first ts v w →
-        (f : ℕ) × (p : List ℕ) × (follow (rows .link) (some v) (f ∷ p) ≡ some w)
-    unfolding follow
-    reach-walk {v} (one l) = (
-      getD fs (l .place) 0,
-      [],
-      link-at (class-sound left right m types long) v (l .place) (l .inside) (l .from-first) (l .before-next) ∙ ap some (l .target-is),
-    )
-    reach-walk {v} (more l r) =
-        let (f, p, e) = reach-walk r in (
-          getD fs (l .place) 0,
-          f ∷ p,
-          ap (λ o. follow (rows .link) o (f ∷ p))
-              (link-at (class-sound left right m types long) v (l .place) (l .inside) (l .from-first) (l .before-next) ∙
-              ap some (l .target-is)) ∙
-              e,
-        )
-
-    reach-own : {v w : ℕ} → Reaches (a .nodes + b .nodes) first ts v w → (v < a .nodes + b .nodes) × (getD class v 0 ≡ v)
-    reach-own {v} (one {w = w} l) = (l .inside, leads-own left right m v w l)
-    reach-own {v} (more {w = w} l r) = (l .inside, leads-own left right m v w l)
-
-    inside-follow : (q : List ℕ) (y : ℕ) → walk rows q ≡ some y → y < a .nodes + b .nodes
-    unfolding follow
-    inside-follow =
-        snoc-induction (λ q. (y : ℕ) → walk rows q ≡ some y → y < a .nodes + b .nodes)
-        (λ y e. omega (arith, some-injective e, m .closed .rows .some))
-        (λ q f later y e.
-        let (x, l, d) = follow-last (rows .link) (some 0) q f y e in
-        link-known (class-sound left right m types long) x f y (later x l) d .1)
-
-    pub cycle-found : (v : ℕ) → Reaches (a .nodes + b .nodes) first ts v v →
-        hasCycle (meetsOf n meets) eqb eqb (graphIn a) (from 0 (a .nodes)) (graphIn b) (from 0 (b .nodes)) ≡ true
-    cycle-found v r =
-        let (v-in, own) = reach-own r in
-        let (x, x-in, x-is) = node-of left right v v-in in
-        let (q, l) = inside-reached left right x x-in in
-        let (f, p, loop) = reach-walk r in
-        let (path, y, e, far) = loop-walk (rows .link) (some 0)
-        (v, f, p, (q, class-walk q x l ∙ ap some (ap (λ (i : ℕ). getD class i 0) x-is ∙ own)), loop) (a .nodes + b .nodes) in
-        cycle-is ∙
-        walk-deep (rows .link) (a .nodes + b .nodes) 0 path y
-        (λ q y z f d l. link-known (class-sound left right m types long) y f z (inside-follow q y d) l .0) e far
-
-    -- along links the places in an order with targets first fall
-    module _ {order : List ℕ} {place : ℕ → ℕ} (sorted : TargetsFirst (a .nodes + b .nodes) first ts order place) where
-      falls : (p : List ℕ) (v x : ℕ) → v < a .nodes + b .nodes → follow (rows .link) (some v) p ≡ some x → length p ≤ place v
-      unfolding follow
-      falls [] v x i e = omega arith
-      falls (f ∷ p) v x i e =
-          let (w, d) = follow-start (rows .link) (rows .link v f) p x e in
-          let (k, low, high, feature, target) = link-place (class-sound left right m types long) v f w i d in
-          let less = sorted .earlier v w (record { inside = i; place = k; from-first = low; before-next = high; target-is = target }) in
-          omega (
-            arith,
-            less,
-            falls p w x (link-known (class-sound left right m types long) v f w i d .1) (ap (λ o. follow (rows .link) o p) (sym d) ∙ e),
+      go : (o : Option (ℕ ⊎ ℕ)) (p : Option ℕ) → u .link c f ≡ o → rows .link i f ≡ p → Alike Both o p
+      go none none e d = absent
+      go none (some j) e d =
+          let (v, w, v-in, w-in, v-class, l, w-class) = class-source left right m i j f i-in d in
+          let v-name = class-name v x v-in x-in (v-class ∙ sym x-class) ∙ x-name in
+          none-some (sym e ∙ ap (λ z. u .link z f) (sym v-name) ∙ named-link v w f v-in l)
+      go (some d) none e q =
+          let (v, w, v-in, v-name, l, w-name) = named-source c d f e in
+          let v-class = name-class v x v-in x-in (v-name ∙ sym x-name) ∙ x-class in
+          none-some (sym q ∙ ap (λ (z : ℕ). rows .link z f) (sym v-class) ∙ class-link left right m v w f v-in l)
+      go (some d) (some j) e q =
+          let (v, w, v-in, v-name, l, w-name) = named-source c d f e in
+          let v-class = name-class v x v-in x-in (v-name ∙ sym x-name) ∙ x-class in
+          let w-in = link-in left right (m .first) (m .second) v w f v-in l .0 in
+          present (
+            w,
+            w-in,
+            w-name,
+            some-injective
+                (sym (class-link left right m v w f v-in l) ∙ ap (λ (z : ℕ). rows .link z f) v-class ∙ q),
           )
 
-      pub cycle-none : hasCycle (meetsOf n meets) eqb eqb (graphIn a) (from 0 (a .nodes)) (graphIn b) (from 0 (b .nodes)) ≡ false
-      cycle-none =
-          not-true (hasCycle (meetsOf n meets) eqb eqb (graphIn a) (from 0 (a .nodes)) (graphIn b) (from 0 (b .nodes)))
-          (λ e.
-          let (p, x, k, w) = deep-walk (rows .link) (a .nodes + b .nodes) 0 (sym cycle-is ∙ e) in
-          omega (arith, k, falls p 0 x (m .closed .rows .some) w, sorted .inside 0 (m .closed .rows .some)))
+  -- "A loop is a class that reaches itself."
 
-    module _ (lowers : (c : ℕ) → c < 510 →
-        getD types c 0 ≡ lowered meets (a .types) class 0 (a .nodes) c (lowered meets (b .types) class (a .nodes) (b .nodes) c (n - 1))) where
-      both-labels : (c : ℕ ⊎ ℕ) (i : ℕ) → Both c i → u .label c ≡ rows .label i
-      unfolding classGraph classLabel
-      both-labels c i (x, x-in, x-name, x-class) =
-          fold-left step (n - 1) (from 0 (a .nodes)) (from 0 (b .nodes)) ∙
-          fold-same (λ v. step (inl v)) (lowerBy meets (a .types) class 0 i) (foldr (λ v. step (inr v)) (n - 1) (from 0 (b .nodes)))
-          (from 0 (a .nodes)) in-left ∙
-          ap (λ (d : ℕ). foldr (lowerBy meets (a .types) class 0 i) d (from 0 (a .nodes)))
-          (fold-same (λ v. step (inr v)) (lowerBy meets (b .types) class (a .nodes) i) (n - 1) (from 0 (b .nodes)) in-right) ∙
-          sym (lowers i (omega (arith, i-in, m .closed .rows .few))) ∙ sym (label-at (class-sound left right m types long) i i-in)
-        where
-          i-in : i < a .nodes + b .nodes
-          i-in = both-in c i (x, x-in, x-name, x-class)
+  cycle-is : hasCycle (meetsOf n meets) eqb eqb (graphIn a) (from 0 (size a)) (graphIn b) (from 0 (size b)) ≡
+      deep (rows .link) (size a + size b) 0
+  unfolding hasCycle
+  cycle-is =
+      deep-alike Both u rows both-links (length (from 0 (size a)) + length (from 0 (size b))) (u .root) 0 both-root ∙
+      ap₂ (λ (i j : ℕ). deep (rows .link) (i + j) 0) (length-from 0 (size a)) (length-from 0 (size b))
 
-          step : ℕ ⊎ ℕ → ℕ → ℕ
-          step y d =
-              cond (sameEither (name y) c) (getD (getD meets (labelBeside (graphIn a .label) (graphIn b .label) y) []) d 0) d
+  -- a path of either graph is one of the classes
+  class-walk : (p : List ℕ) (x : ℕ ⊎ ℕ) → Leads (graphIn a) (graphIn b) p x → walk rows p ≡ some (cls x)
+  unfolding follow
+  class-walk =
+      snoc-induction (λ p. (x : ℕ ⊎ ℕ) → Leads (graphIn a) (graphIn b) p x → walk rows p ≡ some (cls x))
+      (λ x e. start x (leads-nil (graphIn a) (graphIn b) x e))
+      (λ p f later y e.
+      let (x, l, d) = leads-last (graphIn a) (graphIn b) p f y e in
+      walk-snoc rows p f (later x l) ∙ class-link left right m x y f (reached-in left right x (p, l)) d)
+    where
+      start : (x : ℕ ⊎ ℕ) → (x ≡ inl 0) ⊎ (x ≡ inr 0) → walk rows [] ≡ some (cls x)
+      start x (inl e) = ap some (sym (ap cls e ∙ class-zero))
+      start x (inr e) =
+          let q : size a + 0 ≡ size a = omega arith in
+          ap some (sym (ap cls e ∙ ap (λ (i : ℕ). getD class i 0) q ∙ sym (m .closed .together) ∙ class-zero))
 
-          -- a node is of the class by either account
-          test : (y : ℕ ⊎ ℕ) → Inside left right y → sameEither (name y) c ≡ eqb (cls y) i
-          test y y-in =
-              bool-same (sameEither (name y) c) (eqb (cls y) i)
-              (λ e. eq-eqb (cls y) i (name-class y x y-in x-in (tells (name y) c .0 e ∙ sym x-name) ∙ x-class))
-              (λ e. tells (name y) c .1 (class-name y x y-in x-in (eqb-true (cls y) i e ∙ sym x-class) ∙ x-name))
+  reach-walk : {v w : ℕ} → Reaches graph v w →
+      (f : ℕ) × (p : List ℕ) × (follow (rows .link) (some v) (f ∷ p) ≡ some w)
+  unfolding follow
+  reach-walk {v} (one l) = (
+    featureAt graph (l .place),
+    [],
+    link-at (class-sound left right m) v (l .place) (l .inside) (l .low) (l .high) ∙ ap some (l .target-is),
+  )
+  reach-walk {v} (more l r) =
+      let (f, p, e) = reach-walk r in (
+        featureAt graph (l .place),
+        f ∷ p,
+        ap (λ o. follow (rows .link) o (f ∷ p))
+            (link-at (class-sound left right m) v (l .place) (l .inside) (l .low) (l .high) ∙
+            ap some (l .target-is)) ∙
+            e,
+      )
 
-          in-left : (v d : ℕ) → List·Memᴰ v (from 0 (a .nodes)) → step (inl v) d ≡ lowerBy meets (a .types) class 0 i v d
-          in-left v d k =
-              let v-in : v < a .nodes = omega (arith, from-range 0 (a .nodes) v k) in
-              let e : v ≡ 0 + v = omega arith in
-              ap₂ (λ (t : Bool) (l : ℕ). cond t (getD (getD meets l []) d 0) d)
-              (test (inl v) v-in ∙ ap (λ (w : ℕ). eqb (getD class w 0) i) e) (label-at (left .sound) v v-in)
+  reach-own : {v w : ℕ} → Reaches graph v w → (v < size a + size b) × (getD class v 0 ≡ v)
+  reach-own {v} (one {w = w} l) = (without (l .inside), leads-own left right m v w l)
+  reach-own {v} (more {w = w} l r) = (without (l .inside), leads-own left right m v w l)
 
-          in-right : (v d : ℕ) → List·Memᴰ v (from 0 (b .nodes)) → step (inr v) d ≡ lowerBy meets (b .types) class (a .nodes) i v d
-          in-right v d k =
-              let v-in : v < b .nodes = omega (arith, from-range 0 (b .nodes) v k) in
-              ap₂ (λ (t : Bool) (l : ℕ). cond t (getD (getD meets l []) d 0) d) (test (inr v) v-in) (label-at (right .sound) v v-in)
+  inside-follow : (q : List ℕ) (y : ℕ) → walk rows q ≡ some y → y < size a + size b
+  unfolding follow
+  inside-follow =
+      snoc-induction (λ q. (y : ℕ) → walk rows q ≡ some y → y < size a + size b)
+      (λ y e. omega (arith, some-injective e, m .closed .rows .some))
+      (λ q f later y e.
+      let (x, l, d) = follow-last (rows .link) (some 0) q f y e in
+      without (link-known (class-sound left right m) x f y (within (later x l)) d .1))
 
-      alike : Bisimilar Both u rows
-      unfolding classGraph
-      alike =
-          record {
-            root = both-root;
-            labels = both-labels;
-            links = both-links;
-            forth = λ c c′ i i′ (x, x-in, x-name, x-class) (y, y-in, y-name, y-class) e.
-                sym x-class ∙ name-class x y x-in y-in (x-name ∙ e ∙ sym y-name) ∙ y-class;
-            back = λ c c′ i i′ (x, x-in, x-name, x-class) (y, y-in, y-name, y-class) e.
-                sym x-name ∙ class-name x y x-in y-in (x-class ∙ e ∙ sym y-class) ∙ y-name;
-          }
+  pub cycle-found : (v : ℕ) → Reaches graph v v →
+      hasCycle (meetsOf n meets) eqb eqb (graphIn a) (from 0 (size a)) (graphIn b) (from 0 (size b)) ≡ true
+  cycle-found v r =
+      let (v-in, own) = reach-own r in
+      let (x, x-in, x-is) = node-of left right v v-in in
+      let (q, l) = inside-reached left right x x-in in
+      let (f, p, loop) = reach-walk r in
+      let (path, y, e, far) = loop-walk (rows .link) (some 0)
+      (v, f, p, (q, class-walk q x l ∙ ap some (ap (λ (i : ℕ). getD class i 0) x-is ∙ own)), loop) (size a + size b) in
+      cycle-is ∙
+      walk-deep (rows .link) (size a + size b) 0 path y
+      (λ q y z f d l. link-known (class-sound left right m) y f z (within (inside-follow q y d)) l .0) e far
 
-      same-form : canonical sameEither u ≡ canonical eqb (graphOfRows (rowsOf (a .nodes + b .nodes) types first fs ts))
-      same-form = bisimilar-canonical sameEither eqb tells tells-eqb Both u rows alike
+  -- along links the places in an order with targets first fall
+  module _ {order : List ℕ} {place : ℕ → ℕ} (sorted : TargetsFirst graph order place) where
+    falls : (p : List ℕ) (v x : ℕ) → v < size a + size b → follow (rows .link) (some v) p ≡ some x → length p ≤ place v
+    unfolding follow
+    falls [] v x i e = omega arith
+    falls (f ∷ p) v x i e =
+        let (w, d) = follow-start (rows .link) (rows .link v f) p x e in
+        let (k, low, high, feature, target) = link-place (class-sound left right m) v f w (within i) d in
+        let less = sorted .earlier v w (record { inside = within i; place = k; low = low; high = high; target-is = target }) in
+        omega (
+          arith,
+          less,
+          falls p w x (without (link-known (class-sound left right m) v f w (within i) d .1)) (ap (λ o. follow (rows .link) o p) (sym d) ∙ e),
+        )
 
-      -- "A clash is a class whose meet is type 0."
+    pub cycle-none : hasCycle (meetsOf n meets) eqb eqb (graphIn a) (from 0 (size a)) (graphIn b) (from 0 (size b)) ≡ false
+    cycle-none =
+        not-true (hasCycle (meetsOf n meets) eqb eqb (graphIn a) (from 0 (size a)) (graphIn b) (from 0 (size b)))
+        (λ e.
+        let (p, x, k, w) = deep-walk (rows .link) (size a + size b) 0 (sym cycle-is ∙ e) in
+        omega (arith, k, falls p 0 x (m .closed .rows .some) w, sorted .inside 0 (within (m .closed .rows .some)), m .built .sized))
 
-      label-is : (x : ℕ ⊎ ℕ) → Inside left right x → u .label (name x) ≡ getD types (cls x) 0
-      label-is x i =
-          both-labels (name x) (cls x) (x, i, refl, refl) ∙
-          label-at (class-sound left right m types long) (cls x) (both-in (name x) (cls x) (x, i, refl, refl))
+  -- The labels.
 
-      pub clash-is : hasClash (meetsOf n meets) eqb eqb (graphIn a) (from 0 (a .nodes)) (graphIn b) (from 0 (b .nodes)) ≡
-          anyOf (from 0 (a .nodes + b .nodes)) (λ x. eqb (getD types (getD class x 0) 0) 0)
-      unfolding hasClash
-      clash-is =
-          bool-same (anyOf (nodesBeside (from 0 (a .nodes)) (from 0 (b .nodes))) here)
-          (anyOf (from 0 (a .nodes + b .nodes)) there) forth back
-        where
-          here : ℕ ⊎ ℕ → Bool
-          here x = eqb (u .label (name x)) 0
+  node-label : (x : ℕ) → x < size a + size b → labelAt graph x ≡ getD (m .labels) (getD class x 0) 0
+  node-label x h = m .built .rows .labels-are x h
 
-          there : ℕ → Bool
-          there x = eqb (getD types (getD class x 0) 0) 0
+  own-label : (i : ℕ) → i < size a + size b → getD class i 0 ≡ i → rows .label i ≡ getD (m .labels) i 0
+  own-label i h own = label-at graph i (within h) ∙ node-label i h ∙ ap (λ (c : ℕ). getD (m .labels) c 0) own
 
-          forth : anyOf (nodesBeside (from 0 (a .nodes)) (from 0 (b .nodes))) here ≡ true → anyOf (from 0 (a .nodes + b .nodes)) there ≡ true
-          forth e =
-              let (x, i, d) = anyOf-true here (nodesBeside (from 0 (a .nodes)) (from 0 (b .nodes))) e in
-              let x-in = unlisted x i in
-              anyOf-finds there (from 0 (a .nodes + b .nodes)) (number (a .nodes) x)
-              (from-member 0 (a .nodes + b .nodes) (number (a .nodes) x) (omega arith) (omega (arith, number-in left right x x-in)))
-              (ap (λ (l : ℕ). eqb l 0) (sym (label-is x x-in)) ∙ d)
+  both-labels : (c : ℕ ⊎ ℕ) (i : ℕ) → Both c i → u .label c ≡ rows .label i
+  unfolding classGraph classLabel
+  both-labels c i (x, x-in, x-name, x-class) =
+      fold-left step (n - 1) (from 0 (size a)) (from 0 (size b)) ∙
+      fold-same (λ v. step (inl v)) (lowerBy meets a class 0 i) (foldr (λ v. step (inr v)) (n - 1) (from 0 (size b)))
+      (from 0 (size a)) in-left ∙
+      ap (λ (d : ℕ). foldr (lowerBy meets a class 0 i) d (from 0 (size a)))
+      (fold-same (λ v. step (inr v)) (lowerBy meets b class (size a) i) (n - 1) (from 0 (size b)) in-right) ∙
+      sym (m .lowers i (omega (arith, i-in, m .closed .rows .few))) ∙ sym (own-label i i-in own)
+    where
+      i-in : i < size a + size b
+      i-in = both-in c i (x, x-in, x-name, x-class)
 
-          back : anyOf (from 0 (a .nodes + b .nodes)) there ≡ true → anyOf (nodesBeside (from 0 (a .nodes)) (from 0 (b .nodes))) here ≡ true
-          back e =
-              let (i, k, d) = anyOf-true there (from 0 (a .nodes + b .nodes)) e in
-              let (x, x-in, x-is) = node-of left right i (omega (arith, from-range 0 (a .nodes + b .nodes) i k)) in
-              anyOf-finds here (nodesBeside (from 0 (a .nodes)) (from 0 (b .nodes))) x (listed x x-in)
-              (ap (λ (l : ℕ). eqb l 0) (label-is x x-in ∙ ap (λ (j : ℕ). getD types (getD class j 0) 0) x-is) ∙ d)
+      own : getD class i 0 ≡ i
+      own =
+          ap (λ (c : ℕ). getD class c 0) (sym x-class) ∙ m .closed .itself (number (size a) x) (number-in left right x x-in) ∙ x-class
+
+      step : ℕ ⊎ ℕ → Label → Label
+      step y d =
+          cond (sameEither (name y) c) (meetIn meets (labelBeside (graphIn a .label) (graphIn b .label) y) d) d
+
+      -- a node is of the class by either account
+      test : (y : ℕ ⊎ ℕ) → Inside left right y → sameEither (name y) c ≡ eqb (cls y) i
+      test y y-in =
+          bool-same (sameEither (name y) c) (eqb (cls y) i)
+          (λ e. eq-eqb (cls y) i (name-class y x y-in x-in (tells (name y) c .0 e ∙ sym x-name) ∙ x-class))
+          (λ e. tells (name y) c .1 (class-name y x y-in x-in (eqb-true (cls y) i e ∙ sym x-class) ∙ x-name))
+
+      in-left : (v d : ℕ) → List·Memᴰ v (from 0 (size a)) → step (inl v) d ≡ lowerBy meets a class 0 i v d
+      in-left v d k =
+          let v-in : v < size a = omega (arith, from-range 0 (size a) v k) in
+          let e : v ≡ 0 + v = omega arith in
+          ap₂ (λ (t : Bool) (l : ℕ). cond t (meetIn meets l d) d)
+          (test (inl v) v-in ∙ ap (λ (w : ℕ). eqb (getD class w 0) i) e) (label-at a v v-in)
+
+      in-right : (v d : ℕ) → List·Memᴰ v (from 0 (size b)) → step (inr v) d ≡ lowerBy meets b class (size a) i v d
+      in-right v d k =
+          let v-in : v < size b = omega (arith, from-range 0 (size b) v k) in
+          ap₂ (λ (t : Bool) (l : ℕ). cond t (meetIn meets l d) d) (test (inr v) v-in) (label-at b v v-in)
+
+  alike : Bisimilar Both u rows
+  unfolding classGraph
+  alike =
+      record {
+        root = both-root;
+        labels = both-labels;
+        links = both-links;
+        forth = λ c c′ i i′ (x, x-in, x-name, x-class) (y, y-in, y-name, y-class) e.
+            sym x-class ∙ name-class x y x-in y-in (x-name ∙ e ∙ sym y-name) ∙ y-class;
+        back = λ c c′ i i′ (x, x-in, x-name, x-class) (y, y-in, y-name, y-class) e.
+            sym x-name ∙ class-name x y x-in y-in (x-class ∙ e ∙ sym y-class) ∙ y-name;
+      }
+
+  same-form : canonical sameEither u ≡ canonical eqb (graphIn graph)
+  same-form = bisimilar-canonical sameEither eqb tells tells-eqb Both u rows alike
+
+  -- "A clash is a class whose meet is type 0."
+
+  label-is : (x : ℕ ⊎ ℕ) → Inside left right x → u .label (name x) ≡ labelAt graph (number (size a) x)
+  label-is x i =
+      let h = number-in left right x i in
+      both-labels (name x) (cls x) (x, i, refl, refl) ∙
+      own-label (cls x) (both-in (name x) (cls x) (x, i, refl, refl)) (m .closed .itself (number (size a) x) h) ∙
+      sym (node-label (number (size a) x) h)
+
+  pub clash-is : hasClash (meetsOf n meets) eqb eqb (graphIn a) (from 0 (size a)) (graphIn b) (from 0 (size b)) ≡
+      anyOf (from 0 (size graph)) (λ x. eqb (labelAt graph x) 0)
+  unfolding hasClash
+  clash-is =
+      bool-same (anyOf (nodesBeside (from 0 (size a)) (from 0 (size b))) here)
+      (anyOf (from 0 (size graph)) there) forth back
+    where
+      here : ℕ ⊎ ℕ → Bool
+      here x = eqb (u .label (name x)) 0
+
+      there : ℕ → Bool
+      there x = eqb (labelAt graph x) 0
+
+      forth : anyOf (nodesBeside (from 0 (size a)) (from 0 (size b))) here ≡ true → anyOf (from 0 (size graph)) there ≡ true
+      forth e =
+          let (x, i, d) = anyOf-true here (nodesBeside (from 0 (size a)) (from 0 (size b))) e in
+          let x-in = unlisted x i in
+          anyOf-finds there (from 0 (size graph)) (number (size a) x)
+          (from-member 0 (size graph) (number (size a) x) (omega arith) (omega (arith, within (number-in left right x x-in))))
+          (ap (λ (l : ℕ). eqb l 0) (sym (label-is x x-in)) ∙ d)
+
+      back : anyOf (from 0 (size graph)) there ≡ true → anyOf (nodesBeside (from 0 (size a)) (from 0 (size b))) here ≡ true
+      back e =
+          let (i, k, d) = anyOf-true there (from 0 (size graph)) e in
+          let (x, x-in, x-is) = node-of left right i (without (omega (arith, from-range 0 (size graph) i k))) in
+          anyOf-finds here (nodesBeside (from 0 (size a)) (from 0 (size b))) x (listed x x-in)
+          (ap (λ (l : ℕ). eqb l 0) (label-is x x-in ∙ ap (labelAt graph) x-is) ∙ d)
 
   -- What is answered.
 
-  abbrev outcome : List ℕ → Result
-  outcome old =
-      unifiedOut (unification (meetsOf n meets) eqb eqb (graphIn a) (from 0 (a .nodes)) (graphIn b) (from 0 (b .nodes))) old
-
-  abbrev answered : Bool → Bool → Unified ℕ (ℕ ⊎ ℕ)
+  abbrev answered : Bool → Bool → Unified Label (ℕ ⊎ ℕ)
   answered s t = cond s cycle (cond t clash (unified u))
 
-  pub answers-cycle : (v : ℕ) → Reaches (a .nodes + b .nodes) first ts v v → (old : List ℕ) →
-      (combined.Cycle ≡ outcome old .answer) × (old ≡ outcome old .output)
+  pub answers-cycle : (v : ℕ) → Reaches graph v v → (old : List ℕ) →
+      (combined.Cycle ≡ unifyingOut n meets a b old .answer) × (old ≡ unifyingOut n meets a b old .output)
   unfolding unification unifiedOut
   answers-cycle v r old =
-      let e = ap (λ (s : Bool). unifiedOut (answered s (hasClash (meetsOf n meets) eqb eqb (graphIn a) (from 0 (a .nodes)) (graphIn b) (from 0 (b .nodes)))) old)
-      (cycle-found (replicate 510 0) (length-replicate {A = ℕ} 510 0) v r) in
+      let e = ap
+      (λ (s : Bool).
+      unifiedOut (answered s (hasClash (meetsOf n meets) eqb eqb (graphIn a) (from 0 (size a)) (graphIn b) (from 0 (size b)))) old)
+      (cycle-found v r) in
       (sym (ap (λ (o : Result). o .answer) e), sym (ap (λ (o : Result). o .output) e))
 
-  module _ (types : List ℕ) (long : length types ≡ 510)
-      (lowers : (c : ℕ) → c < 510 →
-      getD types c 0 ≡ lowered meets (a .types) class 0 (a .nodes) c (lowered meets (b .types) class (a .nodes) (b .nodes) c (n - 1)))
-      {order : List ℕ} {place : ℕ → ℕ} (sorted : TargetsFirst (a .nodes + b .nodes) first ts order place) where
-    answered-none : (t : Bool) → hasClash (meetsOf n meets) eqb eqb (graphIn a) (from 0 (a .nodes)) (graphIn b) (from 0 (b .nodes)) ≡ t →
-        unification (meetsOf n meets) eqb eqb (graphIn a) (from 0 (a .nodes)) (graphIn b) (from 0 (b .nodes)) ≡ answered false t
+  module _ {order : List ℕ} {place : ℕ → ℕ} (sorted : TargetsFirst graph order place) where
+    answered-none : (t : Bool) → hasClash (meetsOf n meets) eqb eqb (graphIn a) (from 0 (size a)) (graphIn b) (from 0 (size b)) ≡ t →
+        unification (meetsOf n meets) eqb eqb (graphIn a) (from 0 (size a)) (graphIn b) (from 0 (size b)) ≡ answered false t
     unfolding unification
-    answered-none t e = ap₂ answered (cycle-none types long sorted) e
+    answered-none t e = ap₂ answered (cycle-none sorted) e
 
-    pub answers-clash : anyOf (from 0 (a .nodes + b .nodes)) (λ x. eqb (getD types (getD class x 0) 0) 0) ≡ true → (old : List ℕ) →
-        (combined.Clash ≡ outcome old .answer) × (old ≡ outcome old .output)
+    pub answers-clash : anyOf (from 0 (size graph)) (λ x. eqb (labelAt graph x) 0) ≡ true → (old : List ℕ) →
+        (combined.Clash ≡ unifyingOut n meets a b old .answer) × (old ≡ unifyingOut n meets a b old .output)
     unfolding unifiedOut
     answers-clash found old =
-        let e = ap (λ z. unifiedOut z old) (answered-none true (clash-is types long lowers ∙ found)) in
+        let e = ap (λ z. unifiedOut z old) (answered-none true (clash-is ∙ found)) in
         (sym (ap (λ (o : Result). o .answer) e), sym (ap (λ (o : Result). o .output) e))
 
-    pub answers-written : anyOf (from 0 (a .nodes + b .nodes)) (λ x. eqb (getD types (getD class x 0) 0) 0) ≡ false → (old : List ℕ) →
-        (combinedOf (writtenOut (canonical eqb (graphOfRows (rowsOf (a .nodes + b .nodes) types first fs ts))) old .answer) ≡ outcome old .answer) ×
-        (writtenOut (canonical eqb (graphOfRows (rowsOf (a .nodes + b .nodes) types first fs ts))) old .output ≡ outcome old .output)
+    pub answers-written : anyOf (from 0 (size graph)) (λ x. eqb (labelAt graph x) 0) ≡ false → (old : List ℕ) →
+        (combinedOf (writtenOut (canonical eqb (graphIn graph)) old .answer) ≡ unifyingOut n meets a b old .answer) ×
+        (writtenOut (canonical eqb (graphIn graph)) old .output ≡ unifyingOut n meets a b old .output)
     unfolding unifiedOut
     answers-written clear old =
-        let e = ap (λ z. unifiedOut z old) (answered-none false (clash-is types long lowers ∙ clear)) in
-        let d = same-form types long lowers in (
-          ap (λ (k : Canonical ℕ). combinedOf (writtenOut k old .answer)) (sym d) ∙ sym (ap (λ (o : Result). o .answer) e),
-          ap (λ (k : Canonical ℕ). writtenOut k old .output) (sym d) ∙ sym (ap (λ (o : Result). o .output) e),
+        let e = ap (λ z. unifiedOut z old) (answered-none false (clash-is ∙ clear)) in (
+          ap (λ (k : Canonical Label). combinedOf (writtenOut k old .answer)) (sym same-form) ∙ sym (ap (λ (o : Result). o .answer) e),
+          ap (λ (k : Canonical Label). writtenOut k old .output) (sym same-form) ∙ sym (ap (λ (o : Result). o .output) e),
         )

@@ -1,4 +1,4 @@
 -- What unification answers, and what its parts keep.
 pub mod Outcome
-pub mod Rows
 pub mod Lowered
+pub mod Rows

@@ -1,19 +1,40 @@
 -- The labels of classes as they are computed.
 use mathlib.Core.Bool.{cond}
 use mathlib.Core.List.{List, [], foldr}
-use Prim.Native.Nat.{ℕ, _+_, _<_}
+use Prim.Native.Nat.{ℕ, _+_, _-_, _<_, _≤_}
 use lib.Dec.{eqb}
 use lib.ListN.{getD}
 use Rattle.graphs.specs.Rows.{from}
+use Rattle.lattice.specs.Label.{Label}
+use Rattle.layout.specs.Layout.{size, labelAt}
 
--- the label of the class c met with the type of node v, where the node is of that class
-abbrev pub lowerBy : List (List ℕ) → List ℕ → List ℕ → ℕ → ℕ → ℕ → ℕ → ℕ
-lowerBy meets types class shift c v a = cond (eqb (getD class (shift + v) 0) c) (getD (getD meets (getD types v 0) []) a 0) a
+-- the meet of two labels, as a table of 64 rows gives it
+abbrev pub meetIn : List (List ℕ) → Label → Label → Label
+meetIn meets a b = getD (getD meets a []) b 0
 
--- the label of the class c met with the types of the nodes in it, the last node first
-abbrev pub lowered : List (List ℕ) → List ℕ → List ℕ → ℕ → ℕ → ℕ → ℕ → ℕ
-lowered meets types class shift nodes c label = foldr (lowerBy meets types class shift c) label (from 0 nodes)
+-- the label of the class c met with the label of node v, where the node is of that class
+abbrev pub lowerBy : List (List ℕ) → List ℕ → List ℕ → ℕ → ℕ → ℕ → Label → Label
+lowerBy meets ws class shift c v a = cond (eqb (getD class (shift + v) 0) c) (meetIn meets (labelAt ws v) a) a
+
+-- the label of the class c met with the labels of the nodes in it, the last node first
+abbrev pub lowered : List (List ℕ) → List ℕ → List ℕ → ℕ → ℕ → Label → Label
+lowered meets ws class shift c label = foldr (lowerBy meets ws class shift c) label (from 0 (size ws))
+
+-- the same over the nodes of two graphs, from the greatest of n types
+abbrev pub loweredBoth : ℕ → List (List ℕ) → List ℕ → List ℕ → List ℕ → ℕ → Label
+loweredBoth n meets a b class c = lowered meets a class 0 c (lowered meets b class (size a) c (n - 1))
 
 -- meets of types below n are types below n
 abbrev pub MeetsBelow : ℕ → List (List ℕ) → Type 0
-MeetsBelow n meets = (i j : ℕ) → i < n → j < n → getD (getD meets i []) j 0 < n
+MeetsBelow n meets = (i j : ℕ) → i < n → j < n → meetIn meets i j < n
+
+-- The labels of classes are types below n.
+abbrev pub Below : ℕ → List ℕ → Type 0
+Below n labels = (c : ℕ) → c < 510 → getD labels c 0 < n
+
+-- Labels of classes and of a graph's nodes over n types, whose meets the table gives.
+pub record Lowerable (n : ℕ) (meets : List (List ℕ)) (ws labels : List ℕ) : Type 0 where
+  pub few : n ≤ 64
+  pub meets-below : MeetsBelow n meets
+  pub labelled : (v : ℕ) → v < size ws → labelAt ws v < n
+  pub below : Below n labels

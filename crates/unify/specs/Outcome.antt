@@ -7,7 +7,10 @@ use lib.Dec.{eqb}
 use lib.ListN.{getD}
 use Rattle.graphs.specs.Label.{Labels}
 use Rattle.graphs.specs.Number.{canonical}
-use Rattle.graphs.specs.Unify.{Unified, cycle, clash, unified, sameBeside}
+use Rattle.graphs.specs.Rows.{from}
+use Rattle.graphs.specs.Unify.{Unified, cycle, clash, unified, sameBeside, unification}
+use Rattle.lattice.specs.Label.{Label}
+use Rattle.layout.specs.Layout.{size, graphIn}
 use Rattle.encode.specs.Encode.{writtenOut}
 use Rattle.encode.specs.declared.Written.{Written}
 use Rattle.encode.specs.declared.Written.the-variants as outcome
@@ -19,7 +22,7 @@ use Rattle.unify.specs.declared.Combined.the-variants as combined
 abbrev pub meetsOf : ℕ → List (List ℕ) → Labels
 meetsOf n meets =
     record {
-      L = ℕ;
+      L = Label;
       le = eqb;
       meet = λ a b. getD (getD meets a []) b 0;
       join = λ a b. a;
@@ -42,9 +45,14 @@ combinedOf outcome.TooLarge = combined.TooLarge
 combinedOf outcome.NoRoom = combined.NoRoom
 
 -- "combination: loop", "combination: clash, no loop", both with the output unchanged; else what writing the unification gives
-unfoldable pub unifiedOut : Unified ℕ (ℕ ⊎ ℕ) → List ℕ → Result
+unfoldable pub unifiedOut : Unified Label (ℕ ⊎ ℕ) → List ℕ → Result
 unifiedOut cycle old = record { answer = combined.Cycle; output = old }
 unifiedOut clash old = record { answer = combined.Clash; output = old }
 unifiedOut (unified u) old =
     let written = writtenOut (canonical sameEither u) old in
     record { answer = combinedOf (written .answer); output = written .output }
+
+-- what unifying the graphs that words hold gives
+abbrev pub unifyingOut : ℕ → List (List ℕ) → List ℕ → List ℕ → List ℕ → Result
+unifyingOut n meets a b old =
+    unifiedOut (unification (meetsOf n meets) eqb eqb (graphIn a) (from 0 (size a)) (graphIn b) (from 0 (size b))) old

@@ -1,97 +1,108 @@
--- Two graphs side by side in arrays, and the rows of the graph of their classes.
+-- Two graphs side by side in a pool of words, and the graph of their classes in words.
 use mathlib.Core.Path.{_≡_}
 use mathlib.Core.Bool.{cond}
 use mathlib.Core.List.{List}
-use Prim.Native.Nat.{ℕ, suc, _+_, _-_, _*_, _≤_, _<_}
+use Prim.Native.Nat.{ℕ, _+_, _-_, _*_, _/_, _%_, _≤_, _<_}
 use lib.Dec.{eqb}
 use lib.ListN.{length, getD}
-use Rattle.visits.specs.Arrays.{Laid}
-use Rattle.classes.specs.Classes.{rowLength, Closed}
+use Rattle.graphs.specs.Graph.{Reached}
+use Rattle.layout.specs.Layout.{Recorded, header, scale, linkWord, size, rowFrom, linksFrom, rowEnd, labelAt, targetAt, graphIn}
+use Rattle.classes.specs.Classes.{At, rowLength, sumTo, Closed}
+use Rattle.unify.specs.Lowered.{loweredBoth}
 
--- Arrays that hold the rows of up to 255 nodes with up to 2,048 links.
-pub record Shape (nodes : ℕ) (first features targets : List ℕ) : Type 0 where
-  pub laid : Laid nodes first targets
-  pub small : nodes ≤ 255
-  pub short : getD first nodes 0 ≤ 2048
-  pub known : (k : ℕ) → k < getD first nodes 0 → getD features k 0 < 64
-  pub ascending : (v k : ℕ) → v < nodes → getD first v 0 ≤ k → suc k < getD first (suc v) 0 → getD features k 0 < getD features (suc k) 0
-  pub within : (k : ℕ) → k < getD first nodes 0 → getD targets k 0 < nodes
+-- A graph to unify over n types: that of a record, all its nodes reached.
+pub record Operand (n : ℕ) (ws : List ℕ) : Type 0 where
+  pub recorded : Recorded ws
+  pub labelled : (v : ℕ) → v < size ws → labelAt ws v < n
+  pub reached : (v : ℕ) → v < size ws → Reached (graphIn ws) v
 
--- the places that merging two graphs may take: their links, and up to 64 for each merge, of which there are fewer than nodes
-abbrev pub placesFor : ℕ → List ℕ → ℕ → List ℕ → ℕ
-placesFor a-nodes a-first b-nodes b-first = (getD a-first a-nodes 0 + getD b-first b-nodes 0) + 64 * ((a-nodes + b-nodes) - 1)
+-- where the rows of a graph end
+abbrev pub lastEnd : List ℕ → ℕ
+lastEnd ws = getD ws (size ws + 1) 0
 
--- The links of a graph stand at the places from `at` on, each target moved by `shift`; what stood before is kept.
-pub record LinksCopied (features targets : List ℕ) (links at shift : ℕ) (pool-features pool-targets pool-features′ pool-targets′ : List ℕ) :
-    Type 0 where
-  pub features-long : length pool-features′ ≡ length pool-features
-  pub targets-long : length pool-targets′ ≡ length pool-targets
-  pub features-kept : (k : ℕ) → k < at → getD pool-features′ k 0 ≡ getD pool-features k 0
-  pub targets-kept : (k : ℕ) → k < at → getD pool-targets′ k 0 ≡ getD pool-targets k 0
-  pub features-are : (k : ℕ) → k < links → getD pool-features′ (at + k) 0 ≡ getD features k 0
-  pub targets-are : (k : ℕ) → k < links → getD pool-targets′ (at + k) 0 ≡ getD targets k 0 + shift
+-- the number of words of its rows
+abbrev pub wordsIn : List ℕ → ℕ
+wordsIn ws = lastEnd ws - rowFrom ws 0
 
--- The nodes of a graph, each moved by `shift`, have their spans, moved by `at`; what stood before is kept.
-pub record SpansCopied (first : List ℕ) (nodes at shift : ℕ) (start end start′ end′ : List ℕ) : Type 0 where
+-- the places that merging two graphs may take: their words, and up to 64 for each merge, of which there are fewer than nodes
+abbrev pub placesFor : List ℕ → List ℕ → ℕ
+placesFor a b = (wordsIn a + wordsIn b) + 64 * ((size a + size b) - 1)
+
+-- The words of a graph's rows up to `end` stand at the places from `at` to `next`, each moved by `shift`; what stood before is kept.
+pub record WordsCopied (ws : List ℕ) (end at shift : ℕ) (pool pool′ : List ℕ) (next : ℕ) : Type 0 where
+  pub long : length pool′ ≡ length pool
+  pub kept : (k : ℕ) → k < at → getD pool′ k 0 ≡ getD pool k 0
+  pub counted : next + rowFrom ws 0 ≡ at + end
+  pub words-are : (i : ℕ) → rowFrom ws 0 + i < end → getD pool′ (at + i) 0 ≡ getD ws (rowFrom ws 0 + i) 0 + shift
+
+-- The nodes of a graph before `nodes`, each moved by `shift`, have their links' spans in the pool; what stood before is kept.
+pub record SpansCopied (ws : List ℕ) (nodes at shift : ℕ) (start end start′ end′ : List ℕ) : Type 0 where
   pub start-long : length start′ ≡ length start
   pub end-long : length end′ ≡ length end
   pub start-kept : (x : ℕ) → x < shift → getD start′ x 0 ≡ getD start x 0
   pub end-kept : (x : ℕ) → x < shift → getD end′ x 0 ≡ getD end x 0
-  pub start-is : (v : ℕ) → v < nodes → getD start′ (shift + v) 0 ≡ getD first v 0 + at
-  pub end-is : (v : ℕ) → v < nodes → getD end′ (shift + v) 0 ≡ getD first (suc v) 0 + at
+  pub start-is : (v : ℕ) → v < nodes → getD start′ (shift + v) 0 ≡ ((rowFrom ws v - rowFrom ws 0) + at) + header
+  pub end-is : (v : ℕ) → v < nodes → getD end′ (shift + v) 0 ≡ (rowEnd ws v - rowFrom ws 0) + at
 
--- A row stands at the places from `at` to `next`, each target by its class; what stood before is kept.
-pub record RowCopied (class pool-features pool-targets : List ℕ) (start end at : ℕ) (features targets features′ targets′ : List ℕ)
-    (next : ℕ) : Type 0 where
-  pub features-long : length features′ ≡ length features
-  pub targets-long : length targets′ ≡ length targets
-  pub features-kept : (k : ℕ) → k < at → getD features′ k 0 ≡ getD features k 0
-  pub targets-kept : (k : ℕ) → k < at → getD targets′ k 0 ≡ getD targets k 0
+-- The links of each node v of a graph are in the pool at the span of the number shift + v, each target moved by `shift`.
+pub record Placed (ws : List ℕ) (shift : ℕ) (start end pool : List ℕ) : Type 0 where
+  pub spans : (v : ℕ) → v < size ws → getD end (shift + v) 0 + linksFrom ws v ≡ getD start (shift + v) 0 + rowEnd ws v
+  pub words : (v i : ℕ) → v < size ws → linksFrom ws v + i < rowEnd ws v →
+      getD pool (getD start (shift + v) 0 + i) 0 ≡ getD ws (linksFrom ws v + i) 0 + shift
+
+-- the word of a link between classes
+abbrev pub classWord : List ℕ → ℕ → ℕ
+classWord class w = linkWord (w / scale, getD class (w % scale) 0)
+
+-- A row stands at the places from `at` to `next`, each target by its class; what stood elsewhere is kept.
+pub record RowCopied (class pool : List ℕ) (start end at : ℕ) (graph graph′ : List ℕ) (next : ℕ) : Type 0 where
+  pub long : length graph′ ≡ length graph
+  pub kept : (k : ℕ) → k < at → getD graph′ k 0 ≡ getD graph k 0
   pub counted : next + start ≡ at + end
-  pub features-are : (i : ℕ) → start + i < end → getD features′ (at + i) 0 ≡ getD pool-features (start + i) 0
-  pub targets-are : (i : ℕ) → start + i < end → getD targets′ (at + i) 0 ≡ getD class (getD pool-targets (start + i) 0) 0
+  pub words-are : (i : ℕ) → start + i < end → getD graph′ (at + i) 0 ≡ classWord class (getD pool (start + i) 0)
 
 -- the end of a node's row, its start where the node represents no class
-abbrev pub rowEnd : List ℕ → List ℕ → List ℕ → ℕ → ℕ
-rowEnd class start end x = cond (eqb (getD class x 0) x) (getD end x 0) (getD start x 0)
+abbrev pub endOfRow : List ℕ → List ℕ → List ℕ → ℕ → ℕ
+endOfRow class start end x = cond (eqb (getD class x 0) x) (getD end x 0) (getD start x 0)
 
--- The first `nodes` rows of the graph of the classes: a class's row at its representative, and no links at the other nodes.
-pub record ClassRows (nodes : ℕ) (class start end pool-features pool-targets first features targets : List ℕ) : Type 0 where
-  pub first-long : length first ≡ 511
-  pub features-long : length features ≡ 4096
-  pub targets-long : length targets ≡ 4096
-  pub zeroth : getD first 0 0 ≡ 0
-  pub lengths : (x : ℕ) → x < nodes → getD first (suc x) 0 ≡ getD first x 0 + rowLength (λ y. getD class y 0) start end x
-  pub features-are : (x i : ℕ) → x < nodes → getD class x 0 ≡ x → getD start x 0 + i < getD end x 0 →
-      getD features (getD first x 0 + i) 0 ≡ getD pool-features (getD start x 0 + i) 0
-  pub targets-are : (x i : ℕ) → x < nodes → getD class x 0 ≡ x → getD start x 0 + i < getD end x 0 →
-      getD targets (getD first x 0 + i) 0 ≡ getD class (getD pool-targets (getD start x 0 + i) 0) 0
+-- The first `nodes` rows of the graph of the classes: a class's row at its representative, no links at the other nodes, and the label
+-- of its class at each.
+pub record ClassRows (nodes : ℕ) (class labels start end pool graph : List ℕ) : Type 0 where
+  pub lengths : (x : ℕ) → x < nodes → rowEnd graph x ≡ linksFrom graph x + rowLength (λ y. getD class y 0) start end x
+  pub labels-are : (x : ℕ) → x < nodes → labelAt graph x ≡ getD labels (getD class x 0) 0
+  pub words-are : (x i : ℕ) → x < nodes → getD class x 0 ≡ x → getD start x 0 + i < getD end x 0 →
+      getD graph (linksFrom graph x + i) 0 ≡ classWord class (getD pool (getD start x 0 + i) 0)
 
--- The rows of two graphs, the second's after the first's.
-pub record Beside (a-nodes : ℕ) (a-first a-features a-targets : List ℕ) (b-nodes : ℕ) (b-first b-features b-targets : List ℕ)
-    (start end pool-features pool-targets : List ℕ) : Type 0 where
-  pub a-start : (v : ℕ) → v < a-nodes → getD start v 0 ≡ getD a-first v 0
-  pub a-end : (v : ℕ) → v < a-nodes → getD end v 0 ≡ getD a-first (suc v) 0
-  pub b-start : (v : ℕ) → v < b-nodes → getD start (a-nodes + v) 0 ≡ getD b-first v 0 + getD a-first a-nodes 0
-  pub b-end : (v : ℕ) → v < b-nodes → getD end (a-nodes + v) 0 ≡ getD b-first (suc v) 0 + getD a-first a-nodes 0
-  pub a-feature : (k : ℕ) → k < getD a-first a-nodes 0 → getD pool-features k 0 ≡ getD a-features k 0
-  pub a-target : (k : ℕ) → k < getD a-first a-nodes 0 → getD pool-targets k 0 ≡ getD a-targets k 0
-  pub b-feature : (k : ℕ) → k < getD b-first b-nodes 0 → getD pool-features (getD a-first a-nodes 0 + k) 0 ≡ getD b-features k 0
-  pub b-target : (k : ℕ) → k < getD b-first b-nodes 0 →
-      getD pool-targets (getD a-first a-nodes 0 + k) 0 ≡ getD b-targets k 0 + a-nodes
+-- The graph of the classes stands whole.
+pub record ClassGraph (nodes : ℕ) (class labels start end pool graph : List ℕ) : Type 0 where
+  pub sized : size graph ≡ nodes
+  pub long : length graph ≡ 5118
+  pub begun : (x : ℕ) → x < nodes → nodes + 2 ≤ rowFrom graph x
+  pub ended : (x : ℕ) → x < nodes → rowEnd graph x ≤ length graph
+  pub rows : ClassRows nodes class labels start end pool graph
 
--- The graphs side by side, their nodes merged into classes, and the rows of the classes.
-pub record Merges (a-nodes : ℕ) (a-first a-features a-targets : List ℕ) (b-nodes : ℕ) (b-first b-features b-targets : List ℕ)
-    (class first features targets : List ℕ) : Type 0 where
+-- What building it asks of the classes' rows.
+pub record Fillable (nodes : ℕ) (class start end pool : List ℕ) : Type 0 where
+  pub few : nodes ≤ 510
+  pub classed : (x : ℕ) → x < nodes → getD class x 0 < 510
+  pub rising : (x : ℕ) → x < nodes → (getD start x 0 ≤ getD end x 0) × (getD end x 0 ≤ 37182) × (getD end x 0 ≤ length pool)
+  pub within : (x k : ℕ) → x < nodes → At start end x k → (targetAt pool k < 510) × (getD class (targetAt pool k) 0 < 510)
+  pub short : sumTo nodes (rowLength (λ y. getD class y 0) start end) ≤ 4096
+
+-- The graphs side by side, their nodes merged into classes with the meets of their labels, and the graph of the classes.
+pub record Merges (n : ℕ) (meets : List (List ℕ)) (a b graph : List ℕ) : Type 0 where
+  pub class : List ℕ
+  pub labels : List ℕ
   pub start : List ℕ
   pub end : List ℕ
-  pub pool-features : List ℕ
-  pub pool-targets : List ℕ
+  pub pool : List ℕ
   pub start′ : List ℕ
   pub end′ : List ℕ
-  pub pool-features′ : List ℕ
-  pub pool-targets′ : List ℕ
+  pub pool′ : List ℕ
   pub used : ℕ
-  pub beside : Beside a-nodes a-first a-features a-targets b-nodes b-first b-features b-targets start end pool-features pool-targets
-  pub closed : Closed (a-nodes + b-nodes) a-nodes start end pool-features pool-targets class start′ end′ pool-features′ pool-targets′ used
-  pub rows : ClassRows (a-nodes + b-nodes) class start′ end′ pool-features′ pool-targets′ first features targets
+  pub first : Placed a 0 start end pool
+  pub second : Placed b (size a) start end pool
+  pub closed : Closed (size a + size b) (size a) start end pool class start′ end′ pool′ used
+  pub lowers : (c : ℕ) → c < 510 → getD labels c 0 ≡ loweredBoth n meets a b class c
+  pub below : (c : ℕ) → c < 510 → getD labels c 0 < 256
+  pub built : ClassGraph (size a + size b) class labels start′ end′ pool′ graph

@@ -1,52 +1,60 @@
-// Two graphs side by side: the links of one after those of the other, each node's as a span of places.
+// Two graphs side by side: the words of one's rows after those of the other's, and each node's links as a span of places.
 
-ghost use Prim.Native.Nat.{ℕ, _+_, _≤_, _<_};
-ghost use lib.ListN.{length, getD};
+ghost use Prim.Native.Nat.{_+_, _≤_};
+ghost use lib.ListN.{length};
 ghost use mathlib.Core.Path.{_≡_};
-ghost use Rattle.classes.specs.Merge.{Room};
-ghost use Rattle.unify.specs.Rows.{LinksCopied, SpansCopied};
+ghost use Rattle.layout.specs.Layout.{Recorded, size};
+ghost use Rattle.unify.specs.Rows.{SpansCopied, WordsCopied, lastEnd, wordsIn};
 
-// Copies a graph's links to the places from `at` on, each target moved by `shift`.
-pub fn copy_links<'a>(
-    features: &'a [u8; 2048],
-    targets: &'a [u16; 2048],
-    links: usize,
-    at: usize,
-    shift: usize,
-    pool_features: &mut [u8],
-    pool_targets: &mut [u16],
-)
-    requires { ⌜ (links ≤ 2048) × (at ≤ 2048) × (shift ≤ 255) ⌝ }
-    requires { ⌜ ((k : ℕ) → k < links → getD (now targets) k 0 < 255) ⌝ }
-    requires { ⌜ Room (at + links) (now «pool_features») (now «pool_targets») ⌝ }
-    ensures { λ _. ⌜ LinksCopied (now (features .entry)) (now (targets .entry)) links at shift (now («pool_features» .entry)) (now («pool_targets» .entry)) (now («pool_features» .exit)) (now («pool_targets» .exit)) ⌝ }
+// The number of words of a graph's rows.
+pub fn word_count(graph: &[u16]) -> usize
+    requires { ⌜ Recorded (now graph) ⌝ }
+    ensures { λ r. ⌜ r ≡ wordsIn (now (graph .entry)) ⌝ }
 {
-    let mut k = 0;
-    while k < links {
-        pool_features[at + k] = features[k];
-        pool_targets[at + k] = targets[k] + (shift as u16);
-        k += 1;
-    }
+    let nodes = graph[0] as usize;
+    graph[nodes + 1] as usize - graph[1] as usize
 }
 
-// Gives the nodes of a graph, each moved by `shift`, their spans of links copied to the places from `at` on.
-pub fn copy_spans(
-    first: &[u16; 256],
-    nodes: usize,
+// Copies the words of a graph's rows to the places from `at` on, each target moved by `shift`. Headers come along, and stand in no
+// span. Answers the next place.
+pub fn copy_words<'a>(graph: &'a [u16], at: usize, shift: usize, pool: &mut [u16]) -> usize
+    requires { ⌜ Recorded (now graph) ⌝ }
+    requires { ⌜ (at ≤ 2303) × (shift ≤ 255) × (at + wordsIn (now graph) ≤ length (now pool)) ⌝ }
+    ensures { λ r. ⌜ WordsCopied (now (graph .entry)) (lastEnd (now (graph .entry))) at shift (now (pool .entry)) (now (pool .exit)) r ⌝ }
+{
+    let nodes = graph[0] as usize;
+    let end = graph[nodes + 1] as usize;
+    let moved = shift as u16;
+    let mut k = graph[1] as usize;
+    let mut next = at;
+    while k < end {
+        pool[next] = graph[k] + moved;
+        k += 1;
+        next += 1;
+    }
+    next
+}
+
+// Gives the nodes of a graph, each moved by `shift`, their spans of links among the words copied to the places from `at` on.
+pub fn copy_spans<'a>(
+    graph: &'a [u16],
     at: usize,
     shift: usize,
     start: &mut [u16; 510],
     end: &mut [u16; 510],
 )
-    requires { ⌜ (nodes ≤ 255) × (at ≤ 2048) × (shift ≤ 255) ⌝ }
-    requires { ⌜ ((v : ℕ) → v ≤ nodes → getD (now first) v 0 ≤ 2048) ⌝ }
-    requires { ⌜ (length (now start) ≡ 510) × (length (now end) ≡ 510) ⌝ }
-    ensures { λ _. ⌜ SpansCopied (now (first .entry)) nodes at shift (now (start .entry)) (now (end .entry)) (now (start .exit)) (now (end .exit)) ⌝ }
+    requires { ⌜ Recorded (now graph) ⌝ }
+    requires { ⌜ (at ≤ 2303) × (shift ≤ 255) × (length (now start) ≡ 510) × (length (now end) ≡ 510) ⌝ }
+    ensures { λ _. ⌜ SpansCopied (now (graph .entry)) (size (now (graph .entry))) at shift (now (start .entry)) (now (end .entry)) (now (start .exit)) (now (end .exit)) ⌝ }
 {
+    let nodes = graph[0] as usize;
+    let first = graph[1] as usize;
     let mut v = 0;
     while v < nodes {
-        start[shift + v] = first[v] + (at as u16);
-        end[shift + v] = first[v + 1] + (at as u16);
+        let row = graph[v + 1] as usize - first + at;
+        let next = graph[v + 2] as usize - first + at;
+        start[shift + v] = (row + layout::HEADER) as u16;
+        end[shift + v] = next as u16;
         v += 1;
     }
 }

@@ -1,35 +1,32 @@
-// The graph of the classes in compressed rows: its nodes are the nodes of both graphs, of which those that represent no class
-// have no links.
+// The graph of the classes in words: its nodes are the nodes of both graphs, of which those that represent no class have no links.
 
+use layout::SCALE;
 ghost use Prim.Native.Nat.{ℕ, _+_, _≤_, _<_};
 ghost use lib.ListN.{length, getD};
 ghost use mathlib.Core.Path.{_≡_};
-ghost use Rattle.classes.specs.Classes.{At, rowLength, sumTo};
-ghost use Rattle.classes.specs.Merge.{Room};
-ghost use Rattle.unify.specs.Rows.{ClassRows, RowCopied, rowEnd};
+ghost use Rattle.layout.specs.Layout.{targetAt};
+ghost use Rattle.unify.specs.Lowered.{Below};
+ghost use Rattle.unify.specs.Rows.{ClassGraph, Fillable, RowCopied, endOfRow};
 
 // Copies a row to the places from `at` on, each target by its class. Answers the next place.
 pub fn copy_row<'a>(
     class: &'a [u16; 510],
-    pool_features: &'a [u8],
-    pool_targets: &'a [u16],
+    pool: &'a [u16],
     start: usize,
     end: usize,
     at: usize,
-    features: &mut [u8; 4096],
-    targets: &mut [u16; 4096],
+    graph: &mut [u16; 5118],
 ) -> usize
-    requires { ⌜ (start ≤ end) × Room end (now «pool_features») (now «pool_targets») × (at + end ≤ 4096 + start) ⌝ }
-    requires { ⌜ ((k : ℕ) → start ≤ k → k < end → getD (now «pool_targets») k 0 < 510) ⌝ }
-    requires { ⌜ (length (now features) ≡ 4096) × (length (now targets) ≡ 4096) ⌝ }
-    ensures { λ r. ⌜ RowCopied (now (class .entry)) (now («pool_features» .entry)) (now («pool_targets» .entry)) start end at (now (features .entry)) (now (targets .entry)) (now (features .exit)) (now (targets .exit)) r ⌝ }
+    requires { ⌜ (start ≤ end) × (end ≤ length (now pool)) × (at + end ≤ 5118 + start) × (length (now graph) ≡ 5118) ⌝ }
+    requires { ⌜ ((k : ℕ) → start ≤ k → k < end → (targetAt (now pool) k < 510) × (getD (now class) (targetAt (now pool) k) 0 < 510)) ⌝ }
+    ensures { λ r. ⌜ RowCopied (now (class .entry)) (now (pool .entry)) start end at (now (graph .entry)) (now (graph .exit)) r ⌝ }
 {
     let mut k = start;
     let mut next = at;
     while k < end {
-        let w = pool_targets[k] as usize;
-        features[next] = pool_features[k];
-        targets[next] = class[w];
+        let w = pool[k];
+        let t = (w % SCALE) as usize;
+        graph[next] = layout::link(w / SCALE, class[t]);
         next += 1;
         k += 1;
     }
@@ -44,8 +41,8 @@ fn end_of_row<'a>(
     x: usize,
 ) -> usize
     requires { ⌜ (x < 510) × (getD (now class) x 0 < 510) ⌝ }
-    requires { ⌜ (getD (now start) x 0 ≤ getD (now end) x 0) × (getD (now end) x 0 ≤ 36672) ⌝ }
-    ensures { λ r. ⌜ r ≡ rowEnd (now (class .entry)) (now (start .entry)) (now (end .entry)) x ⌝ }
+    requires { ⌜ (getD (now start) x 0 ≤ getD (now end) x 0) × (getD (now end) x 0 ≤ 37182) ⌝ }
+    ensures { λ r. ⌜ r ≡ endOfRow (now (class .entry)) (now (start .entry)) (now (end .entry)) x ⌝ }
 {
     let c = class[x] as usize;
     if c == x {
@@ -54,43 +51,31 @@ fn end_of_row<'a>(
     start[x] as usize
 }
 
-// Fills the rows of the graph of the classes.
+// Builds the graph of the classes.
 pub fn quotient<'a>(
     nodes: usize,
     class: &'a [u16; 510],
+    labels: &'a [u8; 510],
     start: &'a [u16; 510],
     end: &'a [u16; 510],
-    pool_features: &'a [u8],
-    pool_targets: &'a [u16],
-    first: &mut [u16; 511],
-    features: &mut [u8; 4096],
-    targets: &mut [u16; 4096],
+    pool: &'a [u16],
+    graph: &mut [u16; 5118],
 )
-    requires { ⌜ nodes ≤ 510 ⌝ }
-    requires { ⌜ (length (now first) ≡ 511) × (length (now features) ≡ 4096) × (length (now targets) ≡ 4096) ⌝ }
-    requires { ⌜ ((x : ℕ) → x < nodes → getD (now class) x 0 < 510) ⌝ }
-    requires { ⌜ ((x : ℕ) → x < nodes → (getD (now start) x 0 ≤ getD (now end) x 0) × (getD (now end) x 0 ≤ 36672) × Room (getD (now end) x 0) (now «pool_features») (now «pool_targets»)) ⌝ }
-    requires { ⌜ ((x k : ℕ) → x < nodes → At (now start) (now end) x k → getD (now «pool_targets») k 0 < 510) ⌝ }
-    requires { ⌜ sumTo nodes (rowLength (λ y. getD (now class) y 0) (now start) (now end)) ≤ 4096 ⌝ }
-    ensures { λ _. ⌜ ClassRows nodes (now (class .entry)) (now (start .entry)) (now (end .entry)) (now («pool_features» .entry)) (now («pool_targets» .entry)) (now (first .exit)) (now (features .exit)) (now (targets .exit)) ⌝ }
+    requires { ⌜ (length (now graph) ≡ 5118) × Below 256 (now labels) ⌝ }
+    requires { ⌜ Fillable nodes (now class) (now start) (now end) (now pool) ⌝ }
+    ensures { λ _. ⌜ ClassGraph nodes (now (class .entry)) (now (labels .entry)) (now (start .entry)) (now (end .entry)) (now (pool .entry)) (now (graph .exit)) ⌝ }
 {
-    let mut links = 0;
+    let mut at = nodes + 2;
+    graph[0] = nodes as u16;
+    graph[1] = at as u16;
     let mut x = 0;
-    first[0] = 0;
     while x < nodes {
+        let c = class[x] as usize;
+        graph[at] = labels[c] as u16;
         let row_start = start[x] as usize;
         let row_end = end_of_row(class, start, end, x);
-        links = copy_row(
-            class,
-            pool_features,
-            pool_targets,
-            row_start,
-            row_end,
-            links,
-            features,
-            targets,
-        );
+        at = copy_row(class, pool, row_start, row_end, at + layout::HEADER, graph);
+        graph[x + 2] = at as u16;
         x += 1;
-        first[x] = links as u16;
     }
 }

@@ -1,5 +1,4 @@
--- Laws of the walks over arrays.
-pub mod Colours
-pub mod Numbering
-pub mod VisitRows
-pub mod Places
+-- Laws of the walks over a graph.
+pub mod Visiting
+pub mod GraphVisit
+pub mod Colouring

@@ -1,5 +1,4 @@
--- The arrays that hold a graph, and what walks over them find.
-pub mod Arrays
-pub mod Promise
-pub mod Acyclic
-pub mod Numbering
+-- Walks over a graph, and what they find.
+pub mod Walks
+pub mod Visiting
+pub mod Colouring

@@ -1,5 +1,5 @@
-// Walks over a graph in compressed rows, lent as arrays: whether it has a cycle, with an order of the nodes that has targets
-// first, and the numbering by first visit. They serve records, and the up to 510 nodes and 4,096 links of a unification.
+// Walks over a decoded graph: whether it has a cycle, with an order of the nodes that has targets first, and the numbering by
+// first visit. They serve records, and the up to 510 nodes and 4,096 links of a unification.
 
-pub mod acyclic;
-pub mod number;
+pub mod cycle;
+pub mod numbering;

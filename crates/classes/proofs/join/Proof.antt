@@ -1,5 +1,6 @@
-use native.Mathlib.Omega.{arith}
+use mathlib.Core.Path.{refl}
 use Rattle.classes.proofs.Merging.{merged-short}
+use native.Mathlib.Omega.{arith}
 use borrow.Author.Needs.{needs}
 use Rattle.classes.proofs.join.Statement.{statement}
 use Rattle.classes.proofs.join.Tie as tie
@@ -40,17 +41,14 @@ element-copy-out-b-end c = search needs
 cast-b-end : tie.Need-cast-b-end
 cast-b-end c = search needs
 
-merge-requires : tie.Need-merge-requires
-merge-requires c κs = search needs
+cast-class : tie.Need-cast-class
+cast-class c = search needs
 
-cast-parent : tie.Need-cast-parent
-cast-parent c = search needs
+mul-class : tie.Need-mul-class
+mul-class c = search needs
 
-mul-parent : tie.Need-mul-parent
-mul-parent c = search needs
-
-element-write-parent : tie.Need-element-write-parent
-element-write-parent c = search needs
+element-write-class : tie.Need-element-write-class
+element-write-class c = search needs
 
 cast-start : tie.Need-cast-start
 cast-start c = search needs
@@ -61,8 +59,11 @@ mul-start c = search needs
 element-write-start : tie.Need-element-write-start
 element-write-start c = search needs
 
+merge-requires : tie.Need-merge-requires
+merge-requires c κs = search needs
+
 cast-end : tie.Need-cast-end
-cast-end c = let st = c .before .before .before .before .before .before .before .before .before .before .before .before .before .before .before .before in omega (arith, merged-short (c .before .before .before .before .before .merge .ensures) (st .pre .1 .1 .1 .0) (st .pre .1 .1 .1 .1 .0), st .pre .1 .1 .1 .1 .1 .0)
+cast-end c = omega (arith, merged-short (c .before .before .before .merge .ensures) (c .before .before .before .before .before .before .before .before .before .before .before .before .pre .1 .1 .0) (c .before .before .before .before .before .before .before .before .before .before .before .before .pre .1 .1 .1 .0), c .before .before .before .before .before .before .before .before .before .before .before .before .pre .1 .1 .1 .1 .0)
 
 mul-end : tie.Need-mul-end
 mul-end c = search needs
@@ -73,11 +74,8 @@ element-write-end c = search needs
 same-length : tie.Need-same-length
 same-length c = search needs
 
-same-length-2 : tie.Need-same-length-2
-same-length-2 c = search needs
-
 returns : tie.Need-returns
-returns c = search needs
+returns c = (c .before .before .before .merge .ensures, (refl, (refl, refl)))
 
 pub join-spec : {M : Type 1} → statement M
 join-spec =
@@ -95,16 +93,15 @@ join-spec =
     mul-b-end
     element-copy-out-b-end
     cast-b-end
-    merge-requires
-    cast-parent
-    mul-parent
-    element-write-parent
+    cast-class
+    mul-class
+    element-write-class
     cast-start
     mul-start
     element-write-start
+    merge-requires
     cast-end
     mul-end
     element-write-end
     same-length
-    same-length-2
     returns)

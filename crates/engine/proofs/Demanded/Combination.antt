@@ -17,6 +17,7 @@ use Rattle.graphs.proofs.Lists.{tells-eqb}
 use Rattle.graphs.proofs.Below.{same-refl}
 use Rattle.graphs.proofs.Form.Invariant.{same-canonical}
 use Rattle.graphs.proofs.Unification.Beside.{same-beside}
+use Rattle.lattice.specs.Label.{Label}
 use Rattle.lattice.specs.Table as table
 use Rattle.lattice.specs.Reply.{opened}
 use Rattle.lattice.specs.Labels.{typeLabels, OfAnySize, GreatestOfAnySize, IsCombination, TypeClash}
@@ -60,7 +61,7 @@ pub other-refusal : (w : Written) (k : ℕ) → refusal (replyOf w) ≡ some k �
 other-refusal w k e not-room not-large = ⊎-elim not-room not-large (written-refusal w k e)
 
 module _ (out : List ℕ) where
-  combined-cycle : (o : Unified ℕ (ℕ ⊎ ℕ)) → (combined o out .reply ≡ replies.Cycle) ↔ (o ≡ cycle)
+  combined-cycle : (o : Unified Label (ℕ ⊎ ℕ)) → (combined o out .reply ≡ replies.Cycle) ↔ (o ≡ cycle)
   combined-cycle cycle = (λ _. refl, λ _. refl)
   combined-cycle clash = (λ q. let z : _≡_ {A = ℕ} 0 1 = cc in absurd (omega arith), λ q. ap (λ o. combined o out .reply) q)
   combined-cycle (unified u) = (
@@ -68,7 +69,7 @@ module _ (out : List ℕ) where
     λ q. ap (λ o. combined o out .reply) q,
   )
 
-  combined-clash : (o : Unified ℕ (ℕ ⊎ ℕ)) → (combined o out .reply ≡ replies.Clash) ↔ (o ≡ clash)
+  combined-clash : (o : Unified Label (ℕ ⊎ ℕ)) → (combined o out .reply ≡ replies.Clash) ↔ (o ≡ clash)
   combined-clash cycle = (λ q. let z : _≡_ {A = ℕ} 0 1 = cc in absurd (omega arith), λ q. ap (λ o. combined o out .reply) q)
   combined-clash clash = (λ _. refl, λ _. refl)
   combined-clash (unified u) = (
@@ -76,7 +77,7 @@ module _ (out : List ℕ) where
     λ q. ap (λ o. combined o out .reply) q,
   )
 
-module _ (n : ℕ) (t a b : List ℕ) (g h : List (Row ℕ)) (given : Given n t a b g h) where
+module _ (n : ℕ) (t a b : List ℕ) (g h : List (Row Label)) (given : Given n t a b g h) where
   accepts : table.accepted n t ≡ true
   accepts = opened-accepted n t (opened n t) refl (given .opens)
 
@@ -86,7 +87,7 @@ module _ (n : ℕ) (t a b : List ℕ) (g h : List (Row ℕ)) (given : Given n t 
   second-size : OfAnySize n t (graphOfRows h)
   second-size = accepted-of-any-size n b h (given .second) t
 
-  abbrev joint : Unified ℕ (ℕ ⊎ ℕ)
+  abbrev joint : Unified Label (ℕ ⊎ ℕ)
   joint = answer n t accepts eqb eqb tells-eqb tells-eqb (graphOfRows g) (graphOfRows h) first-size second-size
 
   module _ (out : List ℕ) where
@@ -132,33 +133,33 @@ module _ (n : ℕ) (t a b : List ℕ) (g h : List (Row ℕ)) (given : Given n t 
     pub data Told : Type 1 where
       refused-cycle : unifying n t a b out ≡ refusing replies.Cycle out → Told
       refused-clash : unifying n t a b out ≡ refusing replies.Clash out → Told
-      written : (u : Graph ℕ (ℕ ⊎ ℕ)) → IsCombination n t (graphOfRows g) (graphOfRows h) u →
+      written : (u : Graph Label (ℕ ⊎ ℕ)) → IsCombination n t (graphOfRows g) (graphOfRows h) u →
           GreatestOfAnySize n t (graphOfRows g) (graphOfRows h) u → unifying n t a b out ≡ resultFor sameEither u out → Told
 
     pub combination-told : Told
     combination-told = go joint refl
       where
-        go : (o : Unified ℕ (ℕ ⊎ ℕ)) → joint ≡ o → Told
-        go cycle q = refused-cycle (unifying-is ∙ ap (λ (o : Unified ℕ (ℕ ⊎ ℕ)). combined o out) q)
-        go clash q = refused-clash (unifying-is ∙ ap (λ (o : Unified ℕ (ℕ ⊎ ℕ)). combined o out) q)
+        go : (o : Unified Label (ℕ ⊎ ℕ)) → joint ≡ o → Told
+        go cycle q = refused-cycle (unifying-is ∙ ap (λ (o : Unified Label (ℕ ⊎ ℕ)). combined o out) q)
+        go clash q = refused-clash (unifying-is ∙ ap (λ (o : Unified Label (ℕ ⊎ ℕ)). combined o out) q)
         go (unified u) q =
             let (size, is) =
             unification-combination n t accepts eqb eqb tells-eqb tells-eqb (graphOfRows g) (graphOfRows h) first-size second-size u q in
             written u is (combination-greatest n t accepts (graphOfRows g) (graphOfRows h) first-size second-size u size is)
-            (unifying-is ∙ ap (λ (o : Unified ℕ (ℕ ⊎ ℕ)). combined o out) q)
+            (unifying-is ∙ ap (λ (o : Unified Label (ℕ ⊎ ℕ)). combined o out) q)
 
     -- where 9 and 10 are not replied, the combination exists
     pub exists : ((unifying n t a b out .reply ≡ replies.Cycle) ⊎ (unifying n t a b out .reply ≡ replies.Clash) → ⊥) →
-        (u : Graph ℕ (ℕ ⊎ ℕ)) × IsCombination n t (graphOfRows g) (graphOfRows h) u × GreatestOfAnySize n t (graphOfRows g) (graphOfRows h) u
+        (u : Graph Label (ℕ ⊎ ℕ)) × IsCombination n t (graphOfRows g) (graphOfRows h) u × GreatestOfAnySize n t (graphOfRows g) (graphOfRows h) u
     exists other = go combination-told
       where
-        go : Told → (u : Graph ℕ (ℕ ⊎ ℕ)) × IsCombination n t (graphOfRows g) (graphOfRows h) u × GreatestOfAnySize n t (graphOfRows g) (graphOfRows h) u
+        go : Told → (u : Graph Label (ℕ ⊎ ℕ)) × IsCombination n t (graphOfRows g) (graphOfRows h) u × GreatestOfAnySize n t (graphOfRows g) (graphOfRows h) u
         go (refused-cycle e) = absurd (other (inl (ap (λ (r : Result). r .reply) e)))
         go (refused-clash e) = absurd (other (inr (ap (λ (r : Result). r .reply) e)))
         go (written u is best e) = (u, is, best)
 
     -- Whatever graph is the greatest of any size below both, it is what the call writes.
-    module _ {C : Type 0} (same : C → C → Bool) (tells : Tells same) (u : Graph ℕ C)
+    module _ {C : Type 0} (same : C → C → Bool) (tells : Tells same) (u : Graph Label C)
         (best : GreatestOfAnySize n t (graphOfRows g) (graphOfRows h) u) where
       pub greatest-result : unifying n t a b out ≡ resultFor same u out
       greatest-result =
@@ -167,8 +168,8 @@ module _ (n : ℕ) (t a b : List ℕ) (g h : List (Row ℕ)) (given : Given n t 
           (best .of-any-size) (best .left) (best .right) in
           let other =
           unification-greatest n t accepts eqb eqb tells-eqb tells-eqb (graphOfRows g) (graphOfRows h) first-size second-size w e in
-          unifying-is ∙ ap (λ (o : Unified ℕ (ℕ ⊎ ℕ)). combined o out) e ∙
-          ap (λ (c : Canonical ℕ). resultOf (writtenOut c out))
+          unifying-is ∙ ap (λ (o : Unified Label (ℕ ⊎ ℕ)). combined o out) e ∙
+          ap (λ (c : Canonical Label). resultOf (writtenOut c out))
           (same-canonical (typeLabels n t) sameEither same tells-either tells w u
           (greatest-unique n t accepts (graphOfRows g) (graphOfRows h) w u other best))
 
@@ -190,7 +191,7 @@ module _ (n : ℕ) (t a b : List ℕ) (g h : List (Row ℕ)) (given : Given n t 
         let (u, is, best) = exists (length-other l q) in
         let wrote = greatest-writes sameEither tells-either u best .wrote l q in
         let bytes : List ℕ = take l (unifying n t a b out .output) in
-        let form : List (Row ℕ) = wrote .form in
+        let form : List (Row Label) = wrote .form in
         let reads : reading n bytes ≡ accepted form = wrote .reads in
         let greatest : GreatestOfAnySize n t (graphOfRows g) (graphOfRows h) (graphOfRows form) =
         same-greatest n t accepts (graphOfRows g) (graphOfRows h) u (graphOfRows g) (graphOfRows form) (same-refl (graphOfRows g)) (wrote .means) best in

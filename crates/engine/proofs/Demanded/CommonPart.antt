@@ -6,6 +6,7 @@ use mathlib.Core.List.{List}
 use Prim.Native.Nat.{ℕ}
 use lib.ListN.{take}
 use Rattle.graphs.specs.Rows.{Row}
+use Rattle.lattice.specs.Label.{Label}
 use Rattle.lattice.specs.Table as table
 use Rattle.lattice.specs.Reply.{opened}
 use Rattle.lattice.specs.Labels.{LeastOfAnySize}
@@ -21,7 +22,7 @@ use Rattle.engine.specs.Demand.{Given, Writes, common, CommonPart}
 use Rattle.engine.proofs.Results.{result-writes}
 use Rattle.engine.proofs.Demanded.Order.{order-exact}
 
-module _ (n : ℕ) (t a b : List ℕ) (s g : List (Row ℕ)) (given : Given n t a b s g) where
+module _ (n : ℕ) (t a b : List ℕ) (s g : List (Row Label)) (given : Given n t a b s g) where
   pub accepts : table.accepted n t ≡ true
   accepts = opened-accepted n t (opened n t) refl (given .opens)
 
@@ -44,7 +45,7 @@ module _ (n : ℕ) (t a b : List ℕ) (s g : List (Row ℕ)) (given : Given n t 
     common-part l q =
         let wrote = common-part-written .wrote l q in
         let bytes : List ℕ = take l (generalizing n t a b out .output) in
-        let form : List (Row ℕ) = wrote .form in
+        let form : List (Row Label) = wrote .form in
         let reads : reading n bytes ≡ accepted form = wrote .reads in
         let least : LeastOfAnySize n t (graphOfRows s) (graphOfRows g) (graphOfRows form) =
         same-least n t accepts (graphOfRows s) (graphOfRows g) (common n t s g) (graphOfRows form) (wrote .means) common-part-exists in

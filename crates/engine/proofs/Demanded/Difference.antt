@@ -15,6 +15,7 @@ use Rattle.graphs.specs.Order.{subsumes}
 use Rattle.graphs.proofs.Lists.{tells-eqb}
 use Rattle.graphs.proofs.Search.{true-false, not-true}
 use Rattle.graphs.proofs.Below.{same-refl, same-sym}
+use Rattle.lattice.specs.Label.{Label}
 use Rattle.lattice.specs.Table as table
 use Rattle.lattice.specs.Reply.{opened}
 use Rattle.lattice.specs.Labels.{typeLabels}
@@ -59,7 +60,7 @@ module _ (o : Outcome) (out : List ℕ) where
     λ (_, q). true-false refl q,
   )
 
-module _ (n : ℕ) (t a b : List ℕ) (g s : List (Row ℕ)) (given : Given n t a b g s) where
+module _ (n : ℕ) (t a b : List ℕ) (g s : List (Row Label)) (given : Given n t a b g s) where
   accepts : table.accepted n t ≡ true
   accepts = opened-accepted n t (opened n t) refl (given .opens)
 
@@ -67,7 +68,7 @@ module _ (n : ℕ) (t a b : List ℕ) (g s : List (Row ℕ)) (given : Given n t 
   general-rules = accepted-rules n a g (given .first)
 
   -- s in written form
-  abbrev form : List (Row ℕ)
+  abbrev form : List (Row Label)
   form = accepted-fits n b s (given .second) .0
 
   form-is : canonical eqb (graphOfRows s) ≡ written form
@@ -91,7 +92,7 @@ module _ (n : ℕ) (t a b : List ℕ) (g s : List (Row ℕ)) (given : Given n t 
   lies-exact : (lies ≡ true) ↔ Below (typeLabels n t) (graphOfRows s) (graphOfRows g)
   lies-exact =
       subst
-      (λ (rows : List (Row ℕ)). (subsumes (typeLabels n t) eqb eqb (graphOfRows rows) (graphOfRows g) (length g) ≡ true) ↔
+      (λ (rows : List (Row Label)). (subsumes (typeLabels n t) eqb eqb (graphOfRows rows) (graphOfRows g) (length g) ≡ true) ↔
       Below (typeLabels n t) (graphOfRows s) (graphOfRows g))
       (sym (ap numbered form-is)) (
         λ q. same-below-left (same-sym means) (order-test n t form g general-rules .0 q),
@@ -108,12 +109,12 @@ module _ (n : ℕ) (t a b : List ℕ) (g s : List (Row ℕ)) (given : Given n t 
 
     pub remainder-small : Large (remainder n t g s) → ⊥
     remainder-small =
-        subst (λ (k : Graph ℕ ℕ). Large k → ⊥) (sym remainder-is) (rows-small n t accepts g form general-rules form-rules form-below differ)
+        subst (λ (k : Graph Label ℕ). Large k → ⊥) (sym remainder-is) (rows-small n t accepts g form general-rules form-rules form-below differ)
 
     pub remainder-restores : Restores n t (remainder n t g s) (graphOfRows g) (graphOfRows s)
     remainder-restores =
         let made = rows-restore n t accepts g form general-rules form-rules form-below differ in
-        subst (λ (k : Graph ℕ ℕ). Restores n t k (graphOfRows g) (graphOfRows s)) (sym remainder-is)
+        subst (λ (k : Graph Label ℕ). Restores n t k (graphOfRows g) (graphOfRows s)) (sym remainder-is)
         (record {
           of-any-size = made .of-any-size;
           restores =
@@ -126,7 +127,7 @@ module _ (n : ℕ) (t a b : List ℕ) (g s : List (Row ℕ)) (given : Given n t 
         })
 
   -- what means the same restores the same
-  restores-again : (d : Graph ℕ ℕ) (again : List (Row ℕ)) → SameMeaning (typeLabels n t) d (graphOfRows again) →
+  restores-again : (d : Graph Label ℕ) (again : List (Row Label)) → SameMeaning (typeLabels n t) d (graphOfRows again) →
       Restores n t d (graphOfRows g) (graphOfRows s) → Restores n t (graphOfRows again) (graphOfRows g) (graphOfRows s)
   restores-again d again same made =
       record {
@@ -137,7 +138,7 @@ module _ (n : ℕ) (t a b : List ℕ) (g s : List (Row ℕ)) (given : Given n t 
         combines = λ test tells e c more. made .combines test tells e c (as-general e more);
       }
     where
-      as-general : {E : Type 0} (e : Graph ℕ E) → MoreGeneral n t e (graphOfRows again) → MoreGeneral n t e d
+      as-general : {E : Type 0} (e : Graph Label E) → MoreGeneral n t e (graphOfRows again) → MoreGeneral n t e d
       as-general e (above, strict) = (same-below-left (same-sym same) above, λ z. strict (same-below-right same z))
 
   module _ (out : List ℕ) where
@@ -200,7 +201,7 @@ module _ (n : ℕ) (t a b : List ℕ) (g s : List (Row ℕ)) (given : Given n t 
         go (differs differ below) =
             let wrote = remainder-writes differ below .wrote l q in
             let bytes : List ℕ = take l (differing n t a b out .output) in
-            let again : List (Row ℕ) = wrote .form in
+            let again : List (Row Label) = wrote .form in
             let reads : reading n bytes ≡ accepted again = wrote .reads in
             let restores : Restores n t (graphOfRows again) (graphOfRows g) (graphOfRows s) =
             restores-again (remainder n t g s) again (wrote .means) (remainder-restores differ below) in

@@ -13,6 +13,7 @@ use Rattle.graphs.specs.Number.{Canonical, canonical, written}
 use Rattle.graphs.proofs.Lists.{tells-eqb}
 use Rattle.graphs.proofs.Below.{same-sym}
 use Rattle.graphs.proofs.Form.Invariant.{same-canonical}
+use Rattle.lattice.specs.Label.{Label}
 use Rattle.lattice.specs.declared.Opened.the-variants.{Accepted}
 use Rattle.lattice.specs.Reply.{opened}
 use Rattle.lattice.specs.Labels.{typeLabels}
@@ -30,19 +31,19 @@ use Rattle.engine.proofs.Results.{rewriting-is, result-writes}
 use Rattle.engine.proofs.Demanded.Order.{order-exact}
 use Rattle.engine.proofs.Demanded.Output.{rewriting-small}
 
-module _ (n : ℕ) (t a : List ℕ) (rows : List (Row ℕ)) (opens : opened n t ≡ Accepted) (reads : reading n a ≡ accepted rows) (out : List ℕ) where
+module _ (n : ℕ) (t a : List ℕ) (rows : List (Row Label)) (opens : opened n t ≡ Accepted) (reads : reading n a ≡ accepted rows) (out : List ℕ) where
   -- rewriting refuses an accepted record by 8 alone, exactly where it is due
   pub rewriting-writes : Writes n t eqb (graphOfRows rows) out (rewriting n t a out)
   rewriting-writes =
       subst (Writes n t eqb (graphOfRows rows) out) (sym (rewriting-is n t a rows opens reads out))
       (result-writes n t eqb tells-eqb (graphOfRows rows) (accepted-of-any-size n a rows reads t) out)
 
-module _ (n : ℕ) (t a b : List ℕ) (s g : List (Row ℕ)) (given : Given n t a b s g) where
+module _ (n : ℕ) (t a b : List ℕ) (s g : List (Row Label)) (given : Given n t a b s g) where
   -- equal meaning is the same reply and output
   same-rewriting : SameMeaning (typeLabels n t) (graphOfRows s) (graphOfRows g) → (out : List ℕ) → rewriting n t a out ≡ rewriting n t b out
   same-rewriting m out =
       rewriting-is n t a s (given .opens) (given .first) out ∙
-      ap (λ (c : Canonical ℕ). resultOf (writtenOut c out))
+      ap (λ (c : Canonical Label). resultOf (writtenOut c out))
       (same-canonical (typeLabels n t) eqb eqb tells-eqb tells-eqb (graphOfRows s) (graphOfRows g) m) ∙
       sym (rewriting-is n t b g (given .opens) (given .second) out)
 
@@ -64,7 +65,7 @@ module _ (n : ℕ) (t a b : List ℕ) (s g : List (Row ℕ)) (given : Given n t 
       ((out : List ℕ) → rewriting n t a out ≡ rewriting n t b out)
   meaning-exact = (same-rewriting, λ all. go all (accepted-fits n a s (given .first)))
     where
-      go : ((out : List ℕ) → rewriting n t a out ≡ rewriting n t b out) → (form : List (Row ℕ)) × (canonical eqb (graphOfRows s) ≡ written form) →
+      go : ((out : List ℕ) → rewriting n t a out ≡ rewriting n t b out) → (form : List (Row Label)) × (canonical eqb (graphOfRows s) ≡ written form) →
           SameMeaning (typeLabels n t) (graphOfRows s) (graphOfRows g)
       go all (form, e) =
           let room : List ℕ = encoded form in
@@ -90,7 +91,7 @@ module _ (n : ℕ) (t a b : List ℕ) (s g : List (Row ℕ)) (given : Given n t 
       )
 
 -- What rewriting writes.
-module _ (n : ℕ) (t a : List ℕ) (rows : List (Row ℕ)) (opens : opened n t ≡ Accepted) (reads : reading n a ≡ accepted rows) (out : List ℕ) where
+module _ (n : ℕ) (t a : List ℕ) (rows : List (Row Label)) (opens : opened n t ≡ Accepted) (reads : reading n a ≡ accepted rows) (out : List ℕ) where
   pub written-again : (l : ℕ) → rewriting n t a out .reply ≡ Length l → Rewritten n t a rows (take l (rewriting n t a out .output))
   written-again l q =
       let wrote = rewriting-writes n t a rows opens reads out .wrote l q in

@@ -12,6 +12,7 @@ use lib.ListN.{length, take}
 use Rattle.graphs.specs.Graph.{Graph, Tells}
 use Rattle.graphs.specs.Rows.{Row}
 use Rattle.graphs.proofs.Lists.{tells-eqb}
+use Rattle.lattice.specs.Label.{Label}
 use Rattle.lattice.specs.declared.TableFault.{TableFault}
 use Rattle.lattice.specs.declared.Opened.{Opened}
 use Rattle.lattice.specs.declared.Opened.the-variants as opened
@@ -70,7 +71,7 @@ module _ (n : ℕ) (out : List ℕ) where
       none : (l : ℕ) → r ≡ replies.Length l → ⊥
       none l q = let z : _≡_ {A = ℕ} 0 1 = cc (e, ap refusal q) in omega arith
 
-  graph-leaves : (t : List ℕ) {C : Type 0} (same : C → C → Bool) → Tells same → (k : Graph ℕ C) → OfAnySize n t k →
+  graph-leaves : (t : List ℕ) {C : Type 0} (same : C → C → Bool) → Tells same → (k : Graph Label C) → OfAnySize n t k →
       Leaves n out (resultFor same k out)
   graph-leaves t same tells k size =
       let writes = result-writes n t same tells k size out in
@@ -92,7 +93,7 @@ module _ (n : ℕ) (out : List ℕ) where
         length-is = λ l q.
             let wrote = writes .wrote l q in
             let (_, (form, e, (is, _))) = writes .fits l .0 q in
-            ap length (wrote .bytes) ∙ ap (λ (rows : List (Row ℕ)). length (encoded rows)) (written-injective (sym (wrote .fits) ∙ e)) ∙ is;
+            ap length (wrote .bytes) ∙ ap (λ (rows : List (Row Label)). length (encoded rows)) (written-injective (sym (wrote .fits) ∙ e)) ∙ is;
         others = λ l q. writes .wrote l q .others;
       }
 
@@ -100,7 +101,7 @@ module _ (n : ℕ) (out : List ℕ) where
   module _ (t : List ℕ) (P : Result → Type 0) (table-refused : (fault : TableFault) → P (refusing (replies.Table fault) out))
       (graph-refused : (fault : GraphFault) (side : Side) → P (refusing (replies.Graph fault side) out)) where
     of-one : (bytes : List ℕ) →
-        ((rows : List (Row ℕ)) → reading n bytes ≡ accepted rows → P (resultFor eqb (graphOfRows rows) out)) →
+        ((rows : List (Row Label)) → reading n bytes ≡ accepted rows → P (resultFor eqb (graphOfRows rows) out)) →
         P (rewriting n t bytes out)
     unfolding rewriting
     of-one bytes next = go (table.opened n t)
@@ -113,7 +114,7 @@ module _ (n : ℕ) (out : List ℕ) where
         go (opened.Refused fault) = table-refused fault
         go opened.Accepted = read (reading n bytes) refl
 
-    of-two : (a b : List ℕ) (next : List (Row ℕ) → List (Row ℕ) → Result) → ((g h : List (Row ℕ)) → Given n t a b g h → P (next g h)) →
+    of-two : (a b : List ℕ) (next : List (Row Label) → List (Row Label) → Result) → ((g h : List (Row Label)) → Given n t a b g h → P (next g h)) →
         P (checked (λ r. refusing r out) (table.opened n t) (readBoth (λ r. refusing r out) (reading n a) (reading n b) next))
     of-two a b next holds = go (table.opened n t) refl
       where
@@ -129,7 +130,7 @@ module _ (n : ℕ) (out : List ℕ) where
         go opened.Accepted e = read e (reading n a) (reading n b) refl refl
 
 -- what follows for accepted records over an accepted table
-module _ (n : ℕ) (t a b : List ℕ) {g h : List (Row ℕ)} (given : Given n t a b g h) (out : List ℕ) where
+module _ (n : ℕ) (t a b : List ℕ) {g h : List (Row Label)} (given : Given n t a b g h) (out : List ℕ) where
   unifying-next : unifying n t a b out ≡ unifiedRows n t out g h
   unfolding unifying
   unifying-next = rw (given .opens, given .first, given .second)
@@ -164,7 +165,7 @@ module _ (n : ℕ) (t : List ℕ) (out : List ℕ) where
         of-two n out t (Leaves n out) table-leaves graph-fault-leaves a b (unifiedRows n t out)
         (λ g h given. subst (Leaves n out) (unifying-next n t a b given out) (leaves g h given (combination-told n t a b g h given out)))
       where
-        leaves : (g h : List (Row ℕ)) (given : Given n t a b g h) → Combined.Told n t a b g h given out → Leaves n out (unifying n t a b out)
+        leaves : (g h : List (Row Label)) (given : Given n t a b g h) → Combined.Told n t a b g h given out → Leaves n out (unifying n t a b out)
         leaves g h given (refused-cycle e) = subst (Leaves n out) (sym e) (refusing-leaves n out replies.Cycle 9 refl)
         leaves g h given (refused-clash e) = subst (Leaves n out) (sym e) (refusing-leaves n out replies.Clash 10 refl)
         leaves g h given (written u is best e) =
@@ -176,7 +177,7 @@ module _ (n : ℕ) (t : List ℕ) (out : List ℕ) where
         of-two n out t (Leaves n out) table-leaves graph-fault-leaves a b (differedRows n t out)
         (λ g s given. subst (Leaves n out) (differing-next n t a b given out) (leaves g s given (difference-told n t a b g s given out)))
       where
-        leaves : (g s : List (Row ℕ)) (given : Given n t a b g s) → Differed.Told n t a b g s given out → Leaves n out (differing n t a b out)
+        leaves : (g s : List (Row Label)) (given : Given n t a b g s) → Differed.Told n t a b g s given out → Leaves n out (differing n t a b out)
         leaves g s given (not-admitted e) = subst (Leaves n out) (sym e) (refusing-leaves n out replies.NotAdmitted 13 refl)
         leaves g s given (not-below e) = subst (Leaves n out) (sym e) (refusing-leaves n out replies.NotBelow 12 refl)
         leaves g s given (differs differ below) =
@@ -194,7 +195,7 @@ module _ (n : ℕ) (t : List ℕ) (out : List ℕ) where
   graph-fault-small : (fault : GraphFault) (side : Side) → NotLarge (refusing (replies.Graph fault side) out)
   graph-fault-small fault side e = let z : _≡_ {A = ℕ} 0 1 = cc in omega arith
 
-  graph-small : (k : Graph ℕ ℕ) → OfAnySize n t k → (Large k → ⊥) → NotLarge (resultFor eqb k out)
+  graph-small : (k : Graph Label ℕ) → OfAnySize n t k → (Large k → ⊥) → NotLarge (resultFor eqb k out)
   graph-small k size small e = small (result-writes n t eqb tells-eqb k size out .too-large .0 e)
 
   pub rewriting-small : (bytes : List ℕ) → rewriting n t bytes out .reply ≡ replies.TooLarge → ⊥
@@ -211,7 +212,7 @@ module _ (n : ℕ) (t : List ℕ) (out : List ℕ) where
       of-two n out t NotLarge table-small graph-fault-small a b (differedRows n t out)
       (λ g s given. subst NotLarge (differing-next n t a b given out) (small g s given (difference-told n t a b g s given out)))
     where
-      small : (g s : List (Row ℕ)) (given : Given n t a b g s) → Differed.Told n t a b g s given out → NotLarge (differing n t a b out)
+      small : (g s : List (Row Label)) (given : Given n t a b g s) → Differed.Told n t a b g s given out → NotLarge (differing n t a b out)
       small g s given (not-admitted e) = subst NotLarge (sym e) (λ q. let z : _≡_ {A = ℕ} 0 1 = cc in omega arith)
       small g s given (not-below e) = subst NotLarge (sym e) (λ q. let z : _≡_ {A = ℕ} 0 1 = cc in omega arith)
       small g s given (differs differ below) =

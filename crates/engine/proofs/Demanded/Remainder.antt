@@ -16,6 +16,7 @@ use Rattle.graphs.proofs.Lists.{tells-eqb}
 use Rattle.graphs.proofs.Unification.Beside.{Operands}
 use Rattle.graphs.proofs.Difference.ByNumber.{by-number-order}
 use Rattle.graphs.proofs.Difference.Computed.{Setting, residual-setting}
+use Rattle.lattice.specs.Label.{Label}
 use Rattle.lattice.specs.Table as table
 use Rattle.lattice.specs.Labels.{typeLabels, OfAnySize, GreatestOfAnySize}
 use Rattle.lattice.proofs.Laws.{zero-type}
@@ -52,7 +53,7 @@ fewer-reached {A = A} d s same links v (p, e) =
     p v e
 
 -- so it is not larger
-fewer-large : {A : Type 0} (d s : Graph ℕ A) → d .root ≡ s .root →
+fewer-large : {A : Type 0} (d s : Graph Label A) → d .root ≡ s .root →
     ((u v : A) (f : ℕ) → Reached d u → d .link u f ≡ some v → Reached s u × (s .link u f ≡ some v)) → Large d → Large s
 fewer-large d s same links (inl (xs, distinct, all, many)) =
     inl (xs, distinct, λ x m. fewer-reached d s same links x (all x m), many)
@@ -67,7 +68,7 @@ fewer-large d s same links (inr (ls, distinct, all, many)) =
       many,
     )
 
-module _ (n : ℕ) (t : List ℕ) (ok : table.accepted n t ≡ true) (g s : List (Row ℕ)) (general : Rules n g) (specific : Rules n s)
+module _ (n : ℕ) (t : List ℕ) (ok : table.accepted n t ≡ true) (g s : List (Row Label)) (general : Rules n g) (specific : Rules n s)
     (below : Below (typeLabels n t) (graphOfRows s) (graphOfRows g)) where
   general-size : OfAnySize n t (graphOfRows g)
   general-size = rules-of-any-size n g general t
@@ -93,7 +94,7 @@ module _ (n : ℕ) (t : List ℕ) (ok : table.accepted n t ≡ true) (g s : List
         (lift n t ok (graphOfRows s) .label v))
 
     -- the difference by those types
-    abbrev byTypes : Graph ℕ ℕ
+    abbrev byTypes : Graph Label ℕ
     byTypes =
         difference (typeLabels n t) eqb eqb byNumber (graphOfRows s) (from 0 (length s)) (graphOfRows g) (from 0 (length g)) (over s g)
         (λ v. wantedType v .0)
@@ -138,12 +139,12 @@ module _ (n : ℕ) (t : List ℕ) (ok : table.accepted n t ≡ true) (g s : List
         (fewer-large byTypes (graphOfRows s) refl
         (difference-links n t ok eqb eqb byNumber (graphOfRows s) (from 0 (length s)) (graphOfRows g) (from 0 (length g)) (over s g) wantedType
         specific-size general-size setting)
-        (subst (λ (k : Graph ℕ ℕ). Large k) rows-difference large))
+        (subst (λ (k : Graph Label ℕ). Large k) rows-difference large))
 
     -- It restores s with g, and nothing more general does.
     pub rows-restore : Restores n t (differenceRows n t g s) (graphOfRows g) (graphOfRows s)
     rows-restore =
-        subst (λ (k : Graph ℕ ℕ). Restores n t k (graphOfRows g) (graphOfRows s)) (sym rows-difference)
+        subst (λ (k : Graph Label ℕ). Restores n t k (graphOfRows g) (graphOfRows s)) (sym rows-difference)
         (record {
           of-any-size = size;
           restores = best;

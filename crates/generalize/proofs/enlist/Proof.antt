@@ -7,8 +7,8 @@ use Rattle.generalize.proofs.enlist.Tie as tie
 mul-mark : tie.Need-mul-mark
 mul-mark c = search needs
 
-slice-read-mark : tie.Need-slice-read-mark
-slice-read-mark c = search needs
+element-copy-out-mark : tie.Need-element-copy-out-mark
+element-copy-out-mark c = search needs
 
 returns : tie.Need-returns
 returns c = enlist-old _ _ _ _ (c .before .before .pre .0) (c .before .before .pre .1 .0) (c .before .before .pre .1 .1) (c .if1 .taken)
@@ -19,8 +19,8 @@ cast-marks c = search needs
 mul-marks : tie.Need-mul-marks
 mul-marks c = search needs
 
-slice-write-marks : tie.Need-slice-write-marks
-slice-write-marks c = search needs
+element-write-marks : tie.Need-element-write-marks
+element-write-marks c = search needs
 
 cast-queue : tie.Need-cast-queue
 cast-queue c = search needs
@@ -34,9 +34,6 @@ element-write-queue c = search needs
 add-result : tie.Need-add-result
 add-result c = search needs
 
-same-length : tie.Need-same-length
-same-length c = search needs
-
 returns-2 : tie.Need-returns-2
 returns-2 c = enlist-new _ _ _ _ (c .before .before .pre .0) (c .before .before .pre .1 .0) (c .before .before .pre .1 .1) (c .if1 .left)
 
@@ -45,14 +42,13 @@ enlist-spec =
     tie.close
     (tie.spec
     mul-mark
-    slice-read-mark
+    element-copy-out-mark
     returns
     cast-marks
     mul-marks
-    slice-write-marks
+    element-write-marks
     cast-queue
     mul-queue
     element-write-queue
     add-result
-    same-length
     returns-2)

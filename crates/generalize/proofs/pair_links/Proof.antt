@@ -1,21 +1,20 @@
 -- `pair_links` meets its contract: the links by features below a bound are added, the rows' rests have the others.
-use mathlib.Core.Path.{_≡_, ap}
+use mathlib.Core.Path.{_≡_, refl}
 use mathlib.Core.Logic.{inl, inr}
-use Prim.Native.Nat.{ℕ, suc, _+_, _-_, _<_}
-use native.Mathlib.Numerals.{add-one}
+use Prim.Native.Nat.{_+_, _-_}
 use native.Mathlib.Omega.{arith}
-use lib.ListN.{getD}
-use Rattle.generalize.proofs.Merging.{Merging, merge-start, merge-done, merge-left, merge-right, merge-room, merge-pair, merge-both}
+use Rattle.layout.specs.Layout.{rowEnd}
+use Rattle.generalize.proofs.Merging.{Merging, merge-start, merge-done, merge-ended, merge-left, merge-right, merge-room, merge-nodes, merge-both}
 use borrow.Author.Needs.{needs}
 use Rattle.generalize.proofs.pair_links.Statement.{statement}
 use Rattle.generalize.proofs.pair_links.Tie as tie
 
 abbrev Inv-loop : tie.InvT-loop
-Inv-loop a-first a-features a-targets b-first b-features b-targets u v marks₀ queue₀ features₀ targets₀ start known a-end b-end i₀ j₀ links₀ count₀ marks queue features targets i j links count =
-    (a-end ≡ getD a-first (suc u) 0) × (b-end ≡ getD b-first (suc v) 0) × Merging a-first a-features a-targets b-first b-features b-targets u v marks₀ queue₀ features₀ targets₀ start known i j links count marks queue features targets
+Inv-loop a b u v marks₀ queue₀ words₀ a-end b-end i₀ j₀ at₀ count₀ marks queue words i j at count =
+    (a-end ≡ rowEnd a u) × (b-end ≡ rowEnd b v) × Merging a b u v queue₀ words₀ (record { at = at₀; count = count₀ }) i j marks queue words (record { at = at; count = count })
 
 abbrev μ-loop : tie.MeasureT-loop
-μ-loop a-first a-features a-targets b-first b-features b-targets u v marks₀ queue₀ features₀ targets₀ start known a-end b-end i₀ j₀ links₀ count₀ marks queue features targets i j links count =
+μ-loop a b u v marks₀ queue₀ words₀ a-end b-end i₀ j₀ at₀ count₀ marks queue words i j at count =
     (a-end - i) + (b-end - j)
 
 add-a-end : tie.Need-add-a-end Inv-loop μ-loop
@@ -25,10 +24,10 @@ mul-a-end : tie.Need-mul-a-end Inv-loop μ-loop
 mul-a-end c = search needs
 
 shared-slice-read-a-end : tie.Need-shared-slice-read-a-end Inv-loop μ-loop
-shared-slice-read-a-end c = search needs
+shared-slice-read-a-end c = let st = c .before .before .before in st .pre .0 .sound .shaped .node (st .args .u) (st .pre .1 .1 .0 .0) .listed
 
 cast-a-end : tie.Need-cast-a-end Inv-loop μ-loop
-cast-a-end c = omega (arith, c .shared-slice-known7 .given (c .before .before .before .before .before .before .before .before .args .u + 1))
+cast-a-end c = omega (arith, c .shared-slice-known3 .given (c .before .before .before .args .u + 2))
 
 add-b-end : tie.Need-add-b-end Inv-loop μ-loop
 add-b-end c = search needs
@@ -37,124 +36,124 @@ mul-b-end : tie.Need-mul-b-end Inv-loop μ-loop
 mul-b-end c = search needs
 
 shared-slice-read-b-end : tie.Need-shared-slice-read-b-end Inv-loop μ-loop
-shared-slice-read-b-end c = search needs
+shared-slice-read-b-end c = let st = c .before .before .before .before in st .pre .1 .0 .sound .shaped .node (st .args .v) (st .pre .1 .1 .0 .1) .listed
 
 cast-b-end : tie.Need-cast-b-end Inv-loop μ-loop
-cast-b-end c = omega (arith, c .shared-slice-known8 .given (c .before .before .before .before .before .before .before .before .before .args .v + 1))
+cast-b-end c = omega (arith, c .shared-slice-known4 .given (c .before .before .before .before .args .v + 2))
+
+add-i : tie.Need-add-i Inv-loop μ-loop
+add-i c = search needs
 
 mul-i : tie.Need-mul-i Inv-loop μ-loop
 mul-i c = search needs
 
 shared-slice-read-i : tie.Need-shared-slice-read-i Inv-loop μ-loop
-shared-slice-read-i c = search needs
+shared-slice-read-i c = let st = c .before .before .before .before .before in omega (arith, st .pre .0 .sound .shaped .node (st .args .u) (st .pre .1 .1 .0 .0) .listed)
 
 cast-i : tie.Need-cast-i Inv-loop μ-loop
-cast-i c = search needs
+cast-i c = omega (arith, c .shared-slice-known5 .given (c .before .before .before .before .before .args .u + 1))
+
+add-i-2 : tie.Need-add-i-2 Inv-loop μ-loop
+add-i-2 c = omega (arith, c .shared-slice-known5 .given (c .before .before .before .before .before .args .u + 1))
+
+add-j : tie.Need-add-j Inv-loop μ-loop
+add-j c = search needs
 
 mul-j : tie.Need-mul-j Inv-loop μ-loop
 mul-j c = search needs
 
 shared-slice-read-j : tie.Need-shared-slice-read-j Inv-loop μ-loop
-shared-slice-read-j c = search needs
+shared-slice-read-j c = let st = c .before .before .before .before .before .before in omega (arith, st .pre .1 .0 .sound .shaped .node (st .args .v) (st .pre .1 .1 .0 .1) .listed)
 
 cast-j : tie.Need-cast-j Inv-loop μ-loop
-cast-j c = search needs
-
-loop-holds : tie.Need-loop-holds Inv-loop μ-loop
-loop-holds c = let st = c .before .before .before .before .before .before .before .before .before .before .before in (ap (λ (n : ℕ). getD (st .args .a-first .now) n 0) (add-one (st .args .u)), ap (λ (n : ℕ). getD (st .args .b-first .now) n 0) (add-one (st .args .v)), merge-start (st .pre .0) (st .pre .1 .0) (st .pre .1 .1 .0))
-
-same-length : tie.Need-same-length Inv-loop μ-loop
-same-length c = c .before .before .loop .inv .2 .added .marks-long
-
-returns : tie.Need-returns Inv-loop μ-loop
-returns c = let l = c .before .before in let st = c .before .before .before .before .before .before .before .before .before .before .before .before .before .before in merge-done (st .pre .0) (st .pre .1 .0) (l .loop .inv .2) (inr (omega (arith, c .if1 .taken, l .loop .inv .1, l .loop .inv .2 .right-high)))
-
-shared-slice-read-f : tie.Need-shared-slice-read-f Inv-loop μ-loop
-shared-slice-read-f c = search needs
-
-shared-slice-read-h : tie.Need-shared-slice-read-h Inv-loop μ-loop
-shared-slice-read-h c = search needs
-
-add-i : tie.Need-add-i Inv-loop μ-loop
-add-i c = search needs
-
-loop-less : tie.Need-loop-less Inv-loop μ-loop
-loop-less c = search needs
-
-loop-again : tie.Need-loop-again Inv-loop μ-loop
-loop-again c = let l = c .before .before .before .before .before in let st = c .before .before .before .before .before .before .before .before .before .before .before .before .before .before .before .before .before in let li : l .loop .i < getD (st .args .a-first .now) (suc (st .args .u)) 0 = omega (arith, c .before .before .before .before .loop-test .taken, l .loop .inv .0) in let ri : l .loop .j < getD (st .args .b-first .now) (suc (st .args .v)) 0 = omega (arith, c .before .before .before .if1 .left, l .loop .inv .1) in (l .loop .inv .0, l .loop .inv .1, merge-left (st .pre .0) (st .pre .1 .0) (l .loop .inv .2) li ri (omega (arith, c .if2 .taken)))
-
-add-j : tie.Need-add-j Inv-loop μ-loop
-add-j c = search needs
-
-loop-less-2 : tie.Need-loop-less-2 Inv-loop μ-loop
-loop-less-2 c = search needs
-
-loop-again-2 : tie.Need-loop-again-2 Inv-loop μ-loop
-loop-again-2 c = let l = c .before .before .before .before .before .before in let st = c .before .before .before .before .before .before .before .before .before .before .before .before .before .before .before .before .before .before in let li : l .loop .i < getD (st .args .a-first .now) (suc (st .args .u)) 0 = omega (arith, c .before .before .before .before .before .loop-test .taken, l .loop .inv .0) in let ri : l .loop .j < getD (st .args .b-first .now) (suc (st .args .v)) 0 = omega (arith, c .before .before .before .before .if1 .left, l .loop .inv .1) in (l .loop .inv .0, l .loop .inv .1, merge-right (st .pre .0) (st .pre .1 .0) (l .loop .inv .2) li ri (omega (arith, c .if3 .taken)))
-
-mul-pair : tie.Need-mul-pair Inv-loop μ-loop
-mul-pair c = search needs
-
-shared-slice-read-pair : tie.Need-shared-slice-read-pair Inv-loop μ-loop
-shared-slice-read-pair c = search needs
-
-cast-pair : tie.Need-cast-pair Inv-loop μ-loop
-cast-pair c = omega (arith, c .shared-slice-known13 .given (c .before .before .before .before .before .before .before .loop .i))
-
-mul-pair-2 : tie.Need-mul-pair-2 Inv-loop μ-loop
-mul-pair-2 c = omega (arith, c .shared-slice-known13 .given (c .before .before .before .before .before .before .before .loop .i))
-
-mul-pair-3 : tie.Need-mul-pair-3 Inv-loop μ-loop
-mul-pair-3 c = search needs
-
-shared-slice-read-pair-2 : tie.Need-shared-slice-read-pair-2 Inv-loop μ-loop
-shared-slice-read-pair-2 c = search needs
-
-cast-pair-2 : tie.Need-cast-pair-2 Inv-loop μ-loop
-cast-pair-2 c = let l = c .before .before .before .before .before .before .before .before in omega (arith, c .shared-slice-known14 .given (l .loop .i), c .shared-slice-known14 .given (l .loop .j))
-
-add-pair : tie.Need-add-pair Inv-loop μ-loop
-add-pair c = let l = c .before .before .before .before .before .before .before .before in omega (arith, c .before .shared-slice-known13 .given (l .loop .i), c .shared-slice-known14 .given (l .loop .i), c .shared-slice-known14 .given (l .loop .j))
-
-enlist-requires : tie.Need-enlist-requires Inv-loop μ-loop
-enlist-requires c κs = let l = c .before .before .before .before .before .before .before .before .before .before in let st = c .before .before .before .before .before .before .before .before .before .before .before .before .before .before .before .before .before .before .before .before .before .before in let li : l .loop .i < getD (st .args .a-first .now) (suc (st .args .u)) 0 = omega (arith, c .before .before .before .before .before .before .before .before .before .loop-test .taken, l .loop .inv .0) in let ri : l .loop .j < getD (st .args .b-first .now) (suc (st .args .v)) 0 = omega (arith, c .before .before .before .before .before .before .before .before .if1 .left, l .loop .inv .1) in (l .loop .inv .2 .added .after, (merge-pair (st .pre .0) (st .pre .1 .0) (l .loop .inv .2) li ri, merge-room (st .pre .0) (st .pre .1 .0) (l .loop .inv .2) li ri (st .pre .1 .1 .1 .1 .0) (st .pre .1 .1 .1 .1 .1) .0))
-
-element-write-features : tie.Need-element-write-features Inv-loop μ-loop
-element-write-features c = let l = c .before .before .before .before .before .before .before .before .before .before .before .before .before in let st = c .before .before .before .before .before .before .before .before .before .before .before .before .before .before .before .before .before .before .before .before .before .before .before .before .before in let li : l .loop .i < getD (st .args .a-first .now) (suc (st .args .u)) 0 = omega (arith, c .before .before .before .before .before .before .before .before .before .before .before .before .loop-test .taken, l .loop .inv .0) in let ri : l .loop .j < getD (st .args .b-first .now) (suc (st .args .v)) 0 = omega (arith, c .before .before .before .before .before .before .before .before .before .before .before .if1 .left, l .loop .inv .1) in merge-room (st .pre .0) (st .pre .1 .0) (l .loop .inv .2) li ri (st .pre .1 .1 .1 .1 .0) (st .pre .1 .1 .1 .1 .1) .1
-
-mul-targets : tie.Need-mul-targets Inv-loop μ-loop
-mul-targets c = let l = c .before .before .before .before .before .before .before .before .before .before .before .before .before in let st = c .before .before .before .before .before .before .before .before .before .before .before .before .before .before .before .before .before .before .before .before .before .before .before .before .before in let li : l .loop .i < getD (st .args .a-first .now) (suc (st .args .u)) 0 = omega (arith, c .before .before .before .before .before .before .before .before .before .before .before .before .loop-test .taken, l .loop .inv .0) in let ri : l .loop .j < getD (st .args .b-first .now) (suc (st .args .v)) 0 = omega (arith, c .before .before .before .before .before .before .before .before .before .before .before .if1 .left, l .loop .inv .1) in omega (arith, merge-pair (st .pre .0) (st .pre .1 .0) (l .loop .inv .2) li ri, l .loop .inv .2 .added .after .marks-few)
-
-slice-read-targets : tie.Need-slice-read-targets Inv-loop μ-loop
-slice-read-targets c = let l = c .before .before .before .before .before .before .before .before .before .before .before .before .before .before in let st = c .before .before .before .before .before .before .before .before .before .before .before .before .before .before .before .before .before .before .before .before .before .before .before .before .before .before in let li : l .loop .i < getD (st .args .a-first .now) (suc (st .args .u)) 0 = omega (arith, c .before .before .before .before .before .before .before .before .before .before .before .before .before .loop-test .taken, l .loop .inv .0) in let ri : l .loop .j < getD (st .args .b-first .now) (suc (st .args .v)) 0 = omega (arith, c .before .before .before .before .before .before .before .before .before .before .before .before .if1 .left, l .loop .inv .1) in omega (arith, merge-pair (st .pre .0) (st .pre .1 .0) (l .loop .inv .2) li ri, c .before .before .before .enlist .ensures .marks-long)
-
-mul-targets-2 : tie.Need-mul-targets-2 Inv-loop μ-loop
-mul-targets-2 c = search needs
-
-element-write-targets : tie.Need-element-write-targets Inv-loop μ-loop
-element-write-targets c = let l = c .before .before .before .before .before .before .before .before .before .before .before .before .before .before in let st = c .before .before .before .before .before .before .before .before .before .before .before .before .before .before .before .before .before .before .before .before .before .before .before .before .before .before in let li : l .loop .i < getD (st .args .a-first .now) (suc (st .args .u)) 0 = omega (arith, c .before .before .before .before .before .before .before .before .before .before .before .before .before .loop-test .taken, l .loop .inv .0) in let ri : l .loop .j < getD (st .args .b-first .now) (suc (st .args .v)) 0 = omega (arith, c .before .before .before .before .before .before .before .before .before .before .before .before .if1 .left, l .loop .inv .1) in merge-room (st .pre .0) (st .pre .1 .0) (l .loop .inv .2) li ri (st .pre .1 .1 .1 .1 .0) (st .pre .1 .1 .1 .1 .1) .1
-
-add-links : tie.Need-add-links Inv-loop μ-loop
-add-links c = search needs
-
-add-i-2 : tie.Need-add-i-2 Inv-loop μ-loop
-add-i-2 c = search needs
+cast-j c = omega (arith, c .shared-slice-known6 .given (c .before .before .before .before .before .before .args .v + 1))
 
 add-j-2 : tie.Need-add-j-2 Inv-loop μ-loop
-add-j-2 c = search needs
+add-j-2 c = omega (arith, c .shared-slice-known6 .given (c .before .before .before .before .before .before .args .v + 1))
+
+loop-holds : tie.Need-loop-holds Inv-loop μ-loop
+loop-holds c = let st = c .before .before .before .before .before .before in (refl, refl, merge-start (record { left = st .pre .0; right = st .pre .1 .0; left-node = st .pre .1 .1 .0 .0; right-node = st .pre .1 .1 .0 .1; long = st .pre .1 .1 .1 .1 .0; low = st .pre .1 .1 .1 .1 .1; few = st .pre .1 .1 .1 .1 .2; left-end = omega (arith, c .before .before .before .shared-slice-known3 .given (st .args .u + 2)); right-end = omega (arith, c .before .before .shared-slice-known4 .given (st .args .v + 2)) }) (st .pre .1 .1 .1 .0))
+
+returns : tie.Need-returns Inv-loop μ-loop
+returns c = merge-done (c .before .before .loop .inv .2) (inr (omega (arith, c .if1 .taken, c .before .before .loop .inv .1)))
+
+mul-s : tie.Need-mul-s Inv-loop μ-loop
+mul-s c = omega (arith, c .before .loop-test .taken, c .before .before .loop .inv .0, c .before .before .loop .inv .2 .begun .left-end)
+
+shared-slice-read-s : tie.Need-shared-slice-read-s Inv-loop μ-loop
+shared-slice-read-s c = omega (arith, c .before .before .loop-test .taken, c .before .before .before .loop .inv .0, merge-ended (c .before .before .before .loop .inv .2) .0)
+
+mul-t : tie.Need-mul-t Inv-loop μ-loop
+mul-t c = omega (arith, c .before .if1 .left, c .before .before .before .loop .inv .1, c .before .before .before .loop .inv .2 .begun .right-end)
+
+shared-slice-read-t : tie.Need-shared-slice-read-t Inv-loop μ-loop
+shared-slice-read-t c = omega (arith, c .before .before .if1 .left, c .before .before .before .before .loop .inv .1, merge-ended (c .before .before .before .before .loop .inv .2) .1)
+
+add-i-3 : tie.Need-add-i-3 Inv-loop μ-loop
+add-i-3 c = omega (arith, c .before .before .before .before .loop-test .taken, c .before .before .before .before .before .loop .inv .0, c .before .before .before .before .before .loop .inv .2 .begun .left-end)
+
+loop-less : tie.Need-loop-less Inv-loop μ-loop
+loop-less c = omega (arith, c .before .before .before .before .loop-test .taken)
+
+loop-again : tie.Need-loop-again Inv-loop μ-loop
+loop-again c = (c .before .before .before .before .before .loop .inv .0, c .before .before .before .before .before .loop .inv .1, merge-left (c .before .before .before .before .before .loop .inv .2) (omega (arith, c .before .before .before .before .loop-test .taken, c .before .before .before .before .before .loop .inv .0)) (omega (arith, c .before .before .before .if1 .left, c .before .before .before .before .before .loop .inv .1)) (c .if2 .taken))
+
+add-j-3 : tie.Need-add-j-3 Inv-loop μ-loop
+add-j-3 c = omega (arith, c .before .before .before .before .if1 .left, c .before .before .before .before .before .before .loop .inv .1, c .before .before .before .before .before .before .loop .inv .2 .begun .right-end)
+
+loop-less-2 : tie.Need-loop-less-2 Inv-loop μ-loop
+loop-less-2 c = omega (arith, c .before .before .before .before .if1 .left)
+
+loop-again-2 : tie.Need-loop-again-2 Inv-loop μ-loop
+loop-again-2 c = (c .before .before .before .before .before .before .loop .inv .0, c .before .before .before .before .before .before .loop .inv .1, merge-right (c .before .before .before .before .before .before .loop .inv .2) (omega (arith, c .before .before .before .before .before .loop-test .taken, c .before .before .before .before .before .before .loop .inv .0)) (omega (arith, c .before .before .before .before .if1 .left, c .before .before .before .before .before .before .loop .inv .1)) (c .if3 .taken))
+
+cast-pair : tie.Need-cast-pair Inv-loop μ-loop
+cast-pair c = omega arith
+
+mul-pair : tie.Need-mul-pair Inv-loop μ-loop
+mul-pair c = omega arith
+
+cast-pair-2 : tie.Need-cast-pair-2 Inv-loop μ-loop
+cast-pair-2 c = omega arith
+
+add-pair : tie.Need-add-pair Inv-loop μ-loop
+add-pair c = omega arith
+
+enlist-requires : tie.Need-enlist-requires Inv-loop μ-loop
+enlist-requires c κs = (c .before .before .before .before .before .before .before .before .loop .inv .2 .added .after, (omega (arith, merge-nodes (c .before .before .before .before .before .before .before .before .loop .inv .2) (omega (arith, c .before .before .before .before .before .before .before .loop-test .taken, c .before .before .before .before .before .before .before .before .loop .inv .0)) (omega (arith, c .before .before .before .before .before .before .if1 .left, c .before .before .before .before .before .before .before .before .loop .inv .1))), merge-room (c .before .before .before .before .before .before .before .before .loop .inv .2) (omega (arith, c .before .before .before .before .before .before .before .loop-test .taken, c .before .before .before .before .before .before .before .before .loop .inv .0)) (omega (arith, c .before .before .before .before .before .before .if1 .left, c .before .before .before .before .before .before .before .before .loop .inv .1)) .0))
+
+mul-number : tie.Need-mul-number Inv-loop μ-loop
+mul-number c = search needs
+
+element-copy-out-number : tie.Need-element-copy-out-number Inv-loop μ-loop
+element-copy-out-number c = omega (arith, merge-nodes (c .before .before .before .before .before .before .before .before .before .loop .inv .2) (omega (arith, c .before .before .before .before .before .before .before .before .loop-test .taken, c .before .before .before .before .before .before .before .before .before .loop .inv .0)) (omega (arith, c .before .before .before .before .before .before .before .if1 .left, c .before .before .before .before .before .before .before .before .before .loop .inv .1)))
+
+link-requires : tie.Need-link-requires Inv-loop μ-loop
+link-requires c κs = (omega (arith, c .before .before .before .before .before .before .before .shared-slice-known7 .given (c .before .before .before .before .before .before .before .before .before .before .loop .i)), omega (arith, c .before .enlist .ensures .numbered, c .before .enlist .ensures .after .few))
+
+mul-words : tie.Need-mul-words Inv-loop μ-loop
+mul-words c = omega (arith, merge-room (c .before .before .before .before .before .before .before .before .before .before .before .loop .inv .2) (omega (arith, c .before .before .before .before .before .before .before .before .before .before .loop-test .taken, c .before .before .before .before .before .before .before .before .before .before .before .loop .inv .0)) (omega (arith, c .before .before .before .before .before .before .before .before .before .if1 .left, c .before .before .before .before .before .before .before .before .before .before .before .loop .inv .1)))
+
+element-write-words : tie.Need-element-write-words Inv-loop μ-loop
+element-write-words c = merge-room (c .before .before .before .before .before .before .before .before .before .before .before .loop .inv .2) (omega (arith, c .before .before .before .before .before .before .before .before .before .before .loop-test .taken, c .before .before .before .before .before .before .before .before .before .before .before .loop .inv .0)) (omega (arith, c .before .before .before .before .before .before .before .before .before .if1 .left, c .before .before .before .before .before .before .before .before .before .before .before .loop .inv .1)) .1
+
+add-at : tie.Need-add-at Inv-loop μ-loop
+add-at c = omega (arith, merge-room (c .before .before .before .before .before .before .before .before .before .before .before .loop .inv .2) (omega (arith, c .before .before .before .before .before .before .before .before .before .before .loop-test .taken, c .before .before .before .before .before .before .before .before .before .before .before .loop .inv .0)) (omega (arith, c .before .before .before .before .before .before .before .before .before .if1 .left, c .before .before .before .before .before .before .before .before .before .before .before .loop .inv .1)))
+
+add-i-4 : tie.Need-add-i-4 Inv-loop μ-loop
+add-i-4 c = omega (arith, c .before .before .before .before .before .before .before .before .before .before .loop-test .taken, c .before .before .before .before .before .before .before .before .before .before .before .loop .inv .0, c .before .before .before .before .before .before .before .before .before .before .before .loop .inv .2 .begun .left-end)
+
+add-j-4 : tie.Need-add-j-4 Inv-loop μ-loop
+add-j-4 c = omega (arith, c .before .before .before .before .before .before .before .before .before .if1 .left, c .before .before .before .before .before .before .before .before .before .before .before .loop .inv .1, c .before .before .before .before .before .before .before .before .before .before .before .loop .inv .2 .begun .right-end)
 
 loop-less-3 : tie.Need-loop-less-3 Inv-loop μ-loop
-loop-less-3 c = search needs
+loop-less-3 c = omega (arith, c .before .before .before .before .before .before .before .before .before .before .loop-test .taken, c .before .before .before .before .before .before .before .before .before .if1 .left)
 
 loop-again-3 : tie.Need-loop-again-3 Inv-loop μ-loop
-loop-again-3 c = let l = c .before .before .before .before .before .before .before .before .before .before .before .before .before .before in let st = c .before .before .before .before .before .before .before .before .before .before .before .before .before .before .before .before .before .before .before .before .before .before .before .before .before .before in let li : l .loop .i < getD (st .args .a-first .now) (suc (st .args .u)) 0 = omega (arith, c .before .before .before .before .before .before .before .before .before .before .before .before .before .loop-test .taken, l .loop .inv .0) in let ri : l .loop .j < getD (st .args .b-first .now) (suc (st .args .v)) 0 = omega (arith, c .before .before .before .before .before .before .before .before .before .before .before .before .if1 .left, l .loop .inv .1) in let room = merge-room (st .pre .0) (st .pre .1 .0) (l .loop .inv .2) li ri (st .pre .1 .1 .1 .1 .0) (st .pre .1 .1 .1 .1 .1) .1 in (l .loop .inv .0, l .loop .inv .1, merge-both (st .pre .0) (st .pre .1 .0) (l .loop .inv .2) li ri (omega (arith, c .before .before .before .before .before .before .before .before .before .if2 .left, c .before .before .before .before .before .before .before .before .if3 .left)) (omega (arith, room, l .loop .inv .2 .added .features-long, st .pre .1 .1 .1 .0 .0)) (omega (arith, room, l .loop .inv .2 .added .targets-long, st .pre .1 .1 .1 .0 .1)) _ _ _ (c .before .before .before .enlist .ensures))
-
-same-length-2 : tie.Need-same-length-2 Inv-loop μ-loop
-same-length-2 c = c .before .loop .inv .2 .added .marks-long
+loop-again-3 c = (c .before .before .before .before .before .before .before .before .before .before .before .loop .inv .0, c .before .before .before .before .before .before .before .before .before .before .before .loop .inv .1, merge-both (c .before .before .before .before .before .before .before .before .before .before .before .loop .inv .2) (omega (arith, c .before .before .before .before .before .before .before .before .before .before .loop-test .taken, c .before .before .before .before .before .before .before .before .before .before .before .loop .inv .0)) (omega (arith, c .before .before .before .before .before .before .before .before .before .if1 .left, c .before .before .before .before .before .before .before .before .before .before .before .loop .inv .1)) (omega (arith, c .before .before .before .before .before .before .if2 .left, c .before .before .before .before .before .if3 .left)) _ _ _ (c .before .before .enlist .ensures) _ (c .link .ensures))
 
 returns-2 : tie.Need-returns-2 Inv-loop μ-loop
-returns-2 c = let l = c .before in let st = c .before .before .before .before .before .before .before .before .before .before .before .before .before in merge-done (st .pre .0) (st .pre .1 .0) (l .loop .inv .2) (inl (omega (arith, c .loop-test .left, l .loop .inv .0, l .loop .inv .2 .left-high)))
+returns-2 c = merge-done (c .before .loop .inv .2) (inl (omega (arith, c .loop-test .left, c .before .loop .inv .0)))
 
 pub pair-links-spec : {M : Type 1} → statement M
 pair-links-spec =
@@ -170,41 +169,41 @@ pair-links-spec =
     mul-b-end
     shared-slice-read-b-end
     cast-b-end
+    add-i
     mul-i
     shared-slice-read-i
     cast-i
+    add-i-2
+    add-j
     mul-j
     shared-slice-read-j
     cast-j
+    add-j-2
     loop-holds
-    same-length
     returns
-    shared-slice-read-f
-    shared-slice-read-h
-    add-i
+    mul-s
+    shared-slice-read-s
+    mul-t
+    shared-slice-read-t
+    add-i-3
     loop-less
     loop-again
-    add-j
+    add-j-3
     loop-less-2
     loop-again-2
-    mul-pair
-    shared-slice-read-pair
     cast-pair
-    mul-pair-2
-    mul-pair-3
-    shared-slice-read-pair-2
+    mul-pair
     cast-pair-2
     add-pair
     enlist-requires
-    element-write-features
-    mul-targets
-    slice-read-targets
-    mul-targets-2
-    element-write-targets
-    add-links
-    add-i-2
-    add-j-2
+    mul-number
+    element-copy-out-number
+    link-requires
+    mul-words
+    element-write-words
+    add-at
+    add-i-4
+    add-j-4
     loop-less-3
     loop-again-3
-    same-length-2
     returns-2)

@@ -2,7 +2,7 @@
 use Prim.Native.Nat.{_+_, _-_}
 use native.Mathlib.Omega.{arith}
 use borrow.Author.Needs.{needs}
-use Rattle.decode.proofs.Parsing.{Joining, join-begin, join-fits, join-next, join-end}
+use Rattle.decode.proofs.Word.{Joining, join-begin, join-fits, join-next, join-end}
 use Rattle.decode.proofs.reader.map_at.Statement.{statement}
 use Rattle.decode.proofs.reader.map_at.Tie as tie
 

@@ -9,11 +9,11 @@ use Rattle.difference.proofs.keep.is_left.Statement.{statement}
 use Rattle.difference.proofs.keep.is_left.Tie as tie
 
 abbrev Inv-loop : tie.InvT-loop
-Inv-loop targets marks keep start end k₀ k =
-    (start ≤ k) × NoneYet targets marks keep start k
+Inv-loop s marks keep start end k₀ k =
+    (start ≤ k) × NoneYet s marks keep start k
 
 abbrev μ-loop : tie.MeasureT-loop
-μ-loop targets marks keep start end k₀ k = end - k
+μ-loop s marks keep start end k₀ k = end - k
 
 loop-holds : tie.Need-loop-holds Inv-loop μ-loop
 loop-holds c = (search needs, λ i low high. absurd (omega arith))
@@ -21,7 +21,7 @@ loop-holds c = (search needs, λ i low high. absurd (omega arith))
 is-kept-requires : tie.Need-is-kept-requires Inv-loop μ-loop
 is-kept-requires c κs =
     let start = c .before .before .before in
-    (start .pre .0, (search needs, search needs, start .pre .1 .2 (c .before .loop .k) (c .loop-test .taken)))
+    ((start .pre .0 .0, start .pre .0 .1), (search needs, search needs, start .pre .1 (c .before .loop .k) (c .before .loop .inv .0) (c .loop-test .taken)))
 
 returns : tie.Need-returns Inv-loop μ-loop
 returns c =

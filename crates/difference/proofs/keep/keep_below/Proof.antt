@@ -1,168 +1,103 @@
 -- `keep_below` meets its contract. The loop's invariant: the nodes at the places before i are settled.
 use Prim.Native.Nat.{_+_, _-_, _≤_, _<_}
+use native.Mathlib.Omega.{arith}
 use mathlib.Core.Logic.{⊎-elim}
-use mathlib.Core.Path.{sym, subst}
-use borrow.Author.Needs.{needs}
-use Rattle.difference.specs.Keeping.{Settled, Sorted}
-use Rattle.difference.proofs.Keeping.{order-inside, node-known, settled-start, left-yes, left-no, settled-done}
+use lib.ListN.{getD}
+use Rattle.difference.specs.Keeping.{Ready, Settled, Sorted}
+use Rattle.difference.proofs.Keeping.{order-inside, node-known, settled-start, settled-yes, settled-no, left, settled-done}
 use Rattle.difference.proofs.keep.keep_below.Statement.{statement}
 use Rattle.difference.proofs.keep.keep_below.Tie as tie
+use Rattle.difference.proofs.keep.is_left.Reads as is-left-reads
 
 abbrev Inv-loop : tie.InvT-loop
-Inv-loop nodes first targets marks order keep₀ i₀ keep i =
-    (i ≤ nodes) × ((s : Sorted nodes first targets order) × Settled (λ v. s .place v < i) nodes first targets marks keep₀ keep)
+Inv-loop s marks order keep₀ nodes i₀ keep i = (i ≤ nodes) × Ready s marks keep × ((sorted : Sorted s order) × Settled (λ v. sorted .place v < i) s marks keep₀ keep)
 
 abbrev μ-loop : tie.MeasureT-loop
-μ-loop nodes first targets marks order keep₀ i₀ keep i = nodes - i
+μ-loop s marks order keep₀ nodes i₀ keep i = nodes - i
 
+-- src/keep.rt:123:17
+shared-slice-read-nodes : tie.Need-shared-slice-read-nodes Inv-loop μ-loop
+shared-slice-read-nodes c = let shaped = c .before .before .pre .0 .sound .shaped in omega (arith, shaped .node 0 (shaped .nonempty) .listed)
+
+-- src/keep.rt:123:17
+cast-nodes : tie.Need-cast-nodes Inv-loop μ-loop
+cast-nodes c = omega (arith, c .before .before .pre .0 .small)
+
+-- src/keep.rt:125:5
 loop-holds : tie.Need-loop-holds Inv-loop μ-loop
-loop-holds c =
-    let start = c .before .before in
-    (search needs, (start .pre .1 .1, settled-start (start .pre .1 .1) (start .pre .1 .0 .2)))
+loop-holds c = (omega arith, c .before .before .pre .0, (c .before .before .pre .1, settled-start (c .before .before .pre .1) (c .before .before .pre .0 .keep-long)))
 
+-- src/keep.rt:126:17
 mul-v : tie.Need-mul-v Inv-loop μ-loop
-mul-v c =
-    let start = c .before .before .before .before in
-    search (needs, start .pre .0 .0)
+mul-v c = omega (arith, c .loop-test .taken, c .before .loop .inv .1 .small)
 
+-- src/keep.rt:126:17
 element-copy-out-v : tie.Need-element-copy-out-v Inv-loop μ-loop
-element-copy-out-v c =
-    let start = c .before .before .before .before in
-    search (needs, start .pre .0 .0)
+element-copy-out-v c = omega (arith, c .loop-test .taken, c .before .loop .inv .1 .small)
 
+-- src/keep.rt:126:17
 cast-v : tie.Need-cast-v Inv-loop μ-loop
-cast-v c =
-    let start = c .before .before .before .before .before in
-    search (
-      needs,
-      (node-known (start .pre .0 .1) (start .pre .0 .0) (start .pre .0 .2) _ (order-inside
-          (c .before .before .loop .inv .1 .0) (c .before .loop-test .taken))),
-    )
+cast-v c = let known = node-known (c .before .before .loop .inv .1) _ (order-inside (c .before .before .loop .inv .2 .0) (c .before .loop-test .taken)) in omega (arith, known .small)
 
+-- src/keep.rt:127:23
+add-start : tie.Need-add-start Inv-loop μ-loop
+add-start c = let known = node-known (c .before .before .loop .inv .1) _ (order-inside (c .before .before .loop .inv .2 .0) (c .before .loop-test .taken)) in omega (arith, known .small)
+
+-- src/keep.rt:127:21
 mul-start : tie.Need-mul-start Inv-loop μ-loop
-mul-start c =
-    let start = c .before .before .before .before .before in
-    search (
-      needs,
-      (node-known (start .pre .0 .1) (start .pre .0 .0) (start .pre .0 .2) _ (order-inside
-          (c .before .before .loop .inv .1 .0) (c .before .loop-test .taken))),
-    )
+mul-start c = let known = node-known (c .before .before .loop .inv .1) _ (order-inside (c .before .before .loop .inv .2 .0) (c .before .loop-test .taken)) in omega (arith, known .small)
 
+-- src/keep.rt:127:21
 shared-slice-read-start : tie.Need-shared-slice-read-start Inv-loop μ-loop
-shared-slice-read-start c =
-    let start = c .before .before .before .before .before .before in
-    search (
-      needs,
-      (node-known (start .pre .0 .1) (start .pre .0 .0) (start .pre .0 .2) _ (order-inside
-          (c .before .before .before .loop .inv .1 .0) (c .before .before .loop-test .taken))),
-    )
+shared-slice-read-start c = let known = node-known (c .before .before .before .loop .inv .1) _ (order-inside (c .before .before .before .loop .inv .2 .0) (c .before .before .loop-test .taken)) in omega (arith, known .node .listed)
 
+-- src/keep.rt:127:21
 cast-start : tie.Need-cast-start Inv-loop μ-loop
-cast-start c =
-    let start = c .before .before .before .before .before .before in
-    search (
-      needs,
-      (node-known (start .pre .0 .1) (start .pre .0 .0) (start .pre .0 .2) _ (order-inside
-          (c .before .before .before .loop .inv .1 .0) (c .before .before .loop-test .taken))),
-    )
+cast-start c = omega (arith, c .shared-slice-known3 .given (getD (c .before .before .before .before .before .before .args .order .now) (c .before .before .before .loop .i) 0 + 1))
 
+-- src/keep.rt:127:21
+add-start-2 : tie.Need-add-start-2 Inv-loop μ-loop
+add-start-2 c = omega (arith, c .shared-slice-known3 .given (getD (c .before .before .before .before .before .before .args .order .now) (c .before .before .before .loop .i) 0 + 1))
+
+-- src/keep.rt:128:21
 add-end : tie.Need-add-end Inv-loop μ-loop
-add-end c =
-    let start = c .before .before .before .before .before .before in
-    search (
-      needs,
-      (node-known (start .pre .0 .1) (start .pre .0 .0) (start .pre .0 .2) _ (order-inside
-          (c .before .before .before .loop .inv .1 .0) (c .before .before .loop-test .taken))),
-    )
+add-end c = let known = node-known (c .before .before .before .loop .inv .1) _ (order-inside (c .before .before .before .loop .inv .2 .0) (c .before .before .loop-test .taken)) in omega (arith, known .small)
 
+-- src/keep.rt:128:19
 mul-end : tie.Need-mul-end Inv-loop μ-loop
-mul-end c =
-    let start = c .before .before .before .before .before .before in
-    search (
-      needs,
-      (node-known (start .pre .0 .1) (start .pre .0 .0) (start .pre .0 .2) _ (order-inside
-          (c .before .before .before .loop .inv .1 .0) (c .before .before .loop-test .taken))),
-    )
+mul-end c = let known = node-known (c .before .before .before .loop .inv .1) _ (order-inside (c .before .before .before .loop .inv .2 .0) (c .before .before .loop-test .taken)) in omega (arith, known .small)
 
+-- src/keep.rt:128:19
 shared-slice-read-end : tie.Need-shared-slice-read-end Inv-loop μ-loop
-shared-slice-read-end c =
-    let turn = c .before .before .before .before in
-    let start = turn .before .before .before in
-    search (
-      needs,
-      (node-known (start .pre .0 .1) (start .pre .0 .0) (start .pre .0 .2) _ (order-inside (turn .loop .inv .1 .0)
-          (c .before .before .before .loop-test .taken))),
-    )
+shared-slice-read-end c = let known = node-known (c .before .before .before .before .loop .inv .1) _ (order-inside (c .before .before .before .before .loop .inv .2 .0) (c .before .before .before .loop-test .taken)) in omega (arith, known .node .listed)
 
+-- src/keep.rt:128:19
 cast-end : tie.Need-cast-end Inv-loop μ-loop
-cast-end c =
-    let turn = c .before .before .before .before in
-    let start = turn .before .before .before in
-    search (
-      needs,
-      (node-known (start .pre .0 .1) (start .pre .0 .0) (start .pre .0 .2) _ (order-inside (turn .loop .inv .1 .0)
-          (c .before .before .before .loop-test .taken))),
-    )
+cast-end c = omega (arith, c .shared-slice-known4 .given (getD (c .before .before .before .before .before .before .before .args .order .now) (c .before .before .before .before .loop .i) 0 + 2))
 
+-- src/keep.rt:129:12
 is-left-requires : tie.Need-is-left-requires Inv-loop μ-loop
-is-left-requires c κs =
-    let test = c .before .before .before .before in
-    let turn = test .before in
-    let start = turn .before .before .before in (
-      (start .pre .1 .0 .0, turn .loop .inv .1 .1 .long),
-      (
-        (node-known (start .pre .0 .1) (start .pre .0 .0) (start .pre .0 .2) _
-            (order-inside (turn .loop .inv .1 .0) (test .loop-test .taken))) .few,
-        (node-known (start .pre .0 .1) (start .pre .0 .0)
-            (start .pre .0 .2) _ (order-inside (turn .loop .inv .1 .0) (test .loop-test .taken))) .aimed,
-        (node-known (start .pre .0 .1)
-            (start .pre .0 .0) (start .pre .0 .2) _ (order-inside (turn .loop .inv .1 .0) (test .loop-test .taken))) .within,
-      ),
-    )
+is-left-requires c κs = let known = node-known (c .before .before .before .before .before .loop .inv .1) _ (order-inside (c .before .before .before .before .before .loop .inv .2 .0) (c .before .before .before .before .loop-test .taken)) in let ready = c .before .before .before .before .before .loop .inv .1 in ((ready .marks-long, ready .keep-long, known .ended, known .node .ended), λ k low high. known .within k (omega (arith, low, known .node .begun)) high)
 
+-- src/keep.rt:130:13
 element-write-keep : tie.Need-element-write-keep Inv-loop μ-loop
-element-write-keep c =
-    let test = c .before .before .before .before .before .before in
-    let start = test .before .before .before .before in
-    search (
-      needs,
-      (node-known (start .pre .0 .1) (start .pre .0 .0) (start .pre .0 .2) _ (order-inside
-          (test .before .loop .inv .1 .0) (test .loop-test .taken))),
-    )
+element-write-keep c = let known = node-known (c .before .before .before .before .before .before .before .loop .inv .1) _ (order-inside (c .before .before .before .before .before .before .before .loop .inv .2 .0) (c .before .before .before .before .before .before .loop-test .taken)) in known .small
 
+-- src/keep.rt:132:9
 add-i : tie.Need-add-i Inv-loop μ-loop
-add-i c = search needs
+add-i c = omega (arith, c .before .before .before .before .before .before .loop-test .taken, c .before .before .before .before .before .before .before .loop .inv .1 .small)
 
+-- src/keep.rt:125:5
 loop-less : tie.Need-loop-less Inv-loop μ-loop
-loop-less c = search needs
+loop-less c = omega (arith, c .before .before .before .before .before .before .loop-test .taken)
 
+-- src/keep.rt:125:5
 loop-again : tie.Need-loop-again Inv-loop μ-loop
-loop-again c =
-    let test = c .before .before .before .before .before .before in
-    let turn = test .before in
-    let start = turn .before .before .before in
-    ⊎-elim (λ w. (
-      search needs,
-      (
-        (turn .loop .inv .1 .0),
-        subst (Settled (λ x. (turn .loop .inv .1 .0) .place x < turn .loop .i +
-            1) (start .args .nodes) (start .args .first .now) (start .args .targets .now) (start .args .marks .now)
-            (start .args .keep .now)) (sym (w .1)) (left-yes (turn .loop .inv .1 .0) (test .loop-test .taken) (start .pre .0 .0)
-            (turn .loop .inv .1 .1) (c .before .is-left .ensures .yes-stands (w .0 .taken))),
-      ),
-    )) (λ w. (
-      search needs,
-      (
-        (turn .loop .inv .1 .0),
-        subst (Settled (λ x. (turn .loop .inv .1 .0) .place x < turn .loop .i + 1) (start .args .nodes)
-            (start .args .first .now) (start .args .targets .now) (start .args .marks .now) (start .args .keep .now)) (sym (w .1))
-            (left-no (turn .loop .inv .1 .0) (test .loop-test .taken) (start .pre .0 .0) (turn .loop .inv .1 .1)
-            (c .before .is-left .ensures .no-stands (w .0 .left))),
-      ),
-    )) (c .if1 .came)
+loop-again c = let sorted = c .before .before .before .before .before .before .before .loop .inv .2 .0 in let ready = c .before .before .before .before .before .before .before .loop .inv .1 in let old = c .before .before .before .before .before .before .before .loop .inv .2 .1 in let inside = c .before .before .before .before .before .before .loop-test .taken in ⊎-elim (λ w. left (c .before .before .before .before .before .before .before .loop .i) (w .1) (omega (arith, inside)) ready sorted (settled-yes sorted inside (ready .small) old (c .before .is-left .ensures .yes-stands (w .0 .taken)))) (λ w. left (c .before .before .before .before .before .before .before .loop .i) (w .1) (omega (arith, inside)) ready sorted (settled-no sorted inside (ready .small) old (c .before .is-left .ensures .no-stands (w .0 .left)))) (c .if1 .came)
 
+-- src/keep.rt:114:1
 returns : tie.Need-returns Inv-loop μ-loop
-returns c = settled-done (c .before .loop .inv .1 .0) (c .before .loop .inv .1 .1) (c .loop-test .left)
+returns c = settled-done (c .before .loop .inv .2 .0) (c .before .loop .inv .2 .1) (c .loop-test .left)
 
 pub keep-below-spec : {M : Type 1} → statement M
 keep-below-spec =
@@ -170,13 +105,17 @@ keep-below-spec =
     (tie.spec
     Inv-loop
     μ-loop
+    shared-slice-read-nodes
+    cast-nodes
     loop-holds
     mul-v
     element-copy-out-v
     cast-v
+    add-start
     mul-start
     shared-slice-read-start
     cast-start
+    add-start-2
     add-end
     mul-end
     shared-slice-read-end

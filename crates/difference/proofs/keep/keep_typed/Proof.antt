@@ -21,7 +21,7 @@ loop-holds : tie.Need-loop-holds Inv-loop μ-loop
 loop-holds c = (
   search needs,
   untop-start (c .before .args .n) (c .before .args .table .now) (c .before .args .types .now)
-      (c .before .pre .0 .4),
+      (c .before .pre .4),
 )
 
 element-copy-out-c : tie.Need-element-copy-out-c Inv-loop μ-loop
@@ -30,7 +30,7 @@ element-copy-out-c c = search needs
 cast-c : tie.Need-cast-c Inv-loop μ-loop
 cast-c c =
     let start = c .before .before .before .before in
-    omega (arith, start .pre .1 (c .before .before .loop .v) (c .before .loop-test .taken))
+    omega (arith, start .pre .3 .known (c .before .before .loop .v) (c .before .loop-test .taken), start .pre .1)
 
 sub-is-below : tie.Need-sub-is-below Inv-loop μ-loop
 sub-is-below c = search needs
@@ -38,7 +38,7 @@ sub-is-below c = search needs
 is-below-requires : tie.Need-is-below-requires Inv-loop μ-loop
 is-below-requires c κs =
     let start = c .before .before .before .before in
-    (search needs, start .pre .1 (c .before .before .loop .v) (c .before .loop-test .taken))
+    (search needs, omega (arith, start .pre .3 .known (c .before .before .loop .v) (c .before .loop-test .taken), start .pre .1))
 
 element-write-keep : tie.Need-element-write-keep Inv-loop μ-loop
 element-write-keep c = search needs

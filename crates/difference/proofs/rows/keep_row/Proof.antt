@@ -1,97 +1,98 @@
--- `keep_row` meets its contract. The loop's invariant: the kept links of the places before k are added.
-use Prim.Native.Nat.{_-_, _≤_}
+-- `keep_row` meets its contract. The loop's invariant: the kept links of the row before place k are copied.
+use Prim.Native.Nat.{_+_, _-_}
+use native.Mathlib.Omega.{arith}
 use mathlib.Core.Logic.{⊎-elim}
-use borrow.Author.Needs.{needs}
-use Rattle.difference.specs.Thinning.{Thinned}
-use Rattle.difference.proofs.Thinning.{thin-start, thin-more, thin-stay, thin-as, thin-done}
+use Rattle.difference.proofs.Keeping.{node-known, place-known}
+use Rattle.difference.proofs.Thinning.{Thinning, thin-start, thin-room, thin-more, thin-stay, thin-as, thin-done}
 use Rattle.difference.proofs.rows.keep_row.Statement.{statement}
 use Rattle.difference.proofs.rows.keep_row.Tie as tie
+use Rattle.difference.proofs.keep.is_kept.Reads as is-kept-reads
 
 abbrev Inv-loop : tie.InvT-loop
-Inv-loop features targets marks keep start end kept-features₀ kept-targets₀ count links₀ k₀ kept-features kept-targets links k =
-    (start ≤ k) × (k ≤ end) × Thinned features targets marks keep start k kept-features₀ kept-targets₀ count kept-features kept-targets links
+Inv-loop s marks keep v at words₀ end k₀ next₀ words k next = Thinning s marks keep v k words₀ at words next
 
 abbrev μ-loop : tie.MeasureT-loop
-μ-loop features targets marks keep start end kept-features₀ kept-targets₀ count links₀ k₀ kept-features kept-targets links k = end - k
+μ-loop s marks keep v at words₀ end k₀ next₀ words k next = end - k
 
-loop-holds : tie.Need-loop-holds Inv-loop μ-loop
-loop-holds c =
-    let start = c .before .before in
-    (search needs, start .pre .1 .0 .rising, thin-start (start .pre .0 .2) (start .pre .0 .3) (start .pre .1 .2))
+-- src/rows.rt:23:17
+add-end : tie.Need-add-end Inv-loop μ-loop
+add-end c = let known = node-known (c .before .pre .0 .0) _ (c .before .pre .0 .1) in omega (arith, known .small)
 
-is-kept-requires : tie.Need-is-kept-requires Inv-loop μ-loop
-is-kept-requires c κs =
-    let start = c .before .before .before .before in (
-      (start .pre .0 .0, start .pre .0 .1),
-      (
-        search (needs, start .pre .1 .1),
-        search (needs, start .pre .1 .0 .aimed),
-        start .pre .1 .0 .within (c .before .loop .k) (c .before .loop .inv .0) (c .loop-test .taken),
-      ),
-    )
+-- src/rows.rt:23:15
+mul-end : tie.Need-mul-end Inv-loop μ-loop
+mul-end c = let known = node-known (c .before .pre .0 .0) _ (c .before .pre .0 .1) in omega (arith, known .small)
 
-shared-slice-read-kept-features : tie.Need-shared-slice-read-kept-features Inv-loop μ-loop
-shared-slice-read-kept-features c =
-    let turn = c .before .before .before .before in
-    search (needs, (turn .loop .inv .2) .short, turn .before .before .before .pre .1 .1)
+-- src/rows.rt:23:15
+shared-slice-read-end : tie.Need-shared-slice-read-end Inv-loop μ-loop
+shared-slice-read-end c = let known = node-known (c .before .before .pre .0 .0) _ (c .before .before .pre .0 .1) in omega (arith, known .node .listed)
 
-element-write-kept-features : tie.Need-element-write-kept-features Inv-loop μ-loop
-element-write-kept-features c =
-    let turn = c .before .before .before .before in
-    search (needs, (turn .loop .inv .2) .short, turn .before .before .before .pre .1 .1)
+-- src/rows.rt:23:15
+cast-end : tie.Need-cast-end Inv-loop μ-loop
+cast-end c = omega (arith, c .shared-slice-known2 .given (c .before .before .args .v + 2))
 
-mul-kept-targets : tie.Need-mul-kept-targets Inv-loop μ-loop
-mul-kept-targets c =
-    let turn = c .before .before .before .before in
-    search (needs, (turn .loop .inv .2) .short, turn .before .before .before .pre .1 .1)
-
-shared-slice-read-kept-targets : tie.Need-shared-slice-read-kept-targets Inv-loop μ-loop
-shared-slice-read-kept-targets c =
-    let turn = c .before .before .before .before .before in
-    search (needs, (turn .loop .inv .2) .short, turn .before .before .before .pre .1 .1)
-
-mul-kept-targets-2 : tie.Need-mul-kept-targets-2 Inv-loop μ-loop
-mul-kept-targets-2 c =
-    let turn = c .before .before .before .before .before in
-    search (needs, (turn .loop .inv .2) .short, turn .before .before .before .pre .1 .1)
-
-element-write-kept-targets : tie.Need-element-write-kept-targets Inv-loop μ-loop
-element-write-kept-targets c =
-    let turn = c .before .before .before .before .before in
-    search (needs, (turn .loop .inv .2) .short, turn .before .before .before .pre .1 .1)
-
-add-links : tie.Need-add-links Inv-loop μ-loop
-add-links c =
-    let turn = c .before .before .before .before .before in
-    search (needs, (turn .loop .inv .2) .short, turn .before .before .before .pre .1 .1)
-
+-- src/rows.rt:24:19
 add-k : tie.Need-add-k Inv-loop μ-loop
-add-k c =
-    let start = c .before .before .before .before .before .before in
-    search (needs, (c .before .before .before .loop .inv .2) .short, start .pre .1 .1)
+add-k c = let known = node-known (c .before .before .pre .0 .0) _ (c .before .before .pre .0 .1) in omega (arith, known .small)
 
+-- src/rows.rt:24:17
+mul-k : tie.Need-mul-k Inv-loop μ-loop
+mul-k c = let known = node-known (c .before .before .pre .0 .0) _ (c .before .before .pre .0 .1) in omega (arith, known .small)
+
+-- src/rows.rt:24:17
+shared-slice-read-k : tie.Need-shared-slice-read-k Inv-loop μ-loop
+shared-slice-read-k c = let known = node-known (c .before .before .before .pre .0 .0) _ (c .before .before .before .pre .0 .1) in omega (arith, known .node .listed)
+
+-- src/rows.rt:24:17
+cast-k : tie.Need-cast-k Inv-loop μ-loop
+cast-k c = omega (arith, c .shared-slice-known3 .given (c .before .before .before .args .v + 1))
+
+-- src/rows.rt:24:17
+add-k-2 : tie.Need-add-k-2 Inv-loop μ-loop
+add-k-2 c = omega (arith, c .shared-slice-known3 .given (c .before .before .before .args .v + 1))
+
+-- src/rows.rt:26:5
+loop-holds : tie.Need-loop-holds Inv-loop μ-loop
+loop-holds c = thin-start (c .before .before .before .pre .0 .0) (c .before .before .before .pre .0 .1) (c .before .before .before .pre .1 .0) (c .before .before .before .pre .1 .1)
+
+-- src/rows.rt:27:12
+is-kept-requires : tie.Need-is-kept-requires Inv-loop μ-loop
+is-kept-requires c κs = let place = place-known (c .before .loop .inv .ready) (c .before .loop .inv .inside) (c .before .loop .inv .low) (c .loop-test .taken) in let ready = c .before .loop .inv .ready in ((ready .marks-long, ready .keep-long), (place .few, place .within, place .target))
+
+-- src/rows.rt:28:27
+mul-words : tie.Need-mul-words Inv-loop μ-loop
+mul-words c = let place = place-known (c .before .before .before .loop .inv .ready) (c .before .before .before .loop .inv .inside) (c .before .before .before .loop .inv .low) (c .before .before .loop-test .taken) in omega (arith, place .few)
+
+-- src/rows.rt:28:27
+shared-slice-read-words : tie.Need-shared-slice-read-words Inv-loop μ-loop
+shared-slice-read-words c = let place = place-known (c .before .before .before .before .loop .inv .ready) (c .before .before .before .before .loop .inv .inside) (c .before .before .before .before .loop .inv .low) (c .before .before .before .loop-test .taken) in place .within
+
+-- src/rows.rt:28:13
+mul-words-2 : tie.Need-mul-words-2 Inv-loop μ-loop
+mul-words-2 c = omega (arith, thin-room (c .before .before .before .before .loop .inv) (c .before .before .before .loop-test .taken))
+
+-- src/rows.rt:28:13
+element-write-words : tie.Need-element-write-words Inv-loop μ-loop
+element-write-words c = thin-room (c .before .before .before .before .loop .inv) (c .before .before .before .loop-test .taken)
+
+-- src/rows.rt:29:13
+add-next : tie.Need-add-next Inv-loop μ-loop
+add-next c = omega (arith, thin-room (c .before .before .before .before .loop .inv) (c .before .before .before .loop-test .taken))
+
+-- src/rows.rt:31:9
+add-k-3 : tie.Need-add-k-3 Inv-loop μ-loop
+add-k-3 c = let place = place-known (c .before .before .before .loop .inv .ready) (c .before .before .before .loop .inv .inside) (c .before .before .before .loop .inv .low) (c .before .before .loop-test .taken) in omega (arith, place .few)
+
+-- src/rows.rt:26:5
 loop-less : tie.Need-loop-less Inv-loop μ-loop
-loop-less c = search needs
+loop-less c = omega (arith, c .before .before .loop-test .taken)
 
+-- src/rows.rt:26:5
 loop-again : tie.Need-loop-again Inv-loop μ-loop
-loop-again c =
-    let turn = c .before .before .before in
-    let start = turn .before .before .before in
-    ⊎-elim (λ w. (
-      search needs,
-      search needs,
-      thin-as (w .3) (w .4) (w .5) (thin-more (turn .loop .inv .2) (start .pre .1 .0)
-          (turn .loop .inv .0) (c .before .before .loop-test .taken) (start .pre .1 .1) (c .before .is-kept .ensures .yes-stands
-          (w .0 .taken))),
-    )) (λ w. (
-      search needs,
-      search needs,
-      thin-as (w .1) (w .2) (w .3) (thin-stay (turn .loop .inv .2)
-          (c .before .is-kept .ensures .no-stands (w .0 .left))),
-    )) (c .if1 .came)
+loop-again c = ⊎-elim (λ w. thin-as (w .2) (w .3) (thin-more (c .before .before .before .loop .inv) (c .before .before .loop-test .taken) (c .before .is-kept .ensures .yes-stands (w .0 .taken)))) (λ w. thin-as (w .1) (w .2) (thin-stay (c .before .before .before .loop .inv) (c .before .before .loop-test .taken) (c .before .is-kept .ensures .no-stands (w .0 .left)))) (c .if1 .came)
 
+-- src/rows.rt:11:1
 returns : tie.Need-returns Inv-loop μ-loop
-returns c = thin-done (c .before .loop .inv .2) (c .before .loop .inv .1) (c .loop-test .left)
+returns c = thin-done (c .before .loop .inv) (c .loop-test .left)
 
 pub keep-row-spec : {M : Type 1} → statement M
 keep-row-spec =
@@ -99,16 +100,23 @@ keep-row-spec =
     (tie.spec
     Inv-loop
     μ-loop
+    add-end
+    mul-end
+    shared-slice-read-end
+    cast-end
+    add-k
+    mul-k
+    shared-slice-read-k
+    cast-k
+    add-k-2
     loop-holds
     is-kept-requires
-    shared-slice-read-kept-features
-    element-write-kept-features
-    mul-kept-targets
-    shared-slice-read-kept-targets
-    mul-kept-targets-2
-    element-write-kept-targets
-    add-links
-    add-k
+    mul-words
+    shared-slice-read-words
+    mul-words-2
+    element-write-words
+    add-next
+    add-k-3
     loop-less
     loop-again
     returns)

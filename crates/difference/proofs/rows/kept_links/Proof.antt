@@ -1,207 +1,114 @@
--- `kept_links` meets its contract. The loop's invariant: the rows before v hold their kept links.
-use Prim.Native.Nat.{_-_, _≤_}
-use native.Mathlib.Omega.{arith}
 use borrow.Author.Needs.{needs}
+-- `kept_links` meets its contract. The loop's invariant: the rows before v hold their kept links.
+use Prim.Native.Nat.{ℕ, _-_, _≤_}
+use native.Mathlib.Omega.{arith}
+use mathlib.Core.Path.{_∙_}
+use lib.ListN.{getD, length-set}
+use Rattle.difference.specs.Keeping.{Ready}
 use Rattle.difference.specs.Thinning.{Rows}
-use Rattle.difference.proofs.Thinning.{row-span, row-end, rows-start, rows-next, rows-done}
+use Rattle.difference.proofs.Keeping.{node-known}
+use Rattle.difference.proofs.Thinning.{row-known, rows-start, rows-next, rows-done}
 use Rattle.difference.proofs.rows.kept_links.Statement.{statement}
 use Rattle.difference.proofs.rows.kept_links.Tie as tie
+use Rattle.difference.proofs.rows.keep_row.Reads as keep-row-reads
 
 abbrev Inv-loop : tie.InvT-loop
-Inv-loop nodes types first features targets marks keep kept-first₀ kept-features₀ kept-targets₀ links₀ v₀ kept-first kept-features kept-targets links v =
-    (v ≤ nodes) × Rows features targets marks keep first v kept-first kept-features kept-targets links
+Inv-loop s marks keep types words₀ nodes at₀ v₀ words at v = (v ≤ nodes) × Ready s marks keep × Rows s marks keep types v words at
 
 abbrev μ-loop : tie.MeasureT-loop
-μ-loop nodes types first features targets marks keep kept-first₀ kept-features₀ kept-targets₀ links₀ v₀ kept-first kept-features kept-targets links v = nodes - v
+μ-loop s marks keep types words₀ nodes at₀ v₀ words at v = nodes - v
 
-element-write-kept-first : tie.Need-element-write-kept-first Inv-loop μ-loop
-element-write-kept-first c = search needs
+-- src/rows.rt:48:17
+shared-slice-read-nodes : tie.Need-shared-slice-read-nodes Inv-loop μ-loop
+shared-slice-read-nodes c = let node = node-known (c .before .before .pre .0) 0 (c .before .before .pre .0 .sound .shaped .nonempty) in omega (arith, node .node .listed)
 
+-- src/rows.rt:48:17
+cast-nodes : tie.Need-cast-nodes Inv-loop μ-loop
+cast-nodes c = omega (arith, c .before .before .pre .0 .small)
+
+-- src/rows.rt:49:18
+shared-slice-read-at : tie.Need-shared-slice-read-at Inv-loop μ-loop
+shared-slice-read-at c = let node = node-known (c .before .before .before .pre .0) 0 (c .before .before .before .pre .0 .sound .shaped .nonempty) in omega (arith, node .node .listed)
+
+-- src/rows.rt:49:18
+cast-at : tie.Need-cast-at Inv-loop μ-loop
+cast-at c = let node = node-known (c .before .before .before .pre .0) 0 (c .before .before .before .pre .0 .sound .shaped .nonempty) in omega (arith, node .node .begun, node .ended)
+
+-- src/rows.rt:50:16
+cast-words : tie.Need-cast-words Inv-loop μ-loop
+cast-words c = omega (arith, c .before .before .before .pre .0 .small)
+
+-- src/rows.rt:50:5
+element-write-words : tie.Need-element-write-words Inv-loop μ-loop
+element-write-words c = search needs
+
+-- src/rows.rt:51:16
+cast-words-2 : tie.Need-cast-words-2 Inv-loop μ-loop
+cast-words-2 c = let node = node-known (c .before .before .before .pre .0) 0 (c .before .before .before .pre .0 .sound .shaped .nonempty) in omega (arith, node .node .begun, node .ended)
+
+-- src/rows.rt:51:5
+element-write-words-2 : tie.Need-element-write-words-2 Inv-loop μ-loop
+element-write-words-2 c = search needs
+
+-- src/rows.rt:53:5
 loop-holds : tie.Need-loop-holds Inv-loop μ-loop
-loop-holds c =
-    let start = c .before .before .before .before in (
-      search needs,
-      rows-start (start .pre .0) (start .args .kept-first .now) (start .pre .1 .1 .1 .0) (start .pre .1 .1 .1 .1) (start .pre .1 .1 .1 .2),
-    )
+loop-holds c = (omega arith, c .before .before .before .pre .0, rows-start (c .before .before .before .args .words .now) (c .before .before .before .pre .0) (c .before .before .before .pre .1 .1))
 
-mul-start : tie.Need-mul-start Inv-loop μ-loop
-mul-start c =
-    let start = c .before .before .before .before .before .before in
-    search (
-      needs,
-      (row-span (start .pre .0) (start .pre .1 .0 .0) (c .before .loop .v) (c .loop-test .taken)),
-      row-end
-          (start .pre .0) (c .before .loop .v) (c .loop-test .taken),
-      start .pre .1 .0 .0,
-      start .pre .1 .0 .1,
-      start .pre .0 .shaped .laid .bounded,
-    )
+-- src/rows.rt:54:21
+element-copy-out-words : tie.Need-element-copy-out-words Inv-loop μ-loop
+element-copy-out-words c = let known = row-known (c .before .loop .inv .1) (c .loop-test .taken) (c .before .loop .inv .2) in known .small
 
-shared-slice-read-start : tie.Need-shared-slice-read-start Inv-loop μ-loop
-shared-slice-read-start c =
-    let turn = c .before .before in
-    let start = turn .before .before .before .before .before in
-    search (
-      needs,
-      (row-span (start .pre .0) (start .pre .1 .0 .0) (turn .loop .v) (c .before .loop-test .taken)),
-      row-end
-          (start .pre .0) (turn .loop .v) (c .before .loop-test .taken),
-      start .pre .1 .0 .0,
-      start .pre .1 .0 .1,
-      start .pre .0 .shaped .laid .bounded,
-    )
+-- src/rows.rt:54:21
+cast-words-3 : tie.Need-cast-words-3 Inv-loop μ-loop
+cast-words-3 c = omega (arith, c .before .before .before .before .before .before .pre .1 .0 .1 (c .before .before .loop .v) (c .before .loop-test .taken))
 
-cast-start : tie.Need-cast-start Inv-loop μ-loop
-cast-start c =
-    let turn = c .before .before in
-    let start = turn .before .before .before .before .before in
-    search (
-      needs,
-      (row-span (start .pre .0) (start .pre .1 .0 .0) (turn .loop .v) (c .before .loop-test .taken)),
-      row-end
-          (start .pre .0) (turn .loop .v) (c .before .loop-test .taken),
-      start .pre .1 .0 .0,
-      start .pre .1 .0 .1,
-      start .pre .0 .shaped .laid .bounded,
-    )
+-- src/rows.rt:54:9
+mul-words : tie.Need-mul-words Inv-loop μ-loop
+mul-words c = let known = row-known (c .before .before .loop .inv .1) (c .before .loop-test .taken) (c .before .before .loop .inv .2) in omega (arith, known .room)
 
-add-end : tie.Need-add-end Inv-loop μ-loop
-add-end c =
-    let turn = c .before .before in
-    let start = turn .before .before .before .before .before in
-    search (
-      needs,
-      (row-span (start .pre .0) (start .pre .1 .0 .0) (turn .loop .v) (c .before .loop-test .taken)),
-      row-end
-          (start .pre .0) (turn .loop .v) (c .before .loop-test .taken),
-      start .pre .1 .0 .0,
-      start .pre .1 .0 .1,
-      start .pre .0 .shaped .laid .bounded,
-    )
+-- src/rows.rt:54:9
+element-write-words-3 : tie.Need-element-write-words-3 Inv-loop μ-loop
+element-write-words-3 c = let known = row-known (c .before .before .loop .inv .1) (c .before .loop-test .taken) (c .before .before .loop .inv .2) in known .room
 
-mul-end : tie.Need-mul-end Inv-loop μ-loop
-mul-end c =
-    let turn = c .before .before in
-    let start = turn .before .before .before .before .before in
-    search (
-      needs,
-      (row-span (start .pre .0) (start .pre .1 .0 .0) (turn .loop .v) (c .before .loop-test .taken)),
-      row-end
-          (start .pre .0) (turn .loop .v) (c .before .loop-test .taken),
-      start .pre .1 .0 .0,
-      start .pre .1 .0 .1,
-      start .pre .0 .shaped .laid .bounded,
-    )
+-- src/rows.rt:55:42
+add-keep-row : tie.Need-add-keep-row Inv-loop μ-loop
+add-keep-row c = let known = row-known (c .before .before .loop .inv .1) (c .before .loop-test .taken) (c .before .before .loop .inv .2) in omega (arith, known .room)
 
-shared-slice-read-end : tie.Need-shared-slice-read-end Inv-loop μ-loop
-shared-slice-read-end c =
-    let test = c .before .before in
-    let turn = test .before in
-    let start = turn .before .before .before .before .before in
-    search (
-      needs,
-      (row-span (start .pre .0) (start .pre .1 .0 .0) (turn .loop .v) (test .loop-test .taken)),
-      row-end
-          (start .pre .0) (turn .loop .v) (test .loop-test .taken),
-      start .pre .1 .0 .0,
-      start .pre .1 .0 .1,
-      start .pre .0 .shaped .laid .bounded,
-    )
-
-cast-end : tie.Need-cast-end Inv-loop μ-loop
-cast-end c =
-    let test = c .before .before in
-    let turn = test .before in
-    let start = turn .before .before .before .before .before in
-    search (
-      needs,
-      (row-span (start .pre .0) (start .pre .1 .0 .0) (turn .loop .v) (test .loop-test .taken)),
-      row-end
-          (start .pre .0) (turn .loop .v) (test .loop-test .taken),
-      start .pre .1 .0 .0,
-      start .pre .1 .0 .1,
-      start .pre .0 .shaped .laid .bounded,
-    )
-
+-- src/rows.rt:55:9
 keep-row-requires : tie.Need-keep-row-requires Inv-loop μ-loop
-keep-row-requires c κs =
-    let test = c .before .before .before .before in
-    let turn = test .before in
-    let start = turn .before .before .before .before .before in (
-      (start .pre .1 .1 .0 .0, start .pre .1 .1 .0 .1, turn .loop .inv .1 .fs-long, turn .loop .inv .1 .ts-long),
-      (
-        (row-span
-            (start .pre .0) (start .pre .1 .0 .0) (turn .loop .v) (test .loop-test .taken)),
-        omega (
-          arith,
-          row-end (start .pre .0)
-              (turn .loop .v) (test .loop-test .taken),
-          start .pre .1 .0 .1,
-        ),
-        turn .loop .inv .1 .short,
-      ),
-    )
+keep-row-requires c κs = let known = row-known (c .before .before .before .loop .inv .1) (c .before .before .loop-test .taken) (c .before .before .before .loop .inv .2) in ((c .before .before .before .loop .inv .1, c .before .before .loop-test .taken), (length-set {A = ℕ} (c .before .before .before .loop .words) (c .before .before .before .loop .at) (getD (c .before .before .before .before .before .before .before .args .types .now) (c .before .before .before .loop .v) 0) ∙ c .before .before .before .loop .inv .2 .long, known .before))
 
+-- src/rows.rt:56:24
+cast-words-4 : tie.Need-cast-words-4 Inv-loop μ-loop
+cast-words-4 c = let known = row-known (c .before .before .before .before .loop .inv .1) (c .before .before .before .loop-test .taken) (c .before .before .before .before .loop .inv .2) in omega (arith, c .keep-row .ensures .short, known .ended)
+
+-- src/rows.rt:56:15
+add-words : tie.Need-add-words Inv-loop μ-loop
+add-words c = let known = row-known (c .before .before .before .before .loop .inv .1) (c .before .before .before .loop-test .taken) (c .before .before .before .before .loop .inv .2) in omega (arith, known .small)
+
+-- src/rows.rt:56:9
+mul-words-2 : tie.Need-mul-words-2 Inv-loop μ-loop
+mul-words-2 c = let known = row-known (c .before .before .before .before .loop .inv .1) (c .before .before .before .loop-test .taken) (c .before .before .before .before .loop .inv .2) in omega (arith, known .small)
+
+-- src/rows.rt:56:9
+element-write-words-4 : tie.Need-element-write-words-4 Inv-loop μ-loop
+element-write-words-4 c = let known = row-known (c .before .before .before .before .loop .inv .1) (c .before .before .before .loop-test .taken) (c .before .before .before .before .loop .inv .2) in omega (arith, known .small)
+
+-- src/rows.rt:57:9
 add-v : tie.Need-add-v Inv-loop μ-loop
-add-v c = search needs
+add-v c = let known = row-known (c .before .before .before .before .loop .inv .1) (c .before .before .before .loop-test .taken) (c .before .before .before .before .loop .inv .2) in omega (arith, known .small)
 
-cast-kept-first : tie.Need-cast-kept-first Inv-loop μ-loop
-cast-kept-first c =
-    let test = c .before .before .before .before .before in
-    let start = test .before .before .before .before .before .before in
-    omega (
-      arith,
-      c .keep-row .ensures .short,
-      row-end (start .pre .0) (test .before .loop .v) (test .loop-test .taken),
-      start .pre .1 .0 .1,
-    )
-
-mul-kept-first : tie.Need-mul-kept-first Inv-loop μ-loop
-mul-kept-first c =
-    let test = c .before .before .before .before .before in
-    let turn = test .before in
-    let start = turn .before .before .before .before .before in
-    search (
-      needs,
-      (row-span (start .pre .0) (start .pre .1 .0 .0) (turn .loop .v) (test .loop-test .taken)),
-      row-end
-          (start .pre .0) (turn .loop .v) (test .loop-test .taken),
-      start .pre .1 .0 .0,
-      start .pre .1 .0 .1,
-      start .pre .0 .shaped .laid .bounded,
-    )
-
-element-write-kept-first-2 : tie.Need-element-write-kept-first-2 Inv-loop μ-loop
-element-write-kept-first-2 c =
-    let test = c .before .before .before .before .before in
-    let turn = test .before in
-    let start = turn .before .before .before .before .before in
-    search (
-      needs,
-      (row-span (start .pre .0) (start .pre .1 .0 .0) (turn .loop .v) (test .loop-test .taken)),
-      row-end
-          (start .pre .0) (turn .loop .v) (test .loop-test .taken),
-      start .pre .1 .0 .0,
-      start .pre .1 .0 .1,
-      start .pre .0 .shaped .laid .bounded,
-    )
-
+-- src/rows.rt:53:5
 loop-less : tie.Need-loop-less Inv-loop μ-loop
-loop-less c = search needs
+loop-less c = omega (arith, c .before .before .before .loop-test .taken)
 
+-- src/rows.rt:53:5
 loop-again : tie.Need-loop-again Inv-loop μ-loop
-loop-again c =
-    let test = c .before .before .before .before .before in
-    let start = test .before .before .before .before .before .before in (
-      search needs,
-      rows-next (start .pre .0) (test .loop-test .taken) (start .pre .1 .0 .0) (test .before .loop .inv .1)
-          (c .keep-row .ensures),
-    )
+loop-again c = (omega (arith, c .before .before .before .loop-test .taken), c .before .before .before .before .loop .inv .1, rows-next (c .before .before .before .before .loop .inv .1) (c .before .before .before .loop-test .taken) (c .before .before .before .before .loop .inv .2) (c .keep-row .ensures))
 
+-- src/rows.rt:37:1
 returns : tie.Need-returns Inv-loop μ-loop
-returns c =
-    let start = c .before .before .before .before .before .before in
-    rows-done (start .pre .0) (c .before .loop .inv .1) (c .before .loop .inv .0) (c .loop-test .left)
+returns c = rows-done (c .before .loop .inv .2) (c .before .loop .inv .0) (c .loop-test .left)
 
 pub kept-links-spec : {M : Type 1} → statement M
 kept-links-spec =
@@ -209,20 +116,26 @@ kept-links-spec =
     (tie.spec
     Inv-loop
     μ-loop
-    element-write-kept-first
+    shared-slice-read-nodes
+    cast-nodes
+    shared-slice-read-at
+    cast-at
+    cast-words
+    element-write-words
+    cast-words-2
+    element-write-words-2
     loop-holds
-    mul-start
-    shared-slice-read-start
-    cast-start
-    add-end
-    mul-end
-    shared-slice-read-end
-    cast-end
+    element-copy-out-words
+    cast-words-3
+    mul-words
+    element-write-words-3
+    add-keep-row
     keep-row-requires
+    cast-words-4
+    add-words
+    mul-words-2
+    element-write-words-4
     add-v
-    cast-kept-first
-    mul-kept-first
-    element-write-kept-first-2
     loop-less
     loop-again
     returns)

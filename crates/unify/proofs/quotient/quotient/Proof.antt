@@ -1,57 +1,95 @@
--- `quotient` meets its contract: the rows of the nodes before x are filled.
+use borrow.Author.Needs.{needs}
+-- `quotient` meets its contract: the rows of the nodes before x are built.
 use Prim.Native.Nat.{_-_}
 use native.Mathlib.Omega.{arith}
-use Rattle.unify.proofs.Filling.{Fillable, Filling, fill-start, fill-asks, fill-bound, fill-step, fill-done}
-use borrow.Author.Needs.{needs}
+use Rattle.unify.proofs.Filling.{Filling, fill-start, fill-room, fill-asks, fill-bound, fill-step, fill-done}
 use Rattle.unify.proofs.quotient.quotient.Statement.{statement}
 use Rattle.unify.proofs.quotient.quotient.Tie as tie
 
 abbrev Inv-loop : tie.InvT-loop
-Inv-loop nodes class start end pool-features pool-targets first₀ features₀ targets₀ links₀ x₀ first features targets links x =
-    Filling nodes class start end pool-features pool-targets first features targets links x
+Inv-loop nodes class labels start end pool graph₀ at₀ x₀ graph at x =
+    Filling nodes class labels start end pool graph at x
 
 abbrev μ-loop : tie.MeasureT-loop
-μ-loop nodes class start end pool-features pool-targets first₀ features₀ targets₀ links₀ x₀ first features targets links x =
-    nodes - x
+μ-loop nodes class labels start end pool graph₀ at₀ x₀ graph at x = nodes - x
 
-element-write-first : tie.Need-element-write-first Inv-loop μ-loop
-element-write-first c = search needs
+add-at : tie.Need-add-at Inv-loop μ-loop
+add-at c = omega (arith, c .before .pre .1 .few)
+
+cast-graph : tie.Need-cast-graph Inv-loop μ-loop
+cast-graph c = omega (arith, c .before .pre .1 .few)
+
+element-write-graph : tie.Need-element-write-graph Inv-loop μ-loop
+element-write-graph c = omega (arith, c .before .pre .0 .0)
+
+cast-graph-2 : tie.Need-cast-graph-2 Inv-loop μ-loop
+cast-graph-2 c = omega (arith, c .before .pre .1 .few)
+
+element-write-graph-2 : tie.Need-element-write-graph-2 Inv-loop μ-loop
+element-write-graph-2 c = search needs
 
 loop-holds : tie.Need-loop-holds Inv-loop μ-loop
-loop-holds c = fill-start (c .before .before .args .first .now) (c .before .before .args .features .now) (c .before .before .args .targets .now) (c .before .before .pre .1 .0 .0) (c .before .before .pre .1 .0 .1) (c .before .before .pre .1 .0 .2)
+loop-holds c = fill-start (c .before .pre .1) (c .before .args .labels .now) (c .before .args .graph .now) (c .before .pre .0 .0)
+
+mul-c : tie.Need-mul-c Inv-loop μ-loop
+mul-c c = omega (arith, c .loop-test .taken, c .before .loop .inv .given .few)
+
+element-copy-out-c : tie.Need-element-copy-out-c Inv-loop μ-loop
+element-copy-out-c c = omega (arith, c .loop-test .taken, c .before .loop .inv .given .few)
+
+cast-c : tie.Need-cast-c Inv-loop μ-loop
+cast-c c = omega (arith, c .before .before .loop .inv .given .classed (c .before .before .loop .x) (c .before .loop-test .taken))
+
+element-copy-out-graph : tie.Need-element-copy-out-graph Inv-loop μ-loop
+element-copy-out-graph c = c .before .before .loop .inv .given .classed (c .before .before .loop .x) (c .before .loop-test .taken)
+
+cast-graph-3 : tie.Need-cast-graph-3 Inv-loop μ-loop
+cast-graph-3 c = omega (arith, c .before .before .before .before .before .pre .0 .1 _ (c .before .before .before .loop .inv .given .classed (c .before .before .before .loop .x) (c .before .before .loop-test .taken)))
+
+mul-graph : tie.Need-mul-graph Inv-loop μ-loop
+mul-graph c = omega (arith, fill-room (c .before .before .before .loop .inv) (c .before .before .loop-test .taken), c .before .before .before .loop .inv .long)
+
+element-write-graph-3 : tie.Need-element-write-graph-3 Inv-loop μ-loop
+element-write-graph-3 c = omega (arith, fill-room (c .before .before .before .loop .inv) (c .before .before .loop-test .taken), c .before .before .before .loop .inv .long)
 
 mul-row-start : tie.Need-mul-row-start Inv-loop μ-loop
-mul-row-start c = search needs
+mul-row-start c = omega (arith, c .before .before .loop-test .taken, c .before .before .before .loop .inv .given .few)
 
 element-copy-out-row-start : tie.Need-element-copy-out-row-start Inv-loop μ-loop
-element-copy-out-row-start c = search needs
+element-copy-out-row-start c = omega (arith, c .before .before .loop-test .taken, c .before .before .before .loop .inv .given .few)
 
 cast-row-start : tie.Need-cast-row-start Inv-loop μ-loop
-cast-row-start c = let l = c .before .before in let st = l .before .before .before in let given : Fillable (st .args .nodes) (st .args .class .now) (st .args .start .now) (st .args .end .now) (st .args .pool-features .now) (st .args .pool-targets .now) = record { few = st .pre .0; rising = st .pre .1 .1 .1 .0; within = st .pre .1 .1 .1 .1 .0; short = st .pre .1 .1 .1 .1 .1 } in omega (arith, given .rising (l .loop .x) (c .before .loop-test .taken))
+cast-row-start c = omega (arith, c .before .before .before .before .loop .inv .given .rising (c .before .before .before .before .loop .x) (c .before .before .before .loop-test .taken))
 
 end-of-row-requires : tie.Need-end-of-row-requires Inv-loop μ-loop
-end-of-row-requires c κs = let l = c .before .before in let st = l .before .before .before in let given : Fillable (st .args .nodes) (st .args .class .now) (st .args .start .now) (st .args .end .now) (st .args .pool-features .now) (st .args .pool-targets .now) = record { few = st .pre .0; rising = st .pre .1 .1 .1 .0; within = st .pre .1 .1 .1 .1 .0; short = st .pre .1 .1 .1 .1 .1 } in ((omega (arith, given .few, c .before .loop-test .taken), st .pre .1 .1 .0 (l .loop .x) (c .before .loop-test .taken)), (given .rising (l .loop .x) (c .before .loop-test .taken) .0, given .rising (l .loop .x) (c .before .loop-test .taken) .1))
+end-of-row-requires c κs = ((omega (arith, c .before .before .before .before .loop .inv .given .few, c .before .before .before .loop-test .taken), c .before .before .before .before .loop .inv .given .classed (c .before .before .before .before .loop .x) (c .before .before .before .loop-test .taken)), (c .before .before .before .before .loop .inv .given .rising (c .before .before .before .before .loop .x) (c .before .before .before .loop-test .taken) .0, c .before .before .before .before .loop .inv .given .rising (c .before .before .before .before .loop .x) (c .before .before .before .loop-test .taken) .1))
+
+add-copy-row : tie.Need-add-copy-row Inv-loop μ-loop
+add-copy-row c = omega (arith, fill-room (c .before .before .before .before .before .loop .inv) (c .before .before .before .before .loop-test .taken), c .before .before .before .before .before .loop .inv .long)
 
 copy-row-requires : tie.Need-copy-row-requires Inv-loop μ-loop
-copy-row-requires c κs = let l = c .before .before .before .before .before in let st = l .before .before .before in let given : Fillable (st .args .nodes) (st .args .class .now) (st .args .start .now) (st .args .end .now) (st .args .pool-features .now) (st .args .pool-targets .now) = record { few = st .pre .0; rising = st .pre .1 .1 .1 .0; within = st .pre .1 .1 .1 .1 .0; short = st .pre .1 .1 .1 .1 .1 } in let e = c .before .before .end-of-row .ensures in rw e (let a = fill-asks given (l .loop .inv) (c .before .before .before .before .loop-test .taken) in (a .0, (a .1, (l .loop .inv .rows .features-long, l .loop .inv .rows .targets-long))))
+copy-row-requires c κs = rw (c .before .end-of-row .ensures) (fill-asks (c .before .before .before .before .before .before .loop .inv) (c .before .before .before .before .before .loop-test .taken))
+
+cast-graph-4 : tie.Need-cast-graph-4 Inv-loop μ-loop
+cast-graph-4 c = omega (arith, fill-bound (c .before .before .before .before .before .before .before .loop .inv) (c .before .before .before .before .before .before .loop-test .taken) (rw (c .before .before .end-of-row .ensures) at (c .copy-row .ensures)))
+
+add-graph : tie.Need-add-graph Inv-loop μ-loop
+add-graph c = omega (arith, c .before .before .before .before .before .before .loop-test .taken, c .before .before .before .before .before .before .before .loop .inv .given .few)
+
+mul-graph-2 : tie.Need-mul-graph-2 Inv-loop μ-loop
+mul-graph-2 c = omega (arith, c .before .before .before .before .before .before .loop-test .taken, c .before .before .before .before .before .before .before .loop .inv .given .few)
+
+element-write-graph-4 : tie.Need-element-write-graph-4 Inv-loop μ-loop
+element-write-graph-4 c = omega (arith, c .before .before .before .before .before .before .loop-test .taken, c .before .before .before .before .before .before .before .loop .inv .given .few, fill-step (c .before .before .before .before .before .before .before .loop .inv) (c .before .before .before .before .before .before .loop-test .taken) (rw (c .before .before .end-of-row .ensures) at (c .copy-row .ensures)) .long)
 
 add-x : tie.Need-add-x Inv-loop μ-loop
-add-x c = search needs
-
-cast-first : tie.Need-cast-first Inv-loop μ-loop
-cast-first c = let l = c .before .before .before .before .before .before in let st = l .before .before .before in let given : Fillable (st .args .nodes) (st .args .class .now) (st .args .start .now) (st .args .end .now) (st .args .pool-features .now) (st .args .pool-targets .now) = record { few = st .pre .0; rising = st .pre .1 .1 .1 .0; within = st .pre .1 .1 .1 .1 .0; short = st .pre .1 .1 .1 .1 .1 } in omega (arith, fill-bound given (l .loop .inv) (c .before .before .before .before .before .loop-test .taken) (rw (c .before .before .before .end-of-row .ensures) at (c .copy-row .ensures)))
-
-mul-first : tie.Need-mul-first Inv-loop μ-loop
-mul-first c = search needs
-
-element-write-first-2 : tie.Need-element-write-first-2 Inv-loop μ-loop
-element-write-first-2 c = search needs
+add-x c = omega (arith, c .before .before .before .before .before .before .loop-test .taken, c .before .before .before .before .before .before .before .loop .inv .given .few)
 
 loop-less : tie.Need-loop-less Inv-loop μ-loop
 loop-less c = search needs
 
 loop-again : tie.Need-loop-again Inv-loop μ-loop
-loop-again c = let l = c .before .before .before .before .before .before in let st = l .before .before .before in let given : Fillable (st .args .nodes) (st .args .class .now) (st .args .start .now) (st .args .end .now) (st .args .pool-features .now) (st .args .pool-targets .now) = record { few = st .pre .0; rising = st .pre .1 .1 .1 .0; within = st .pre .1 .1 .1 .1 .0; short = st .pre .1 .1 .1 .1 .1 } in fill-step given (l .loop .inv) (c .before .before .before .before .before .loop-test .taken) (rw (c .before .before .before .end-of-row .ensures) at (c .copy-row .ensures))
+loop-again c = fill-step (c .before .before .before .before .before .before .before .loop .inv) (c .before .before .before .before .before .before .loop-test .taken) (rw (c .before .before .end-of-row .ensures) at (c .copy-row .ensures))
 
 returns : tie.Need-returns Inv-loop μ-loop
 returns c = fill-done (c .before .loop .inv) (c .loop-test .left)
@@ -62,17 +100,30 @@ quotient-spec =
     (tie.spec
     Inv-loop
     μ-loop
-    element-write-first
+    add-at
+    cast-graph
+    element-write-graph
+    cast-graph-2
+    element-write-graph-2
     loop-holds
+    mul-c
+    element-copy-out-c
+    cast-c
+    element-copy-out-graph
+    cast-graph-3
+    mul-graph
+    element-write-graph-3
     mul-row-start
     element-copy-out-row-start
     cast-row-start
     end-of-row-requires
+    add-copy-row
     copy-row-requires
+    cast-graph-4
+    add-graph
+    mul-graph-2
+    element-write-graph-4
     add-x
-    cast-first
-    mul-first
-    element-write-first-2
     loop-less
     loop-again
     returns)

@@ -1,0 +1,135 @@
+-- `rows::take_links` meets its contract: what was to be read is the links stored and those of the digits left.
+use Prim.Native.Nat.{_-_}
+use native.Mathlib.Omega.{arith}
+use lib.ListN.{drop}
+use borrow.Author.Needs.{needs}
+use denote.Ref.{now}
+use Rattle.decode.specs.Word.{takeWord}
+use Rattle.decode.proofs.Steps.{byte-taken, byte-ended}
+use Rattle.decode.proofs.Storing.{Linking, link-begin, link-feature, link-full, link-short, link-next, link-end, took-none, took-all}
+use Rattle.decode.proofs.rows.take_links.Statement.{statement}
+use Rattle.decode.proofs.rows.take_links.Tie as tie
+
+abbrev Inv-loop : tie.InvT-loop
+Inv-loop bytes map start graph₀ at limit left₀ feature₀ next₀ end₀ graph left feature next end =
+    Linking (takeWord 64 0 map (limit - at) (drop start bytes)) bytes at limit graph₀ graph left feature next end
+
+abbrev μ-loop : tie.MeasureT-loop
+μ-loop bytes map start graph₀ at limit left₀ feature₀ next₀ end₀ graph left feature next end = 64 - feature
+
+loop-holds : tie.Need-loop-holds Inv-loop μ-loop
+loop-holds c =
+    let a = c .before in
+    link-begin _ _ _ _ _ _ (a .fits .map .fits) (a .pre)
+
+returns : tie.Need-returns Inv-loop μ-loop
+returns c =
+    let l = c .before .before .loop .inv in
+    took-none (link-full l (c .before .loop-test .taken) (c .if1 .taken)) (l .before) (l .long)
+
+byte-from-requires : tie.Need-byte-from-requires Inv-loop μ-loop
+byte-from-requires c κs = search needs
+
+enum-known-step : tie.Need-enum-known-step Inv-loop μ-loop
+enum-known-step c = search needs
+
+enum-told : tie.Need-enum-told Inv-loop μ-loop
+enum-told c = search needs
+
+returns-2 : tie.Need-returns-2 Inv-loop μ-loop
+returns-2 c =
+    let r = c .before .before in
+    let l = r .before .before .before in
+    took-none
+    (link-short (l .loop .inv) (r .before .before .loop-test .taken)
+    (byte-ended (now (l .before .before .args .bytes)) (l .loop .next) (r .byte-from .ensures) (c .enum-told .given .1)))
+    (l .loop .inv .before) (l .loop .inv .long)
+
+cast-feature : tie.Need-cast-feature Inv-loop μ-loop
+cast-feature c =
+    let t = c .before .before .before .before .before in
+    omega (arith, link-feature (t .before .loop .inv) (t .loop-test .taken))
+
+add-feature : tie.Need-add-feature Inv-loop μ-loop
+add-feature c =
+    let t = c .before .before .before .before .before in
+    omega (arith, link-feature (t .before .loop .inv) (t .loop-test .taken))
+
+cast-link : tie.Need-cast-link Inv-loop μ-loop
+cast-link c = search needs
+
+link-requires : tie.Need-link-requires Inv-loop μ-loop
+link-requires c κs =
+    let t = c .before .before .before .before .before in
+    (omega (arith, link-feature (t .before .loop .inv) (t .loop-test .taken)), search needs)
+
+mul-graph : tie.Need-mul-graph Inv-loop μ-loop
+mul-graph c =
+    omega (arith, c .before .before .before .before .before .before .before .loop .inv .few, c .before .before .before .before .before .if1 .left)
+
+element-write-graph : tie.Need-element-write-graph Inv-loop μ-loop
+element-write-graph c =
+    omega (arith, c .before .before .before .before .before .before .before .loop .inv .few, c .before .before .before .before .before .if1 .left)
+
+cast-left : tie.Need-cast-left Inv-loop μ-loop
+cast-left c =
+    let t = c .before .before .before .before .before .before in
+    omega (arith, link-feature (t .before .loop .inv) (t .loop-test .taken))
+
+shr-left : tie.Need-shr-left Inv-loop μ-loop
+shr-left c =
+    let t = c .before .before .before .before .before .before in
+    omega (arith, link-feature (t .before .loop .inv) (t .loop-test .taken))
+
+add-feature-2 : tie.Need-add-feature-2 Inv-loop μ-loop
+add-feature-2 c =
+    let t = c .before .before .before .before .before .before in
+    omega (arith, link-feature (t .before .loop .inv) (t .loop-test .taken))
+
+add-end : tie.Need-add-end Inv-loop μ-loop
+add-end c =
+    omega (arith, c .before .before .before .before .before .before .before .loop .inv .few, c .before .before .before .before .before .if1 .left)
+
+loop-less : tie.Need-loop-less Inv-loop μ-loop
+loop-less c =
+    let t = c .before .before .before .before .before .before in
+    omega (arith, link-feature (t .before .loop .inv) (t .loop-test .taken))
+
+loop-again : tie.Need-loop-again Inv-loop μ-loop
+loop-again c =
+    let r = c .before .before .before .before in
+    let l = r .before .before .before in
+    let t = byte-taken _ _ (r .byte-from .ensures) (c .before .before .step .given .1) in
+    link-next (l .loop .inv) (r .before .before .loop-test .taken) (r .before .if1 .left)
+    (omega (arith, t .byte-is, l .before .shared-slice-known .given (l .loop .next))) t (c .link .ensures)
+
+returns-3 : tie.Need-returns-3 Inv-loop μ-loop
+returns-3 c =
+    let l = c .before .loop .inv in
+    took-all (omega (arith, l .low)) (link-end l (c .loop-test .left)) (l .before) (l .long)
+
+pub take-links-spec : {M : Type 1} → statement M
+take-links-spec =
+    tie.close
+    (tie.spec
+    Inv-loop
+    μ-loop
+    loop-holds
+    returns
+    byte-from-requires
+    enum-known-step
+    enum-told
+    returns-2
+    cast-feature
+    add-feature
+    cast-link
+    link-requires
+    mul-graph
+    element-write-graph
+    cast-left
+    shr-left
+    add-feature-2
+    add-end
+    loop-less
+    loop-again
+    returns-3)

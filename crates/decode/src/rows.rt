@@ -1,0 +1,118 @@
+// Parsing: a record's bytes into the words of a graph, or not where they are no record (refusal 4).
+
+use crate::reader::MapStep;
+use crate::reader::Step;
+use crate::reader::byte_from;
+use crate::reader::map_from;
+ghost use mathlib.Core.Path.{_≡_};
+ghost use Prim.Native.Nat.{_+_};
+ghost use lib.ListN.{length};
+ghost use Rattle.layout.specs.Layout.{header};
+ghost use Rattle.decode.specs.Answers.{Parses};
+ghost use Rattle.decode.specs.Storing.{Fits, TookLinks, TookRow};
+
+// The most links of a record.
+pub const LINKS: usize = 2048;
+
+// Where a row ends: the next byte and the next word's place; or the bytes or the room for links ran out.
+pub enum RowEnd {
+    At(usize, usize),
+    Short,
+}
+
+// Takes a target byte for each standing bit of the map, lowest first, and stores the links from a place on, below a limit.
+pub fn take_links(
+    bytes: &[u8],
+    map: u64,
+    start: usize,
+    graph: &mut [u16; 2560],
+    at: usize,
+    limit: usize,
+) -> RowEnd
+    requires { ⌜ Fits (now bytes) start at limit (now graph) ⌝ }
+    ensures { λ r. ⌜ TookLinks map (now (bytes .entry)) start at limit (now (graph .entry)) r (now (graph .exit)) ⌝ }
+{
+    let mut left = map;
+    let mut feature: u16 = 0;
+    let mut next = start;
+    let mut end = at;
+    while left != 0 {
+        if limit <= end {
+            return RowEnd::Short;
+        }
+        let step = byte_from(bytes, next);
+        let Step::Byte(target, behind) = step else {
+            return RowEnd::Short;
+        };
+        let zeros = u64::trailing_zeros(left);
+        feature += zeros as u16;
+        graph[end] = layout::link(feature, target as u16);
+        left = (left >> zeros) >> 1;
+        feature += 1;
+        next = behind;
+        end += 1;
+    }
+    RowEnd::At(next, end)
+}
+
+// Takes the row at a byte, and stores it from a place on, its links below a limit.
+pub fn take_row(
+    bytes: &[u8],
+    start: usize,
+    graph: &mut [u16; 2560],
+    at: usize,
+    limit: usize,
+) -> RowEnd
+    requires { ⌜ Fits (now bytes) start (at + header) limit (now graph) ⌝ }
+    ensures { λ r. ⌜ TookRow (now (bytes .entry)) start at limit (now (graph .entry)) r (now (graph .exit)) ⌝ }
+{
+    let step = byte_from(bytes, start);
+    let Step::Byte(label, behind) = step else {
+        return RowEnd::Short;
+    };
+    let map_step = map_from(bytes, behind);
+    let MapStep::Map(map, first) = map_step else {
+        return RowEnd::Short;
+    };
+    graph[at] = label as u16;
+    take_links(bytes, map, first, graph, at + layout::HEADER, limit)
+}
+
+// Whether the bytes are a record; if so the words hold its graph. The first row stands behind the places where rows begin. The
+// limit of links lies as many places further, and moves by a header with each row.
+pub fn parse(bytes: &[u8], graph: &mut [u16; 2560]) -> bool
+    requires { ⌜ length (now graph) ≡ 2560 ⌝ }
+    ensures { λ r. ⌜ Parses (now (bytes .entry)) r (now (graph .exit)) ⌝ }
+    ensures { λ r. ⌜ length (now (graph .exit)) ≡ 2560 ⌝ }
+{
+    let step = byte_from(bytes, 0);
+    let Step::Byte(count, start) = step else {
+        return false;
+    };
+    let nodes = count as usize;
+    if nodes == 0 {
+        return false;
+    }
+    let mut at = nodes + 2;
+    let mut limit = at + LINKS;
+    graph[0] = nodes as u16;
+    graph[1] = at as u16;
+    let mut next = start;
+    let mut v: usize = 0;
+    while v < nodes {
+        limit += layout::HEADER;
+        let row = take_row(bytes, next, graph, at, limit);
+        let RowEnd::At(behind, end) = row else {
+            return false;
+        };
+        graph[v + 2] = end as u16;
+        next = behind;
+        at = end;
+        v += 1;
+    }
+    let last = byte_from(bytes, next);
+    let Step::End = last else {
+        return false;
+    };
+    true
+}

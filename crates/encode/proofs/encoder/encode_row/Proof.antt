@@ -1,0 +1,155 @@
+-- `encode_row` meets its contract: in a turn one target is stored and one bit of the map added.
+use mathlib.Core.Path.{_∙_}
+use Prim.Native.Nat.{_+_, _-_, _<_}
+use native.Mathlib.Omega.{arith}
+use borrow.Author.Needs.{needs}
+use lib.ListN.{length-set}
+use Rattle.layout.specs.Layout.{header, labelAt}
+use Rattle.encode.proofs.WrittenRows.{Turn, row-placed, turn-start, turn-step, turn-done}
+use Rattle.encode.proofs.encoder.encode_row.Statement.{statement}
+use Rattle.encode.proofs.encoder.encode_row.Tie as tie
+
+abbrev Inv-loop : tie.InvT-loop
+Inv-loop graph numbers v at out₀ row end label map₀ next₀ k₀ out map next k = (end < 65536) × Turn graph numbers at (row + header) end out₀ out map next k
+
+abbrev μ-loop : tie.MeasureT-loop
+μ-loop graph numbers v at out₀ row end label map₀ next₀ k₀ out map next k = end - k
+
+add-row : tie.Need-add-row Inv-loop μ-loop
+add-row c = omega (arith, c .before .before .pre .0 .1, c .before .before .pre .0 .0 .shaped .few)
+
+mul-row : tie.Need-mul-row Inv-loop μ-loop
+mul-row c = omega (arith, c .before .before .pre .0 .1, c .before .before .pre .0 .0 .shaped .few)
+
+shared-slice-read-row : tie.Need-shared-slice-read-row Inv-loop μ-loop
+shared-slice-read-row c = omega (arith, c .before .before .before .pre .0 .0 .shaped .node (c .before .before .before .args .v) (c .before .before .before .pre .0 .1) .listed)
+
+cast-row : tie.Need-cast-row Inv-loop μ-loop
+cast-row c = omega (arith, c .shared-slice-known2 .given (c .before .before .before .args .v + 1))
+
+add-end : tie.Need-add-end Inv-loop μ-loop
+add-end c = omega (arith, c .before .before .before .pre .0 .1, c .before .before .before .pre .0 .0 .shaped .few)
+
+mul-end : tie.Need-mul-end Inv-loop μ-loop
+mul-end c = omega (arith, c .before .before .before .pre .0 .1, c .before .before .before .pre .0 .0 .shaped .few)
+
+shared-slice-read-end : tie.Need-shared-slice-read-end Inv-loop μ-loop
+shared-slice-read-end c = c .before .before .before .before .pre .0 .0 .shaped .node (c .before .before .before .before .args .v) (c .before .before .before .before .pre .0 .1) .listed
+
+cast-end : tie.Need-cast-end Inv-loop μ-loop
+cast-end c = omega (arith, c .shared-slice-known3 .given (c .before .before .before .before .args .v + 2))
+
+mul-label : tie.Need-mul-label Inv-loop μ-loop
+mul-label c = omega (arith, c .before .shared-slice-known2 .given (c .before .before .before .before .args .v + 1))
+
+shared-slice-read-label : tie.Need-shared-slice-read-label Inv-loop μ-loop
+shared-slice-read-label c = omega (arith, c .before .before .before .before .before .pre .0 .0 .shaped .node (c .before .before .before .before .before .args .v) (c .before .before .before .before .before .pre .0 .1) .begun, c .before .before .before .before .before .pre .0 .0 .shaped .node (c .before .before .before .before .before .args .v) (c .before .before .before .before .before .pre .0 .1) .ended)
+
+cast-out : tie.Need-cast-out Inv-loop μ-loop
+cast-out c = omega (arith, c .before .before .before .before .before .pre .0 .0 .shaped .labelled (c .before .before .before .before .before .args .v) (c .before .before .before .before .before .pre .0 .1))
+
+slice-write-out : tie.Need-slice-write-out Inv-loop μ-loop
+slice-write-out c = omega (arith, c .before .before .before .before .before .pre .1)
+
+add-next : tie.Need-add-next Inv-loop μ-loop
+add-next c = omega (arith, c .before .before .before .before .before .pre .1, c .before .before .before .before .before .good .1 .1 .1 .1 .0)
+
+add-k : tie.Need-add-k Inv-loop μ-loop
+add-k c = omega (arith, c .before .before .shared-slice-known2 .given (c .before .before .before .before .before .args .v + 1))
+
+loop-holds : tie.Need-loop-holds Inv-loop μ-loop
+loop-holds c = (omega (arith, c .before .shared-slice-known3 .given (c .before .before .before .before .before .args .v + 2)), turn-start (row-placed (c .before .before .before .before .before .pre .0 .0) (c .before .before .before .before .before .args .v) (c .before .before .before .before .before .pre .0 .1)) (simp length-set (c .before .before .before .before .before .pre .1)))
+
+mul-w : tie.Need-mul-w Inv-loop μ-loop
+mul-w c = omega (arith, c .before .loop .inv .0, c .loop-test .taken)
+
+shared-slice-read-w : tie.Need-shared-slice-read-w Inv-loop μ-loop
+shared-slice-read-w c = omega (arith, c .before .before .loop .inv .1 .placed .inside, c .before .loop-test .taken)
+
+cast-map : tie.Need-cast-map Inv-loop μ-loop
+cast-map c = omega (arith, c .before .before .loop .inv .1 .placed .known (c .before .before .loop .k) (c .before .before .loop .inv .1 .low) (c .before .loop-test .taken))
+
+cast-map-2 : tie.Need-cast-map-2 Inv-loop μ-loop
+cast-map-2 c = omega (arith, c .before .before .loop .inv .1 .placed .known (c .before .before .loop .k) (c .before .before .loop .inv .1 .low) (c .before .loop-test .taken))
+
+shl-map : tie.Need-shl-map Inv-loop μ-loop
+shl-map c = omega (arith, c .before .before .loop .inv .1 .placed .known (c .before .before .loop .k) (c .before .before .loop .inv .1 .low) (c .before .loop-test .taken))
+
+cast-target : tie.Need-cast-target Inv-loop μ-loop
+cast-target c = omega (arith, c .before .before .loop .inv .1 .placed .within (c .before .before .loop .k) (c .before .before .loop .inv .1 .low) (c .before .loop-test .taken))
+
+mul-number : tie.Need-mul-number Inv-loop μ-loop
+mul-number c = omega (arith, c .before .before .loop .inv .1 .placed .within (c .before .before .loop .k) (c .before .before .loop .inv .1 .low) (c .before .loop-test .taken))
+
+element-copy-out-number : tie.Need-element-copy-out-number Inv-loop μ-loop
+element-copy-out-number c = c .before .before .loop .inv .1 .placed .within (c .before .before .loop .k) (c .before .before .loop .inv .1 .low) (c .before .loop-test .taken)
+
+cast-out-2 : tie.Need-cast-out-2 Inv-loop μ-loop
+cast-out-2 c = search needs
+
+slice-write-out-2 : tie.Need-slice-write-out-2 Inv-loop μ-loop
+slice-write-out-2 c = omega (arith, c .before .before .before .loop .inv .1 .next-is, c .before .before .before .loop .inv .1 .low, c .before .before .before .loop .inv .1 .length-is, c .before .before .before .loop .inv .1 .room, c .before .before .loop-test .taken)
+
+add-next-2 : tie.Need-add-next-2 Inv-loop μ-loop
+add-next-2 c = omega (arith, c .before .before .before .loop .inv .1 .next-is, c .before .before .before .loop .inv .1 .low, c .before .before .before .loop .inv .1 .length-is, c .before .before .before .loop .inv .1 .room, c .before .before .loop-test .taken, c .before .before .before .before .before .before .before .before .before .good .1 .1 .1 .1 .0)
+
+add-k-2 : tie.Need-add-k-2 Inv-loop μ-loop
+add-k-2 c = omega (arith, c .before .before .before .loop .inv .0, c .before .before .loop-test .taken)
+
+loop-less : tie.Need-loop-less Inv-loop μ-loop
+loop-less c = omega (arith, c .before .before .loop-test .taken)
+
+loop-again : tie.Need-loop-again Inv-loop μ-loop
+loop-again c = (c .before .before .before .loop .inv .0, turn-step (c .before .before .before .loop .inv .1) (c .before .before .loop-test .taken))
+
+add-put-map : tie.Need-add-put-map Inv-loop μ-loop
+add-put-map c = search needs
+
+put-map-requires : tie.Need-put-map-requires Inv-loop μ-loop
+put-map-requires c κs = omega (arith, c .before .before .loop .inv .1 .length-is, c .before .before .loop .inv .1 .room)
+
+same-length : tie.Need-same-length Inv-loop μ-loop
+same-length c = c .before .before .put-map .kept .1 .1 .0 ∙ c .before .before .before .before .before .loop .inv .1 .length-is ∙ length-set (c .before .before .before .before .before .before .before .before .before .before .before .args .out .now) (c .before .before .before .before .before .before .before .before .before .before .before .args .at) (labelAt (c .before .before .before .before .before .before .before .before .before .before .before .args .graph .now) (c .before .before .before .before .before .before .before .before .before .before .before .args .v))
+
+returns : tie.Need-returns Inv-loop μ-loop
+returns c = turn-done (c .before .before .before .before .before .before .before .before .before .before .before .pre .0 .0) (c .before .before .before .before .before .before .before .before .before .before .before .args .v) (c .before .before .before .before .before .before .before .before .before .before .before .pre .0 .1) (c .before .before .before .before .before .before .before .before .before .before .before .args .out .now) (c .before .before .before .before .before .loop .inv .1) (c .before .before .before .before .loop-test .left) (c .before .before .put-map .ensures)
+
+pub encode-row-spec : {M : Type 1} → statement M
+encode-row-spec =
+    tie.close
+    (tie.spec
+    Inv-loop
+    μ-loop
+    add-row
+    mul-row
+    shared-slice-read-row
+    cast-row
+    add-end
+    mul-end
+    shared-slice-read-end
+    cast-end
+    mul-label
+    shared-slice-read-label
+    cast-out
+    slice-write-out
+    add-next
+    add-k
+    loop-holds
+    mul-w
+    shared-slice-read-w
+    cast-map
+    cast-map-2
+    shl-map
+    cast-target
+    mul-number
+    element-copy-out-number
+    cast-out-2
+    slice-write-out-2
+    add-next-2
+    add-k-2
+    loop-less
+    loop-again
+    add-put-map
+    put-map-requires
+    same-length
+    returns)

@@ -1,0 +1,86 @@
+// Renumbering: a graph numbered as written, as words again. The rows are those that the encoder writes, in the same order; it
+// serves where a graph is read next, and no record is asked for.
+
+use crate::encoder;
+ghost use mathlib.Core.Path.{_≡_};
+ghost use Prim.Native.Nat.{_+_, _≤_};
+ghost use lib.Dec.{eqb};
+ghost use lib.ListN.{length};
+ghost use Rattle.graphs.specs.Number.{canonical};
+ghost use Rattle.layout.specs.Layout.{Sound, graphIn, header};
+ghost use Rattle.encode.specs.NumberedRows.{degree};
+ghost use Rattle.encode.specs.Copies.{Closed, Numbered, Renumbers, RowCopied, RowsCopied};
+
+// Copies the row of node v to the words from `at` on, with the targets' numbers. Answers the next place.
+fn copy_row<'a>(
+    graph: &'a [u16],
+    numbers: &'a [u16; 510],
+    v: usize,
+    at: usize,
+    new: &mut [u16; 2560],
+) -> usize
+    requires { ⌜ Numbered (now graph) (now numbers) v ⌝ }
+    requires { ⌜ at + header + degree (now graph) v ≤ 2560 ⌝ }
+    requires { ⌜ length (now new) ≡ 2560 ⌝ }
+    ensures { λ r. ⌜ RowCopied (now (graph .entry)) (now (numbers .entry)) v (now (new .entry)) at (now (new .exit)) r ⌝ }
+{
+    let row = graph[v + 1] as usize;
+    let end = graph[v + 2] as usize;
+    new[at] = graph[row];
+    let mut next = at + layout::HEADER;
+    let mut k = row + layout::HEADER;
+    while k < end {
+        let w = graph[k];
+        let target = w % layout::SCALE;
+        let number = numbers[target as usize];
+        new[next] = layout::link(w / layout::SCALE, number);
+        next += 1;
+        k += 1;
+    }
+    next
+}
+
+// Copies the rows of the first `count` nodes visited.
+fn copy_rows<'a>(
+    graph: &'a [u16],
+    numbers: &'a [u16; 510],
+    visited: &'a [u16; 255],
+    count: usize,
+    new: &mut [u16; 2560],
+)
+    requires { ⌜ Closed (now graph) (now numbers) (now visited) count ⌝ }
+    requires { ⌜ length (now new) ≡ 2560 ⌝ }
+    ensures { λ r. ⌜ RowsCopied (now (graph .entry)) (now (numbers .entry)) (now (visited .entry)) count (now (new .exit)) ⌝ }
+{
+    let mut at = count + 2;
+    new[1] = at as u16;
+    let mut i = 0;
+    while i < count {
+        let v = visited[i] as usize;
+        at = copy_row(graph, numbers, v, at, new);
+        new[i + 2] = at as u16;
+        i += 1;
+    }
+    new[0] = count as u16;
+}
+
+// Numbers a graph as written: its rows by number, with the targets' numbers. Answers whether it can be written.
+pub fn renumber(graph: &[u16], new: &mut [u16; 2560]) -> bool
+    requires { ⌜ Sound (now graph) ⌝ }
+    requires { ⌜ length (now new) ≡ 2560 ⌝ }
+    ensures { λ r. ⌜ Renumbers (canonical eqb (graphIn (now (graph .entry)))) r (now (new .exit)) ⌝ }
+    ensures { λ r. ⌜ length (now (new .exit)) ≡ 2560 ⌝ }
+{
+    let mut numbers = [0u16; 510];
+    let mut visited = [0u16; 255];
+    let count = visits::numbering::number(graph, &mut numbers, &mut visited);
+    if 255 < count {
+        return false;
+    }
+    let links = encoder::link_count(graph, &visited, count);
+    if 2048 < links {
+        return false;
+    }
+    copy_rows(graph, &numbers, &visited, count, new);
+    true
+}

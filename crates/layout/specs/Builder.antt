@@ -1,0 +1,26 @@
+-- How words come to hold a graph: row after row, each opened with its header, given its links and closed; the number of nodes last.
+use mathlib.Core.Path.{_≡_}
+use mathlib.Core.List.{List}
+use Prim.Native.Nat.{ℕ, _+_, _≤_, _<_}
+use lib.ListN.{length, getD}
+use Rattle.layout.specs.Layout.{header, rowFrom, linksFrom, rowEnd}
+
+-- The first i rows stand between `base` and `at`, where the next one is to begin. The places below `base` say where rows begin.
+pub record Built (ws : List ℕ) (base i at : ℕ) : Type 0 where
+  pub listed : i + 2 ≤ base
+  pub low : base ≤ at
+  pub high : at ≤ length ws
+  pub next : getD ws (i + 1) 0 ≡ at
+  pub lower : (v : ℕ) → v < i → base ≤ rowFrom ws v
+  pub begun : (v : ℕ) → v < i → linksFrom ws v ≤ rowEnd ws v
+  pub ended : (v : ℕ) → v < i → rowEnd ws v ≤ at
+
+-- Row i begins at `at`, behind the rows built, and has its header and its links up to `end`.
+pub record Open (ws : List ℕ) (base i at end : ℕ) : Type 0 where
+  pub built : Built ws base i at
+  pub headed : at + header ≤ end
+  pub inside : end ≤ length ws
+
+-- what two lists of words have in common from one place to another
+abbrev pub Same : List ℕ → List ℕ → ℕ → ℕ → Type 0
+Same ws ws′ start end = (k : ℕ) → start ≤ k → k < end → getD ws′ k 0 ≡ getD ws k 0

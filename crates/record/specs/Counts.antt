@@ -1,0 +1,76 @@
+-- What taking the sources away finds and keeps. A source is a node that no link enters; `incoming` counts for each node the links
+-- that still enter it, and `queue` lists the nodes that none enters any more.
+use mathlib.Core.Path.{_≡_}
+use mathlib.Core.Bool.{Bool, true, cond}
+use mathlib.Core.List.{List}
+use Prim.Native.Nat.{ℕ, zero, suc, _+_, _≤_, _<_}
+use lib.Dec.{eqb, leb}
+use lib.ListN.{length, getD}
+use Rattle.layout.specs.Layout.{size, linksFrom, rowEnd, targetAt, Sound}
+use Rattle.visits.specs.Colouring.{whites}
+use Rattle.visits.specs.Walks.{Leads, Reaches}
+use Rattle.record.specs.declared.peeling.Shape.{Shape}
+use Rattle.record.specs.declared.peeling.Shape.the-variants.{Cyclic, Apart, Rooted}
+
+-- one where a link that counts leads to w
+unfoldable pub hit : Bool → ℕ → ℕ → ℕ
+hit counts target w = cond counts (cond (eqb target w) 1 0) 0
+
+-- how many of the links from one place to another lead to w
+unfoldable pub among : List ℕ → ℕ → ℕ → ℕ → ℕ
+among ws w start zero = 0
+among ws w start (suc k) = among ws w start k + hit (leb start k) (targetAt ws k) w
+
+-- how many of the links of node v lead to w
+abbrev pub into : List ℕ → ℕ → ℕ → ℕ
+into ws w v = among ws w (linksFrom ws v) (rowEnd ws v)
+
+-- how many of the links of those of the first nodes that count lead to w
+unfoldable pub entering : (ℕ → Bool) → List ℕ → ℕ → ℕ → ℕ
+entering counts ws w zero = 0
+entering counts ws w (suc v) = entering counts ws w v + cond (counts v) (into ws w v) 0
+
+-- the links of the nodes before v are counted
+pub record Counted (ws : List ℕ) (v : ℕ) (incoming : List ℕ) : Type 0 where
+  pub sound : Sound ws
+  pub small : size ws ≤ 255
+  pub long : length incoming ≡ 255
+  pub counts : (w : ℕ) → w < 255 → getD incoming w 0 ≡ entering (λ _. true) ws w v
+
+-- the first `count` of the queue are the nodes that no link enters, each once
+pub record Queued (nodes : ℕ) (incoming queue : List ℕ) (count : ℕ) : Type 0 where
+  pub roomy : length queue ≡ 255
+  pub filled : count ≡ whites nodes incoming
+  pub listed : (i : ℕ) → i < count → getD queue i 0 < nodes
+  pub clear : (i : ℕ) → i < count → getD incoming (getD queue i 0) 0 ≡ 0
+  pub found : (w : ℕ) → w < nodes → getD incoming w 0 ≡ 0 → (i : ℕ) × (i < count) × (getD queue i 0 ≡ w)
+  pub distinct : (i j : ℕ) → i < j → j < count → getD queue i 0 ≡ getD queue j 0 → ⊥
+
+-- the links of node v are still counted
+pub record RowDue (ws : List ℕ) (v : ℕ) (incoming queue : List ℕ) (queued : ℕ) : Type 0 where
+  pub sound : Sound ws
+  pub small : size ws ≤ 255
+  pub inside : v < size ws
+  pub long : length incoming ≡ 255
+  pub listing : Queued (size ws) incoming queue queued
+  pub due : (w : ℕ) → w < size ws → into ws w v ≤ getD incoming w 0
+
+-- the links of node v up to a place are taken away
+pub record RowTaken (ws : List ℕ) (v end : ℕ) (incoming queue : List ℕ) (queued : ℕ) (later line : List ℕ) (count : ℕ) : Type 0 where
+  pub long : length later ≡ 255
+  pub listing : Queued (size ws) later line count
+  pub taken : (w : ℕ) → w < size ws → getD later w 0 + among ws w (linksFrom ws v) end ≡ getD incoming w 0
+  pub more : queued ≤ count
+  pub same : (i : ℕ) → i < queued → getD line i 0 ≡ getD queue i 0
+
+-- places of nodes where a link leads to an earlier place
+pub record Earlier (ws : List ℕ) (place : ℕ → ℕ) : Type 0 where
+  pub inside : (v : ℕ) → v < size ws → place v < size ws
+  pub earlier : (v w : ℕ) → Leads ws v w → place w < place v
+
+-- some node reaches itself, or a link leads to an earlier place; and a link enters every node but the root, or one not
+pub record Peels (ws : List ℕ) (answer : Shape) : Type 0 where
+  pub cyclic-stands : answer ≡ Cyclic → (v : ℕ) × Reaches ws v v
+  pub sorted : (answer ≡ Cyclic → ⊥) → (place : ℕ → ℕ) × Earlier ws place
+  pub rooted-stands : answer ≡ Rooted → (w : ℕ) → 0 < w → w < size ws → (v : ℕ) × Leads ws v w
+  pub apart-stands : answer ≡ Apart → (w : ℕ) × (0 < w) × (w < size ws) × ((v : ℕ) → Leads ws v w → ⊥)

@@ -1,0 +1,26 @@
+-- What reading promises.
+use mathlib.Core.Path.{_≡_}
+use mathlib.Core.List.{List}
+use Prim.Native.Nat.{ℕ, _≤_, _<_}
+use Rattle.graphs.specs.Rows.{Row}
+use Rattle.lattice.specs.Label.{Label}
+use Rattle.layout.specs.Layout.{size, labelAt, rowsOf, Sound}
+use Rattle.record.specs.declared.reading.Verdict.{Verdict}
+use Rattle.record.specs.declared.reading.Verdict.the-variants.{Accepted, Refused}
+use Rattle.record.specs.Read.{Reading, refused, accepted, reading}
+
+abbrev pub verdictOf : Reading → Verdict
+verdictOf (refused fault) = Refused fault
+verdictOf (accepted rows) = Accepted
+
+-- the words hold the rows of a record over a table with n types
+pub record Holds (n : ℕ) (rows : List (Row Label)) (ws : List ℕ) : Type 0 where
+  pub rows-are : rowsOf ws ≡ rows
+  pub sound : Sound ws
+  pub small : size ws ≤ 255
+  pub typed : (v : ℕ) → v < size ws → labelAt ws v < n
+
+-- the verdict, and beside an acceptance the graph
+pub record Reads (n : ℕ) (bytes : List ℕ) (v : Verdict) (ws : List ℕ) : Type 0 where
+  pub verdict : v ≡ verdictOf (reading n bytes)
+  pub graph : (rows : List (Row Label)) → reading n bytes ≡ accepted rows → Holds n rows ws

@@ -1,0 +1,116 @@
+// Cycles and reach in one pass (Kahn's topological sort): nodes that no link enters are taken away with their links, as long as there
+// are any. A graph where some stay has a cycle, and in one where none stays the root reaches every node exactly where it is the only
+// node that no link entered to start with.
+
+ghost use Prim.Native.Nat.{_+_, _≤_, _<_};
+ghost use mathlib.Core.Path.{_≡_};
+ghost use lib.ListN.{length};
+ghost use Rattle.layout.specs.Layout.{Sound, rowEnd, size};
+ghost use Rattle.record.specs.Counts.{Counted, Peels, Queued, RowDue, RowTaken};
+
+// What is found: a cycle; else a node beside the root that no link enters; else neither.
+pub enum Shape {
+    Cyclic,
+    Apart,
+    Rooted,
+}
+
+// Counts the links of node v, those of the nodes before it being counted.
+fn count_row<'a>(graph: &'a [u16], v: usize, incoming: &mut [u16; 255])
+    requires { ⌜ v < size (now graph) ⌝ }
+    requires { ⌜ Counted (now graph) v (now incoming) ⌝ }
+    ensures { λ _. ⌜ Counted (now (graph .entry)) (v + 1) (now (incoming .exit)) ⌝ }
+{
+    let end = graph[v + 2] as usize;
+    let mut k = graph[v + 1] as usize + layout::HEADER;
+    while k < end {
+        let w = (graph[k] % layout::SCALE) as usize;
+        incoming[w] = incoming[w] + 1;
+        k += 1;
+    }
+}
+
+// Counts for each node the links that enter it, none being counted before.
+fn count_incoming<'a>(graph: &'a [u16], incoming: &mut [u16; 255])
+    requires { ⌜ Counted (now graph) 0 (now incoming) ⌝ }
+    ensures { λ _. ⌜ Counted (now (graph .entry)) (size (now (graph .entry))) (now (incoming .exit)) ⌝ }
+{
+    let nodes = graph[0] as usize;
+    let mut v = 0;
+    while v < nodes {
+        count_row(graph, v, incoming);
+        v += 1;
+    }
+}
+
+// Lists the nodes that no link enters; answers how many.
+fn find_sources<'a>(nodes: usize, incoming: &'a [u16; 255], queue: &mut [u16; 255]) -> usize
+    requires { ⌜ nodes ≤ 255 ⌝ }
+    requires { ⌜ (length (now incoming) ≡ 255) × (length (now queue) ≡ 255) ⌝ }
+    ensures { λ r. ⌜ Queued nodes (now (incoming .entry)) (now (queue .exit)) r ⌝ }
+{
+    let mut count = 0;
+    let mut v = 0;
+    while v < nodes {
+        if incoming[v] == 0 {
+            queue[count] = v as u16;
+            count += 1;
+        }
+        v += 1;
+    }
+    count
+}
+
+// Takes the links of node v away; the nodes that no link enters any more join the queue. Answers how many are queued.
+fn take_links<'a>(
+    graph: &'a [u16],
+    v: usize,
+    incoming: &mut [u16; 255],
+    queue: &mut [u16; 255],
+    queued: usize,
+) -> usize
+    requires { ⌜ RowDue (now graph) v (now incoming) (now queue) queued ⌝ }
+    ensures { λ r. ⌜ RowTaken (now (graph .entry)) v (rowEnd (now (graph .entry)) v) (now (incoming .entry)) (now (queue .entry)) queued (now (incoming .exit)) (now (queue .exit)) r ⌝ }
+{
+    let mut count = queued;
+    let end = graph[v + 2] as usize;
+    let mut k = graph[v + 1] as usize + layout::HEADER;
+    while k < end {
+        let w = (graph[k] % layout::SCALE) as usize;
+        let left = incoming[w] - 1;
+        incoming[w] = left;
+        if left == 0 {
+            queue[count] = w as u16;
+            count += 1;
+        }
+        k += 1;
+    }
+    count
+}
+
+// Whether some node reaches itself, and if none does, whether a link enters every node but the root.
+pub fn sources_first(graph: &[u16]) -> Shape
+    requires { ⌜ Sound (now graph) ⌝ }
+    requires { ⌜ size (now graph) ≤ 255 ⌝ }
+    ensures { λ r. ⌜ Peels (now (graph .entry)) r ⌝ }
+{
+    let nodes = graph[0] as usize;
+    let mut incoming = [0u16; 255];
+    let mut queue = [0u16; 255];
+    count_incoming(graph, &mut incoming);
+    let sources = find_sources(nodes, &incoming, &mut queue);
+    let mut count = sources;
+    let mut next = 0;
+    while next < count {
+        let v = queue[next] as usize;
+        count = take_links(graph, v, &mut incoming, &mut queue, count);
+        next += 1;
+    }
+    if count < nodes {
+        return Shape::Cyclic;
+    }
+    if sources == 1 && queue[0] == 0 {
+        return Shape::Rooted;
+    }
+    Shape::Apart
+}

@@ -1,0 +1,108 @@
+use borrow.Author.Needs.{needs}
+-- `copy_words` meets its contract: the words before k are copied.
+use Prim.Native.Nat.{_+_, _-_, _≤_, _<_}
+use native.Mathlib.Omega.{arith}
+use Rattle.layout.specs.Layout.{size, rowFrom}
+use Rattle.unify.specs.Rows.{WordsCopied}
+use Rattle.unify.proofs.Words.{directory, last-inside, row-low, word-small, words-few}
+use Rattle.unify.proofs.Copying.{words-start, words-step, words-done}
+use Rattle.unify.proofs.beside.copy_words.Statement.{statement}
+use Rattle.unify.proofs.beside.copy_words.Tie as tie
+
+abbrev Inv-loop : tie.InvT-loop
+Inv-loop graph at shift pool₀ nodes end moved k₀ next₀ pool k next =
+    WordsCopied graph k at shift pool₀ pool next × (rowFrom graph 0 ≤ k) × (k ≤ end) × (end < 65536)
+
+abbrev μ-loop : tie.MeasureT-loop
+μ-loop graph at shift pool₀ nodes end moved k₀ next₀ pool k next = end - k
+
+shared-slice-read-nodes : tie.Need-shared-slice-read-nodes Inv-loop μ-loop
+shared-slice-read-nodes c = omega (arith, directory (c .before .pre .0))
+
+cast-nodes : tie.Need-cast-nodes Inv-loop μ-loop
+cast-nodes c = omega (arith, c .before .pre .0 .small)
+
+add-end : tie.Need-add-end Inv-loop μ-loop
+add-end c = omega (arith, c .before .pre .0 .small)
+
+mul-end : tie.Need-mul-end Inv-loop μ-loop
+mul-end c = search needs
+
+shared-slice-read-end : tie.Need-shared-slice-read-end Inv-loop μ-loop
+shared-slice-read-end c = omega (arith, directory (c .before .before .pre .0))
+
+cast-end : tie.Need-cast-end Inv-loop μ-loop
+cast-end c = omega (arith, c .shared-slice-known2 .given (size (c .before .before .args .graph .now) + 1))
+
+cast-moved : tie.Need-cast-moved Inv-loop μ-loop
+cast-moved c = search needs
+
+shared-slice-read-k : tie.Need-shared-slice-read-k Inv-loop μ-loop
+shared-slice-read-k c = omega (arith, directory (c .before .before .before .pre .0))
+
+cast-k : tie.Need-cast-k Inv-loop μ-loop
+cast-k c = omega (arith, c .shared-slice-known3 .given 1)
+
+loop-holds : tie.Need-loop-holds Inv-loop μ-loop
+loop-holds c = (words-start _ _ _ _, omega arith, row-low (c .before .before .before .pre .0) _ (omega arith), omega (arith, c .before .shared-slice-known2 .given (size (c .before .before .before .args .graph .now) + 1)))
+
+mul-pool : tie.Need-mul-pool Inv-loop μ-loop
+mul-pool c = omega (arith, c .loop-test .taken, c .before .loop .inv .3)
+
+shared-slice-read-pool : tie.Need-shared-slice-read-pool Inv-loop μ-loop
+shared-slice-read-pool c = omega (arith, last-inside (c .before .before .before .before .before .before .pre .0), c .before .loop-test .taken)
+
+add-pool : tie.Need-add-pool Inv-loop μ-loop
+add-pool c = omega (arith, word-small (c .before .before .before .before .before .before .pre .0) (c .before .before .loop .k) (c .before .before .loop .inv .1) (c .before .loop-test .taken), c .before .before .before .before .before .before .pre .1 .1)
+
+mul-pool-2 : tie.Need-mul-pool-2 Inv-loop μ-loop
+mul-pool-2 c = omega (arith, c .before .before .loop .inv .0 .counted, c .before .before .before .before .before .before .pre .1 .0, words-few (c .before .before .before .before .before .before .pre .0), c .before .loop-test .taken)
+
+slice-write-pool : tie.Need-slice-write-pool Inv-loop μ-loop
+slice-write-pool c = omega (arith, c .before .before .loop .inv .0 .counted, c .before .before .loop .inv .0 .long, c .before .before .before .before .before .before .pre .1 .2, c .before .loop-test .taken, c .before .before .loop .inv .1)
+
+add-k : tie.Need-add-k Inv-loop μ-loop
+add-k c = omega (arith, c .before .loop-test .taken, c .before .before .loop .inv .3)
+
+add-next : tie.Need-add-next Inv-loop μ-loop
+add-next c = omega (arith, c .before .before .loop .inv .0 .counted, c .before .before .before .before .before .before .pre .1 .0, words-few (c .before .before .before .before .before .before .pre .0), c .before .loop-test .taken)
+
+loop-less : tie.Need-loop-less Inv-loop μ-loop
+loop-less c = search needs
+
+loop-again : tie.Need-loop-again Inv-loop μ-loop
+loop-again c = (words-step (c .before .before .loop .inv .1) (c .before .before .loop .inv .0) (omega (arith, c .before .before .loop .inv .0 .counted, c .before .before .before .before .before .before .pre .1 .2, c .before .loop-test .taken, c .before .before .loop .inv .1)), omega (arith, c .before .before .loop .inv .1), omega (arith, c .before .loop-test .taken), c .before .before .loop .inv .3)
+
+same-length : tie.Need-same-length Inv-loop μ-loop
+same-length c = search needs
+
+returns : tie.Need-returns Inv-loop μ-loop
+returns c = words-done (c .before .loop .inv .0) (c .before .loop .inv .2) (c .loop-test .left)
+
+pub copy-words-spec : {M : Type 1} → statement M
+copy-words-spec =
+    tie.close
+    (tie.spec
+    Inv-loop
+    μ-loop
+    shared-slice-read-nodes
+    cast-nodes
+    add-end
+    mul-end
+    shared-slice-read-end
+    cast-end
+    cast-moved
+    shared-slice-read-k
+    cast-k
+    loop-holds
+    mul-pool
+    shared-slice-read-pool
+    add-pool
+    mul-pool-2
+    slice-write-pool
+    add-k
+    add-next
+    loop-less
+    loop-again
+    same-length
+    returns)

@@ -1,0 +1,64 @@
+-- What walks over a graph in words go by: which node leads to which, an order of the nodes with targets first, and the visit of
+-- `graphs` over the targets of each node in their order.
+use mathlib.Core.Path.{_≡_}
+use mathlib.Core.Bool.{Bool, true, false}
+use mathlib.Core.List.{List, [], _∷_, map, reverse}
+use mathlib.Core.Option.{Option, none, some}
+use Prim.Native.Nat.{ℕ, zero, suc, _%_, _≤_, _<_}
+use lib.Dec.{eqb, leb}
+use lib.ListN.{length, getD}
+use lib.Seq.{slice}
+use Rattle.graphs.specs.Graph.{andThen}
+use Rattle.graphs.specs.Number.{member, otherwise}
+use Rattle.layout.specs.Layout.{scale, size, linksFrom, rowEnd, targetAt}
+
+-- A link leads from v to w.
+pub record Leads (ws : List ℕ) (v w : ℕ) : Type 0 where
+  pub inside : v < size ws
+  pub place : ℕ
+  pub low : linksFrom ws v ≤ place
+  pub high : place < rowEnd ws v
+  pub target-is : targetAt ws place ≡ w
+
+-- One link or more lead from v to w.
+pub data Reaches (ws : List ℕ) : ℕ → ℕ → Type 0 where
+  one : {v w : ℕ} → Leads ws v w → Reaches ws v w
+  more : {v w x : ℕ} → Leads ws v w → Reaches ws w x → Reaches ws v x
+
+-- An order of the nodes with targets first: `place v` is where v stands, and a link leads to an earlier place.
+pub record TargetsFirst (ws order : List ℕ) (place : ℕ → ℕ) : Type 0 where
+  pub inside : (v : ℕ) → v < size ws → place v < size ws
+  pub stands : (v : ℕ) → v < size ws → getD order (place v) 0 ≡ v
+  pub earlier : (v w : ℕ) → Leads ws v w → place w < place v
+
+-- The visit of `graphs`, over the targets of each node in their order.
+
+unfoldable pub eachTarget : (ℕ → List ℕ → Option (List ℕ)) → List ℕ → List ℕ → Option (List ℕ)
+eachTarget go [] seen = some seen
+eachTarget go (w ∷ ws) seen = andThen (go w seen) (eachTarget go ws)
+
+unfoldable pub visitTargets : (ℕ → List ℕ) → ℕ → ℕ → List ℕ → Option (List ℕ)
+visitTargets next zero v seen = otherwise (member eqb v seen) (some seen) λ _. none
+visitTargets next (suc d) v seen =
+    otherwise (member eqb v seen) (some seen)
+    λ _. otherwise (leb 255 (length seen)) none λ _. eachTarget (visitTargets next d) (next v) (v ∷ seen)
+
+-- the targets of node v
+unfoldable pub targetsAt : List ℕ → ℕ → List ℕ
+targetsAt ws v = map (λ w. w % scale) (slice (linksFrom ws v) (rowEnd ws v) ws)
+
+-- the nodes that the root reaches, the last found first; none for more than 255
+abbrev pub foundIn : List ℕ → Option (List ℕ)
+foundIn ws = visitTargets (targetsAt ws) 255 0 []
+
+-- acyclicity: some node reaches itself, or there is an order of the nodes with targets first
+pub record Sorts (ws order : List ℕ) (found : Bool) : Type 0 where
+  pub looped : found ≡ true → (v : ℕ) × Reaches ws v v
+  pub sorted : found ≡ false → (place : ℕ → ℕ) × TargetsFirst ws order place
+
+-- numbering: the nodes that the root reaches, as the visit finds them; 256 for more than 255
+pub record Numbers (ws : List ℕ) (count : ℕ) (numbers visited : List ℕ) : Type 0 where
+  pub full : foundIn ws ≡ none → count ≡ 256
+  pub counted : (seen : List ℕ) → foundIn ws ≡ some seen → count ≡ length seen
+  pub by-number : (seen : List ℕ) → foundIn ws ≡ some seen → (i : ℕ) → i < length seen → getD visited i 0 ≡ getD (reverse seen) i 0
+  pub by-node : (seen : List ℕ) → foundIn ws ≡ some seen → (i : ℕ) → i < length seen → getD numbers (getD (reverse seen) i 0) 0 ≡ i
