@@ -1,6 +1,7 @@
 -- The rows of the result as they are built: the pairs before `head` have their rows, and every pair in the queue is reached.
 use mathlib.Core.Path.{_≡_, refl, sym, _∙_, ap, ap₂, subst}
 use mathlib.Core.List.{List, [], _∷_, _++_}
+use mathlib.Core.Option.{some}
 use Prim.Native.Nat.{ℕ, _+_, _*_, _/_, _%_, _≤_, _<_}
 use native.Mathlib.Decide.{decLt}
 use native.Mathlib.Omega.{arith}
@@ -60,7 +61,7 @@ pub record Building (joins : List (List ℕ)) (a b : List ℕ) (head count at : 
 
 -- The root's pair is known, and has no row yet.
 pub build-start : (joins : List (List ℕ)) {a b : List ℕ} → Recorded a → Recorded b → (marks queue words : List ℕ) →
-    length marks ≡ 65025 → ((p : ℕ) → p < 65025 → getD marks p 0 ≡ clear) → length queue ≡ 319 → getD queue 0 0 ≡ 0 →
+    length marks ≡ 65025 → ((p : ℕ) → p < 65025 → getD marks p 0 ≡ clear) → length queue ≡ 255 → getD queue 0 0 ≡ 0 →
     length words ≡ 2624 → Building joins a b 0 1 base (set marks 0 0) queue (set words 1 base)
 build-start joins {a} {b} left right marks queue words marks-long none queue-long root long =
     record {
@@ -103,7 +104,27 @@ module _ {joins : List (List ℕ)} {a b : List ℕ} {head count at : ℕ} {marks
   )
 
 module _ {joins : List (List ℕ)} {a b : List ℕ} {head count at : ℕ} {marks queue words : List ℕ}
-    (s : Building joins a b head count at marks queue words) (next : head < count) (few : count ≤ 255)
+    (s : Building joins a b head count at marks queue words) (next : head < count) where
+  -- what the next pair leads to is reached
+  pub link-reached : (f : ℕ) (x : ℕ × ℕ) → common a b (pairOf (getD queue head 0)) f ≡ some x → Reached (product joins a b) x
+  link-reached f x e =
+      reached-link (product joins a b) f (s .reached head next) (product-link joins a b (pairOf (getD queue head 0)) f ∙ e)
+
+  -- so the queue has reached pairs while its links are added
+  module _ {words₁ marks′ queue′ words′ : List ℕ} {first bound : ℕ} {now : Spread}
+      (added : Adds (common a b (pairOf (getD queue head 0))) queue words₁ (record { at = first; count = count }) bound marks′ queue′ words′
+      now) where
+    pub pairs-reached : (i : ℕ) → i < now .count → Reached (product joins a b) (pairOf (getD queue′ i 0))
+    pairs-reached i h = go (decLt i count)
+      where
+        go : Dec (i < count) → Reached (product joins a b) (pairOf (getD queue′ i 0))
+        go (yes l) = subst (λ (q : ℕ). Reached (product joins a b) (pairOf q)) (sym (added .queue-kept i l)) (s .reached i l)
+        go (no n) =
+            let (f, x, e, num) = added .fresh i (omega arith) h in
+            subst (Reached (product joins a b)) (sym (pair-numbered x i num)) (link-reached f x e)
+
+module _ {joins : List (List ℕ)} {a b : List ℕ} {head count at : ℕ} {marks queue words : List ℕ}
+    (s : Building joins a b head count at marks queue words) (next : head < count)
     (short : at ≤ base + head * header + 2048) where
   -- The next pair gets its row.
   module _ (label : Label) (is : label ≡ joined joins a b (pairOf (getD queue head 0))) (byte : label < 256)
@@ -129,7 +150,7 @@ module _ {joins : List (List ℕ)} {a b : List ℕ} {head count at : ℕ} {marks
         }
 
     room : head + 2 < base
-    room = omega arith
+    room = omega (arith, s .marked .few)
 
     abbrev new : List ℕ
     new = set words′ (head + 2) (now .at)
@@ -171,13 +192,6 @@ module _ {joins : List (List ℕ)} {a b : List ℕ} {head count at : ℕ} {marks
           subst (λ (n : ℕ). n < size b) (sym (ap (λ (y : ℕ × ℕ). y .1) q)) higher,
         )
 
-    reached : (i : ℕ) → i < now .count → Dec (i < count) → Reached (product joins a b) (pairOf (getD queue′ i 0))
-    reached i h (yes l) = subst (λ (q : ℕ). Reached (product joins a b) (pairOf q)) (sym (added .queue-kept i l)) (s .reached i l)
-    reached i h (no n) =
-        let (f, x, e, num) = added .fresh i (omega arith) h in
-        subst (Reached (product joins a b)) (sym (pair-numbered x i num))
-        (reached-link (product joins a b) f (s .reached head next) (product-link joins a b (pairOf (getD queue head 0)) f ∙ e))
-
     -- a row's pair stands where it stood
     same-pair : (i j : ℕ) → i ≡ j → j < count → pairOf (getD queue j 0) ≡ pairOf (getD queue′ i 0)
     same-pair i j e h = ap pairOf (sym (added .queue-kept j h) ∙ ap (λ (n : ℕ). getD queue′ n 0) (sym e))
@@ -218,7 +232,7 @@ module _ {joins : List (List ℕ)} {a b : List ℕ} {head count at : ℕ} {marks
           behind = omega (arith, added .grows);
           root = added .queue-kept 0 (s .begun) ∙ s .root;
           inside = λ i h. inside i h (decLt i count);
-          reached = λ i h. reached i h (decLt i count);
+          reached = pairs-reached s next added;
           long = length-set words′ (head + 2) (now .at) ∙ long-now ∙ s .long;
           built = row-closes filled room;
           first =

@@ -9,7 +9,7 @@ use lib.Seq.{getD-set-same, getD-set-other}
 use Rattle.generalize.specs.Queue.{clear, Marked, Enlisted}
 
 -- The first pair alone.
-pub mark-root : (marks queue : List ℕ) → length marks ≡ 65025 → length queue ≡ 319 → getD queue 0 0 ≡ 0 →
+pub mark-root : (marks queue : List ℕ) → length marks ≡ 65025 → length queue ≡ 255 → getD queue 0 0 ≡ 0 →
     ((p : ℕ) → p < 65025 → getD marks p 0 ≡ clear) → Marked (set marks 0 0) queue 1
 mark-root marks queue marks-long queue-long root none =
     record {
@@ -33,14 +33,13 @@ mark-root marks queue marks-long queue-long root none =
         (omega arith, ap (λ (n : ℕ). getD queue n 0) q ∙ root ∙ sym e)
     queued p h stands (no d) = absurd (stands (getD-set-other marks 0 p 0 0 d ∙ none p h))
 
-module _ (marks queue : List ℕ) (pair count : ℕ) (m : Marked marks queue count) (inside : pair < 65025) (room : count < 319) where
+module _ (marks queue : List ℕ) (pair count : ℕ) (m : Marked marks queue count) (inside : pair < 65025) where
   -- It has a number.
   pub enlist-old : (getD marks pair 0 ≡ clear → ⊥) → Enlisted queue pair count marks queue count
   enlist-old stands =
       record {
         after = m;
         least = omega arith;
-        most = omega arith;
         kept = λ i h. refl;
         fresh = λ i low high. absurd (omega arith);
         numbered = m .queued pair inside stands .0;
@@ -48,8 +47,8 @@ module _ (marks queue : List ℕ) (pair count : ℕ) (m : Marked marks queue cou
       }
 
   -- It gets the next number.
-  pub enlist-new : getD marks pair 0 ≡ clear → Enlisted queue pair count (set marks pair count) (set queue count pair) (count + 1)
-  enlist-new free =
+  pub enlist-new : getD marks pair 0 ≡ clear → count < 255 → Enlisted queue pair count (set marks pair count) (set queue count pair) (count + 1)
+  enlist-new free room =
       record {
         after = record {
           marks-long = length-set marks pair count ∙ m .marks-long;
@@ -60,7 +59,6 @@ module _ (marks queue : List ℕ) (pair count : ℕ) (m : Marked marks queue cou
           queued = λ p h stands. queued p h stands (ℕ-discrete p pair);
         };
         least = omega arith;
-        most = omega arith;
         kept = λ i h. queue-kept i (λ e. omega arith);
         fresh = λ i low high. let e : i ≡ count = omega arith in ap (λ (n : ℕ). getD (set queue count pair) n 0) e ∙ queue-here;
         numbered = omega (arith, mark-here);

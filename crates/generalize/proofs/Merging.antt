@@ -29,7 +29,7 @@ use Rattle.layout.proofs.Spans.{links-none, features-rise}
 use Rattle.layout.proofs.Places.{link-at, link-place}
 use Rattle.layout.proofs.Builder.{links-put}
 use Rattle.generalize.specs.declared.Spread.{Spread}
-use Rattle.generalize.specs.Queue.{codeOf, Marked, Enlisted, common, Numbered, Matched, Adds}
+use Rattle.generalize.specs.Queue.{clear, codeOf, Marked, Enlisted, common, Numbered, Matched, Adds, Full, Spreads}
 
 -- The links of a pair.
 
@@ -134,7 +134,6 @@ module _ {leads : ℕ → Option (ℕ × ℕ)} {queue₀ words₀ : List ℕ} {k
         long = refl;
         kept = λ k low high. refl;
         grows = omega arith;
-        near = omega arith;
         queue-kept = λ i h. refl;
         fresh = λ i low high. absurd (omega arith);
       }
@@ -151,7 +150,6 @@ module _ {leads : ℕ → Option (ℕ × ℕ)} {queue₀ words₀ : List ℕ} {k
           long = s .long;
           kept = s .kept;
           grows = s .grows;
-          near = omega (arith, s .near);
           queue-kept = s .queue-kept;
           fresh = s .fresh;
         }
@@ -175,7 +173,6 @@ module _ {leads : ℕ → Option (ℕ × ℕ)} {queue₀ words₀ : List ℕ} {k
           kept = λ k low high.
               getD-set-other words (now .at) k (linkWord (f, t)) 0 (λ (e : k ≡ now .at). omega (arith, s .rises)) ∙ s .kept k low high;
           grows = omega (arith, s .grows, listed .least);
-          near = omega (arith, s .near, listed .most);
           queue-kept = λ i h. listed .kept i (omega (arith, s .grows)) ∙ s .queue-kept i h;
           fresh = λ i low high. fresh i low high (decLt i (now .count));
         }
@@ -285,7 +282,6 @@ pub record Begun (a b : List ℕ) (u v : ℕ) (words : List ℕ) (known : Spread
   pub right-node : v < size b
   pub long : length words ≡ 2624
   pub low : known .at ≤ 2560
-  pub few : known .count ≤ 255
   pub left-end : rowEnd a u < 65536
   pub right-end : rowEnd b v < 65536
 
@@ -338,12 +334,15 @@ module _ {a b : List ℕ} {u v : ℕ} {queue₀ words₀ : List ℕ} {known : Sp
       ap (both (graphIn a .link u f)) (read-below right-sound (s .begun .right-node) (s .right) f low h) ∙ both-right (graphIn a .link u f)
 
   -- One of the rows is at its end.
-  pub merge-done : (rowEnd a u ≤ i) ⊎ (rowEnd b v ≤ j) → Adds (common a b (u, v)) queue₀ words₀ known 64 marks queue words now
+  merge-done : (rowEnd a u ≤ i) ⊎ (rowEnd b v ≤ j) → Adds (common a b (u, v)) queue₀ words₀ known 64 marks queue words now
   merge-done over = adds-skip (s .added) 64 (s .small) (λ f low high. gone f low over)
     where
       gone : (f : ℕ) → s .bound ≤ f → (rowEnd a u ≤ i) ⊎ (rowEnd b v ≤ j) → common a b (u, v) f ≡ none
       gone f low (inl e) = left-none f low (λ h. absurd (omega arith))
       gone f low (inr e) = right-none f low (λ h. absurd (omega arith))
+
+  pub merge-spreads : (rowEnd a u ≤ i) ⊎ (rowEnd b v ≤ j) → Spreads (common a b (u, v)) queue₀ words₀ known marks queue words now
+  merge-spreads over = record { added = λ h. merge-done over; full = λ h. absurd (omega (arith, s .added .after .few)) }
 
   module _ (left-in : i < rowEnd a u) (right-in : j < rowEnd b v) where
     left-known : featureAt a i < 64
@@ -378,13 +377,9 @@ module _ {a b : List ℕ} {u v : ℕ} {queue₀ words₀ : List ℕ} {known : Sp
               (λ f low high. left-none f low (λ h. omega arith));
         }
 
-    -- there is room for one more pair and one more link
-    pub merge-room : (now .count < 319) × (now .at < 2624)
-    merge-room =
-        let k = s .left .from left-in in (
-          omega (arith, s .added .near, left-known, s .begun .few),
-          omega (arith, s .added .short, left-known, s .begun .low),
-        )
+    -- there is room for one more link
+    pub merge-room : now .at < 2624
+    merge-room = let k = s .left .from left-in in omega (arith, s .added .short, left-known, s .begun .low)
 
     -- the targets are nodes, and there is a mark for their pair
     pub merge-nodes : (targetAt a i < 255) × (targetAt b j < 255)
@@ -393,7 +388,33 @@ module _ {a b : List ℕ} {u v : ℕ} {queue₀ words₀ : List ℕ} {known : Sp
       omega (arith, right-sound .targets v j (s .begun .right-node) (s .right .low) right-in, s .begun .right .small),
     )
 
-    -- A feature of both.
+    -- A feature of both leads to the targets' pair.
+    leads-both : featureAt a i ≡ featureAt b j → common a b (u, v) (featureAt a i) ≡ some (targetAt a i, targetAt b j)
+    leads-both same =
+        ap₂ both (link-at left-sound u i (s .begun .left-node) (s .left .low) left-in)
+        (ap (graphIn b .link v) same ∙ link-at right-sound v j (s .begun .right-node) (s .right .low) right-in)
+
+    -- There is no number left for it.
+    pub merge-full : featureAt a i ≡ featureAt b j → now .count ≡ 255 → getD marks (targetAt a i * 255 + targetAt b j) 0 ≡ clear →
+        Full (common a b (u, v)) queue₀ words₀ known
+    merge-full same given free =
+        record {
+          bound = s .bound;
+          marks′ = marks;
+          queue′ = queue;
+          words′ = words;
+          next = now;
+          part = s .added;
+          given = given;
+          feature = featureAt a i;
+          pair = (targetAt a i, targetAt b j);
+          led = leads-both same;
+          left = merge-nodes .0;
+          right = merge-nodes .1;
+          free = free;
+        }
+
+    -- It has one.
     pub merge-both : featureAt a i ≡ featureAt b j → (marks′ queue′ : List ℕ) (next : ℕ) →
         Enlisted queue (targetAt a i * 255 + targetAt b j) (now .count) marks′ queue′ next →
         (w : ℕ) → w ≡ linkWord (featureAt a i, getD marks′ (targetAt a i * 255 + targetAt b j) 0) →
@@ -412,11 +433,6 @@ module _ {a b : List ℕ} {u v : ℕ} {queue₀ words₀ : List ℕ} {known : Sp
           right =
               subst (λ (f : ℕ). Read b v (j + 1) (suc f)) (sym same) (read-next right-sound (s .begun .right-node) (s .right) right-in);
           added = adds-link (s .added) (featureAt a i) (targetAt a i, targetAt b j) marks′ queue′ next (s .left .from left-in)
-              (λ f low high. left-none f low (λ h. high)) leads-both (merge-nodes .0) (merge-nodes .1)
+              (λ f low high. left-none f low (λ h. high)) (leads-both same) (merge-nodes .0) (merge-nodes .1)
               (omega (arith, merge-room, s .added .long, s .begun .long)) listed;
         }
-      where
-        leads-both : common a b (u, v) (featureAt a i) ≡ some (targetAt a i, targetAt b j)
-        leads-both =
-            ap₂ both (link-at left-sound u i (s .begun .left-node) (s .left .low) left-in)
-            (ap (graphIn b .link v) same ∙ link-at right-sound v j (s .begun .right-node) (s .right .low) right-in)

@@ -28,9 +28,9 @@ use Rattle.encode.specs.Encode.{writtenOut}
 use Rattle.encode.specs.declared.Written.the-variants as outcome
 use Rattle.generalize.specs.Pairs.{samePair}
 use Rattle.generalize.specs.Product.{product, productOut}
-use Rattle.generalize.specs.Queue.{codeOf, common, Numbered}
+use Rattle.generalize.specs.Queue.{clear, codeOf, common, Marked, Numbered, Full}
 use Rattle.generalize.proofs.Sides.{pairOf, product-root, product-link, product-label, common-known, tells-pair}
-use Rattle.generalize.proofs.Building.{Building, base, pair-numbered}
+use Rattle.generalize.proofs.Building.{Building, base, pair-numbered, link-reached, pairs-reached}
 
 -- A graph with too many nodes or links is not written.
 pub too-large : (joins : List (List ℕ)) {a b : List ℕ} → Recorded a → Recorded b → (old : List ℕ) →
@@ -97,16 +97,13 @@ all-source queue words (suc m) l i =
     (v, k, omega arith, n, e))
     (List·Memᴰ·append-cases (map (λ k. (pairOf (getD queue m 0), k .0)) (linksAt words m)) i)
 
-module _ {joins : List (List ℕ)} {a b : List ℕ} {head count at : ℕ} {marks queue words : List ℕ}
-    (s : Building joins a b head count at marks queue words) where
+module _ {marks queue : List ℕ} {count : ℕ} (marked : Marked marks queue count) where
   -- pairs at different places are different
   same-place : (i j : ℕ) → i < count → j < count → getD queue i 0 ≡ getD queue j 0 → i ≡ j
-  same-place i j h k e = sym (s .marked .placed i h) ∙ ap (λ (n : ℕ). getD marks n 0) e ∙ s .marked .placed j k
+  same-place i j h k e = sym (marked .placed i h) ∙ ap (λ (n : ℕ). getD marks n 0) e ∙ marked .placed j k
 
   same-pair : (i j : ℕ) → i < count → j < count → pairOf (getD queue i 0) ≡ pairOf (getD queue j 0) → i ≡ j
   same-pair i j h k e = same-place i j h k (omega (arith, ap (λ (x : ℕ × ℕ). x .0) e, ap (λ (x : ℕ × ℕ). x .1) e))
-
-  -- More than 255 pairs.
 
   pairs-distinct : (n : ℕ) → n ≤ count → Distinct (pairs queue n)
   unfolding pairs
@@ -116,13 +113,32 @@ module _ {joins : List (List ℕ)} {a b : List ℕ} {head count at : ℕ} {marks
     pairs-distinct n (omega arith),
   )
 
-  pub many-pairs : 255 < count → ManyNodes (product joins a b)
-  many-pairs h = (
-    pairs queue count,
-    pairs-distinct count (omega arith),
-    λ x m. let (i, l, e) = pairs-source queue count x m in subst (Reached (product joins a b)) (sym e) (s .reached i l),
-    omega (arith, pairs-length queue count),
-  )
+  -- a pair without a mark is not in the queue
+  free-apart : (x : ℕ × ℕ) → getD marks (codeOf x) 0 ≡ clear → List·Memᴰ x (pairs queue count) → ⊥
+  free-apart x free m =
+      let (i, l, e) = pairs-source queue count x m in
+      let code : codeOf x ≡ getD queue i 0 = omega (arith, ap (λ (y : ℕ × ℕ). y .0) e, ap (λ (y : ℕ × ℕ). y .1) e) in
+      omega (arith, marked .placed i l, marked .few, ap (λ (n : ℕ). getD marks n 0) code)
+
+module _ {joins : List (List ℕ)} {a b : List ℕ} {head count at : ℕ} {marks queue words : List ℕ}
+    (s : Building joins a b head count at marks queue words) where
+  -- More than 255 pairs: those of a full queue and one that has no mark.
+
+  module _ (next : head < count) {words₁ : List ℕ} {first : ℕ}
+      (full : Full (common a b (pairOf (getD queue head 0))) queue words₁ (record { at = first; count = count })) where
+    pub many-pairs : ManyNodes (product joins a b)
+    many-pairs = (
+      full .pair ∷ pairs (full .queue′) (full .next .count),
+      (free-apart (full .part .after) (full .pair) (full .free), pairs-distinct (full .part .after) (full .next .count) (omega arith)),
+      λ x m.
+          ⊎-elim
+          (λ (e : x ≡ full .pair).
+          subst (Reached (product joins a b)) (sym e) (link-reached s next (full .feature) (full .pair) (full .led)))
+          (λ (n : List·Memᴰ x (pairs (full .queue′) (full .next .count))).
+          let (i, l, e) = pairs-source (full .queue′) (full .next .count) x n in
+          subst (Reached (product joins a b)) (sym e) (pairs-reached s next (full .part) i l)) (List·Memᴰ·cases-cons m),
+      omega (arith, pairs-length (full .queue′) (full .next .count), full .given),
+    )
 
   -- More than 2,048 links.
 
@@ -154,7 +170,7 @@ module _ {joins : List (List ℕ)} {a b : List ℕ} {head count at : ℕ} {marks
           let (v, p, h′, n′, d) = all-source queue words m l j in
           omega (
             arith,
-            same-pair m v (omega (arith, s .behind)) (omega (arith, s .behind))
+            same-pair (s .marked) m v (omega (arith, s .behind)) (omega (arith, s .behind))
                 (ap (λ (y : (ℕ × ℕ) × ℕ). y .0) (e ∙ d)),
           )
 
@@ -176,7 +192,7 @@ module _ {joins : List (List ℕ)} {a b : List ℕ} {head count at : ℕ} {marks
 
   -- No pair is left: the number of nodes is stated.
 
-  module _ (over : count ≤ head) (few : count ≤ 255) where
+  module _ (over : count ≤ head) where
     all-rows : head ≡ count
     all-rows = omega (arith, s .behind)
 
@@ -293,7 +309,7 @@ module _ {joins : List (List ℕ)} {a b : List ℕ} {head count at : ℕ} {marks
               (record { left = omega arith; right = omega arith; below = s .begun; stands = s .root });
           labels = alike-labels;
           links = alike-links;
-          forth = λ x y i j m n e. same-place i j (m .below) (n .below) (m .stands ∙ ap codeOf e ∙ sym (n .stands));
+          forth = λ x y i j m n e. same-place (s .marked) i j (m .below) (n .below) (m .stands ∙ ap codeOf e ∙ sym (n .stands));
           back = λ x y i j m n e. sym (pair-numbered x i m) ∙ ap (λ (k : ℕ). pairOf (getD queue k 0)) e ∙ pair-numbered y j n;
         }
 

@@ -16,13 +16,13 @@ codeOf x = x .0 * 255 + x .1
 
 -- the mark of a pair that has no number
 abbrev pub clear : ℕ
-clear = 65535
+clear = 255
 
 -- Each pair in the queue is marked by its place there, and no other pair is marked.
 pub record Marked (marks queue : List ℕ) (count : ℕ) : Type 0 where
   pub marks-long : length marks ≡ 65025
-  pub queue-long : length queue ≡ 319
-  pub few : count ≤ 319
+  pub queue-long : length queue ≡ 255
+  pub few : count ≤ 255
   pub inside : (i : ℕ) → i < count → getD queue i 0 < 65025
   pub placed : (i : ℕ) → i < count → getD marks (getD queue i 0) 0 ≡ i
   pub queued : (p : ℕ) → p < 65025 → (getD marks p 0 ≡ clear → ⊥) → (getD marks p 0 < count) × (getD queue (getD marks p 0) 0 ≡ p)
@@ -31,11 +31,15 @@ pub record Marked (marks queue : List ℕ) (count : ℕ) : Type 0 where
 pub record Enlisted (queue : List ℕ) (pair count : ℕ) (marks′ queue′ : List ℕ) (next : ℕ) : Type 0 where
   pub after : Marked marks′ queue′ next
   pub least : count ≤ next
-  pub most : next ≤ count + 1
   pub kept : (i : ℕ) → i < count → getD queue′ i 0 ≡ getD queue i 0
   pub fresh : (i : ℕ) → count ≤ i → i < next → getD queue′ i 0 ≡ pair
   pub numbered : getD marks′ pair 0 < next
   pub found : getD queue′ (getD marks′ pair 0) 0 ≡ pair
+
+-- A pair that is offered to the queue is there after that, or it has no mark and the 255 numbers are given.
+pub record Offered (marks queue : List ℕ) (pair count : ℕ) (marks′ queue′ : List ℕ) (next : ℕ) : Type 0 where
+  pub listed : next ≤ 255 → Enlisted queue pair count marks′ queue′ next
+  pub full : 255 < next → (count ≡ 255) × (getD marks pair 0 ≡ clear)
 
 -- where a feature of both leads from a pair of nodes
 abbrev pub common : List ℕ → List ℕ → ℕ × ℕ → ℕ → Option (ℕ × ℕ)
@@ -65,7 +69,28 @@ pub record Adds (leads : ℕ → Option (ℕ × ℕ)) (queue words : List ℕ) (
   pub long : length words′ ≡ length words
   pub kept : Same words words′ 0 (known .at)
   pub grows : known .count ≤ next .count
-  pub near : next .count ≤ known .count + bound
   pub queue-kept : (i : ℕ) → i < known .count → getD queue′ i 0 ≡ getD queue i 0
   pub fresh : (i : ℕ) → known .count ≤ i → i < next .count →
       (f : ℕ) × (x : ℕ × ℕ) × (leads f ≡ some x) × Numbered queue′ (next .count) x i
+
+-- The 255 numbers are given to pairs that are led to or were known, and one more pair is led to.
+pub record Full (leads : ℕ → Option (ℕ × ℕ)) (queue words : List ℕ) (known : Spread) : Type 0 where
+  pub bound : ℕ
+  pub marks′ : List ℕ
+  pub queue′ : List ℕ
+  pub words′ : List ℕ
+  pub next : Spread
+  pub part : Adds leads queue words known bound marks′ queue′ words′ next
+  pub given : next .count ≡ 255
+  pub feature : ℕ
+  pub pair : ℕ × ℕ
+  pub led : leads feature ≡ some pair
+  pub left : pair .0 < 255
+  pub right : pair .1 < 255
+  pub free : getD marks′ (codeOf pair) 0 ≡ clear
+
+-- All links of a pair are added, or the numbers do not suffice.
+pub record Spreads (leads : ℕ → Option (ℕ × ℕ)) (queue words : List ℕ) (known : Spread) (marks′ queue′ words′ : List ℕ) (next : Spread) :
+    Type 0 where
+  pub added : next .count ≤ 255 → Adds leads queue words known 64 marks′ queue′ words′ next
+  pub full : 255 < next .count → Full leads queue words known

@@ -8,43 +8,49 @@ ghost use lib.ListN.{length};
 ghost use Rattle.layout.specs.Layout.{Recorded, size};
 ghost use Rattle.generalize.specs.Pairs.{joinIn};
 ghost use Rattle.generalize.specs.Product.{productOut};
-ghost use Rattle.generalize.specs.Queue.{Adds, Enlisted, Marked, common};
+ghost use Rattle.generalize.specs.Queue.{Marked, Offered, Spreads, common};
 
-// The mark of a pair that has no number yet.
-pub const CLEAR: u16 = 0xFFFF;
+// The mark of a pair that has no number yet. Numbers are below it.
+pub const CLEAR: u8 = 255;
+
+// What is answered for the number of pairs when one more has none left to get.
+const FULL: usize = 256;
 
 // Where the rows of a result begin: behind the number of nodes and 256 places, since how many nodes there are is known at the end.
 const BASE: usize = 257;
 
-// Gives a pair that has no number yet the next one. Answers how many pairs then have one.
-fn enlist(marks: &mut [u16; 65025], queue: &mut [u16; 319], pair: usize, count: usize) -> usize
+// Gives a pair that has no number yet the next one. Answers how many pairs then have one, FULL where the numbers are used up.
+fn enlist(marks: &mut [u8; 65025], queue: &mut [u16; 255], pair: usize, count: usize) -> usize
     requires { ⌜ Marked (now marks) (now queue) count ⌝ }
-    requires { ⌜ (pair < 65025) × (count < 319) ⌝ }
-    ensures { λ r. ⌜ Enlisted (now (queue .entry)) pair count (now (marks .exit)) (now (queue .exit)) r ⌝ }
+    requires { ⌜ pair < 65025 ⌝ }
+    ensures { λ r. ⌜ Offered (now (marks .entry)) (now (queue .entry)) pair count (now (marks .exit)) (now (queue .exit)) r ⌝ }
 {
     let mark = marks[pair];
     if mark != CLEAR {
         return count;
     }
-    marks[pair] = count as u16;
+    if 254 < count {
+        return FULL;
+    }
+    marks[pair] = count as u8;
     queue[count] = pair as u16;
     count + 1
 }
 
-// Where the next word stands, and how many pairs have a number.
+// Where the next word stands, and how many pairs have a number, FULL where one more has none.
 pub struct Spread {
     pub at: usize,
     pub count: usize,
 }
 
-// Adds the links of the pair (u, v): those by features of both. A pair has at most 64, so that at most 64 pairs come anew.
+// Adds the links of the pair (u, v): those by features of both, at most 64. Stops at a pair that finds the numbers used up.
 pub fn pair_links<'a>(
     a: &'a [u16],
     b: &'a [u16],
     u: usize,
     v: usize,
-    marks: &mut [u16; 65025],
-    queue: &mut [u16; 319],
+    marks: &mut [u8; 65025],
+    queue: &mut [u16; 255],
     words: &mut [u16; 2624],
     known: Spread,
 ) -> Spread
@@ -52,8 +58,8 @@ pub fn pair_links<'a>(
     requires { ⌜ Recorded (now b) ⌝ }
     requires { ⌜ (u < size (now a)) × (v < size (now b)) ⌝ }
     requires { ⌜ Marked (now marks) (now queue) (known .count) ⌝ }
-    requires { ⌜ (length (now words) ≡ 2624) × (known .at ≤ 2560) × (known .count ≤ 255) ⌝ }
-    ensures { λ r. ⌜ Adds (common (now (a .entry)) (now (b .entry)) (u, v)) (now (queue .entry)) (now (words .entry)) known 64 (now (marks .exit)) (now (queue .exit)) (now (words .exit)) r ⌝ }
+    requires { ⌜ (length (now words) ≡ 2624) × (known .at ≤ 2560) ⌝ }
+    ensures { λ r. ⌜ Spreads (common (now (a .entry)) (now (b .entry)) (u, v)) (now (queue .entry)) (now (words .entry)) known (now (marks .exit)) (now (queue .exit)) (now (words .exit)) r ⌝ }
 {
     let a_end = a[u + 2] as usize;
     let b_end = b[v + 2] as usize;
@@ -76,8 +82,11 @@ pub fn pair_links<'a>(
         } else {
             let pair = (s % layout::SCALE) as usize * 255 + (t % layout::SCALE) as usize;
             count = enlist(marks, queue, pair, count);
+            if 255 < count {
+                return Spread { at, count };
+            }
             let number = marks[pair];
-            words[at] = layout::link(f, number);
+            words[at] = layout::link(f, number as u16);
             at += 1;
             i += 1;
             j += 1;
@@ -107,9 +116,8 @@ pub fn generalize<'a>(
     ensures { λ r. ⌜ now (out .exit) ≡ productOut (now (joins .entry)) (now (a .entry)) (now (b .entry)) (now (out .entry)) .output ⌝ }
 {
     let mut marks = [CLEAR; 65025];
-    // the queue and the words have room for the most that one pair adds before the counts are tested: 255 + 64 pairs; 257 words,
-    // 255 headers and 2,048 + 64 links
-    let mut queue = [0u16; 319];
+    let mut queue = [0u16; 255];
+    // the words have room for the most links that one pair adds before they are counted: 257 words, 255 headers and 2,048 + 64 links
     let mut words = [0u16; 2624];
     marks[0] = 0;
     words[1] = BASE as u16;

@@ -17,7 +17,7 @@ use Rattle.generalize.proofs.generalize.Tie as tie
 
 abbrev Inv-loop : tie.InvT-loop
 Inv-loop joins a b out marks₀ queue₀ words₀ at₀ count₀ head₀ marks queue words at count head =
-    Building joins a b head count at marks queue words × (count ≤ 255) × (at ≤ base + head * header + 2048)
+    Building joins a b head count at marks queue words × (at ≤ base + head * header + 2048)
 
 abbrev μ-loop : tie.MeasureT-loop
 μ-loop joins a b out marks₀ queue₀ words₀ at₀ count₀ head₀ marks queue words at count head =
@@ -33,13 +33,13 @@ array-write-words : tie.Need-array-write-words Inv-loop μ-loop
 array-write-words c = search needs
 
 loop-holds : tie.Need-loop-holds Inv-loop μ-loop
-loop-holds c = let st = c .before .before .before in (build-start (st .args .joins .now) (st .pre .0) (st .pre .1) (replicate 65025 65535) (replicate 319 0) (replicate 2624 0) (length-replicate {A = ℕ} 65025 65535) (λ p h. getD-replicate {A = ℕ} 65025 p 65535 0 h) (length-replicate {A = ℕ} 319 0) (getD-replicate {A = ℕ} 319 0 0 0 (omega arith)) (length-replicate {A = ℕ} 2624 0), omega arith, omega arith)
+loop-holds c = let st = c .before .before .before in (build-start (st .args .joins .now) (st .pre .0) (st .pre .1) (replicate 65025 255) (replicate 255 0) (replicate 2624 0) (length-replicate {A = ℕ} 65025 255) (λ p h. getD-replicate {A = ℕ} 65025 p 255 0 h) (length-replicate {A = ℕ} 255 0) (getD-replicate {A = ℕ} 255 0 0 0 (omega arith)) (length-replicate {A = ℕ} 2624 0), omega arith)
 
 mul-pair : tie.Need-mul-pair Inv-loop μ-loop
-mul-pair c = omega (arith, c .loop-test .taken, c .before .loop .inv .1)
+mul-pair c = omega (arith, c .loop-test .taken, c .before .loop .inv .0 .marked .few)
 
 array-read-pair : tie.Need-array-read-pair Inv-loop μ-loop
-array-read-pair c = omega (arith, c .loop-test .taken, c .before .loop .inv .1)
+array-read-pair c = omega (arith, c .loop-test .taken, c .before .loop .inv .0 .marked .few)
 
 cast-pair : tie.Need-cast-pair Inv-loop μ-loop
 cast-pair c = omega (arith, c .before .loop .inv .0 .marked .inside (c .before .loop .head) (c .loop-test .taken))
@@ -93,55 +93,55 @@ cast-words-2 : tie.Need-cast-words-2 Inv-loop μ-loop
 cast-words-2 c = omega (arith, c .join .ok)
 
 mul-words : tie.Need-mul-words Inv-loop μ-loop
-mul-words c = omega (arith, c .before .before .before .before .before .loop-test .taken, c .before .before .before .before .before .before .loop .inv .1, c .before .before .before .before .before .before .loop .inv .2)
+mul-words c = omega (arith, c .before .before .before .before .before .loop-test .taken, c .before .before .before .before .before .before .loop .inv .0 .marked .few, c .before .before .before .before .before .before .loop .inv .1)
 
 array-write-words-2 : tie.Need-array-write-words-2 Inv-loop μ-loop
-array-write-words-2 c = omega (arith, c .before .before .before .before .before .loop-test .taken, c .before .before .before .before .before .before .loop .inv .1, c .before .before .before .before .before .before .loop .inv .2)
+array-write-words-2 c = omega (arith, c .before .before .before .before .before .loop-test .taken, c .before .before .before .before .before .before .loop .inv .0 .marked .few, c .before .before .before .before .before .before .loop .inv .1)
 
 add-words : tie.Need-add-words Inv-loop μ-loop
-add-words c = omega (arith, c .before .before .before .before .before .loop-test .taken, c .before .before .before .before .before .before .loop .inv .1, c .before .before .before .before .before .before .loop .inv .2)
+add-words c = omega (arith, c .before .before .before .before .before .loop-test .taken, c .before .before .before .before .before .before .loop .inv .0 .marked .few, c .before .before .before .before .before .before .loop .inv .1)
 
 pair-links-requires : tie.Need-pair-links-requires Inv-loop μ-loop
-pair-links-requires c κs = let s = c .before .before .before .before .before .before .before .before .before .loop .inv .0 in (s .left, (s .right, (s .inside (c .before .before .before .before .before .before .before .before .before .loop .head) (c .before .before .before .before .before .before .before .before .loop-test .taken), (s .marked, (length-set (c .before .before .before .before .before .before .before .before .before .loop .words) (c .before .before .before .before .before .before .before .before .before .loop .at) _ ∙ s .long, omega (arith, c .before .before .before .before .before .before .before .before .loop-test .taken, c .before .before .before .before .before .before .before .before .before .loop .inv .1, c .before .before .before .before .before .before .before .before .before .loop .inv .2), c .before .before .before .before .before .before .before .before .before .loop .inv .1)))))
+pair-links-requires c κs = let s = c .before .before .before .before .before .before .before .before .before .loop .inv .0 in (s .left, (s .right, (s .inside (c .before .before .before .before .before .before .before .before .before .loop .head) (c .before .before .before .before .before .before .before .before .loop-test .taken), (s .marked, (length-set (c .before .before .before .before .before .before .before .before .before .loop .words) (c .before .before .before .before .before .before .before .before .before .loop .at) _ ∙ s .long, omega (arith, c .before .before .before .before .before .before .before .before .loop-test .taken, c .before .before .before .before .before .before .before .before .before .loop .inv .0 .marked .few, c .before .before .before .before .before .before .before .before .before .loop .inv .1))))))
 
 returns : tie.Need-returns Inv-loop μ-loop
-returns c = answers (too-large (c .before .before .before .before .before .before .before .before .before .before .before .before .before .before .before .args .joins .now) (c .before .before .before .before .before .before .before .before .before .before .before .loop .inv .0 .left) (c .before .before .before .before .before .before .before .before .before .before .before .loop .inv .0 .right) (c .before .before .before .before .before .before .before .before .before .before .before .before .before .before .before .args .out .now) (inl (many-pairs (build-step (c .before .before .before .before .before .before .before .before .before .before .before .loop .inv .0) (c .before .before .before .before .before .before .before .before .before .before .loop-test .taken) (c .before .before .before .before .before .before .before .before .before .before .before .loop .inv .1) (c .before .before .before .before .before .before .before .before .before .before .before .loop .inv .2) _ (c .before .before .before .before .before .join .ensures) (omega (arith, c .before .before .before .before .before .join .ok)) _ _ _ _ (c .before .pair-links .ensures)) (omega (arith, c .if1 .taken)))))
+returns c = answers (too-large (c .before .before .before .before .before .before .before .before .before .before .before .before .before .before .before .args .joins .now) (c .before .before .before .before .before .before .before .before .before .before .before .loop .inv .0 .left) (c .before .before .before .before .before .before .before .before .before .before .before .loop .inv .0 .right) (c .before .before .before .before .before .before .before .before .before .before .before .before .before .before .before .args .out .now) (inl (many-pairs (c .before .before .before .before .before .before .before .before .before .before .before .loop .inv .0) (c .before .before .before .before .before .before .before .before .before .before .loop-test .taken) (c .before .pair-links .ensures .full (c .if1 .taken)))))
 
 cast-words-3 : tie.Need-cast-words-3 Inv-loop μ-loop
-cast-words-3 c = omega (arith, c .before .pair-links .ensures .short, c .before .before .before .before .before .before .before .before .before .before .loop-test .taken, c .before .before .before .before .before .before .before .before .before .before .before .loop .inv .1, c .before .before .before .before .before .before .before .before .before .before .before .loop .inv .2)
+cast-words-3 c = omega (arith, c .before .pair-links .ensures .added (omega (arith, c .if1 .left)) .short, c .before .before .before .before .before .before .before .before .before .before .loop-test .taken, c .before .before .before .before .before .before .before .before .before .before .before .loop .inv .0 .marked .few, c .before .before .before .before .before .before .before .before .before .before .before .loop .inv .1)
 
 add-words-2 : tie.Need-add-words-2 Inv-loop μ-loop
-add-words-2 c = omega (arith, c .before .before .before .before .before .before .before .before .before .before .loop-test .taken, c .before .before .before .before .before .before .before .before .before .before .before .loop .inv .1)
+add-words-2 c = omega (arith, c .before .before .before .before .before .before .before .before .before .before .loop-test .taken, c .before .before .before .before .before .before .before .before .before .before .before .loop .inv .0 .marked .few)
 
 mul-words-2 : tie.Need-mul-words-2 Inv-loop μ-loop
-mul-words-2 c = omega (arith, c .before .before .before .before .before .before .before .before .before .before .loop-test .taken, c .before .before .before .before .before .before .before .before .before .before .before .loop .inv .1)
+mul-words-2 c = omega (arith, c .before .before .before .before .before .before .before .before .before .before .loop-test .taken, c .before .before .before .before .before .before .before .before .before .before .before .loop .inv .0 .marked .few)
 
 array-write-words-3 : tie.Need-array-write-words-3 Inv-loop μ-loop
-array-write-words-3 c = omega (arith, c .before .before .before .before .before .before .before .before .before .before .loop-test .taken, c .before .before .before .before .before .before .before .before .before .before .before .loop .inv .1)
+array-write-words-3 c = omega (arith, c .before .before .before .before .before .before .before .before .before .before .loop-test .taken, c .before .before .before .before .before .before .before .before .before .before .before .loop .inv .0 .marked .few)
 
 add-head : tie.Need-add-head Inv-loop μ-loop
-add-head c = omega (arith, c .before .before .before .before .before .before .before .before .before .before .loop-test .taken, c .before .before .before .before .before .before .before .before .before .before .before .loop .inv .1)
+add-head c = omega (arith, c .before .before .before .before .before .before .before .before .before .before .loop-test .taken, c .before .before .before .before .before .before .before .before .before .before .before .loop .inv .0 .marked .few)
 
 mul-if2 : tie.Need-mul-if2 Inv-loop μ-loop
-mul-if2 c = omega (arith, c .before .before .before .before .before .before .before .before .before .before .loop-test .taken, c .before .before .before .before .before .before .before .before .before .before .before .loop .inv .1)
+mul-if2 c = omega (arith, c .before .before .before .before .before .before .before .before .before .before .loop-test .taken, c .before .before .before .before .before .before .before .before .before .before .before .loop .inv .0 .marked .few)
 
 add-if2 : tie.Need-add-if2 Inv-loop μ-loop
-add-if2 c = omega (arith, c .before .before .before .before .before .before .before .before .before .before .loop-test .taken, c .before .before .before .before .before .before .before .before .before .before .before .loop .inv .1)
+add-if2 c = omega (arith, c .before .before .before .before .before .before .before .before .before .before .loop-test .taken, c .before .before .before .before .before .before .before .before .before .before .before .loop .inv .0 .marked .few)
 
 add-if2-2 : tie.Need-add-if2-2 Inv-loop μ-loop
-add-if2-2 c = omega (arith, c .before .before .before .before .before .before .before .before .before .before .loop-test .taken, c .before .before .before .before .before .before .before .before .before .before .before .loop .inv .1)
+add-if2-2 c = omega (arith, c .before .before .before .before .before .before .before .before .before .before .loop-test .taken, c .before .before .before .before .before .before .before .before .before .before .before .loop .inv .0 .marked .few)
 
 returns-2 : tie.Need-returns-2 Inv-loop μ-loop
-returns-2 c = answers (too-large (c .before .before .before .before .before .before .before .before .before .before .before .before .before .before .before .before .args .joins .now) (c .before .before .before .before .before .before .before .before .before .before .before .before .loop .inv .0 .left) (c .before .before .before .before .before .before .before .before .before .before .before .before .loop .inv .0 .right) (c .before .before .before .before .before .before .before .before .before .before .before .before .before .before .before .before .args .out .now) (inr (many-links (build-step (c .before .before .before .before .before .before .before .before .before .before .before .before .loop .inv .0) (c .before .before .before .before .before .before .before .before .before .before .before .loop-test .taken) (c .before .before .before .before .before .before .before .before .before .before .before .before .loop .inv .1) (c .before .before .before .before .before .before .before .before .before .before .before .before .loop .inv .2) _ (c .before .before .before .before .before .before .join .ensures) (omega (arith, c .before .before .before .before .before .before .join .ok)) _ _ _ _ (c .before .before .pair-links .ensures)) (omega (arith, c .if2 .taken)))))
+returns-2 c = answers (too-large (c .before .before .before .before .before .before .before .before .before .before .before .before .before .before .before .before .args .joins .now) (c .before .before .before .before .before .before .before .before .before .before .before .before .loop .inv .0 .left) (c .before .before .before .before .before .before .before .before .before .before .before .before .loop .inv .0 .right) (c .before .before .before .before .before .before .before .before .before .before .before .before .before .before .before .before .args .out .now) (inr (many-links (build-step (c .before .before .before .before .before .before .before .before .before .before .before .before .loop .inv .0) (c .before .before .before .before .before .before .before .before .before .before .before .loop-test .taken) (c .before .before .before .before .before .before .before .before .before .before .before .before .loop .inv .1) _ (c .before .before .before .before .before .before .join .ensures) (omega (arith, c .before .before .before .before .before .before .join .ok)) _ _ _ _ (c .before .before .pair-links .ensures .added (omega (arith, c .before .if1 .left)))) (omega (arith, c .if2 .taken)))))
 
 loop-less : tie.Need-loop-less Inv-loop μ-loop
-loop-less c = omega (arith, c .before .before .before .before .before .before .before .before .before .before .before .loop-test .taken, c .before .before .before .before .before .before .before .before .before .before .before .before .loop .inv .1)
+loop-less c = omega (arith, c .before .before .before .before .before .before .before .before .before .before .before .loop-test .taken, c .before .before .before .before .before .before .before .before .before .before .before .before .loop .inv .0 .marked .few)
 
 loop-again : tie.Need-loop-again Inv-loop μ-loop
-loop-again c = (build-step (c .before .before .before .before .before .before .before .before .before .before .before .before .loop .inv .0) (c .before .before .before .before .before .before .before .before .before .before .before .loop-test .taken) (c .before .before .before .before .before .before .before .before .before .before .before .before .loop .inv .1) (c .before .before .before .before .before .before .before .before .before .before .before .before .loop .inv .2) _ (c .before .before .before .before .before .before .join .ensures) (omega (arith, c .before .before .before .before .before .before .join .ok)) _ _ _ _ (c .before .before .pair-links .ensures), omega (arith, c .before .if1 .left), omega (arith, c .if2 .left))
+loop-again c = (build-step (c .before .before .before .before .before .before .before .before .before .before .before .before .loop .inv .0) (c .before .before .before .before .before .before .before .before .before .before .before .loop-test .taken) (c .before .before .before .before .before .before .before .before .before .before .before .before .loop .inv .1) _ (c .before .before .before .before .before .before .join .ensures) (omega (arith, c .before .before .before .before .before .before .join .ok)) _ _ _ _ (c .before .before .pair-links .ensures .added (omega (arith, c .before .if1 .left))), omega (arith, c .if2 .left))
 
 cast-words-4 : tie.Need-cast-words-4 Inv-loop μ-loop
-cast-words-4 c = omega (arith, c .before .loop .inv .1)
+cast-words-4 c = omega (arith, c .before .loop .inv .0 .marked .few)
 
 array-write-words-4 : tie.Need-array-write-words-4 Inv-loop μ-loop
 array-write-words-4 c = search needs
@@ -150,13 +150,13 @@ slice-aggregate-write : tie.Need-slice-aggregate-write Inv-loop μ-loop
 slice-aggregate-write c = search needs
 
 write-requires : tie.Need-write-requires Inv-loop μ-loop
-write-requires c κs = build-sound (c .before .before .before .loop .inv .0) (omega (arith, c .before .before .loop-test .left)) (c .before .before .before .loop .inv .1)
+write-requires c κs = build-sound (c .before .before .before .loop .inv .0) (omega (arith, c .before .before .loop-test .left))
 
 same-length : tie.Need-same-length Inv-loop μ-loop
 same-length c = search needs
 
 returns-3 : tie.Need-returns-3 Inv-loop μ-loop
-returns-3 c = let e = sym (build-canonical (c .before .before .before .before .before .before .loop .inv .0) (omega (arith, c .before .before .before .before .before .loop-test .left)) (c .before .before .before .before .before .before .loop .inv .1)) in let out = c .before .before .before .before .before .before .before .before .before .before .args .out .now in (c .before .before .write .ensures .0 ∙ ap (λ (k : Canonical Label). writtenOut k out .answer) e, c .before .before .write .ensures .1 ∙ ap (λ (k : Canonical Label). writtenOut k out .output) e)
+returns-3 c = let e = sym (build-canonical (c .before .before .before .before .before .before .loop .inv .0) (omega (arith, c .before .before .before .before .before .loop-test .left))) in let out = c .before .before .before .before .before .before .before .before .before .before .args .out .now in (c .before .before .write .ensures .0 ∙ ap (λ (k : Canonical Label). writtenOut k out .answer) e, c .before .before .write .ensures .1 ∙ ap (λ (k : Canonical Label). writtenOut k out .output) e)
 
 pub generalize-spec : {M : Type 1} → statement M
 generalize-spec =

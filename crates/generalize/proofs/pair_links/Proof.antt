@@ -4,7 +4,7 @@ use mathlib.Core.Logic.{inl, inr}
 use Prim.Native.Nat.{_+_, _-_}
 use native.Mathlib.Omega.{arith}
 use Rattle.layout.specs.Layout.{rowEnd}
-use Rattle.generalize.proofs.Merging.{Merging, merge-start, merge-done, merge-ended, merge-left, merge-right, merge-room, merge-nodes, merge-both}
+use Rattle.generalize.proofs.Merging.{Merging, merge-start, merge-ended, merge-left, merge-right, merge-room, merge-nodes, merge-full, merge-both, merge-spreads}
 use borrow.Author.Needs.{needs}
 use Rattle.generalize.proofs.pair_links.Statement.{statement}
 use Rattle.generalize.proofs.pair_links.Tie as tie
@@ -72,10 +72,10 @@ add-j-2 : tie.Need-add-j-2 Inv-loop μ-loop
 add-j-2 c = omega (arith, c .shared-slice-known6 .given (c .before .before .before .before .before .before .args .v + 1))
 
 loop-holds : tie.Need-loop-holds Inv-loop μ-loop
-loop-holds c = let st = c .before .before .before .before .before .before in (refl, refl, merge-start (record { left = st .pre .0; right = st .pre .1 .0; left-node = st .pre .1 .1 .0 .0; right-node = st .pre .1 .1 .0 .1; long = st .pre .1 .1 .1 .1 .0; low = st .pre .1 .1 .1 .1 .1; few = st .pre .1 .1 .1 .1 .2; left-end = omega (arith, c .before .before .before .shared-slice-known3 .given (st .args .u + 2)); right-end = omega (arith, c .before .before .shared-slice-known4 .given (st .args .v + 2)) }) (st .pre .1 .1 .1 .0))
+loop-holds c = let st = c .before .before .before .before .before .before in (refl, refl, merge-start (record { left = st .pre .0; right = st .pre .1 .0; left-node = st .pre .1 .1 .0 .0; right-node = st .pre .1 .1 .0 .1; long = st .pre .1 .1 .1 .1 .0; low = st .pre .1 .1 .1 .1 .1; left-end = omega (arith, c .before .before .before .shared-slice-known3 .given (st .args .u + 2)); right-end = omega (arith, c .before .before .shared-slice-known4 .given (st .args .v + 2)) }) (st .pre .1 .1 .1 .0))
 
 returns : tie.Need-returns Inv-loop μ-loop
-returns c = merge-done (c .before .before .loop .inv .2) (inr (omega (arith, c .if1 .taken, c .before .before .loop .inv .1)))
+returns c = merge-spreads (c .before .before .loop .inv .2) (inr (omega (arith, c .if1 .taken, c .before .before .loop .inv .1)))
 
 mul-s : tie.Need-mul-s Inv-loop μ-loop
 mul-s c = omega (arith, c .before .loop-test .taken, c .before .before .loop .inv .0, c .before .before .loop .inv .2 .begun .left-end)
@@ -120,40 +120,43 @@ add-pair : tie.Need-add-pair Inv-loop μ-loop
 add-pair c = omega arith
 
 enlist-requires : tie.Need-enlist-requires Inv-loop μ-loop
-enlist-requires c κs = (c .before .before .before .before .before .before .before .before .loop .inv .2 .added .after, (omega (arith, merge-nodes (c .before .before .before .before .before .before .before .before .loop .inv .2) (omega (arith, c .before .before .before .before .before .before .before .loop-test .taken, c .before .before .before .before .before .before .before .before .loop .inv .0)) (omega (arith, c .before .before .before .before .before .before .if1 .left, c .before .before .before .before .before .before .before .before .loop .inv .1))), merge-room (c .before .before .before .before .before .before .before .before .loop .inv .2) (omega (arith, c .before .before .before .before .before .before .before .loop-test .taken, c .before .before .before .before .before .before .before .before .loop .inv .0)) (omega (arith, c .before .before .before .before .before .before .if1 .left, c .before .before .before .before .before .before .before .before .loop .inv .1)) .0))
-
-mul-number : tie.Need-mul-number Inv-loop μ-loop
-mul-number c = search needs
-
-element-copy-out-number : tie.Need-element-copy-out-number Inv-loop μ-loop
-element-copy-out-number c = omega (arith, merge-nodes (c .before .before .before .before .before .before .before .before .before .loop .inv .2) (omega (arith, c .before .before .before .before .before .before .before .before .loop-test .taken, c .before .before .before .before .before .before .before .before .before .loop .inv .0)) (omega (arith, c .before .before .before .before .before .before .before .if1 .left, c .before .before .before .before .before .before .before .before .before .loop .inv .1)))
-
-link-requires : tie.Need-link-requires Inv-loop μ-loop
-link-requires c κs = (omega (arith, c .before .before .before .before .before .before .before .shared-slice-known7 .given (c .before .before .before .before .before .before .before .before .before .before .loop .i)), omega (arith, c .before .enlist .ensures .numbered, c .before .enlist .ensures .after .few))
-
-mul-words : tie.Need-mul-words Inv-loop μ-loop
-mul-words c = omega (arith, merge-room (c .before .before .before .before .before .before .before .before .before .before .before .loop .inv .2) (omega (arith, c .before .before .before .before .before .before .before .before .before .before .loop-test .taken, c .before .before .before .before .before .before .before .before .before .before .before .loop .inv .0)) (omega (arith, c .before .before .before .before .before .before .before .before .before .if1 .left, c .before .before .before .before .before .before .before .before .before .before .before .loop .inv .1)))
-
-element-write-words : tie.Need-element-write-words Inv-loop μ-loop
-element-write-words c = merge-room (c .before .before .before .before .before .before .before .before .before .before .before .loop .inv .2) (omega (arith, c .before .before .before .before .before .before .before .before .before .before .loop-test .taken, c .before .before .before .before .before .before .before .before .before .before .before .loop .inv .0)) (omega (arith, c .before .before .before .before .before .before .before .before .before .if1 .left, c .before .before .before .before .before .before .before .before .before .before .before .loop .inv .1)) .1
-
-add-at : tie.Need-add-at Inv-loop μ-loop
-add-at c = omega (arith, merge-room (c .before .before .before .before .before .before .before .before .before .before .before .loop .inv .2) (omega (arith, c .before .before .before .before .before .before .before .before .before .before .loop-test .taken, c .before .before .before .before .before .before .before .before .before .before .before .loop .inv .0)) (omega (arith, c .before .before .before .before .before .before .before .before .before .if1 .left, c .before .before .before .before .before .before .before .before .before .before .before .loop .inv .1)))
-
-add-i-4 : tie.Need-add-i-4 Inv-loop μ-loop
-add-i-4 c = omega (arith, c .before .before .before .before .before .before .before .before .before .before .loop-test .taken, c .before .before .before .before .before .before .before .before .before .before .before .loop .inv .0, c .before .before .before .before .before .before .before .before .before .before .before .loop .inv .2 .begun .left-end)
-
-add-j-4 : tie.Need-add-j-4 Inv-loop μ-loop
-add-j-4 c = omega (arith, c .before .before .before .before .before .before .before .before .before .if1 .left, c .before .before .before .before .before .before .before .before .before .before .before .loop .inv .1, c .before .before .before .before .before .before .before .before .before .before .before .loop .inv .2 .begun .right-end)
-
-loop-less-3 : tie.Need-loop-less-3 Inv-loop μ-loop
-loop-less-3 c = omega (arith, c .before .before .before .before .before .before .before .before .before .before .loop-test .taken, c .before .before .before .before .before .before .before .before .before .if1 .left)
-
-loop-again-3 : tie.Need-loop-again-3 Inv-loop μ-loop
-loop-again-3 c = (c .before .before .before .before .before .before .before .before .before .before .before .loop .inv .0, c .before .before .before .before .before .before .before .before .before .before .before .loop .inv .1, merge-both (c .before .before .before .before .before .before .before .before .before .before .before .loop .inv .2) (omega (arith, c .before .before .before .before .before .before .before .before .before .before .loop-test .taken, c .before .before .before .before .before .before .before .before .before .before .before .loop .inv .0)) (omega (arith, c .before .before .before .before .before .before .before .before .before .if1 .left, c .before .before .before .before .before .before .before .before .before .before .before .loop .inv .1)) (omega (arith, c .before .before .before .before .before .before .if2 .left, c .before .before .before .before .before .if3 .left)) _ _ _ (c .before .before .enlist .ensures) _ (c .link .ensures))
+enlist-requires c κs = (c .before .before .before .before .before .before .before .before .loop .inv .2 .added .after, omega (arith, merge-nodes (c .before .before .before .before .before .before .before .before .loop .inv .2) (omega (arith, c .before .before .before .before .before .before .before .loop-test .taken, c .before .before .before .before .before .before .before .before .loop .inv .0)) (omega (arith, c .before .before .before .before .before .before .if1 .left, c .before .before .before .before .before .before .before .before .loop .inv .1))))
 
 returns-2 : tie.Need-returns-2 Inv-loop μ-loop
-returns-2 c = merge-done (c .before .loop .inv .2) (inl (omega (arith, c .loop-test .left, c .before .loop .inv .0)))
+returns-2 c = let (given, free) = c .before .enlist .ensures .full (c .if4 .taken) in record { added = λ h. absurd (omega (arith, c .if4 .taken)); full = λ h. merge-full (c .before .before .before .before .before .before .before .before .before .before .loop .inv .2) (omega (arith, c .before .before .before .before .before .before .before .before .before .loop-test .taken, c .before .before .before .before .before .before .before .before .before .before .loop .inv .0)) (omega (arith, c .before .before .before .before .before .before .before .before .if1 .left, c .before .before .before .before .before .before .before .before .before .before .loop .inv .1)) (omega (arith, c .before .before .before .before .before .if2 .left, c .before .before .before .before .if3 .left)) given free }
+
+element-copy-out-number : tie.Need-element-copy-out-number Inv-loop μ-loop
+element-copy-out-number c = omega (arith, merge-nodes (c .before .before .before .before .before .before .before .before .before .before .loop .inv .2) (omega (arith, c .before .before .before .before .before .before .before .before .before .loop-test .taken, c .before .before .before .before .before .before .before .before .before .before .loop .inv .0)) (omega (arith, c .before .before .before .before .before .before .before .before .if1 .left, c .before .before .before .before .before .before .before .before .before .before .loop .inv .1)))
+
+cast-link : tie.Need-cast-link Inv-loop μ-loop
+cast-link c = let listed = c .before .before .enlist .ensures .listed (omega (arith, c .before .if4 .left)) in omega (arith, listed .numbered, listed .after .few)
+
+link-requires : tie.Need-link-requires Inv-loop μ-loop
+link-requires c κs = let listed = c .before .before .enlist .ensures .listed (omega (arith, c .before .if4 .left)) in (omega (arith, c .before .before .before .before .before .before .before .before .shared-slice-known7 .given (c .before .before .before .before .before .before .before .before .before .before .before .loop .i)), omega (arith, listed .numbered, listed .after .few))
+
+mul-words : tie.Need-mul-words Inv-loop μ-loop
+mul-words c = omega (arith, merge-room (c .before .before .before .before .before .before .before .before .before .before .before .before .loop .inv .2) (omega (arith, c .before .before .before .before .before .before .before .before .before .before .before .loop-test .taken, c .before .before .before .before .before .before .before .before .before .before .before .before .loop .inv .0)) (omega (arith, c .before .before .before .before .before .before .before .before .before .before .if1 .left, c .before .before .before .before .before .before .before .before .before .before .before .before .loop .inv .1)))
+
+element-write-words : tie.Need-element-write-words Inv-loop μ-loop
+element-write-words c = merge-room (c .before .before .before .before .before .before .before .before .before .before .before .before .loop .inv .2) (omega (arith, c .before .before .before .before .before .before .before .before .before .before .before .loop-test .taken, c .before .before .before .before .before .before .before .before .before .before .before .before .loop .inv .0)) (omega (arith, c .before .before .before .before .before .before .before .before .before .before .if1 .left, c .before .before .before .before .before .before .before .before .before .before .before .before .loop .inv .1))
+
+add-at : tie.Need-add-at Inv-loop μ-loop
+add-at c = omega (arith, merge-room (c .before .before .before .before .before .before .before .before .before .before .before .before .loop .inv .2) (omega (arith, c .before .before .before .before .before .before .before .before .before .before .before .loop-test .taken, c .before .before .before .before .before .before .before .before .before .before .before .before .loop .inv .0)) (omega (arith, c .before .before .before .before .before .before .before .before .before .before .if1 .left, c .before .before .before .before .before .before .before .before .before .before .before .before .loop .inv .1)))
+
+add-i-4 : tie.Need-add-i-4 Inv-loop μ-loop
+add-i-4 c = omega (arith, c .before .before .before .before .before .before .before .before .before .before .before .loop-test .taken, c .before .before .before .before .before .before .before .before .before .before .before .before .loop .inv .0, c .before .before .before .before .before .before .before .before .before .before .before .before .loop .inv .2 .begun .left-end)
+
+add-j-4 : tie.Need-add-j-4 Inv-loop μ-loop
+add-j-4 c = omega (arith, c .before .before .before .before .before .before .before .before .before .before .if1 .left, c .before .before .before .before .before .before .before .before .before .before .before .before .loop .inv .1, c .before .before .before .before .before .before .before .before .before .before .before .before .loop .inv .2 .begun .right-end)
+
+loop-less-3 : tie.Need-loop-less-3 Inv-loop μ-loop
+loop-less-3 c = omega (arith, c .before .before .before .before .before .before .before .before .before .before .before .loop-test .taken, c .before .before .before .before .before .before .before .before .before .before .if1 .left)
+
+loop-again-3 : tie.Need-loop-again-3 Inv-loop μ-loop
+loop-again-3 c = (c .before .before .before .before .before .before .before .before .before .before .before .before .loop .inv .0, c .before .before .before .before .before .before .before .before .before .before .before .before .loop .inv .1, merge-both (c .before .before .before .before .before .before .before .before .before .before .before .before .loop .inv .2) (omega (arith, c .before .before .before .before .before .before .before .before .before .before .before .loop-test .taken, c .before .before .before .before .before .before .before .before .before .before .before .before .loop .inv .0)) (omega (arith, c .before .before .before .before .before .before .before .before .before .before .if1 .left, c .before .before .before .before .before .before .before .before .before .before .before .before .loop .inv .1)) (omega (arith, c .before .before .before .before .before .before .before .if2 .left, c .before .before .before .before .before .before .if3 .left)) _ _ _ (c .before .before .before .enlist .ensures .listed (omega (arith, c .before .before .if4 .left))) _ (c .link .ensures))
+
+returns-3 : tie.Need-returns-3 Inv-loop μ-loop
+returns-3 c = merge-spreads (c .before .loop .inv .2) (inl (omega (arith, c .loop-test .left, c .before .loop .inv .0)))
 
 pub pair-links-spec : {M : Type 1} → statement M
 pair-links-spec =
@@ -196,8 +199,9 @@ pair-links-spec =
     cast-pair-2
     add-pair
     enlist-requires
-    mul-number
+    returns-2
     element-copy-out-number
+    cast-link
     link-requires
     mul-words
     element-write-words
@@ -206,4 +210,4 @@ pair-links-spec =
     add-j-4
     loop-less-3
     loop-again-3
-    returns-2)
+    returns-3)
