@@ -1,5 +1,5 @@
--- The builder's laws: to begin, to open a row, to put a link, to close the row; the graph that stands once the number of nodes is
--- stated; and what a store elsewhere keeps.
+-- The builder's laws: to begin, to put a link behind others, to close a row that has its header and its links; the graph that stands
+-- once the number of nodes is stated; and what a store elsewhere keeps.
 use mathlib.Core.Path.{_≡_, refl, sym, _∙_, ap, ap₂, subst}
 use mathlib.Core.List.{List, [], _∷_, _++_, map, List·Memᴰ, List·Memᴰ·head, List·Memᴰ·tail}
 use Prim.Native.Nat.{ℕ, zero, suc, _+_, _-_, _*_, _/_, _%_, _≤_, _<_}
@@ -94,41 +94,6 @@ built-begin ws base low high =
       begun = λ v h. absurd (omega arith);
       ended = λ v h. absurd (omega arith);
     }
-
--- To open a row: its header stands, and nothing of the rows before it has moved.
-pub row-opens : {ws : List ℕ} {base i at : ℕ} → Built ws base i at → (ws′ : List ℕ) → length ws′ ≡ length ws → Same ws ws′ 1 at →
-    at + header ≤ length ws → Open ws′ base i at (at + header)
-row-opens b ws′ long same room =
-    record {
-      built = built-kept b ws′ long (λ k low high. same k low (omega (arith, b .listed, b .low)));
-      headed = omega arith;
-      inside = omega (arith, long);
-    }
-
--- To put a link: it stands behind those before it, and nothing else of the row has moved.
-module _ {ws : List ℕ} {base i at end : ℕ} (o : Open ws base i at end) where
-  pub link-put : (w : ℕ) → end < length ws → Open (set ws end w) base i at (end + 1)
-  link-put w room =
-      record {
-        built =
-            built-kept (o .built) (set ws end w) (length-set ws end w)
-            (same-before ws end w 1 (i + 2) (omega (arith, o .built .listed, o .built .low, o .headed)));
-        headed = omega (arith, o .headed);
-        inside = omega (arith, length-set ws end w);
-      }
-
-  pub put-rows : (w : ℕ) → rowsFrom (set ws end w) 0 i ≡ rowsFrom ws 0 i
-  put-rows w =
-      rows-kept (o .built) (set ws end w) (length-set ws end w)
-      (same-before ws end w 1 (i + 2) (omega (arith, o .built .listed, o .built .low, o .headed)))
-      (same-before ws end w base at (omega (arith, o .headed)))
-
-  pub put-label : (w : ℕ) → labelFrom (set ws end w) at ≡ labelFrom ws at
-  put-label w = label-same ws (set ws end w) at (same-before ws end w at (at + header) (o .headed))
-
-  pub put-links : (l : ℕ × ℕ) → end < length ws → l .1 < scale →
-      linksBetween (set ws end (linkWord l)) (at + header) (end + 1) ≡ linksBetween ws (at + header) end ++ (l ∷ [])
-  put-links l room small = links-put ws (at + header) end l (o .headed) room small
 
 -- To close the row: the next one begins where it ends.
 module _ {ws : List ℕ} {base i at end : ℕ} (o : Open ws base i at end) (room : i + 2 < base) where

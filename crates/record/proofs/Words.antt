@@ -17,7 +17,7 @@ use Rattle.graphs.proofs.Walk.{some-injective, none-some, follow-nil, follow-no
 use Rattle.lattice.specs.Label.{Label}
 use Rattle.layout.specs.Layout.{size, linksFrom, rowEnd, labelAt, featureAt, targetAt, linksAt, rowsFrom, rowsOf, graphIn, Shaped, Sound, Recorded}
 use Rattle.layout.proofs.Places.{link-at, link-place}
-use Rattle.layout.proofs.Rows.{length-rows, rows-member}
+use Rattle.layout.proofs.Rows.{length-rows, rows-member, rows-source}
 use Rattle.layout.proofs.Spans.{linkAt, links-member, links-at}
 use Rattle.visits.specs.Walks.{Leads, Reaches, one, more}
 use Rattle.decode.specs.Answers.{Ranged}
@@ -31,19 +31,12 @@ use Rattle.record.proofs.Reaching.{SelfReach, reaches-exact}
 pub held-length : (ws : List ℕ) → length (rowsOf ws) ≡ size ws
 held-length ws = length-rows ws 0 (size ws)
 
-row-source : (ws : List ℕ) (k u : ℕ) (r : Row Label) → List·Memᴰ r (rowsFrom ws u k) →
-    (v : ℕ) × (v < u + k) × (r ≡ (labelAt ws v, linksAt ws v))
-unfolding rowsFrom
-row-source ws zero u r i = absurd (List·Memᴰ·not-nil i)
-row-source ws (suc k) u r (List·Memᴰ·head e) = (u, omega arith, e)
-row-source ws (suc k) u r (List·Memᴰ·tail i) = let (v, h, e) = row-source ws k (suc u) r i in (v, omega arith, e)
-
 -- 5: the range test of the words is that of the rows.
 
 module _ {ws : List ℕ} (shaped : Shaped ws) where
   pub ranged-rows : (n : ℕ) → Ranged n ws → InRange n (rowsOf ws)
   ranged-rows n ranged r m =
-      let (v, below, e) = row-source ws (size ws) 0 r m in
+      let (v, below, e) = rows-source ws (size ws) 0 r m in
       let h : v < size ws = omega arith in
       let (a, b) = ranged .labels v h in
       let q : r .0 ≡ labelAt ws v = ap (λ (x : Row Label). x .0) e in (
