@@ -10,6 +10,7 @@ use lib.Dec.{eqb}
 use lib.ListN.{take}
 use Rattle.graphs.specs.Graph.{Graph, Tells, Below, SameMeaning}
 use Rattle.graphs.specs.Rows.{Row}
+use Rattle.graphs.specs.Generalize.{IsGeneralization}
 use Rattle.graphs.specs.Unify as unify
 use Rattle.lattice.specs.Label.{Label}
 use Rattle.lattice.specs.declared.Opened.the-variants.{Accepted}
@@ -18,14 +19,16 @@ use Rattle.lattice.specs.Reply.{opened}
 use Rattle.lattice.specs.Labels.{typeLabels, OfAnySize, LeastOfAnySize, GreatestOfAnySize, IsCombination, TypeClash}
 use Rattle.lattice.proofs.Residuals.{opened-accepted}
 use Rattle.lattice.proofs.AnySize.{combination-greatest}
+use Rattle.encode.specs.Encode.{fitted}
 use Rattle.record.specs.Read.{reading, accepted, graphOfRows}
 use Rattle.generalize.specs.Pairs.{samePair}
 use Rattle.engine.specs.declared.Reply.the-variants.{Length, Yes, No, Cycle, Clash, TooLarge, NotBelow, NotAdmitted}
-use Rattle.engine.specs.Reply.{Result, rewriting, ordering, generalizing}
+use Rattle.engine.specs.Reply.{Result, resultOf, rewriting, ordering, generalizing}
 use Rattle.engine.specs.Unification.{unifying}
 use Rattle.engine.specs.Difference.{differing}
 use Rattle.engine.specs.Demand.{
   Given,
+  WrittenRecord,
   Leaves,
   Writes,
   Rewritten,
@@ -99,6 +102,17 @@ module _ (n : ℕ) (t a b : List ℕ) (s g : List (Row Label)) (given : Given n 
   pub meaning-order : ((ordering n t a b ≡ Yes) × (ordering n t b a ≡ Yes)) ↔ SameMeaning (typeLabels n t) (graphOfRows s) (graphOfRows g)
   meaning-order = Meaning.order-both-ways n t a b s g given
 
+-- One form: every record that a call wrote is a `WrittenRecord`, as its `Leaves` says.
+module _ (n : ℕ) (t a : List ℕ) (one : WrittenRecord n a) where
+  -- Over an accepted table, rewriting it gives its own bytes and leaves the others of the output unchanged where it fits, else 8.
+  pub written-own-bytes : opened n t ≡ Accepted → (out : List ℕ) → rewriting n t a out ≡ resultOf (fitted a out)
+  written-own-bytes = Meaning.own-bytes n t a one
+
+  -- Two such records mean the same exactly when they are equal bytes.
+  pub written-one-form : (b : List ℕ) (other : WrittenRecord n b) →
+      SameMeaning (typeLabels n t) (graphOfRows (one .form)) (graphOfRows (other .form)) ↔ (a ≡ b)
+  written-one-form = Meaning.one-form n t a one
+
 -- Demand 3, the order: yes exactly where the first graph is below the second, and no exactly where it is not.
 
 module _ (n : ℕ) (t a b : List ℕ) (s g : List (Row Label)) (given : Given n t a b s g) where
@@ -109,7 +123,12 @@ module _ (n : ℕ) (t a b : List ℕ) (s g : List (Row Label)) (given : Given n 
 -- Demand 3, the common part.
 
 module _ (n : ℕ) (t a b : List ℕ) (g h : List (Row Label)) (given : Given n t a b g h) where
-  -- There always is a least graph of any size above both: the common part, also where it is too large to be written.
+  -- The common part, also where it is too large to be written, has "the paths in both, each with the join of its two types, two sharing
+  -- exactly when they share in both",
+  pub common-part-paths : IsGeneralization (typeLabels n t) (graphOfRows g) (graphOfRows h) (common n t g h)
+  common-part-paths = Common.common-part-paths n t a b g h given
+
+  -- and is the least graph of any size above both: there always is one.
   pub common-part-exists : LeastOfAnySize n t (graphOfRows g) (graphOfRows h) (common n t g h)
   common-part-exists = Common.common-part-exists n t a b g h given
 
@@ -118,7 +137,7 @@ module _ (n : ℕ) (t a b : List ℕ) (g h : List (Row Label)) (given : Given n 
     pub common-part-written : Writes n t samePair (common n t g h) out (generalizing n t a b out)
     common-part-written = Common.common-part-written n t a b g h given out
 
-    -- What is written is the least graph above both, and the order agrees.
+    -- What is written has those paths, is the least graph above both, and the order agrees.
     pub common-part : (l : ℕ) → generalizing n t a b out .reply ≡ Length l → CommonPart n t a b g h (take l (generalizing n t a b out .output))
     common-part = Common.common-part n t a b g h given out
 

@@ -12,7 +12,7 @@ use Rattle.graphs.specs.Graph.{Graph, Tells, Below, SameMeaning}
 use Rattle.graphs.specs.Rows.{Row}
 use Rattle.graphs.specs.Number.{canonical, written}
 use Rattle.graphs.specs.Large.{ManyNodes, ManyLinks}
-use Rattle.graphs.specs.Generalize.{generalization}
+use Rattle.graphs.specs.Generalize.{IsGeneralization, generalization}
 use Rattle.lattice.specs.Label.{Label}
 use Rattle.lattice.specs.declared.Opened.the-variants.{Accepted}
 use Rattle.lattice.specs.Reply.{opened}
@@ -76,23 +76,23 @@ pub record Writes (n : ℕ) (t : List ℕ) {C : Type 0} (same : C → C → Bool
   pub wrote : (l : ℕ) → r .reply ≡ Length l → Wrote n t same k out l (r .output)
 
 -- What stands in the output beside a length of rewriting the record a: a record that means the same and is its own written form, so
--- that rewriting it gives what rewriting a gives, and where there is room its own bytes.
+-- that rewriting it gives what rewriting a gives.
 pub record Rewritten (n : ℕ) (t a : List ℕ) (rows : List (Row Label)) (bytes : List ℕ) : Type 0 where
   pub is-written : WrittenRecord n bytes
   pub means : SameMeaning (typeLabels n t) (graphOfRows rows) (graphOfRows (is-written .form))
   pub again : (room : List ℕ) → rewriting n t bytes room ≡ rewriting n t a room
-  pub same-bytes : (room : List ℕ) → length bytes ≤ length room →
-      (rewriting n t bytes room .reply ≡ Length (length bytes)) × (take (length bytes) (rewriting n t bytes room .output) ≡ bytes)
 
 -- the common part of two graphs, of whatever size
 abbrev pub common : ℕ → List ℕ → List (Row Label) → List (Row Label) → Graph Label (ℕ × ℕ)
 common n t s g = generalization (typeLabels n t) (graphOfRows s) (graphOfRows g)
 
--- What stands in the output beside a length of the common part: a record that is read as the least graph of any size above both.
--- The order's own answers agree: both records are below it, and it is below every accepted record that both are below.
+-- What stands in the output beside a length of the common part: a record that is read as "the paths in both, each with the join of its two
+-- types, two sharing exactly when they share in both", and this is the least graph of any size above both. The order's own answers agree:
+-- both records are below it, and it is below every accepted record that both are below.
 pub record CommonPart (n : ℕ) (t a b : List ℕ) (s g : List (Row Label)) (bytes : List ℕ) : Type 1 where
   pub form : List (Row Label)
   pub reads : reading n bytes ≡ accepted form
+  pub paths : IsGeneralization (typeLabels n t) (graphOfRows s) (graphOfRows g) (graphOfRows form)
   pub least : LeastOfAnySize n t (graphOfRows s) (graphOfRows g) (graphOfRows form)
   pub first-below : ordering n t a bytes ≡ Yes
   pub second-below : ordering n t b bytes ≡ Yes
@@ -126,25 +126,26 @@ abbrev pub remainder : ℕ → List ℕ → List (Row Label) → List (Row Label
 remainder n t g s = differenceRows n t g (numbered (canonical eqb (graphOfRows s)))
 
 -- d, combined with g, restores s, and nothing more general does: whatever graph of any size is strictly more general than d, what it
--- combines to with g, the greatest graph of any size below both, is strictly more general than s. There is one, where the nodes of that
--- graph are told apart.
+-- combines to with g, the greatest graph of any size below both, is strictly more general than s. There is one, what the classes of paths
+-- give, where the nodes of that graph are told apart.
 pub record Restores (n : ℕ) (t : List ℕ) (d g s : Graph Label ℕ) : Type 1 where
   pub of-any-size : OfAnySize n t d
   pub restores : GreatestOfAnySize n t d g s
   pub most-general : {E C : Type 0} (e : Graph Label E) → OfAnySize n t e → MoreGeneral n t e d → (u : Graph Label C) →
       GreatestOfAnySize n t e g u → MoreGeneral n t u s
   pub combines : {E : Type 0} (same : E → E → Bool) → Tells same → (e : Graph Label E) → OfAnySize n t e → MoreGeneral n t e d →
-      (u : Graph Label (E ⊎ ℕ)) × GreatestOfAnySize n t e g u
+      (u : Graph Label (E ⊎ ℕ)) × IsCombination n t e g u × GreatestOfAnySize n t e g u
 
 -- What stands in the output beside a length of the difference of the records a and b: a record that is read as such a graph. Combined
--- with a, from either side, it gives the written record of b byte for byte, whatever the output; and the order's own answers agree:
--- every accepted record that is strictly more general gives, combined with a, a record that is strictly more general than b.
+-- with a, from either side, it gives the written record of b byte for byte, whatever the output; and the order's own answers agree: b is
+-- below it, and every accepted record that is strictly more general gives, combined with a, a record that is strictly more general than b.
 pub record Difference (n : ℕ) (t a b : List ℕ) (g s : List (Row Label)) (bytes : List ℕ) : Type 1 where
   pub form : List (Row Label)
   pub reads : reading n bytes ≡ accepted form
   pub restores : Restores n t (graphOfRows form) (graphOfRows g) (graphOfRows s)
   pub combined-first : (out : List ℕ) → unifying n t bytes a out ≡ rewriting n t b out
   pub combined-second : (out : List ℕ) → unifying n t a bytes out ≡ rewriting n t b out
+  pub second-below : ordering n t b bytes ≡ Yes
   pub more-general : (c : List ℕ) (m : List (Row Label)) → reading n c ≡ accepted m → ordering n t bytes c ≡ Yes →
       ordering n t c bytes ≡ No → (out : List ℕ) (l : ℕ) → unifying n t c a out .reply ≡ Length l →
       (ordering n t b (take l (unifying n t c a out .output)) ≡ Yes) × (ordering n t (take l (unifying n t c a out .output)) b ≡ No)

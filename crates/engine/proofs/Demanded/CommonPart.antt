@@ -1,15 +1,17 @@
--- The common part is the least graph of any size above both, whatever its size; what is written of it is read again as that graph, and
--- the order's own answers agree.
+-- The common part has the paths in both and is the least graph of any size above both, whatever its size; what is written of it is read
+-- again as that graph, and the order's own answers agree.
 use mathlib.Core.Path.{_≡_, refl}
 use mathlib.Core.Bool.{true}
 use mathlib.Core.List.{List}
 use Prim.Native.Nat.{ℕ}
 use lib.ListN.{take}
 use Rattle.graphs.specs.Rows.{Row}
+use Rattle.graphs.specs.Generalize.{IsGeneralization}
+use Rattle.graphs.proofs.Product.{product-is-generalization, same-generalization}
 use Rattle.lattice.specs.Label.{Label}
 use Rattle.lattice.specs.Table as table
 use Rattle.lattice.specs.Reply.{opened}
-use Rattle.lattice.specs.Labels.{LeastOfAnySize}
+use Rattle.lattice.specs.Labels.{typeLabels, LeastOfAnySize}
 use Rattle.lattice.proofs.Residuals.{opened-accepted}
 use Rattle.lattice.proofs.AnySize.{generalization-least, same-least}
 use Rattle.record.specs.Read.{reading, accepted, graphOfRows}
@@ -26,7 +28,11 @@ module _ (n : ℕ) (t a b : List ℕ) (s g : List (Row Label)) (given : Given n 
   pub accepts : table.accepted n t ≡ true
   accepts = opened-accepted n t (opened n t) refl (given .opens)
 
-  -- There always is a least graph of any size above both: the common part, also where it is too large to be written.
+  -- The common part, also where it is too large to be written, has the paths in both,
+  pub common-part-paths : IsGeneralization (typeLabels n t) (graphOfRows s) (graphOfRows g) (common n t s g)
+  common-part-paths = product-is-generalization (typeLabels n t) (graphOfRows s) (graphOfRows g)
+
+  -- and is the least graph of any size above both: there always is one.
   pub common-part-exists : LeastOfAnySize n t (graphOfRows s) (graphOfRows g) (common n t s g)
   common-part-exists =
       generalization-least n t accepts (graphOfRows s) (graphOfRows g) (accepted-of-any-size n a s (given .first) t)
@@ -52,6 +58,7 @@ module _ (n : ℕ) (t a b : List ℕ) (s g : List (Row Label)) (given : Given n 
         record {
           form = form;
           reads = reads;
+          paths = same-generalization common-part-paths (wrote .means);
           least = least;
           first-below = order-exact n t a bytes s form (record { opens = given .opens; first = given .first; second = reads }) .0 .1 (least .left);
           second-below = order-exact n t b bytes g form (record { opens = given .opens; first = given .second; second = reads }) .0 .1

@@ -217,6 +217,8 @@ module _ (n : ℕ) (t a b : List ℕ) (g s : List (Row Label)) (given : Given n 
                   greatest-result n t a bytes g again (record { opens = given .opens; first = given .first; second = reads }) room eqb tells-eqb
                   (graphOfRows s) (greatest-sides n t accepts (graphOfRows again) (graphOfRows g) (graphOfRows s) (restores .restores)) ∙
                   sym (rewriting-is n t b s (given .opens) (given .second) room);
+              second-below = order-exact n t b bytes s again (record { opens = given .opens; first = given .second; second = reads }) .0 .1
+                  (restores .restores .left);
               more-general = λ c m read x y room k w.
                   let higher = order-exact n t bytes c again m (record { opens = given .opens; first = reads; second = read }) .0 .0 x in
                   let strict = order-exact n t c bytes m again (record { opens = given .opens; first = read; second = reads }) .1 .0 y in

@@ -1,5 +1,6 @@
 -- Meaning and bytes: accepted records mean the same exactly when rewriting gives equal bytes, and exactly when each is below the other;
--- what rewriting writes means the same and is its own written form.
+-- what rewriting writes means the same and is its own written form; a record in written form is rewritten as itself, and two such mean the
+-- same exactly when they are equal.
 use mathlib.Core.Path.{_≡_, refl, sym, _∙_, ap, subst}
 use mathlib.Core.List.{List}
 use mathlib.Core.Logic.{_↔_}
@@ -19,14 +20,14 @@ use Rattle.lattice.specs.Reply.{opened}
 use Rattle.lattice.specs.Labels.{typeLabels}
 use Rattle.lattice.proofs.Residuals.{opened-accepted}
 use Rattle.lattice.proofs.AnySize.{below-both}
-use Rattle.encode.specs.Encode.{encoded, writtenOut}
+use Rattle.encode.specs.Encode.{encoded, fitted, writtenOut}
 use Rattle.record.specs.Read.{reading, accepted, graphOfRows}
-use Rattle.record.proofs.Rewritten.{written-injective, form-again}
+use Rattle.record.proofs.Rewritten.{form-again}
 use Rattle.record.proofs.Theorems.{accepted-of-any-size, accepted-fits}
 use Rattle.record.proofs.Theorems as record-theorems
 use Rattle.engine.specs.declared.Reply.the-variants.{Length, Yes}
 use Rattle.engine.specs.Reply.{Result, resultOf, ordering, rewriting}
-use Rattle.engine.specs.Demand.{Given, Writes, Rewritten}
+use Rattle.engine.specs.Demand.{Given, WrittenRecord, Writes, Rewritten}
 use Rattle.engine.proofs.Results.{rewriting-is, result-writes}
 use Rattle.engine.proofs.Demanded.Order.{order-exact}
 use Rattle.engine.proofs.Demanded.Output.{rewriting-small}
@@ -102,14 +103,24 @@ module _ (n : ℕ) (t a : List ℕ) (rows : List (Row Label)) (opens : opened n 
         is-written = record { form = wrote .form; reads = wrote .reads; own = own; bytes-are = wrote .bytes };
         means = wrote .means;
         again = same-rewriting n t bytes a (wrote .form) rows (record { opens = opens; first = wrote .reads; second = reads }) (same-sym (wrote .means));
-        same-bytes = λ room enough.
-            let writes = rewriting-writes n t bytes (wrote .form) opens (wrote .reads) room in
-            let size : length (encoded (wrote .form)) ≡ length bytes = ap length (sym (wrote .bytes)) in
-            let p : rewriting n t bytes room .reply ≡ Length (length bytes) =
-            writes .fits (length bytes) .1 (
-              λ large. rewriting-small n t room bytes (writes .too-large .1 large),
-              (wrote .form, own, (size, omega arith)),
-            ) in
-            let twice = writes .wrote (length bytes) p in
-            (p, twice .bytes ∙ ap encoded (written-injective (sym (twice .fits) ∙ own)) ∙ sym (wrote .bytes));
       }
+
+-- Records in written form, whichever call wrote them.
+module _ (n : ℕ) (t a : List ℕ) (one : WrittenRecord n a) where
+  -- rewriting gives the record's own bytes, or 8
+  pub own-bytes : opened n t ≡ Accepted → (out : List ℕ) → rewriting n t a out ≡ resultOf (fitted a out)
+  unfolding writtenOut
+  own-bytes opens out =
+      rewriting-is n t a (one .form) opens (one .reads) out ∙
+      ap (λ (c : Canonical Label). resultOf (writtenOut c out)) (one .own) ∙
+      ap (λ (bytes : List ℕ). resultOf (fitted bytes out)) (sym (one .bytes-are))
+
+  -- one meaning has one such record
+  pub one-form : (b : List ℕ) (other : WrittenRecord n b) →
+      SameMeaning (typeLabels n t) (graphOfRows (one .form)) (graphOfRows (other .form)) ↔ (a ≡ b)
+  one-form b other =
+      let (there, back) =
+      record-theorems.meaning-exact n t a b (one .form) (other .form) (one .reads) (other .reads) (one .form) (other .form) (one .own) (other .own) in (
+        λ same. one .bytes-are ∙ there same ∙ sym (other .bytes-are),
+        λ e. back (sym (one .bytes-are) ∙ e ∙ other .bytes-are),
+      )

@@ -28,7 +28,8 @@ use Rattle.lattice.proofs.AnySize.{
   difference-restores,
   difference-most-general,
   unification-exists,
-  unification-greatest,
+  unification-combination,
+  combination-greatest,
   below-transitive,
 }
 use Rattle.record.specs.Read.{graphOfRows}
@@ -155,7 +156,8 @@ module _ (n : ℕ) (t : List ℕ) (ok : table.accepted n t ≡ true) (g s : List
               let (u, q) =
               unification-exists n t ok same eqb tells tells-eqb e (graphOfRows g) c general-size (graphOfRows s) specific-size
               (below-transitive n t ok (graphOfRows s) byTypes e specific-size size c (best .left) above) below in
-              (u, unification-greatest n t ok same eqb tells tells-eqb e (graphOfRows g) c general-size u q);
+              let (bounded, is) = unification-combination n t ok same eqb tells tells-eqb e (graphOfRows g) c general-size u q in
+              (u, is, combination-greatest n t ok e (graphOfRows g) c general-size u bounded is);
         })
       where
         size : OfAnySize n t byTypes
