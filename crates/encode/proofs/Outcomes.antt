@@ -10,9 +10,8 @@ use lib.ListN.{length, getD, drop}
 use lib.Seq.{sets, sets-eq}
 use Rattle.graphs.specs.Number.{Canonical, manyLinks, manyNodes}
 use Rattle.lattice.specs.Label.{Label}
-use Rattle.encode.specs.declared.Written.{Written}
 use Rattle.encode.specs.declared.Written.the-variants as outcome
-use Rattle.encode.specs.Encode.{Outcome, fitted, writtenOut}
+use Rattle.encode.specs.Encode.{Yield, yielding, fitted, writtenOut}
 
 pub map-listed : {X Y : Type 0} {f g : X → Y} (xs : List X) → ((x : X) → List·Memᴰ x xs → f x ≡ g x) → map f xs ≡ map g xs
 map-listed [] e = refl
@@ -28,44 +27,39 @@ pub member-length : {v : ℕ} {vs : List ℕ} → List·Memᴰ v vs → 0 < leng
 member-length (List·Memᴰ·head e) = omega arith
 member-length (List·Memᴰ·tail m) = omega arith
 
--- what is answered and what is left in the output, of an outcome that is known
-pub answers : {o : Outcome} {a : Written} {l : List ℕ} → o ≡ record { answer = a; output = l } → (a ≡ o .answer) × (l ≡ o .output)
-answers e = (sym (ap (λ (o : Outcome). o .answer) e), sym (ap (λ (o : Outcome). o .output) e))
-
--- and of an output that is equal to the one that is left
-pub answers-by : {o : Outcome} {a : Written} {l last : List ℕ} → last ≡ l → o ≡ record { answer = a; output = l } →
-    (a ≡ o .answer) × (last ≡ o .output)
-answers-by q e = (answers e .0, q ∙ answers e .1)
+-- of an output that is equal to the one that is yielded
+pub yields-by : {A : Type 0} {y : Yield A} {a : A} {l last : List ℕ} → last ≡ l → y ≡ yielding a l → yielding a last ≡ y
+yields-by {a = a} q e = ap (yielding a) q ∙ sym e
 
 -- What is too large.
 
-pub large-nodes : {form : Canonical Label} (old : List ℕ) → form ≡ manyNodes → writtenOut form old ≡ record { answer = outcome.TooLarge; output = old }
+pub large-nodes : {form : Canonical Label} (old : List ℕ) → form ≡ manyNodes → writtenOut form old ≡ yielding outcome.TooLarge old
 unfolding writtenOut
 large-nodes old e = ap (λ (c : Canonical Label). writtenOut c old) e
 
-pub large-links : {form : Canonical Label} (old : List ℕ) → form ≡ manyLinks → writtenOut form old ≡ record { answer = outcome.TooLarge; output = old }
+pub large-links : {form : Canonical Label} (old : List ℕ) → form ≡ manyLinks → writtenOut form old ≡ yielding outcome.TooLarge old
 unfolding writtenOut
 large-links old e = ap (λ (c : Canonical Label). writtenOut c old) e
 
 -- What fits.
 
-pub fitted-short : (bytes old : List ℕ) → length old < length bytes → fitted bytes old ≡ record { answer = outcome.NoRoom; output = old }
+pub fitted-short : (bytes old : List ℕ) → length old < length bytes → fitted bytes old ≡ yielding outcome.NoRoom old
 unfolding fitted
 fitted-short bytes old h =
     ap
     (λ (t : Bool).
-    cond t (record { answer = outcome.Length (length bytes); output = bytes ++ drop (length bytes) old })
-    (record { answer = outcome.NoRoom; output = old }))
+    cond t (yielding (outcome.Length (length bytes)) (bytes ++ drop (length bytes) old))
+    (yielding outcome.NoRoom old))
     (lt-leb (length bytes) (length old) h)
 
 pub fitted-room : (bytes old : List ℕ) → length bytes ≤ length old →
-    fitted bytes old ≡ record { answer = outcome.Length (length bytes); output = sets old 0 bytes }
+    fitted bytes old ≡ yielding (outcome.Length (length bytes)) (sets old 0 bytes)
 unfolding fitted
 fitted-room bytes old h =
     ap
     (λ (t : Bool).
-    cond t (record { answer = outcome.Length (length bytes); output = bytes ++ drop (length bytes) old })
-    (record { answer = outcome.NoRoom; output = old }))
+    cond t (yielding (outcome.Length (length bytes)) (bytes ++ drop (length bytes) old))
+    (yielding outcome.NoRoom old))
     (le-leb (length bytes) (length old) h)
-    ∙ ap (λ (l : List ℕ). record { answer = outcome.Length (length bytes); output = l })
+    ∙ ap (λ (l : List ℕ). yielding (outcome.Length (length bytes)) l)
     (ap (λ (n : ℕ). bytes ++ drop n old) (sym (zero-add (length bytes))) ∙ sym (sets-eq bytes old 0 (omega arith)))

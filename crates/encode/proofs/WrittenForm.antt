@@ -25,7 +25,7 @@ use Rattle.layout.proofs.Places.{link-known, links-are}
 use Rattle.visits.specs.Walks.{Numbers, foundIn}
 use Rattle.visits.proofs.GraphVisit.{visit-rows}
 use Rattle.encode.specs.declared.Written.the-variants as outcome
-use Rattle.encode.specs.Encode.{encoded, writtenOut}
+use Rattle.encode.specs.Encode.{encoded, yielding, writtenOut}
 use Rattle.encode.specs.NumberedRows.{Visited, degree, degrees, numberByte, numberedRow, numberedRows}
 use Rattle.encode.proofs.Links.{linksOf-links, target-member}
 use Rattle.encode.proofs.Outcomes.{map-listed, getD-member, fitted-short, fitted-room}
@@ -222,7 +222,7 @@ module _ {ws : List ℕ} (sound : Sound ws) where
 
       module _ (old : List ℕ) {links : ℕ} (sum : links ≡ degrees ws (take count visited)) (fits : links ≤ 2048) where
         pub too-short : length old < 1 + 9 * count + links →
-            writtenOut (canonical eqb g) old ≡ record { answer = outcome.NoRoom; output = old }
+            writtenOut (canonical eqb g) old ≡ yielding outcome.NoRoom old
         unfolding writtenOut
         too-short short =
             ap (λ (form : Canonical Label). writtenOut form old) (written-rows (omega arith))
@@ -230,14 +230,11 @@ module _ {ws : List ℕ} (sound : Sound ws) where
 
         pub written-whole : 1 + 9 * count + links ≤ length old →
             writtenOut (canonical eqb g) old
-            ≡ record {
-              answer = outcome.Length (1 + 9 * count + links);
-              output = sets old 0 (encoded (numberedRows ws numbers (take count visited)));
-            }
+            ≡ yielding (outcome.Length (1 + 9 * count + links)) (sets old 0 (encoded (numberedRows ws numbers (take count visited))))
         unfolding writtenOut
         written-whole room =
             let bytes : List ℕ = encoded (numberedRows ws numbers (take count visited)) in
             let long : length bytes ≡ 1 + 9 * count + links = omega (arith, bytes-length) in
             ap (λ (form : Canonical Label). writtenOut form old) (written-rows (omega arith))
             ∙ fitted-room bytes old (omega arith)
-            ∙ ap (λ (n : ℕ). record { answer = outcome.Length n; output = sets old 0 bytes }) long
+            ∙ ap (λ (n : ℕ). yielding (outcome.Length n) (sets old 0 bytes)) long

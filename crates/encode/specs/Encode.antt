@@ -27,20 +27,27 @@ encodedRows (r ∷ rs) = encodedRow r ++ encodedRows rs
 unfoldable pub encoded : List (Row Label) → List ℕ
 encoded rows = length rows ∷ encodedRows rows
 
--- What is answered and what the output holds: "its first bytes are the record, the others unchanged"; on a refusal, unchanged.
-pub record Outcome : Type 0 where
-  pub answer : Written
+-- What a call that is lent an output yields: its answer, and what the output holds at the end.
+pub record Yield (A : Type 0) : Type 0 where
+  pub answer : A
   pub output : List ℕ
+
+abbrev pub yielding : {A : Type 0} → A → List ℕ → Yield A
+yielding answer output = record { answer = answer; output = output }
+
+-- What writing yields: "its first bytes are the record, the others unchanged"; on a refusal, unchanged.
+abbrev pub Outcome : Type 0
+Outcome = Yield Written
 
 -- the record where it fits, else 8
 unfoldable pub fitted : List ℕ → List ℕ → Outcome
 fitted bytes old =
     cond (leb (length bytes) (length old))
-    (record { answer = outcome.Length (length bytes); output = bytes ++ drop (length bytes) old })
-    (record { answer = outcome.NoRoom; output = old })
+    (yielding (outcome.Length (length bytes)) (bytes ++ drop (length bytes) old))
+    (yielding outcome.NoRoom old)
 
 -- "result over 255 nodes or 2,048 links" is 11, then 8
 unfoldable pub writtenOut : Canonical Label → List ℕ → Outcome
-writtenOut manyNodes old = record { answer = outcome.TooLarge; output = old }
-writtenOut manyLinks old = record { answer = outcome.TooLarge; output = old }
+writtenOut manyNodes old = yielding outcome.TooLarge old
+writtenOut manyLinks old = yielding outcome.TooLarge old
 writtenOut (written rows) old = fitted (encoded rows) old

@@ -6,13 +6,12 @@ ghost use mathlib.Core.Path.{_≡_};
 ghost use lib.Dec.{eqb};
 ghost use Rattle.graphs.specs.Number.{canonical};
 ghost use Rattle.layout.specs.Layout.{Sound, graphIn};
-ghost use Rattle.encode.specs.Encode.{writtenOut};
+ghost use Rattle.encode.specs.Encode.{yielding, writtenOut};
 
 // Writes a graph in canonical form.
 pub fn write(graph: &[u16], out: &mut [u8]) -> Written
     requires { ⌜ Sound (now graph) ⌝ }
-    ensures { λ r. ⌜ r ≡ writtenOut (canonical eqb (graphIn (now (graph .entry)))) (now (out .entry)) .answer ⌝ }
-    ensures { λ r. ⌜ now (out .exit) ≡ writtenOut (canonical eqb (graphIn (now (graph .entry)))) (now (out .entry)) .output ⌝ }
+    ensures { λ r. ⌜ yielding r (now (out .exit)) ≡ writtenOut (canonical eqb (graphIn (now (graph .entry)))) (now (out .entry)) ⌝ }
 {
     let mut numbers = [0u16; 510];
     let mut visited = [0u16; 255];

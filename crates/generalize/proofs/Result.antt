@@ -24,7 +24,7 @@ use Rattle.layout.proofs.Spans.{linkAt, length-links, links-at, links-member}
 use Rattle.layout.proofs.Rows.{row-at, rows-source}
 use Rattle.layout.proofs.Places.{label-at, link-at, link-place}
 use Rattle.layout.proofs.Builder.{Orderly, Aimed, size-kept, size-rows, size-is, built-shaped, built-sound}
-use Rattle.encode.specs.Encode.{writtenOut}
+use Rattle.encode.specs.Encode.{yielding, writtenOut}
 use Rattle.encode.specs.declared.Written.the-variants as outcome
 use Rattle.generalize.specs.Pairs.{samePair}
 use Rattle.generalize.specs.Product.{product, productOut}
@@ -35,12 +35,12 @@ use Rattle.generalize.proofs.Building.{Building, base, pair-numbered, l
 -- A graph with too many nodes or links is not written.
 pub too-large : (joins : List (List ℕ)) {a b : List ℕ} → Recorded a → Recorded b → (old : List ℕ) →
     ManyNodes (product joins a b) ⊎ ManyLinks (product joins a b) →
-    productOut joins a b old ≡ record { answer = outcome.TooLarge; output = old }
+    productOut joins a b old ≡ yielding outcome.TooLarge old
 unfolding writtenOut
 too-large joins {a} {b} left right old many = go (canonical samePair (product joins a b)) refl
   where
     go : (c : Canonical Label) → canonical samePair (product joins a b) ≡ c →
-        productOut joins a b old ≡ record { answer = outcome.TooLarge; output = old }
+        productOut joins a b old ≡ yielding outcome.TooLarge old
     go manyNodes e = ap (λ (c : Canonical Label). writtenOut c old) e
     go manyLinks e = ap (λ (c : Canonical Label). writtenOut c old) e
     go (written form) e =

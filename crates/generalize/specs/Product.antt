@@ -13,6 +13,6 @@ use Rattle.generalize.specs.Pairs.{joinsOf, samePair}
 abbrev pub product : List (List ℕ) → List ℕ → List ℕ → Graph Label (ℕ × ℕ)
 product joins a b = generalization (joinsOf joins) (graphIn a) (graphIn b)
 
--- what writing it answers and leaves in the output
+-- what writing it yields
 abbrev pub productOut : List (List ℕ) → List ℕ → List ℕ → List ℕ → Outcome
 productOut joins a b old = writtenOut (canonical samePair (product joins a b)) old

@@ -6,6 +6,7 @@ ghost use mathlib.Core.Path.{_≡_};
 ghost use Prim.Native.Nat.{_≤_, _<_};
 ghost use lib.ListN.{length};
 ghost use Rattle.layout.specs.Layout.{Recorded, size};
+ghost use Rattle.encode.specs.Encode.{yielding};
 ghost use Rattle.generalize.specs.Pairs.{joinIn};
 ghost use Rattle.generalize.specs.Product.{productOut};
 ghost use Rattle.generalize.specs.Queue.{Marked, Offered, Spreads, common};
@@ -112,8 +113,7 @@ pub fn generalize<'a>(
 ) -> Written
     requires { ⌜ Recorded (now a) ⌝ }
     requires { ⌜ Recorded (now b) ⌝ }
-    ensures { λ r. ⌜ r ≡ productOut (now (joins .entry)) (now (a .entry)) (now (b .entry)) (now (out .entry)) .answer ⌝ }
-    ensures { λ r. ⌜ now (out .exit) ≡ productOut (now (joins .entry)) (now (a .entry)) (now (b .entry)) (now (out .entry)) .output ⌝ }
+    ensures { λ r. ⌜ yielding r (now (out .exit)) ≡ productOut (now (joins .entry)) (now (a .entry)) (now (b .entry)) (now (out .entry)) ⌝ }
 {
     let mut marks = [CLEAR; 65025];
     let mut queue = [0u16; 255];

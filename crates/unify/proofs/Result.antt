@@ -51,10 +51,11 @@ use Rattle.lattice.specs.Label.{Label}
 use Rattle.layout.specs.Layout.{size, featureAt, labelAt, graphIn}
 use Rattle.layout.proofs.Places.{label-at, link-at, link-place, link-known}
 use Rattle.visits.specs.Walks.{Reaches, one, more, TargetsFirst}
-use Rattle.encode.specs.Encode.{writtenOut}
+use Rattle.encode.specs.declared.Written.{Written}
+use Rattle.encode.specs.Encode.{yielding, writtenOut}
 use Rattle.unify.specs.declared.Combined.the-variants as combined
 use Rattle.unify.specs.Lowered.{meetIn, lowerBy}
-use Rattle.unify.specs.Outcome.{meetsOf, sameEither, Result, combinedOf, unifiedOut, unifyingOut}
+use Rattle.unify.specs.Outcome.{meetsOf, sameEither, combinedOf, unifiedOut, unifyingOut}
 use Rattle.unify.specs.Rows.{Operand, Merges}
 use Rattle.unify.proofs.Sides.{operands, number, Inside, inside-reached, reached-in, number-in, node-of, link-in}
 use Rattle.unify.proofs.Sharing.{classOf, one-related, related-one, class-sound, class-link, class-source, leads-own}
@@ -412,15 +413,14 @@ module _ (n : ℕ) (meets : List (List ℕ)) {a b graph : List ℕ} (left : Oper
   abbrev answered : Bool → Bool → Unified Label (ℕ ⊎ ℕ)
   answered s t = cond s cycle (cond t clash (unified u))
 
-  pub answers-cycle : (v : ℕ) → Reaches graph v v → (old : List ℕ) →
-      (combined.Cycle ≡ unifyingOut n meets a b old .answer) × (old ≡ unifyingOut n meets a b old .output)
+  pub answers-cycle : (v : ℕ) → Reaches graph v v → (old : List ℕ) → yielding combined.Cycle old ≡ unifyingOut n meets a b old
   unfolding unification unifiedOut
   answers-cycle v r old =
-      let e = ap
+      sym
+      (ap
       (λ (s : Bool).
       unifiedOut (answered s (hasClash (meetsOf n meets) eqb eqb (graphIn a) (from 0 (size a)) (graphIn b) (from 0 (size b)))) old)
-      (cycle-found v r) in
-      (sym (ap (λ (o : Result). o .answer) e), sym (ap (λ (o : Result). o .output) e))
+      (cycle-found v r))
 
   module _ {order : List ℕ} {place : ℕ → ℕ} (sorted : TargetsFirst graph order place) where
     answered-none : (t : Bool) → hasClash (meetsOf n meets) eqb eqb (graphIn a) (from 0 (size a)) (graphIn b) (from 0 (size b)) ≡ t →
@@ -429,18 +429,13 @@ module _ (n : ℕ) (meets : List (List ℕ)) {a b graph : List ℕ} (left : Oper
     answered-none t e = ap₂ answered (cycle-none sorted) e
 
     pub answers-clash : anyOf (from 0 (size graph)) (λ x. eqb (labelAt graph x) 0) ≡ true → (old : List ℕ) →
-        (combined.Clash ≡ unifyingOut n meets a b old .answer) × (old ≡ unifyingOut n meets a b old .output)
+        yielding combined.Clash old ≡ unifyingOut n meets a b old
     unfolding unifiedOut
-    answers-clash found old =
-        let e = ap (λ z. unifiedOut z old) (answered-none true (clash-is ∙ found)) in
-        (sym (ap (λ (o : Result). o .answer) e), sym (ap (λ (o : Result). o .output) e))
+    answers-clash found old = sym (ap (λ z. unifiedOut z old) (answered-none true (clash-is ∙ found)))
 
-    pub answers-written : anyOf (from 0 (size graph)) (λ x. eqb (labelAt graph x) 0) ≡ false → (old : List ℕ) →
-        (combinedOf (writtenOut (canonical eqb (graphIn graph)) old .answer) ≡ unifyingOut n meets a b old .answer) ×
-        (writtenOut (canonical eqb (graphIn graph)) old .output ≡ unifyingOut n meets a b old .output)
+    pub answers-written : anyOf (from 0 (size graph)) (λ x. eqb (labelAt graph x) 0) ≡ false → (old : List ℕ) {w : Written} {new : List ℕ} →
+        yielding w new ≡ writtenOut (canonical eqb (graphIn graph)) old → yielding (combined.Written w) new ≡ unifyingOut n meets a b old
     unfolding unifiedOut
-    answers-written clear old =
-        let e = ap (λ z. unifiedOut z old) (answered-none false (clash-is ∙ clear)) in (
-          ap (λ (k : Canonical Label). combinedOf (writtenOut k old .answer)) (sym same-form) ∙ sym (ap (λ (o : Result). o .answer) e),
-          ap (λ (k : Canonical Label). writtenOut k old .output) (sym same-form) ∙ sym (ap (λ (o : Result). o .output) e),
-        )
+    answers-written clear old yields =
+        ap combinedOf (yields ∙ ap (λ (k : Canonical Label). writtenOut k old) (sym same-form)) ∙
+        sym (ap (λ z. unifiedOut z old) (answered-none false (clash-is ∙ clear)))

@@ -11,9 +11,7 @@ use Rattle.graphs.specs.Rows.{from}
 use Rattle.graphs.specs.Unify.{Unified, cycle, clash, unified, sameBeside, unification}
 use Rattle.lattice.specs.Label.{Label}
 use Rattle.layout.specs.Layout.{size, graphIn}
-use Rattle.encode.specs.Encode.{writtenOut}
-use Rattle.encode.specs.declared.Written.{Written}
-use Rattle.encode.specs.declared.Written.the-variants as outcome
+use Rattle.encode.specs.Encode.{Yield, Outcome, yielding, writtenOut}
 use Rattle.unify.specs.declared.Combined.{Combined}
 use Rattle.unify.specs.declared.Combined.the-variants as combined
 
@@ -34,25 +32,17 @@ meetsOf n meets =
 abbrev pub sameEither : ℕ ⊎ ℕ → ℕ ⊎ ℕ → Bool
 sameEither = sameBeside eqb eqb
 
--- What is answered and what the output holds.
-pub record Result : Type 0 where
-  pub answer : Combined
-  pub output : List ℕ
+-- what writing a unification yields
+abbrev pub combinedOf : Outcome → Yield Combined
+combinedOf o = yielding (combined.Written (o .answer)) (o .output)
 
-abbrev pub combinedOf : Written → Combined
-combinedOf (outcome.Length n) = combined.Length n
-combinedOf outcome.TooLarge = combined.TooLarge
-combinedOf outcome.NoRoom = combined.NoRoom
+-- "combination: loop", "combination: clash, no loop", both with the output unchanged; else what writing the unification yields
+unfoldable pub unifiedOut : Unified Label (ℕ ⊎ ℕ) → List ℕ → Yield Combined
+unifiedOut cycle old = yielding combined.Cycle old
+unifiedOut clash old = yielding combined.Clash old
+unifiedOut (unified u) old = combinedOf (writtenOut (canonical sameEither u) old)
 
--- "combination: loop", "combination: clash, no loop", both with the output unchanged; else what writing the unification gives
-unfoldable pub unifiedOut : Unified Label (ℕ ⊎ ℕ) → List ℕ → Result
-unifiedOut cycle old = record { answer = combined.Cycle; output = old }
-unifiedOut clash old = record { answer = combined.Clash; output = old }
-unifiedOut (unified u) old =
-    let written = writtenOut (canonical sameEither u) old in
-    record { answer = combinedOf (written .answer); output = written .output }
-
--- what unifying the graphs that words hold gives
-abbrev pub unifyingOut : ℕ → List (List ℕ) → List ℕ → List ℕ → List ℕ → Result
+-- what unifying the graphs that words hold yields
+abbrev pub unifyingOut : ℕ → List (List ℕ) → List ℕ → List ℕ → List ℕ → Yield Combined
 unifyingOut n meets a b old =
     unifiedOut (unification (meetsOf n meets) eqb eqb (graphIn a) (from 0 (size a)) (graphIn b) (from 0 (size b))) old

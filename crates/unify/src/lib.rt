@@ -9,17 +9,16 @@ use encode::Written;
 ghost use mathlib.Core.Path.{_≡_};
 ghost use Prim.Native.Nat.{_≤_, _<_};
 ghost use lib.ListN.{length};
+ghost use Rattle.encode.specs.Encode.{yielding};
 ghost use Rattle.unify.specs.Lowered.{MeetsBelow};
-ghost use Rattle.unify.specs.Outcome.{combinedOf, unifyingOut};
+ghost use Rattle.unify.specs.Outcome.{unifyingOut};
 ghost use Rattle.unify.specs.Rows.{Merges, Operand, placesFor};
 
-// What unifying answers: the record's length, or document 01's refusals 9, 10, 11 and 8.
+// What unifying answers: what writing the result answers, or document 01's refusals 9 and 10.
 pub enum Combined {
-    Length(usize),
+    Written(Written),
     Cycle,
     Clash,
-    TooLarge,
-    NoRoom,
 }
 
 // Builds the graph of the classes of both graphs' nodes. The pool takes the words of both graphs and the rows of merged classes.
@@ -78,17 +77,6 @@ fn merge<'a>(
     }
 }
 
-// What writing the unification answers.
-fn answer_of(written: Written) -> Combined
-    ensures { λ r. ⌜ r ≡ combinedOf written ⌝ }
-{
-    match written {
-        Written::Length(length) => Combined::Length(length),
-        Written::TooLarge => Combined::TooLarge,
-        Written::NoRoom => Combined::NoRoom,
-    }
-}
-
 // Writes the unification of two graphs over n types.
 pub fn unify<'a>(
     n: usize,
@@ -101,8 +89,7 @@ pub fn unify<'a>(
     requires { ⌜ MeetsBelow n (now meets) ⌝ }
     requires { ⌜ Operand n (now a) ⌝ }
     requires { ⌜ Operand n (now b) ⌝ }
-    ensures { λ r. ⌜ r ≡ unifyingOut n (now (meets .entry)) (now (a .entry)) (now (b .entry)) (now (out .entry)) .answer ⌝ }
-    ensures { λ r. ⌜ now (out .exit) ≡ unifyingOut n (now (meets .entry)) (now (a .entry)) (now (b .entry)) (now (out .entry)) .output ⌝ }
+    ensures { λ r. ⌜ yielding r (now (out .exit)) ≡ unifyingOut n (now (meets .entry)) (now (a .entry)) (now (b .entry)) (now (out .entry)) ⌝ }
 {
     let mut graph = [0u16; 5118];
     merge(n, meets, a, b, &mut graph);
@@ -113,6 +100,5 @@ pub fn unify<'a>(
     if labels::has_clash(&graph) {
         return Combined::Clash;
     }
-    let written = encode::canonical::write(&graph, out);
-    answer_of(written)
+    Combined::Written(encode::canonical::write(&graph, out))
 }

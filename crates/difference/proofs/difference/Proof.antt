@@ -7,7 +7,7 @@ use lib.ListN.{length-replicate, getD-replicate}
 use Rattle.graphs.specs.Number.{Canonical}
 use Rattle.lattice.specs.Label.{Label}
 use Rattle.lattice.proofs.Laws.{accepted-size}
-use Rattle.encode.specs.Encode.{writtenOut}
+use Rattle.encode.specs.Encode.{Outcome, writtenOut}
 use Rattle.difference.proofs.Result.{acyclic-lower, lying-words, ready-words, result-canonical}
 use Rattle.difference.proofs.Thinning.{rows-sound}
 use Rattle.difference.proofs.difference.Statement.{statement}
@@ -43,7 +43,7 @@ same-length c = search needs
 
 -- src/lib.rt:18:1
 returns : tie.Need-returns
-returns c = let asked = c .before .before .before .before .before .before .before .before .before .before .before .before .before .before .before .before .before .before .before .before .before .before .pre in let size = accepted-size (c .before .before .before .before .before .before .before .before .before .before .before .before .before .before .before .before .before .before .before .before .before .before .args .n) (c .before .before .before .before .before .before .before .before .before .before .before .before .before .before .before .before .before .before .before .before .before .before .args .table .now) (asked .ok) in let same = sym (result-canonical asked (c .before .before .before .before .before .before .before .before .before .before .before .before .before .before .before .before .mark-links .ensures) (c .before .before .before .before .before .before .before .before .before .before .before .before .before .before .wanted-types .ensures) (c .before .before .before .before .before .before .before .before .before .before .kept-nodes .ensures) (ready-words asked (c .before .before .before .before .before .before .before .before .before .before .before .before .before .before .before .before .mark-links .ensures .stands .long) (c .before .before .before .before .before .before .before .before .before .before .kept-nodes .ensures .long)) (size .1) (c .before .before .before .before .before .kept-links .ensures)) in let old = c .before .before .before .before .before .before .before .before .before .before .before .before .before .before .before .before .before .before .before .before .before .before .args .out .now in (c .before .before .write .ensures .0 ∙ ap (λ (k : Canonical Label). writtenOut k old .answer) same, c .before .before .write .ensures .1 ∙ ap (λ (k : Canonical Label). writtenOut k old .output) same)
+returns c = let asked = c .before .before .before .before .before .before .before .before .before .before .before .before .before .before .before .before .before .before .before .before .before .before .pre in let size = accepted-size (c .before .before .before .before .before .before .before .before .before .before .before .before .before .before .before .before .before .before .before .before .before .before .args .n) (c .before .before .before .before .before .before .before .before .before .before .before .before .before .before .before .before .before .before .before .before .before .before .args .table .now) (asked .ok) in let same = sym (result-canonical asked (c .before .before .before .before .before .before .before .before .before .before .before .before .before .before .before .before .mark-links .ensures) (c .before .before .before .before .before .before .before .before .before .before .before .before .before .before .wanted-types .ensures) (c .before .before .before .before .before .before .before .before .before .before .kept-nodes .ensures) (ready-words asked (c .before .before .before .before .before .before .before .before .before .before .before .before .before .before .before .before .mark-links .ensures .stands .long) (c .before .before .before .before .before .before .before .before .before .before .kept-nodes .ensures .long)) (size .1) (c .before .before .before .before .before .kept-links .ensures)) in let old = c .before .before .before .before .before .before .before .before .before .before .before .before .before .before .before .before .before .before .before .before .before .before .args .out .now in let yields = c .before .before .write .ensures ∙ ap (λ (k : Canonical Label). writtenOut k old) same in (ap (λ (o : Outcome). o .answer) yields, ap (λ (o : Outcome). o .output) yields)
 
 pub difference-spec : {M : Type 1} → statement M
 difference-spec =

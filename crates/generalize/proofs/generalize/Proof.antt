@@ -8,7 +8,6 @@ use Rattle.graphs.specs.Number.{Canonical}
 use Rattle.lattice.specs.Label.{Label}
 use Rattle.layout.specs.Layout.{header}
 use Rattle.encode.specs.Encode.{writtenOut}
-use Rattle.encode.proofs.Outcomes.{answers}
 use Rattle.generalize.proofs.Building.{Building, base, build-start, left-node, right-node, types-known, build-step}
 use Rattle.generalize.proofs.Result.{too-large, many-pairs, many-links, build-sound, build-canonical}
 use borrow.Author.Needs.{needs}
@@ -105,7 +104,7 @@ pair-links-requires : tie.Need-pair-links-requires Inv-loop μ-loop
 pair-links-requires c κs = let s = c .before .before .before .before .before .before .before .before .before .loop .inv .0 in (s .left, (s .right, (s .inside (c .before .before .before .before .before .before .before .before .before .loop .head) (c .before .before .before .before .before .before .before .before .loop-test .taken), (s .marked, (length-set (c .before .before .before .before .before .before .before .before .before .loop .words) (c .before .before .before .before .before .before .before .before .before .loop .at) _ ∙ s .long, omega (arith, c .before .before .before .before .before .before .before .before .loop-test .taken, c .before .before .before .before .before .before .before .before .before .loop .inv .0 .marked .few, c .before .before .before .before .before .before .before .before .before .loop .inv .1))))))
 
 returns : tie.Need-returns Inv-loop μ-loop
-returns c = answers (too-large (c .before .before .before .before .before .before .before .before .before .before .before .before .before .before .before .args .joins .now) (c .before .before .before .before .before .before .before .before .before .before .before .loop .inv .0 .left) (c .before .before .before .before .before .before .before .before .before .before .before .loop .inv .0 .right) (c .before .before .before .before .before .before .before .before .before .before .before .before .before .before .before .args .out .now) (inl (many-pairs (c .before .before .before .before .before .before .before .before .before .before .before .loop .inv .0) (c .before .before .before .before .before .before .before .before .before .before .loop-test .taken) (c .before .pair-links .ensures .full (c .if1 .taken)))))
+returns c = sym (too-large (c .before .before .before .before .before .before .before .before .before .before .before .before .before .before .before .args .joins .now) (c .before .before .before .before .before .before .before .before .before .before .before .loop .inv .0 .left) (c .before .before .before .before .before .before .before .before .before .before .before .loop .inv .0 .right) (c .before .before .before .before .before .before .before .before .before .before .before .before .before .before .before .args .out .now) (inl (many-pairs (c .before .before .before .before .before .before .before .before .before .before .before .loop .inv .0) (c .before .before .before .before .before .before .before .before .before .before .loop-test .taken) (c .before .pair-links .ensures .full (c .if1 .taken)))))
 
 cast-words-3 : tie.Need-cast-words-3 Inv-loop μ-loop
 cast-words-3 c = omega (arith, c .before .pair-links .ensures .added (omega (arith, c .if1 .left)) .short, c .before .before .before .before .before .before .before .before .before .before .loop-test .taken, c .before .before .before .before .before .before .before .before .before .before .before .loop .inv .0 .marked .few, c .before .before .before .before .before .before .before .before .before .before .before .loop .inv .1)
@@ -132,7 +131,7 @@ add-if2-2 : tie.Need-add-if2-2 Inv-loop μ-loop
 add-if2-2 c = omega (arith, c .before .before .before .before .before .before .before .before .before .before .loop-test .taken, c .before .before .before .before .before .before .before .before .before .before .before .loop .inv .0 .marked .few)
 
 returns-2 : tie.Need-returns-2 Inv-loop μ-loop
-returns-2 c = answers (too-large (c .before .before .before .before .before .before .before .before .before .before .before .before .before .before .before .before .args .joins .now) (c .before .before .before .before .before .before .before .before .before .before .before .before .loop .inv .0 .left) (c .before .before .before .before .before .before .before .before .before .before .before .before .loop .inv .0 .right) (c .before .before .before .before .before .before .before .before .before .before .before .before .before .before .before .before .args .out .now) (inr (many-links (build-step (c .before .before .before .before .before .before .before .before .before .before .before .before .loop .inv .0) (c .before .before .before .before .before .before .before .before .before .before .before .loop-test .taken) (c .before .before .before .before .before .before .before .before .before .before .before .before .loop .inv .1) _ (c .before .before .before .before .before .before .join .ensures) (omega (arith, c .before .before .before .before .before .before .join .ok)) _ _ _ _ (c .before .before .pair-links .ensures .added (omega (arith, c .before .if1 .left)))) (omega (arith, c .if2 .taken)))))
+returns-2 c = sym (too-large (c .before .before .before .before .before .before .before .before .before .before .before .before .before .before .before .before .args .joins .now) (c .before .before .before .before .before .before .before .before .before .before .before .before .loop .inv .0 .left) (c .before .before .before .before .before .before .before .before .before .before .before .before .loop .inv .0 .right) (c .before .before .before .before .before .before .before .before .before .before .before .before .before .before .before .before .args .out .now) (inr (many-links (build-step (c .before .before .before .before .before .before .before .before .before .before .before .before .loop .inv .0) (c .before .before .before .before .before .before .before .before .before .before .before .loop-test .taken) (c .before .before .before .before .before .before .before .before .before .before .before .before .loop .inv .1) _ (c .before .before .before .before .before .before .join .ensures) (omega (arith, c .before .before .before .before .before .before .join .ok)) _ _ _ _ (c .before .before .pair-links .ensures .added (omega (arith, c .before .if1 .left)))) (omega (arith, c .if2 .taken)))))
 
 loop-less : tie.Need-loop-less Inv-loop μ-loop
 loop-less c = omega (arith, c .before .before .before .before .before .before .before .before .before .before .before .loop-test .taken, c .before .before .before .before .before .before .before .before .before .before .before .before .loop .inv .0 .marked .few)
@@ -156,7 +155,7 @@ same-length : tie.Need-same-length Inv-loop μ-loop
 same-length c = search needs
 
 returns-3 : tie.Need-returns-3 Inv-loop μ-loop
-returns-3 c = let e = sym (build-canonical (c .before .before .before .before .before .before .loop .inv .0) (omega (arith, c .before .before .before .before .before .loop-test .left))) in let out = c .before .before .before .before .before .before .before .before .before .before .args .out .now in (c .before .before .write .ensures .0 ∙ ap (λ (k : Canonical Label). writtenOut k out .answer) e, c .before .before .write .ensures .1 ∙ ap (λ (k : Canonical Label). writtenOut k out .output) e)
+returns-3 c = let e = sym (build-canonical (c .before .before .before .before .before .before .loop .inv .0) (omega (arith, c .before .before .before .before .before .loop-test .left))) in let out = c .before .before .before .before .before .before .before .before .before .before .args .out .now in c .before .before .write .ensures ∙ ap (λ (k : Canonical Label). writtenOut k out) e
 
 pub generalize-spec : {M : Type 1} → statement M
 generalize-spec =

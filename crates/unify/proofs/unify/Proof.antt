@@ -1,8 +1,7 @@
 -- `unify` meets its contract: what is told of the graph of the classes is told of the unification.
-use mathlib.Core.Path.{sym, _∙_, ap}
+use mathlib.Core.Path.{sym, _∙_}
 use Prim.Native.Nat.{ℕ}
 use lib.ListN.{length-replicate}
-use Rattle.unify.specs.Outcome.{combinedOf}
 use Rattle.unify.proofs.Sharing.{class-sound}
 use Rattle.unify.proofs.Result.{answers-cycle, answers-clash, answers-written}
 use borrow.Author.Needs.{needs}
@@ -36,14 +35,14 @@ slice-aggregate-write c = sym (c .before .before .before .before .before .before
 write-requires : tie.Need-write-requires
 write-requires c κs = class-sound (c .before .before .before .before .before .before .before .before .before .before .before .before .before .before .pre .1 .1 .0) (c .before .before .before .before .before .before .before .before .before .before .before .before .before .before .pre .1 .1 .1) (c .before .before .before .before .before .before .before .before .before .merge .ensures)
 
-answer-of-requires : tie.Need-answer-of-requires
-answer-of-requires c κs = search needs
-
 same-length : tie.Need-same-length
 same-length c = search needs
 
 returns-3 : tie.Need-returns-3
-returns-3 c = let w = answers-written (c .before .before .before .before .before .before .before .before .before .before .before .before .before .before .before .before .before .before .args .n) (c .before .before .before .before .before .before .before .before .before .before .before .before .before .before .before .before .before .before .args .meets .now) (c .before .before .before .before .before .before .before .before .before .before .before .before .before .before .before .before .before .before .pre .1 .1 .0) (c .before .before .before .before .before .before .before .before .before .before .before .before .before .before .before .before .before .before .pre .1 .1 .1) (c .before .before .before .before .before .before .before .before .before .before .before .before .before .merge .ensures) (c .before .before .before .before .before .before .before .before .before .before .has-cycle .ensures .0 .sorted (c .before .before .before .before .before .before .before .before .before .if1 .left) .1) (sym (c .before .before .before .before .before .before .before .has-clash .ensures) ∙ c .before .before .before .before .before .before .if2 .left) (c .before .before .before .before .before .before .before .before .before .before .before .before .before .before .before .before .before .before .args .out .now) in (c .answer-of .ensures ∙ ap combinedOf (c .before .before .before .write .ensures .0) ∙ w .0, c .before .before .before .write .ensures .1 ∙ w .1)
+returns-3 c =
+    let start = c .before .before .before .before .before .before .before .before .before .before .before .before .before .before .before .before .before in
+    answers-written (start .args .n) (start .args .meets .now) (start .pre .1 .1 .0) (start .pre .1 .1 .1) (c .before .before .before .before .before .before .before .before .before .before .before .before .merge .ensures) (c .before .before .before .before .before .before .before .before .before .has-cycle .ensures .0 .sorted (c .before .before .before .before .before .before .before .before .if1 .left) .1)
+    (sym (c .before .before .before .before .before .before .has-clash .ensures) ∙ c .before .before .before .before .before .if2 .left) (start .args .out .now) (c .before .before .write .ensures)
 
 pub unify-spec : {M : Type 1} → statement M
 unify-spec =
@@ -58,6 +57,5 @@ unify-spec =
     returns-2
     slice-aggregate-write
     write-requires
-    answer-of-requires
     same-length
     returns-3)

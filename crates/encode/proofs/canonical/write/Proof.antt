@@ -1,6 +1,7 @@
 -- `write` meets its contract, by what the numbering says of the visit over the rows.
+use mathlib.Core.Path.{sym}
 use native.Mathlib.Omega.{arith}
-use Rattle.encode.proofs.Outcomes.{answers, answers-by, large-links, large-nodes}
+use Rattle.encode.proofs.Outcomes.{yields-by, large-links, large-nodes}
 use Rattle.encode.proofs.WrittenForm.{too-many, visited-nodes, many-links, too-short, written-whole}
 use borrow.Author.Needs.{needs}
 use Rattle.encode.proofs.canonical.write.Statement.{statement}
@@ -13,7 +14,7 @@ returns : tie.Need-returns
 returns c =
     let start = c .before .before .before .before .before .before in
     let numbered = c .before .number .ensures in
-    answers (large-nodes (start .args .out .now) (too-many (start .pre) (numbered .0) (numbered .1 .1) (c .if1 .taken)))
+    sym (large-nodes (start .args .out .now) (too-many (start .pre) (numbered .0) (numbered .1 .1) (c .if1 .taken)))
 
 link-count-requires : tie.Need-link-count-requires
 link-count-requires c κs =
@@ -25,7 +26,7 @@ returns-2 : tie.Need-returns-2
 returns-2 c =
     let start = c .before .before .before .before .before .before .before .before .before in
     let numbered = c .before .before .before .before .number .ensures in
-    answers (large-links (start .args .out .now) (many-links (start .pre) (numbered .0) (numbered .1 .1) (c .before .before .before .if1 .left) (omega (arith, c .before .link-count .ensures, c .if2 .taken))))
+    sym (large-links (start .args .out .now) (many-links (start .pre) (numbered .0) (numbered .1 .1) (c .before .before .before .if1 .left) (omega (arith, c .before .link-count .ensures, c .if2 .taken))))
 
 mul-length : tie.Need-mul-length
 mul-length c = search needs
@@ -40,7 +41,7 @@ returns-3 : tie.Need-returns-3
 returns-3 c =
     let start = c .before .before .before .before .before .before .before .before .before .before in
     let numbered = c .before .before .before .before .before .number .ensures in
-    answers (too-short (start .pre) (numbered .0) (numbered .1 .1) (c .before .before .before .before .if1 .left) (start .args .out .now) (c .before .before .link-count .ensures) (c .before .if2 .left) (c .if3 .taken))
+    sym (too-short (start .pre) (numbered .0) (numbered .1 .1) (c .before .before .before .before .if1 .left) (start .args .out .now) (c .before .before .link-count .ensures) (c .before .if2 .left) (c .if3 .taken))
 
 encode-requires : tie.Need-encode-requires
 encode-requires c κs =
@@ -55,7 +56,7 @@ returns-4 : tie.Need-returns-4
 returns-4 c =
     let start = c .before .before .before .before .before .before .before .before .before .before .before .before .before .before .before .before in
     let numbered = c .before .before .before .before .before .before .before .before .before .before .before .number .ensures in
-    answers-by (c .before .before .encode .ensures) (written-whole (start .pre) (numbered .0) (numbered .1 .1) (c .before .before .before .before .before .before .before .before .before .before .if1 .left) (start .args .out .now) (c .before .before .before .before .before .before .before .before .link-count .ensures) (c .before .before .before .before .before .before .before .if2 .left) (c .before .before .before .before .before .before .if3 .left))
+    yields-by (c .before .before .encode .ensures) (written-whole (start .pre) (numbered .0) (numbered .1 .1) (c .before .before .before .before .before .before .before .before .before .before .if1 .left) (start .args .out .now) (c .before .before .before .before .before .before .before .before .link-count .ensures) (c .before .before .before .before .before .before .before .if2 .left) (c .before .before .before .before .before .before .if3 .left))
 
 pub write-spec : {M : Type 1} → statement M
 write-spec =
