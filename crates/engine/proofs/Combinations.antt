@@ -11,7 +11,6 @@ use lib.ListN.{length, getD}
 use Rattle.graphs.specs.Label.{Labels}
 use Rattle.graphs.specs.Graph.{Graph}
 use Rattle.graphs.specs.Rows.{Row, from}
-use Rattle.graphs.specs.Number.{canonical}
 use Rattle.lattice.specs.Label.{Label}
 use Rattle.graphs.specs.Unify.{
   anyOf,
@@ -38,21 +37,19 @@ use Rattle.lattice.specs.Reply as table
 use Rattle.lattice.specs.Labels.{typeLabels}
 use Rattle.lattice.proofs.Laws.{Meet, accepted-size, zero-type, top-type, meet-exists}
 use Rattle.lattice.proofs.Residuals.{opened-accepted}
-use Rattle.encode.specs.declared.Written.{Written}
-use Rattle.encode.specs.declared.Written.the-variants as outcome
-use Rattle.encode.specs.Encode.{writtenOut}
+use Rattle.encode.specs.Encode.{Yield, yielding}
 use Rattle.record.specs.Read.{reading}
 use Rattle.record.proofs.Accepted.{Rules}
 use Rattle.unify.specs.declared.Combined.{Combined}
 use Rattle.unify.specs.Lowered.{MeetsBelow}
-use Rattle.unify.specs.Outcome.{meetsOf, combinedOf, unifiedOut}
+use Rattle.unify.specs.Outcome.{meetsOf, unifiedOut}
 use Rattle.unify.specs.Rows.{Operand}
 use Rattle.engine.specs.declared.Reply.{Reply}
 use Rattle.engine.specs.declared.Reply.the-variants.{Table}
-use Rattle.engine.specs.Reply.{replyOf, refusing, readBoth}
-use Rattle.engine.specs.Unification.{sameEither, combined, unifiedRows, unifying}
+use Rattle.engine.specs.Reply.{Result, resulting, refusing, readBoth}
+use Rattle.engine.specs.Unification.{combined, unifiedRows, unifying}
 use Rattle.engine.specs.Pair.{met, meeting, combinedReply}
-use Rattle.engine.proofs.Replies.{Gives, gives-as, table-refused, table-accepted}
+use Rattle.engine.proofs.Replies.{table-refused, table-accepted}
 use Rattle.engine.proofs.Readings.{Accepts, accepts-reached, accepts-recorded, both-next, both-same}
 use Rattle.engine.proofs.Tables.{label-known, meets-known}
 
@@ -127,19 +124,15 @@ module _ (n : ℕ) (t : List ℕ) (ok : accepted n t ≡ true) (le : ℕ → ℕ
         (cond (hasClash (typeLabels n t) sameA sameB g gs h hs) clash (unified u)))
         class-graph
 
--- What combining answers and leaves is the combination's reply and output.
+-- what combining yields, as a result
+abbrev resultOf : Yield Combined → Result
+resultOf y = resulting (combinedReply (y .answer)) (y .output)
 
-written-reply : (w : Written) → combinedReply (combinedOf w) ≡ replyOf w
-written-reply (outcome.Length l) = refl
-written-reply outcome.TooLarge = refl
-written-reply outcome.NoRoom = refl
-
-combined-gives : (u : Unified Label (ℕ ⊎ ℕ)) (out : List ℕ) →
-    Gives (combined u out) (combinedReply (unifiedOut u out .answer)) (unifiedOut u out .output)
+combined-is : (u : Unified Label (ℕ ⊎ ℕ)) (out : List ℕ) → resultOf (unifiedOut u out) ≡ combined u out
 unfolding unifiedOut
-combined-gives cycle out = (refl, refl)
-combined-gives clash out = (refl, refl)
-combined-gives (unified u) out = (written-reply (writtenOut (canonical sameEither u) out .answer), refl)
+combined-is cycle out = refl
+combined-is clash out = refl
+combined-is (unified u) out = refl
 
 -- the unification of two graphs by a table of meets
 abbrev byMeets : ℕ → List (List ℕ) → List ℕ → List ℕ → Unified Label (ℕ ⊎ ℕ)
@@ -147,16 +140,15 @@ byMeets n meets g h = unification (meetsOf n meets) eqb eqb (graphIn g) (from 0 
 
 -- the combination by a table of meets, written
 pub met-as : (n : ℕ) (a b out : List ℕ) (meets : List (List ℕ)) {g h : List ℕ} → Accepts n a g × Accepts n b h →
-    {answer : Combined} {r : Reply} {new : List ℕ} → answer ≡ unifiedOut (byMeets n meets g h) out .answer →
-    new ≡ unifiedOut (byMeets n meets g h) out .output → r ≡ combinedReply answer → Gives (meeting n meets a b out) r new
+    {answer : Combined} {r : Reply} {new : List ℕ} → yielding answer new ≡ unifiedOut (byMeets n meets g h) out → r ≡ combinedReply answer →
+    resulting r new ≡ meeting n meets a b out
 unfolding met
-met-as n a b out meets {g} {h} given answers leaves said =
-    let (replies, left) = combined-gives (byMeets n meets g h) out in
-    gives-as
+met-as n a b out meets {g} {h} given {new = new} yields said =
+    ap (λ (q : Reply). resulting q new) said ∙ ap resultOf yields ∙ combined-is (byMeets n meets g h) out ∙
+    sym
     (both-next n a b (λ q. refusing q out) (met n meets out) given ∙
     ap₂ (λ (k l : ℕ). combined (unification (meetsOf n meets) eqb eqb (graphIn g) (from 0 k) (graphIn h) (from 0 l)) out)
     (length-rows g 0 (size g)) (length-rows h 0 (size h)))
-    (said ∙ ap combinedReply answers ∙ replies, leaves ∙ left)
 
 -- What combining asks of two accepted graphs.
 
@@ -184,21 +176,17 @@ module _ (n : ℕ) (t : List ℕ) (rows : List (List ℕ)) {meets : List (List �
   combinable = ((zero-type n t ok, accepted-size n t ok .1), λ i j l s. meets-known n t rows ok long filling i j l s .1)
 
 module _ (n : ℕ) (t a b out : List ℕ) where
-  pub unifying-refused : (fault : TableFault) → table.opened n t ≡ opened.Refused fault → Gives (unifying n t a b out) (Table fault) out
+  pub unifying-refused : (fault : TableFault) → table.opened n t ≡ opened.Refused fault → resulting (Table fault) out ≡ unifying n t a b out
   unfolding unifying
   unifying-refused fault e =
-      gives-as
-      (table-refused (λ r. refusing r out) (readBoth (λ r. refusing r out) (reading n a) (reading n b) (unifiedRows n t out)) fault e)
-      (refl, refl)
+      sym (table-refused (λ r. refusing r out) (readBoth (λ r. refusing r out) (reading n a) (reading n b) (unifiedRows n t out)) fault e)
 
   pub unifying-accepted : (rows : List (List ℕ)) {meets : List (List ℕ)} {r : Reply} {new : List ℕ} →
       table.opened n t ≡ opened.Accepted → length rows ≡ 64 → meets ≡ filled n t (meet n t) rows →
-      Gives (meeting n meets a b out) r new → Gives (unifying n t a b out) r new
+      resulting r new ≡ meeting n meets a b out → resulting r new ≡ unifying n t a b out
   unfolding unifying
   unifying-accepted rows {meets} e long filling h =
-      gives-as
-      (table-accepted (λ r. refusing r out) (readBoth (λ r. refusing r out) (reading n a) (reading n b) (unifiedRows n t out)) e ∙
-      sym
-      (both-same n a b (λ r. refusing r out) (met n meets out) (unifiedRows n t out)
-      (met-unified n t rows (opened-accepted n t opened.Accepted (sym e) refl) long filling out)))
-      h
+      h ∙
+      both-same n a b (λ r. refusing r out) (met n meets out) (unifiedRows n t out)
+      (met-unified n t rows (opened-accepted n t opened.Accepted (sym e) refl) long filling out) ∙
+      sym (table-accepted (λ r. refusing r out) (readBoth (λ r. refusing r out) (reading n a) (reading n b) (unifiedRows n t out)) e)

@@ -17,28 +17,27 @@ use Rattle.lattice.specs.Labels.{typeLabels}
 use Rattle.lattice.proofs.Laws.{zero-type}
 use Rattle.lattice.proofs.Residuals.{opened-accepted}
 use Rattle.encode.specs.declared.Written.{Written}
-use Rattle.encode.specs.Encode.{writtenOut}
+use Rattle.encode.specs.Encode.{yielding, writtenOut}
 use Rattle.record.specs.Read.{reading}
 use Rattle.record.proofs.Accepted.{Rules}
 use Rattle.generalize.specs.Pairs.{joinsOf, samePair}
 use Rattle.generalize.proofs.Sides.{tells-pair}
 use Rattle.engine.specs.declared.Reply.{Reply}
 use Rattle.engine.specs.declared.Reply.the-variants.{Table}
-use Rattle.engine.specs.Reply.{resultOf, replyOf, refusing, readBoth, generalized, generalizing}
+use Rattle.engine.specs.Reply.{resulting, resultOf, replyOf, refusing, readBoth, generalized, generalizing}
 use Rattle.engine.specs.Pair.{joined, joining}
-use Rattle.engine.proofs.Replies.{Gives, gives-as, table-refused, table-accepted}
+use Rattle.engine.proofs.Replies.{replied-as, table-refused, table-accepted}
 use Rattle.engine.proofs.Readings.{Accepts, both-next, both-same}
 use Rattle.engine.proofs.Tables.{label-known, joins-known, canonical-same}
 
 -- the common part by a table of joins, written
 pub joined-as : (n : ℕ) (a b out : List ℕ) (joins : List (List ℕ)) {g h : List ℕ} → Accepts n a g × Accepts n b h →
     {w : Written} {r : Reply} {new : List ℕ} →
-    w ≡ writtenOut (canonical samePair (generalization (joinsOf joins) (graphIn g) (graphIn h))) out .answer →
-    new ≡ writtenOut (canonical samePair (generalization (joinsOf joins) (graphIn g) (graphIn h))) out .output →
-    r ≡ replyOf w → Gives (joining n joins a b out) r new
+    yielding w new ≡ writtenOut (canonical samePair (generalization (joinsOf joins) (graphIn g) (graphIn h))) out →
+    r ≡ replyOf w → resulting r new ≡ joining n joins a b out
 unfolding joined
-joined-as n a b out joins given answers leaves said =
-    gives-as (both-next n a b (λ q. refusing q out) (joined joins out) given) (said ∙ ap replyOf answers, leaves)
+joined-as n a b out joins given yields said =
+    replied-as yields said ∙ sym (both-next n a b (λ q. refusing q out) (joined joins out) given)
 
 module _ (n : ℕ) (t : List ℕ) (rows : List (List ℕ)) {joins : List (List ℕ)} (ok : accepted n t ≡ true) (long : length rows ≡ 64)
     (filling : joins ≡ filled n t (join n t) rows) where
@@ -54,21 +53,17 @@ module _ (n : ℕ) (t : List ℕ) (rows : List (List ℕ)) {joins : List (List �
 
 module _ (n : ℕ) (t a b out : List ℕ) where
   pub generalizing-refused : (fault : TableFault) → table.opened n t ≡ opened.Refused fault →
-      Gives (generalizing n t a b out) (Table fault) out
+      resulting (Table fault) out ≡ generalizing n t a b out
   unfolding generalizing
   generalizing-refused fault e =
-      gives-as
-      (table-refused (λ r. refusing r out) (readBoth (λ r. refusing r out) (reading n a) (reading n b) (generalized n t out)) fault e)
-      (refl, refl)
+      sym (table-refused (λ r. refusing r out) (readBoth (λ r. refusing r out) (reading n a) (reading n b) (generalized n t out)) fault e)
 
   pub generalizing-accepted : (rows : List (List ℕ)) {joins : List (List ℕ)} {r : Reply} {new : List ℕ} →
       table.opened n t ≡ opened.Accepted → length rows ≡ 64 → joins ≡ filled n t (join n t) rows →
-      Gives (joining n joins a b out) r new → Gives (generalizing n t a b out) r new
+      resulting r new ≡ joining n joins a b out → resulting r new ≡ generalizing n t a b out
   unfolding generalizing
   generalizing-accepted rows {joins} e long filling h =
-      gives-as
-      (table-accepted (λ r. refusing r out) (readBoth (λ r. refusing r out) (reading n a) (reading n b) (generalized n t out)) e ∙
-      sym
-      (both-same n a b (λ r. refusing r out) (joined joins out) (generalized n t out)
-      (joined-generalized n t rows (opened-accepted n t opened.Accepted (sym e) refl) long filling out)))
-      h
+      h ∙
+      both-same n a b (λ r. refusing r out) (joined joins out) (generalized n t out)
+      (joined-generalized n t rows (opened-accepted n t opened.Accepted (sym e) refl) long filling out) ∙
+      sym (table-accepted (λ r. refusing r out) (readBoth (λ r. refusing r out) (reading n a) (reading n b) (generalized n t out)) e)

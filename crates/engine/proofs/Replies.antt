@@ -1,5 +1,5 @@
 -- From what opening a table, reading and writing a graph promise to what the calls reply.
-use mathlib.Core.Path.{_≡_, refl, sym, _∙_, ap, subst}
+use mathlib.Core.Path.{_≡_, sym, _∙_, ap, ap₂, subst}
 use mathlib.Core.List.{List}
 use Prim.Native.Nat.{ℕ}
 use lib.Dec.{eqb}
@@ -12,7 +12,7 @@ use Rattle.lattice.specs.declared.Opened.{Opened}
 use Rattle.lattice.specs.declared.Opened.the-variants as opened
 use Rattle.lattice.specs.Reply as table
 use Rattle.encode.specs.declared.Written.{Written}
-use Rattle.encode.specs.Encode.{writtenOut}
+use Rattle.encode.specs.Encode.{Outcome, yielding, writtenOut}
 use Rattle.record.specs.declared.GraphFault.{GraphFault}
 use Rattle.record.specs.declared.reading.Verdict.{Verdict}
 use Rattle.record.specs.declared.reading.Verdict.the-variants.{Refused}
@@ -24,7 +24,7 @@ use Rattle.engine.specs.declared.PairVerdict.{PairVerdict}
 use Rattle.engine.specs.declared.PairVerdict.the-variants as pair
 use Rattle.engine.specs.declared.Reply.{Reply}
 use Rattle.engine.specs.declared.Reply.the-variants.{Table, Graph}
-use Rattle.engine.specs.Reply.{Result, checked, readBoth, refusing, replyOf, rewriting, rewritten}
+use Rattle.engine.specs.Reply.{Result, resulting, checked, readBoth, refusing, replyOf, resultOf, rewriting, rewritten}
 use Rattle.engine.specs.Pair.{ReadsBoth}
 use Rattle.engine.proofs.Readings.{Accepts, refuses, both-refused}
 
@@ -34,6 +34,17 @@ Gives result r out = (r ≡ result .reply) × (out ≡ result .output)
 
 pub gives-as : {x y : Result} {r : Reply} {out : List ℕ} → x ≡ y → Gives y r out → Gives x r out
 gives-as {r = r} {out} e h = subst (λ z. Gives z r out) (sym e) h
+
+-- the two equations are one
+pub results : {x : Result} {r : Reply} {out : List ℕ} → Gives x r out → resulting r out ≡ x
+results (replies, leaves) = ap₂ resulting replies leaves
+
+pub gives : {x : Result} {r : Reply} {out : List ℕ} → resulting r out ≡ x → Gives x r out
+gives e = (ap (λ (x : Result). x .reply) e, ap (λ (x : Result). x .output) e)
+
+-- what writing yields, as a result
+pub replied-as : {o : Outcome} {w : Written} {r : Reply} {new : List ℕ} → yielding w new ≡ o → r ≡ replyOf w → resulting r new ≡ resultOf o
+replied-as {new = new} yields said = ap (λ (q : Reply). resulting q new) said ∙ ap resultOf yields
 
 module _ {X : Type 0} (refuse : Reply → X) (next : X) {o : Opened} where
   -- 1 to 3
@@ -45,31 +56,26 @@ module _ {X : Type 0} (refuse : Reply → X) (next : X) {o : Opened} where
 
 -- 4 to 7 of a lone graph
 pub refused-as : {n : ℕ} {bytes ws : List ℕ} {v : Verdict} → Reads n bytes v ws → (fault : GraphFault) (out : List ℕ) →
-    v ≡ Refused fault → Gives (rewritten (reading n bytes) out) (Graph fault First) out
-refused-as reads fault out e =
-    gives-as (ap (λ (o : Reading). rewritten o out) (refuses reads fault e)) (refl, refl)
+    v ≡ Refused fault → resulting (Graph fault First) out ≡ rewritten (reading n bytes) out
+refused-as reads fault out e = sym (ap (λ (o : Reading). rewritten o out) (refuses reads fault e))
 
 -- 4 to 7 of two graphs
 pub refused-both : {n : ℕ} {a b : List ℕ} {v : PairVerdict} {ws ws₂ : List ℕ} → ReadsBoth n a b v ws ws₂ → (out : List ℕ)
     (next : List (Row Label) → List (Row Label) → Result) (fault : GraphFault) (side : Side) → v ≡ pair.Refused fault side →
-    Gives (readBoth (λ r. refusing r out) (reading n a) (reading n b) next) (Graph fault side) out
-refused-both reads out next fault side e = gives-as (both-refused reads (λ r. refusing r out) next fault side e) (refl, refl)
+    resulting (Graph fault side) out ≡ readBoth (λ r. refusing r out) (reading n a) (reading n b) next
+refused-both reads out next fault side e = sym (both-refused reads (λ r. refusing r out) next fault side e)
 
 -- the record in written form
 pub rewritten-as : {n : ℕ} {bytes : List ℕ} {g : List ℕ} → Accepts n bytes g → (out : List ℕ) {w : Written} {r : Reply} {new : List ℕ} →
-    w ≡ writtenOut (canonical eqb (graphIn g)) out .answer →
-    new ≡ writtenOut (canonical eqb (graphIn g)) out .output →
-    r ≡ replyOf w → Gives (rewritten (reading n bytes) out) r new
-rewritten-as given out answers leaves said =
-    gives-as (ap (λ (o : Reading). rewritten o out) (given .is)) (said ∙ ap replyOf answers, leaves)
+    yielding w new ≡ writtenOut (canonical eqb (graphIn g)) out → r ≡ replyOf w → resulting r new ≡ rewritten (reading n bytes) out
+rewritten-as given out yields said = replied-as yields said ∙ sym (ap (λ (o : Reading). rewritten o out) (given .is))
 
 module _ (n : ℕ) (t bytes out : List ℕ) where
-  pub rewriting-refused : (fault : TableFault) → table.opened n t ≡ opened.Refused fault → Gives (rewriting n t bytes out) (Table fault) out
+  pub rewriting-refused : (fault : TableFault) → table.opened n t ≡ opened.Refused fault → resulting (Table fault) out ≡ rewriting n t bytes out
   unfolding rewriting
-  rewriting-refused fault e =
-      gives-as (table-refused (λ r. refusing r out) (rewritten (reading n bytes) out) fault e) (refl, refl)
+  rewriting-refused fault e = sym (table-refused (λ r. refusing r out) (rewritten (reading n bytes) out) fault e)
 
-  pub rewriting-accepted : {r : Reply} {new : List ℕ} → table.opened n t ≡ opened.Accepted → Gives (rewritten (reading n bytes) out) r new →
-      Gives (rewriting n t bytes out) r new
+  pub rewriting-accepted : {r : Reply} {new : List ℕ} → table.opened n t ≡ opened.Accepted →
+      resulting r new ≡ rewritten (reading n bytes) out → resulting r new ≡ rewriting n t bytes out
   unfolding rewriting
-  rewriting-accepted e h = gives-as (table-accepted (λ r. refusing r out) (rewritten (reading n bytes) out) e) h
+  rewriting-accepted e h = h ∙ sym (table-accepted (λ r. refusing r out) (rewritten (reading n bytes) out) e)

@@ -24,10 +24,10 @@ use Rattle.engine.specs.declared.Side.the-variants.{First, Second}
 use Rattle.engine.specs.declared.PairVerdict.{PairVerdict}
 use Rattle.engine.specs.declared.PairVerdict.the-variants as pair
 use Rattle.engine.specs.declared.Reply.{Reply}
-use Rattle.engine.specs.declared.Reply.the-variants as reply
+use Rattle.engine.specs.declared.Reply.the-variants.{Cycle, Clash}
 use Rattle.engine.specs.Unification.{combined}
 use Rattle.engine.specs.Difference.{differedRows}
-use Rattle.engine.specs.Reply.{Result, resultOf, refusing, readBoth}
+use Rattle.engine.specs.Reply.{Result, replyOf, resultOf, refusing, readBoth}
 
 -- "first graph 4 to 7; second graph 4 to 7"
 abbrev pub jointVerdict : Verdict → Verdict → PairVerdict
@@ -69,8 +69,6 @@ parting n t a b out = readBoth (λ r. refusing r out) (reading n a) (reading n b
 
 -- what combining answers, as a reply
 abbrev pub combinedReply : Combined → Reply
-combinedReply (unify.Length l) = reply.Length l
-combinedReply unify.Cycle = reply.Cycle
-combinedReply unify.Clash = reply.Clash
-combinedReply unify.TooLarge = reply.TooLarge
-combinedReply unify.NoRoom = reply.NoRoom
+combinedReply (unify.Written w) = replyOf w
+combinedReply unify.Cycle = Cycle
+combinedReply unify.Clash = Clash

@@ -57,6 +57,9 @@ pub record Result : Type 0 where
   pub reply : Reply
   pub output : List ℕ
 
+abbrev pub resulting : Reply → List ℕ → Result
+resulting r out = record { reply = r; output = out }
+
 abbrev pub replyOf : Written → Reply
 replyOf (written.Length l) = Length l
 replyOf written.TooLarge = TooLarge
@@ -64,11 +67,11 @@ replyOf written.NoRoom = NoRoom
 
 -- what writing a result answers
 abbrev pub resultOf : Outcome → Result
-resultOf o = record { reply = replyOf (o .answer); output = o .output }
+resultOf o = resulting (replyOf (o .answer)) (o .output)
 
 -- a refusal leaves the output as it was
 abbrev pub refusing : Reply → List ℕ → Result
-refusing r out = record { reply = r; output = out }
+refusing r out = resulting r out
 
 -- the table's 1 to 3, before what a call does; `refuse` makes what it gives of a refusal
 abbrev pub checked : {X : Type 0} → (Reply → X) → Opened → X → X

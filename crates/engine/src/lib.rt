@@ -12,7 +12,7 @@ ghost use mathlib.Core.Path.{_≡_};
 ghost use Prim.Native.Nat.{_≤_, _<_};
 ghost use Rattle.record.specs.Read.{reading};
 ghost use Rattle.unify.specs.Lowered.{MeetsBelow};
-ghost use Rattle.engine.specs.Reply.{replyOf, readBoth, rewriting, rewritten, ordering, ordered, generalizing};
+ghost use Rattle.engine.specs.Reply.{resulting, replyOf, readBoth, rewriting, rewritten, ordering, ordered, generalizing};
 ghost use Rattle.engine.specs.Unification.{unifying};
 ghost use Rattle.engine.specs.Difference.{differing};
 ghost use Rattle.engine.specs.Pair.{joining, meeting, combinedReply};
@@ -49,8 +49,7 @@ pub enum PairVerdict {
 
 // A record in written form.
 pub fn rewrite(n: usize, table: &[u8], bytes: &[u8], out: &mut [u8]) -> Reply
-    ensures { λ r. ⌜ r ≡ rewriting n (now (table .entry)) (now (bytes .entry)) (now (out .entry)) .reply ⌝ }
-    ensures { λ r. ⌜ now (out .exit) ≡ rewriting n (now (table .entry)) (now (bytes .entry)) (now (out .entry)) .output ⌝ }
+    ensures { λ r. ⌜ resulting r (now (out .exit)) ≡ rewriting n (now (table .entry)) (now (bytes .entry)) (now (out .entry)) ⌝ }
 {
     let opened = lattice::accept(n, table);
     match opened {
@@ -61,8 +60,7 @@ pub fn rewrite(n: usize, table: &[u8], bytes: &[u8], out: &mut [u8]) -> Reply
 
 // The same over an accepted table with n types.
 fn rewrite_over(n: usize, bytes: &[u8], out: &mut [u8]) -> Reply
-    ensures { λ r. ⌜ r ≡ rewritten (reading n (now (bytes .entry))) (now (out .entry)) .reply ⌝ }
-    ensures { λ r. ⌜ now (out .exit) ≡ rewritten (reading n (now (bytes .entry))) (now (out .entry)) .output ⌝ }
+    ensures { λ r. ⌜ resulting r (now (out .exit)) ≡ rewritten (reading n (now (bytes .entry))) (now (out .entry)) ⌝ }
 {
     let mut graph = [0u16; 2560];
     let verdict = record::reading::read(n, bytes, &mut graph);
@@ -117,8 +115,7 @@ fn order_over(n: usize, table: &[u8], first: &[u8], second: &[u8]) -> Reply
 
 // The common part of two graphs in written form.
 pub fn generalize(n: usize, table: &[u8], first: &[u8], second: &[u8], out: &mut [u8]) -> Reply
-    ensures { λ r. ⌜ r ≡ generalizing n (now (table .entry)) (now (first .entry)) (now (second .entry)) (now (out .entry)) .reply ⌝ }
-    ensures { λ r. ⌜ now (out .exit) ≡ generalizing n (now (table .entry)) (now (first .entry)) (now (second .entry)) (now (out .entry)) .output ⌝ }
+    ensures { λ r. ⌜ resulting r (now (out .exit)) ≡ generalizing n (now (table .entry)) (now (first .entry)) (now (second .entry)) (now (out .entry)) ⌝ }
 {
     let mut joins = [[0u8; 64]; 64];
     let opened = lattice::open_joins(n, table, &mut joins);
@@ -137,8 +134,7 @@ fn generalize_over(
     out: &mut [u8],
 ) -> Reply
     requires { ⌜ n ≤ 64 ⌝ }
-    ensures { λ r. ⌜ r ≡ joining n (now (joins .entry)) (now (first .entry)) (now (second .entry)) (now (out .entry)) .reply ⌝ }
-    ensures { λ r. ⌜ now (out .exit) ≡ joining n (now (joins .entry)) (now (first .entry)) (now (second .entry)) (now (out .entry)) .output ⌝ }
+    ensures { λ r. ⌜ resulting r (now (out .exit)) ≡ joining n (now (joins .entry)) (now (first .entry)) (now (second .entry)) (now (out .entry)) ⌝ }
 {
     let mut a = [0u16; 2560];
     let mut b = [0u16; 2560];
@@ -151,8 +147,7 @@ fn generalize_over(
 
 // The combination of two graphs in written form.
 pub fn unify(n: usize, table: &[u8], first: &[u8], second: &[u8], out: &mut [u8]) -> Reply
-    ensures { λ r. ⌜ r ≡ unifying n (now (table .entry)) (now (first .entry)) (now (second .entry)) (now (out .entry)) .reply ⌝ }
-    ensures { λ r. ⌜ now (out .exit) ≡ unifying n (now (table .entry)) (now (first .entry)) (now (second .entry)) (now (out .entry)) .output ⌝ }
+    ensures { λ r. ⌜ resulting r (now (out .exit)) ≡ unifying n (now (table .entry)) (now (first .entry)) (now (second .entry)) (now (out .entry)) ⌝ }
 {
     let mut meets = [[0u8; 64]; 64];
     let opened = lattice::open_meets(n, table, &mut meets);
@@ -172,8 +167,7 @@ fn unify_over(
 ) -> Reply
     requires { ⌜ (0 < n) × (n ≤ 64) ⌝ }
     requires { ⌜ MeetsBelow n (now meets) ⌝ }
-    ensures { λ r. ⌜ r ≡ meeting n (now (meets .entry)) (now (first .entry)) (now (second .entry)) (now (out .entry)) .reply ⌝ }
-    ensures { λ r. ⌜ now (out .exit) ≡ meeting n (now (meets .entry)) (now (first .entry)) (now (second .entry)) (now (out .entry)) .output ⌝ }
+    ensures { λ r. ⌜ resulting r (now (out .exit)) ≡ meeting n (now (meets .entry)) (now (first .entry)) (now (second .entry)) (now (out .entry)) ⌝ }
 {
     let mut a = [0u16; 2560];
     let mut b = [0u16; 2560];
@@ -189,11 +183,9 @@ fn combined_reply(combined: Combined) -> Reply
     ensures { λ r. ⌜ r ≡ combinedReply combined ⌝ }
 {
     match combined {
-        Combined::Length(length) => Reply::Length(length),
+        Combined::Written(written) => reply_of(written),
         Combined::Cycle => Reply::Cycle,
         Combined::Clash => Reply::Clash,
-        Combined::TooLarge => Reply::TooLarge,
-        Combined::NoRoom => Reply::NoRoom,
     }
 }
 

@@ -56,8 +56,7 @@ returns-2 : tie.Need-returns-2
 returns-2 c =
     let start = c .before .before .before .before .before .before .before .before .before .before .before .before .before .before .before in
     joined-as (start .args .n) (start .args .first .now) (start .args .second .now) (start .args .out .now) (start .args .joins .now)
-    (both-accept (c .before .before .before .before .before .before .before .before .before .read-both .ensures) (c .before .before .before .before .before .before .before .enum-told .given .1)) (c .before .before .before .generalize .ensures .0)
-    (c .before .before .before .generalize .ensures .1) (c .reply-of .ensures)
+    (both-accept (c .before .before .before .before .before .before .before .before .before .read-both .ensures) (c .before .before .before .before .before .before .before .enum-told .given .1)) (c .before .before .before .generalize .ensures) (c .reply-of .ensures)
 
 pub generalize-over-spec : {M : Type 1} → statement M
 generalize-over-spec =

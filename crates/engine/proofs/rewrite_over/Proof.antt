@@ -46,7 +46,7 @@ same-length c = search needs
 returns-2 : tie.Need-returns-2
 returns-2 c =
     rewritten-as (accepts (c .before .before .before .before .before .before .before .before .read .ensures .0) (c .before .before .before .before .before .before .enum-told .given .1)) (c .before .before .before .before .before .before .before .before .before .before .before .before .args .out .now)
-    (c .before .before .before .write .ensures .0) (c .before .before .before .write .ensures .1) (c .reply-of .ensures)
+    (c .before .before .before .write .ensures) (c .reply-of .ensures)
 
 pub rewrite-over-spec : {M : Type 1} → statement M
 rewrite-over-spec =

@@ -57,8 +57,7 @@ returns-2 : tie.Need-returns-2
 returns-2 c =
     let start = c .before .before .before .before .before .before .before .before .before .before .before .before .before .before .before in
     met-as (start .args .n) (start .args .first .now) (start .args .second .now) (start .args .out .now) (start .args .meets .now)
-    (both-accept (c .before .before .before .before .before .before .before .before .before .read-both .ensures) (c .before .before .before .before .before .before .before .enum-told .given .1)) (c .before .before .before .unify .ensures .0)
-    (c .before .before .before .unify .ensures .1) (c .combined-reply .ensures)
+    (both-accept (c .before .before .before .before .before .before .before .before .before .read-both .ensures) (c .before .before .before .before .before .before .before .enum-told .given .1)) (c .before .before .before .unify .ensures) (c .combined-reply .ensures)
 
 pub unify-over-spec : {M : Type 1} → statement M
 unify-over-spec =

@@ -6,7 +6,7 @@ use borrow.Author.Tests.{not-true, not-false}
 use lib.ListN.{length-replicate}
 use Rattle.engine.specs.Difference.{differedRows}
 use Rattle.engine.proofs.Readings.{both-accept}
-use Rattle.engine.proofs.Replies.{refused-both}
+use Rattle.engine.proofs.Replies.{gives, refused-both}
 use Rattle.engine.proofs.Differing.{accepts-loaded, renumbered, not-admitted, replies-difference}
 use borrow.Author.Needs.{needs}
 use Rattle.engine.proofs.differences.difference_over.Statement.{statement}
@@ -79,8 +79,9 @@ difference-below-requires c κs =
 returns-2 : tie.Need-returns-2
 returns-2 c =
     let start = c .before .before .before .before .before .before .before .before .before .before in
-    refused-both (c .before .before .before .read-both .ensures) (start .args .out .now)
-    (differedRows (start .args .n) (start .args .table .now) (start .args .out .now)) _ _ (c .before .verdict .given .1)
+    gives
+    (refused-both (c .before .before .before .read-both .ensures) (start .args .out .now)
+    (differedRows (start .args .n) (start .args .table .now) (start .args .out .now)) _ _ (c .before .verdict .given .1))
 
 -- src/differences.rt:17:1
 same-length : tie.Need-same-length
