@@ -1,3 +1,4 @@
 -- What the exported functions answer.
 pub mod Code
+pub mod Coded
 pub mod House

@@ -8,19 +8,20 @@ use lattice::TableFault;
 use record::GraphFault;
 ghost use mathlib.Core.Path.{_≡_};
 ghost use Prim.Native.Nat.{_<_};
+ghost use Rattle.encode.specs.Encode.{yielding};
 ghost use Rattle.engine.specs.Reply.{rewriting, ordering, generalizing};
 ghost use Rattle.engine.specs.Unification.{unifying};
 ghost use Rattle.engine.specs.Difference.{differing};
 ghost use Rattle.lattice.specs.Reply.{tableNumber};
 ghost use Rattle.record.specs.Read.{graphNumber};
 ghost use Rattle.library.specs.Code.{codeOf, refusalCode, sideNumber};
+ghost use Rattle.library.specs.Coded.{coded};
 ghost use Rattle.library.specs.House.{tabling};
 
 // A record in written form: the code of the reply, and the output that the engine leaves.
 #[no_mangle]
 pub extern "C" fn record_rewrite(n: usize, table: &[u8], bytes: &[u8], out: &mut [u8]) -> u64
-    ensures { λ r. ⌜ r ≡ codeOf (rewriting n (now (table .entry)) (now (bytes .entry)) (now (out .entry)) .reply) ⌝ }
-    ensures { λ r. ⌜ now (out .exit) ≡ rewriting n (now (table .entry)) (now (bytes .entry)) (now (out .entry)) .output ⌝ }
+    ensures { λ r. ⌜ yielding r (now (out .exit)) ≡ coded (rewriting n (now (table .entry)) (now (bytes .entry)) (now (out .entry))) ⌝ }
 {
     code(engine::rewrite(n, table, bytes, out))
 }
@@ -42,8 +43,7 @@ pub extern "C" fn record_generalize(
     second: &[u8],
     out: &mut [u8],
 ) -> u64
-    ensures { λ r. ⌜ r ≡ codeOf (generalizing n (now (table .entry)) (now (first .entry)) (now (second .entry)) (now (out .entry)) .reply) ⌝ }
-    ensures { λ r. ⌜ now (out .exit) ≡ generalizing n (now (table .entry)) (now (first .entry)) (now (second .entry)) (now (out .entry)) .output ⌝ }
+    ensures { λ r. ⌜ yielding r (now (out .exit)) ≡ coded (generalizing n (now (table .entry)) (now (first .entry)) (now (second .entry)) (now (out .entry))) ⌝ }
 {
     code(engine::generalize(n, table, first, second, out))
 }
@@ -57,8 +57,7 @@ pub extern "C" fn record_unify(
     second: &[u8],
     out: &mut [u8],
 ) -> u64
-    ensures { λ r. ⌜ r ≡ codeOf (unifying n (now (table .entry)) (now (first .entry)) (now (second .entry)) (now (out .entry)) .reply) ⌝ }
-    ensures { λ r. ⌜ now (out .exit) ≡ unifying n (now (table .entry)) (now (first .entry)) (now (second .entry)) (now (out .entry)) .output ⌝ }
+    ensures { λ r. ⌜ yielding r (now (out .exit)) ≡ coded (unifying n (now (table .entry)) (now (first .entry)) (now (second .entry)) (now (out .entry))) ⌝ }
 {
     code(engine::unify(n, table, first, second, out))
 }
@@ -72,8 +71,7 @@ pub extern "C" fn record_difference(
     second: &[u8],
     out: &mut [u8],
 ) -> u64
-    ensures { λ r. ⌜ r ≡ codeOf (differing n (now (table .entry)) (now (first .entry)) (now (second .entry)) (now (out .entry)) .reply) ⌝ }
-    ensures { λ r. ⌜ now (out .exit) ≡ differing n (now (table .entry)) (now (first .entry)) (now (second .entry)) (now (out .entry)) .output ⌝ }
+    ensures { λ r. ⌜ yielding r (now (out .exit)) ≡ coded (differing n (now (table .entry)) (now (first .entry)) (now (second .entry)) (now (out .entry))) ⌝ }
 {
     code(engine::difference(n, table, first, second, out))
 }
@@ -81,8 +79,7 @@ pub extern "C" fn record_difference(
 // The type table of the house types, for n = 64: the code of the reply, and the output that the engine leaves.
 #[no_mangle]
 pub extern "C" fn record_house_table(out: &mut [u8]) -> u64
-    ensures { λ r. ⌜ r ≡ codeOf (tabling (now (out .entry)) .reply) ⌝ }
-    ensures { λ r. ⌜ now (out .exit) ≡ tabling (now (out .entry)) .output ⌝ }
+    ensures { λ r. ⌜ yielding r (now (out .exit)) ≡ coded (tabling (now (out .entry))) ⌝ }
 {
     if house::fill_table(out) {
         code(Reply::Length(512))

@@ -1,7 +1,7 @@
 -- The exported call answers the code of what the engine replies, and leaves the output that the engine leaves.
-use Rattle.library.specs.Code.{codeOf}
-use mathlib.Core.Path.{ap, _∙_}
 use borrow.Author.Needs.{needs}
+use Rattle.engine.proofs.Replies.{results}
+use Rattle.library.proofs.Codes.{codes}
 use Rattle.library.proofs.record_difference.Statement.{statement}
 use Rattle.library.proofs.record_difference.Tie as tie
 
@@ -15,7 +15,7 @@ same-length : tie.Need-same-length
 same-length c = search needs
 
 returns : tie.Need-returns
-returns c = (c .code .ensures ∙ ap codeOf (c .before .before .before .difference .ensures .0), c .before .before .before .difference .ensures .1)
+returns c = codes (c .code .ensures) (results (c .before .before .before .difference .ensures))
 
 pub record-difference-spec : {M : Type 1} → statement M
 record-difference-spec = tie.close (tie.spec difference-requires code-requires same-length returns)

@@ -1,7 +1,6 @@
 -- The exported call answers the code of what the engine replies, and leaves the output that the engine leaves.
-use Rattle.library.specs.Code.{codeOf}
-use mathlib.Core.Path.{ap, _∙_}
 use borrow.Author.Needs.{needs}
+use Rattle.library.proofs.Codes.{codes}
 use Rattle.library.proofs.record_generalize.Statement.{statement}
 use Rattle.library.proofs.record_generalize.Tie as tie
 
@@ -15,7 +14,7 @@ same-length : tie.Need-same-length
 same-length c = search needs
 
 returns : tie.Need-returns
-returns c = (c .code .ensures ∙ ap codeOf (c .before .before .before .generalize .ensures .0), c .before .before .before .generalize .ensures .1)
+returns c = codes (c .code .ensures) (c .before .before .before .generalize .ensures)
 
 pub record-generalize-spec : {M : Type 1} → statement M
 record-generalize-spec = tie.close (tie.spec generalize-requires code-requires same-length returns)

@@ -1,9 +1,10 @@
 -- The exported call answers the code of 512 or of refusal 8, by whether the table was filled, and leaves the output that filling leaves.
-use mathlib.Core.Path.{ap, sym, _∙_}
+use mathlib.Core.Path.{ap, ap₂, sym, _∙_}
 use mathlib.Core.Bool.{Bool, cond}
 use borrow.Author.Needs.{needs}
 use Rattle.engine.specs.declared.Reply.the-variants.{Length, NoRoom}
-use Rattle.library.specs.Code.{codeOf}
+use Rattle.engine.specs.Reply.{resulting}
+use Rattle.library.proofs.Codes.{codes}
 use Rattle.library.proofs.record_house_table.Statement.{statement}
 use Rattle.library.proofs.record_house_table.Tie as tie
 
@@ -21,20 +22,18 @@ same-length c = search needs
 
 returns : tie.Need-returns
 returns c =
-    let filled = c .before .before .before .before .fill-table .ensures in (
-      c .code .ensures ∙ ap (λ (b : Bool). codeOf (cond b (Length 512) NoRoom)) (sym (c .before .if1 .taken) ∙ filled .0),
-      filled .1,
-    )
+    let filled = c .before .before .before .before .fill-table .ensures in
+    codes (c .code .ensures)
+    (ap₂ resulting (ap (λ (b : Bool). cond b (Length 512) NoRoom) (sym (c .before .if1 .taken) ∙ filled .0)) (filled .1))
 
 same-length-2 : tie.Need-same-length-2
 same-length-2 c = search needs
 
 returns-2 : tie.Need-returns-2
 returns-2 c =
-    let filled = c .before .before .before .before .fill-table .ensures in (
-      c .code2 .ensures ∙ ap (λ (b : Bool). codeOf (cond b (Length 512) NoRoom)) (sym (c .before .if1 .left) ∙ filled .0),
-      filled .1,
-    )
+    let filled = c .before .before .before .before .fill-table .ensures in
+    codes (c .code2 .ensures)
+    (ap₂ resulting (ap (λ (b : Bool). cond b (Length 512) NoRoom) (sym (c .before .if1 .left) ∙ filled .0)) (filled .1))
 
 pub record-house-table-spec : {M : Type 1} → statement M
 record-house-table-spec =
