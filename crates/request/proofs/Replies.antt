@@ -9,7 +9,7 @@ use lib.ListN.{length, drop, set, replicate, length-append}
 use lib.Seq.{sets-eq}
 use Rattle.engine.specs.declared.Side.{Side}
 use Rattle.engine.specs.declared.Reply.{Reply}
-use Rattle.engine.specs.Reply.{Result}
+use Rattle.engine.specs.Reply.{Result, resulting}
 use Rattle.request.specs.declared.parse.Operation.{Operation}
 use Rattle.request.specs.declared.parse.Parts.{Parts}
 use Rattle.request.specs.Request.{Request, requested}
@@ -36,14 +36,10 @@ puts-number text {at = at} {next} {old} {new} e p = subst (λ (n : ℕ). Puts (t
 
 -- Calls.
 
--- a reply and an output are those of a call
-abbrev pub Answers : Operation → ℕ → List ℕ → List ℕ → List ℕ → List ℕ → Reply → List ℕ → Type 0
-Answers operation n t a b out r new = (r ≡ answering operation n t a b out .reply) × (new ≡ answering operation n t a b out .output)
-
 -- the call of an equal operation
 pub answers-by : {operation o : Operation} (n : ℕ) (t a b out : List ℕ) {r : Reply} {new : List ℕ} → operation ≡ o →
-    Answers o n t a b out r new → Answers operation n t a b out r new
-answers-by n t a b out {r} {new} e h = subst (λ (o : Operation). Answers o n t a b out r new) (sym e) h
+    resulting r new ≡ answering o n t a b out → resulting r new ≡ answering operation n t a b out
+answers-by n t a b out e h = h ∙ ap (λ (o : Operation). answering o n t a b out) (sym e)
 
 -- the call on the parts of the input
 pub answered-is : (input : List ℕ) (operation : Operation) (parts : Parts) {t a b : List ℕ} →
@@ -55,10 +51,10 @@ answered-is input operation parts {t} {a} {b} et ea eb =
     ∙ ap₂ (λ (x y : List ℕ). answering operation (parts .n) (between input (parts .table)) x y (replicate 4344 0)) ea eb
 
 -- the words of an equal result
-pub puts-result : {x y : Result} {r : Reply} {output : List ℕ} {at next : ℕ} {old new : List ℕ} → x ≡ y → r ≡ x .reply → output ≡ x .output →
+pub puts-result : {x y : Result} {r : Reply} {output : List ℕ} {at next : ℕ} {old new : List ℕ} → x ≡ y → resulting r output ≡ x →
     Puts (replyText r output) at old next new → Puts (replyText (y .reply) (y .output)) at old next new
-puts-result {at = at} {next} {old} {new} e er eo p =
-    subst (λ (text : List ℕ). Puts text at old next new) (ap₂ replyText (er ∙ ap (λ (x : Result). x .reply) e) (eo ∙ ap (λ (x : Result). x .output) e)) p
+puts-result {at = at} {next} {old} {new} e results p =
+    subst (λ (x : Result). Puts (replyText (x .reply) (x .output)) at old next new) (results ∙ e) p
 
 -- the words of an equal request
 pub puts-words : {request q : Option Request} {at next : ℕ} {old new : List ℕ} → request ≡ q →

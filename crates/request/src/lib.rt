@@ -13,6 +13,7 @@ ghost use mathlib.Core.List.{_++_};
 ghost use mathlib.Core.Option.{some};
 ghost use Prim.Native.Nat.{_≤_};
 ghost use lib.ListN.{length, drop};
+ghost use Rattle.engine.specs.Reply.{resulting};
 ghost use Rattle.request.specs.Request.{requested};
 ghost use Rattle.request.specs.Parse.{AllInside, requestAt};
 ghost use Rattle.request.specs.Text.{Puts};
@@ -28,8 +29,7 @@ fn answer(
     second: &[u8],
     output: &mut [u8],
 ) -> Reply
-    ensures { λ r. ⌜ r ≡ answering operation n (now (table .entry)) (now (first .entry)) (now (second .entry)) (now (output .entry)) .reply ⌝ }
-    ensures { λ r. ⌜ now (output .exit) ≡ answering operation n (now (table .entry)) (now (first .entry)) (now (second .entry)) (now (output .entry)) .output ⌝ }
+    ensures { λ r. ⌜ resulting r (now (output .exit)) ≡ answering operation n (now (table .entry)) (now (first .entry)) (now (second .entry)) (now (output .entry)) ⌝ }
 {
     match operation {
         Operation::Generalize => engine::generalize(n, table, first, second, output),

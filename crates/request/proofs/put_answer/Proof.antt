@@ -1,8 +1,9 @@
 -- `put_answer` meets its contract: the call is that of the request.
-use mathlib.Core.Path.{_≡_, sym, _∙_}
+use mathlib.Core.Path.{_≡_, sym, _∙_, ap}
 use native.Mathlib.Omega.{arith}
 use Prim.Native.Nat.{ℕ}
 use lib.ListN.{length, replicate, length-replicate}
+use Rattle.engine.specs.Reply.{Result}
 use Rattle.request.proofs.Bounds.{answering-bounded}
 use Rattle.request.proofs.Replies.{answered-is, puts-result}
 use borrow.Author.Needs.{needs}
@@ -33,7 +34,7 @@ put-reply-requires c κs =
     let s = a .before .before .before .before .before .before .before .args in
     let size : length (a .answer .last .1 .1 .1 .1 .1 .0) ≡ 4344 = omega arith in (
       λ l e.
-          let fits = answering-bounded (s .parts .n) _ _ _ (s .operation) (replicate 4344 0) l (sym (a .answer .ensures .0) ∙ e) in
+          let fits = answering-bounded (s .parts .n) _ _ _ (s .operation) (replicate 4344 0) l (sym (ap (λ (x : Result). x .reply) (a .answer .ensures)) ∙ e) in
           omega (arith, size, fits, length-replicate {A = ℕ} 4344 0),
       (omega arith, search needs),
     )
@@ -48,7 +49,7 @@ returns c =
     puts-result
     (answered-is (s .input .now) (s .operation) (s .parts) (a .before .before .before .before .bytes-of .ensures) (a .before .before .before .bytes-of2 .ensures)
     (a .before .before .bytes-of3 .ensures))
-    (a .answer .ensures .0) (a .answer .ensures .1) (c .before .before .put-reply .ensures)
+    (a .answer .ensures) (c .before .before .put-reply .ensures)
 
 pub put-answer-spec : {M : Type 1} → statement M
 put-answer-spec =
