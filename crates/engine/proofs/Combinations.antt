@@ -125,10 +125,10 @@ module _ (n : ℕ) (t : List ℕ) (ok : accepted n t ≡ true) (le : ℕ → ℕ
         class-graph
 
 -- what combining yields, as a result
-abbrev resultOf : Yield Combined → Result
-resultOf y = resulting (combinedReply (y .answer)) (y .output)
+abbrev combinedResult : Yield Combined → Result
+combinedResult y = resulting (combinedReply (y .answer)) (y .output)
 
-combined-is : (u : Unified Label (ℕ ⊎ ℕ)) (out : List ℕ) → resultOf (unifiedOut u out) ≡ combined u out
+combined-is : (u : Unified Label (ℕ ⊎ ℕ)) (out : List ℕ) → combinedResult (unifiedOut u out) ≡ combined u out
 unfolding unifiedOut
 combined-is cycle out = refl
 combined-is clash out = refl
@@ -144,7 +144,7 @@ pub met-as : (n : ℕ) (a b out : List ℕ) (meets : List (List ℕ)) {g h : Lis
     resulting r new ≡ meeting n meets a b out
 unfolding met
 met-as n a b out meets {g} {h} given {new = new} yields said =
-    ap (λ (q : Reply). resulting q new) said ∙ ap resultOf yields ∙ combined-is (byMeets n meets g h) out ∙
+    ap (λ (q : Reply). resulting q new) said ∙ ap combinedResult yields ∙ combined-is (byMeets n meets g h) out ∙
     sym
     (both-next n a b (λ q. refusing q out) (met n meets out) given ∙
     ap₂ (λ (k l : ℕ). combined (unification (meetsOf n meets) eqb eqb (graphIn g) (from 0 k) (graphIn h) (from 0 l)) out)
