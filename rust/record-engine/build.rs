@@ -1,20 +1,29 @@
-//! Links the engine's static library, which `rt staticlib library` writes.
+//! Links the engine's static library, `librecord_engine.a`, which `rt staticlib
+//! record_engine` writes to the repository's `target/staticlib`. The environment
+//! variable `RECORD_ENGINE_LIB_DIR` names another folder that holds it.
 
 use std::env;
-use std::path::Path;
+use std::path::{Path, PathBuf};
+
+const FOLDER: &str = "RECORD_ENGINE_LIB_DIR";
 
 fn main() {
-    let package = env::var("CARGO_MANIFEST_DIR").expect("cargo tells the package's folder");
-    let folder = Path::new(&package).join("../../target/staticlib");
-    let archive = folder.join("liblibrary.a");
+    let folder = env::var_os(FOLDER).map_or_else(in_repository, PathBuf::from);
+    let archive = folder.join("librecord_engine.a");
     if !archive.exists() {
         println!(
-            "cargo::warning={} is missing; run `rt staticlib library` in the repository's root first",
+            "cargo::warning={} is missing; run `rt staticlib record_engine` in the repository's root, or set {FOLDER} to its folder",
             archive.display()
         );
     }
     println!("cargo::rerun-if-changed=build.rs");
     println!("cargo::rerun-if-changed={}", archive.display());
+    println!("cargo::rerun-if-env-changed={FOLDER}");
     println!("cargo::rustc-link-search=native={}", folder.display());
-    println!("cargo::rustc-link-lib=static=library");
+    println!("cargo::rustc-link-lib=static=record_engine");
+}
+
+fn in_repository() -> PathBuf {
+    let package = env::var("CARGO_MANIFEST_DIR").expect("cargo tells the package's folder");
+    Path::new(&package).join("../../target/staticlib")
 }

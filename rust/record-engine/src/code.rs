@@ -1,4 +1,4 @@
-//! The number that the static library answers (`crates/library/specs/Code.antt`),
+//! The number that the static library answers (`crates/record_engine/specs/Code.antt`),
 //! read as an answer.
 
 use crate::refusal::{Refusal, Side};

@@ -4,9 +4,9 @@ use mathlib.Core.Bool.{Bool, cond}
 use borrow.Author.Needs.{needs}
 use Rattle.engine.specs.declared.Reply.the-variants.{Length, NoRoom}
 use Rattle.engine.specs.Reply.{resulting}
-use Rattle.library.proofs.Codes.{codes}
-use Rattle.library.proofs.record_house_table.Statement.{statement}
-use Rattle.library.proofs.record_house_table.Tie as tie
+use Rattle.record_engine.proofs.Codes.{codes}
+use Rattle.record_engine.proofs.record_house_table.Statement.{statement}
+use Rattle.record_engine.proofs.record_house_table.Tie as tie
 
 fill-table-requires : tie.Need-fill-table-requires
 fill-table-requires c κs = search needs

@@ -1,10 +1,10 @@
 -- The number of a reply is its code; a refusal of a table or a graph by the numbers of its parts.
-use Rattle.library.specs.Code.{codeOf}
+use Rattle.record_engine.specs.Code.{codeOf}
 use mathlib.Core.Path.{ap}
 use native.Mathlib.Omega.{arith}
 use borrow.Author.Needs.{needs}
-use Rattle.library.proofs.code.Statement.{statement}
-use Rattle.library.proofs.code.Tie as tie
+use Rattle.record_engine.proofs.code.Statement.{statement}
+use Rattle.record_engine.proofs.code.Tie as tie
 
 enum-known-reply : tie.Need-enum-known-reply
 enum-known-reply c = search needs

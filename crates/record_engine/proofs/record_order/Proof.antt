@@ -1,9 +1,9 @@
 -- The exported call answers the code of what the engine replies.
-use Rattle.library.specs.Code.{codeOf}
+use Rattle.record_engine.specs.Code.{codeOf}
 use mathlib.Core.Path.{ap, _∙_}
 use borrow.Author.Needs.{needs}
-use Rattle.library.proofs.record_order.Statement.{statement}
-use Rattle.library.proofs.record_order.Tie as tie
+use Rattle.record_engine.proofs.record_order.Statement.{statement}
+use Rattle.record_engine.proofs.record_order.Tie as tie
 
 order-requires : tie.Need-order-requires
 order-requires c κs = search needs

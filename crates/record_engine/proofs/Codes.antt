@@ -5,8 +5,8 @@ use Prim.Native.Nat.{ℕ}
 use Rattle.encode.specs.Encode.{yielding}
 use Rattle.engine.specs.declared.Reply.{Reply}
 use Rattle.engine.specs.Reply.{Result, resulting}
-use Rattle.library.specs.Code.{codeOf}
-use Rattle.library.specs.Coded.{coded}
+use Rattle.record_engine.specs.Code.{codeOf}
+use Rattle.record_engine.specs.Coded.{coded}
 
 -- the code of a call's reply, beside the output that the call leaves
 pub codes : {result : Result} {r : Reply} {k : ℕ} {out : List ℕ} → k ≡ codeOf r → resulting r out ≡ result → yielding k out ≡ coded result

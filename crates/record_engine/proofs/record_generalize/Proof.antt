@@ -1,8 +1,8 @@
 -- The exported call answers the code of what the engine replies, and leaves the output that the engine leaves.
 use borrow.Author.Needs.{needs}
-use Rattle.library.proofs.Codes.{codes}
-use Rattle.library.proofs.record_generalize.Statement.{statement}
-use Rattle.library.proofs.record_generalize.Tie as tie
+use Rattle.record_engine.proofs.Codes.{codes}
+use Rattle.record_engine.proofs.record_generalize.Statement.{statement}
+use Rattle.record_engine.proofs.record_generalize.Tie as tie
 
 generalize-requires : tie.Need-generalize-requires
 generalize-requires c κs = search needs

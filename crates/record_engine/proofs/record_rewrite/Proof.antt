@@ -1,8 +1,8 @@
 -- The exported call answers the code of what the engine replies, and leaves the output that the engine leaves.
 use borrow.Author.Needs.{needs}
-use Rattle.library.proofs.Codes.{codes}
-use Rattle.library.proofs.record_rewrite.Statement.{statement}
-use Rattle.library.proofs.record_rewrite.Tie as tie
+use Rattle.record_engine.proofs.Codes.{codes}
+use Rattle.record_engine.proofs.record_rewrite.Statement.{statement}
+use Rattle.record_engine.proofs.record_rewrite.Tie as tie
 
 rewrite-requires : tie.Need-rewrite-requires
 rewrite-requires c κs = search needs

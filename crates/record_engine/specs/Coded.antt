@@ -2,7 +2,7 @@
 use Prim.Native.Nat.{ℕ}
 use Rattle.encode.specs.Encode.{Yield, yielding}
 use Rattle.engine.specs.Reply.{Result}
-use Rattle.library.specs.Code.{codeOf}
+use Rattle.record_engine.specs.Code.{codeOf}
 
 abbrev pub coded : Result → Yield ℕ
 coded result = yielding (codeOf (result .reply)) (result .output)

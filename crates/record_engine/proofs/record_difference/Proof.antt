@@ -1,9 +1,9 @@
 -- The exported call answers the code of what the engine replies, and leaves the output that the engine leaves.
 use borrow.Author.Needs.{needs}
 use Rattle.engine.proofs.Replies.{results}
-use Rattle.library.proofs.Codes.{codes}
-use Rattle.library.proofs.record_difference.Statement.{statement}
-use Rattle.library.proofs.record_difference.Tie as tie
+use Rattle.record_engine.proofs.Codes.{codes}
+use Rattle.record_engine.proofs.record_difference.Statement.{statement}
+use Rattle.record_engine.proofs.record_difference.Tie as tie
 
 difference-requires : tie.Need-difference-requires
 difference-requires c κs = search needs

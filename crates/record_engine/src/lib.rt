@@ -14,9 +14,9 @@ ghost use Rattle.engine.specs.Unification.{unifying};
 ghost use Rattle.engine.specs.Difference.{differing};
 ghost use Rattle.lattice.specs.Reply.{tableNumber};
 ghost use Rattle.record.specs.Read.{graphNumber};
-ghost use Rattle.library.specs.Code.{codeOf, refusalCode, sideNumber};
-ghost use Rattle.library.specs.Coded.{coded};
-ghost use Rattle.library.specs.House.{tabling};
+ghost use Rattle.record_engine.specs.Code.{codeOf, refusalCode, sideNumber};
+ghost use Rattle.record_engine.specs.Coded.{coded};
+ghost use Rattle.record_engine.specs.House.{tabling};
 
 // A record in written form: the code of the reply, and the output that the engine leaves.
 #[no_mangle]
