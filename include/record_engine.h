@@ -1,11 +1,36 @@
 /* The record engine for C: five calls on bytes, and the table of the house types, in
- * the static library target/staticlib/liblibrary.a, which `rt staticlib library` writes.
+ * the static library librecord_engine.a, which `rt staticlib record_engine` writes to
+ * target/staticlib. examples/difference.c is a whole program.
  *
- * Each of the five takes a type table: n, the number of types, and its bytes, 8 for
- * each type. A record or an output is a pointer to its first byte and a length. A
+ * A type table orders n types, 2 to 64, by a row of 8 bytes for each. In row i, bit
+ * j % 8 of byte j / 8 is set exactly when type j is below type i or is type i; bit 0
+ * has the value 1, and bits for j from n on are 0. Type 0 is the contradiction and is
+ * below every type; type n - 1 is top, which says nothing, and every type is below it.
+ * The rows are an order, and every two types have a meet (the greatest type below
+ * both) and a join (the least above both). The diamond has n = 4: between 0 and 3 are 1
+ * and 2, neither below the other. The first bytes of its rows are 0x01, 0x03, 0x05 and
+ * 0x0F, and its other 28 bytes are 0.
+ *
+ * A record is a graph of up to 255 nodes. Byte 0 is the number of nodes; node 0, the
+ * root, and the others follow, each as
+ *    1 byte   its type, 1 to n - 1
+ *    8 bytes  its features, of 0 to 63: bit f % 8 of byte f / 8 is set when it has f
+ *    1 byte   for each feature that it has, the lowest first: the number of the node
+ *             that the feature's link leads to
+ * and nothing follows the last. There are at most 2,048 links, no node reaches itself,
+ * and the root reaches every node. Links may share a target. Input may number the other
+ * nodes in any way; a record that is written numbers them as they are first met from
+ * the root, lowest feature first, all below one link before the next link. Over the
+ * diamond {2, 3, 1, 0, 0, 0, 0, 0, 0, 0, 1, 1, 0, 0, 0, 0, 0, 0, 0, 0} is a root of type
+ * 3 whose feature 0 leads to a node of type 1.
+ *
+ * A record or an output is handed in as a pointer to its first byte and a length. A
  * pointer is not null, also where the length is 0. The output overlaps nothing
  * else that is handed in. The calls keep no pointer, share no state and may run
  * side by side.
+ *
+ * A thread that makes a call needs 256 KiB of stack. The largest calls take up to
+ * 136 KiB of it; nothing tests for room, and a call that has less overruns the stack.
  *
  * A call that writes a record answers its length, which is at most
  * RECORD_LONGEST; the output's first bytes are then the record and its other bytes

@@ -163,7 +163,7 @@ fn case_13_two_types_without_a_join() {
     use record_engine::TableFault;
     let table = random::TableBytes {
         n: 6,
-        bytes: record_engine::table(&[0x01, 0x03, 0x05, 0x0F, 0x17, 0x3F]),
+        bytes: record_engine::table(&[0x01, 0x03, 0x05, 0x0F, 0x17, 0x3F]).expect("6 types"),
     };
     let refused = Err(Refusal::Table(TableFault::Bounds));
     assert_eq!(over(generalize, &table, 1, 2), refused);

@@ -1,12 +1,12 @@
-//! A call's stack stays under a mebibyte: every call on the deepest and on the
-//! largest records, on a thread with half of that.
+//! A call gets by with the stack that the header, the wrapper and the README state:
+//! every call on the deepest and on the largest records, on a thread with no more.
 
 use record_engine::{LONGEST_RECORD, difference, generalize, is_below, rewrite, unify};
 use reference::random;
 use reference::record;
 
-/// The stack that a call gets here.
-const STACK: usize = 512 << 10;
+/// The stack that is stated.
+const STACK: usize = 256 << 10;
 
 #[test]
 fn the_largest_records_need_little_stack() {

@@ -3,13 +3,54 @@
 //! gives the length of what it wrote, a yes or a no, or a [`Refusal`].
 //!
 //! The functions behind these calls are proved (`crates/engine`); here is only
-//! the passage to them, by a static library that `rt staticlib library` writes.
+//! the passage to them, by the static library `librecord_engine.a`, which
+//! `rt staticlib record_engine` writes to the repository's `target/staticlib`. The
+//! environment variable `RECORD_ENGINE_LIB_DIR` names another folder that holds it.
 //! On a refusal no byte of the output is changed. On success the output's first
 //! bytes are the record and its other bytes are unchanged.
 //!
-//! A table has n types, 2 to 64, and 8 bytes for each; [`house_table`] gives that of
-//! the house types. The other examples use the diamond: the contradiction 0, two types 1 and 2 that nothing but it is below,
-//! and 3, the top.
+//! # Type table
+//!
+//! A table orders n types, 2 to 64, by a row of 8 bytes for each. In row i, bit j % 8 of
+//! byte j / 8 is set exactly when type j is below type i or is type i; bit 0 has the
+//! value 1, and bits for j from n on are 0. Type 0 is the contradiction and is below
+//! every type; type n − 1 is top, which says nothing, and every type is below it. The
+//! rows are an order, and every two types have a meet (the greatest type below both) and
+//! a join (the least above both). [`table`] makes a small one and [`house_table`] that of
+//! the house types. The examples use the diamond: n = 4, and between 0 and 3 are 1 and
+//! 2, neither below the other; the first bytes of its rows are 0x01, 0x03, 0x05 and
+//! 0x0F, and the others are 0.
+//!
+//! # Record
+//!
+//! A record is a graph of up to 255 nodes. Byte 0 is the number of nodes; node 0, the
+//! root, and the others follow, each as
+//!
+//! - 1 byte: its type, 1 to n − 1;
+//! - 8 bytes: its features, of 0 to 63; bit f % 8 of byte f / 8 is set when it has f;
+//! - 1 byte for each feature that it has, the lowest first: the number of the node
+//!   that the feature's link leads to;
+//!
+//! and nothing follows the last. There are at most 2,048 links, no node reaches itself,
+//! and the root reaches every node. Links may share a target. Input may number the other
+//! nodes in any way; a record that is written numbers them as they are first met from
+//! the root, lowest feature first, all below one link before the next link.
+//!
+//! ```
+//! let diamond = record_engine::table(&[0x01, 0x03, 0x05, 0x0F]).expect("at most 8 types");
+//! // A root of type 3, top, whose feature 0 leads to a node of type 1.
+//! let record = [2, 3, 1, 0, 0, 0, 0, 0, 0, 0, 1, 1, 0, 0, 0, 0, 0, 0, 0, 0];
+//! let mut output = [0; record_engine::LONGEST_RECORD];
+//! let length = record_engine::rewrite(4, &diamond, &record, &mut output)?;
+//! assert_eq!(output[..length], record);
+//! # Ok::<(), record_engine::Refusal>(())
+//! ```
+//!
+//! # Stack
+//!
+//! A thread that makes a call needs 256 KiB of stack; the largest calls take up to
+//! 136 KiB of it. A thread of the standard library has 2 MiB unless it is told
+//! otherwise.
 
 #![warn(missing_docs)]
 
@@ -108,7 +149,7 @@ unsafe extern "C" {
 /// Refused by 1 to 7, the record counting as the first, and by 8.
 ///
 /// ```
-/// let diamond = record_engine::table(&[0x01, 0x03, 0x05, 0x0F]);
+/// let diamond = record_engine::table(&[0x01, 0x03, 0x05, 0x0F]).expect("at most 8 types");
 /// // A lone top, node 0 with no links.
 /// let record = [1, 3, 0, 0, 0, 0, 0, 0, 0, 0];
 /// let mut output = [0; record_engine::LONGEST_RECORD];
@@ -140,7 +181,7 @@ pub fn rewrite(n: usize, table: &[u8], record: &[u8], output: &mut [u8]) -> Resu
 /// Refused by 1 to 7.
 ///
 /// ```
-/// let diamond = record_engine::table(&[0x01, 0x03, 0x05, 0x0F]);
+/// let diamond = record_engine::table(&[0x01, 0x03, 0x05, 0x0F]).expect("at most 8 types");
 /// let a = [1, 1, 0, 0, 0, 0, 0, 0, 0, 0];
 /// let top = [1, 3, 0, 0, 0, 0, 0, 0, 0, 0];
 /// assert!(record_engine::is_below(4, &diamond, &a, &top)?);
@@ -175,7 +216,7 @@ pub fn is_below(n: usize, table: &[u8], first: &[u8], second: &[u8]) -> Result<b
 /// Refused by 1 to 7, then by 11 and 8.
 ///
 /// ```
-/// let diamond = record_engine::table(&[0x01, 0x03, 0x05, 0x0F]);
+/// let diamond = record_engine::table(&[0x01, 0x03, 0x05, 0x0F]).expect("at most 8 types");
 /// let a = [1, 1, 0, 0, 0, 0, 0, 0, 0, 0];
 /// let b = [1, 2, 0, 0, 0, 0, 0, 0, 0, 0];
 /// let mut output = [0; record_engine::LONGEST_RECORD];
@@ -202,7 +243,7 @@ pub fn generalize(
 ///
 /// ```
 /// use record_engine::Refusal;
-/// let diamond = record_engine::table(&[0x01, 0x03, 0x05, 0x0F]);
+/// let diamond = record_engine::table(&[0x01, 0x03, 0x05, 0x0F]).expect("at most 8 types");
 /// let a = [1, 1, 0, 0, 0, 0, 0, 0, 0, 0];
 /// let b = [1, 2, 0, 0, 0, 0, 0, 0, 0, 0];
 /// let top = [1, 3, 0, 0, 0, 0, 0, 0, 0, 0];
@@ -231,7 +272,7 @@ pub fn unify(
 /// Refused by 1 to 7, then by 13, 12 and 8.
 ///
 /// ```
-/// let diamond = record_engine::table(&[0x01, 0x03, 0x05, 0x0F]);
+/// let diamond = record_engine::table(&[0x01, 0x03, 0x05, 0x0F]).expect("at most 8 types");
 /// // Both lead by 0 and 1 to one node, which is top in the general one and 1 in
 /// // the specific one; one of the two links is enough to say so.
 /// let general = [2, 3, 3, 0, 0, 0, 0, 0, 0, 0, 1, 1, 3, 0, 0, 0, 0, 0, 0, 0, 0];
@@ -280,16 +321,18 @@ pub fn house_table(output: &mut [u8]) -> Result<usize, Refusal> {
     length(code)
 }
 
-/// The bytes of a table of at most 8 types, from the first byte of each row.
+/// The bytes of a table of at most 8 types, from the first byte of each row; none for
+/// more types, whose rows have bits beyond their first bytes. Whether they are an order
+/// with meets and joins is for the calls to say.
 ///
 /// ```
-/// assert_eq!(record_engine::table(&[0x01, 0x03])[..], [1, 0, 0, 0, 0, 0, 0, 0, 3, 0, 0, 0, 0, 0, 0, 0]);
+/// let two = record_engine::table(&[0x01, 0x03]);
+/// assert_eq!(two, Some(vec![1, 0, 0, 0, 0, 0, 0, 0, 3, 0, 0, 0, 0, 0, 0, 0]));
+/// assert_eq!(record_engine::table(&[0xFF; 9]), None);
 /// ```
-pub fn table(first_bytes: &[u8]) -> Vec<u8> {
-    first_bytes
-        .iter()
-        .flat_map(|&byte| [byte, 0, 0, 0, 0, 0, 0, 0])
-        .collect()
+pub fn table(first_bytes: &[u8]) -> Option<Vec<u8>> {
+    let rows = first_bytes.iter().map(|&byte| [byte, 0, 0, 0, 0, 0, 0, 0]);
+    (first_bytes.len() <= 8).then(|| rows.flatten().collect())
 }
 
 /// Makes a call on two records.
