@@ -48,7 +48,7 @@ fn counted(words: [usize; 4]) -> Option<u64> {
 
 pub fn print() {
     if counted([0, 0, 0, 1]).is_none() {
-        println!("valgrind is not there: no instructions counted");
+        println!("valgrind is not there: no instructions counted\n");
         return;
     }
     println!("Instructions of a call\n");
@@ -72,5 +72,5 @@ pub fn print() {
         }
     }
     let (mean, worst) = mean_and_worst(&ratios);
-    println!("\nengine / peer: geometric mean {mean:.2}, worst {worst:.2}");
+    println!("\nengine / peer: geometric mean {mean:.2}, worst {worst:.2}\n");
 }

@@ -1,8 +1,7 @@
-//! Prints what a call takes by the engine, by the peer and by the reference, at
-//! graphs of 8, 40 and 255 nodes and tables of 4 and 64 types, and the engine's
-//! time as a ratio of the others'. Where valgrind is there, it also prints the
-//! instructions that a call of the engine and of the peer runs; these repeat,
-//! times do not.
+//! Prints what a call takes, at graphs of 8, 40 and 255 nodes and tables of 4 and 64
+//! types: where valgrind is there, the instructions that a call of the engine and of
+//! the peer runs, which repeat; then the times by the engine, by the peer and by the
+//! reference, which do so only on a machine that has nothing else to do.
 
 mod calls;
 mod inputs;
@@ -17,8 +16,8 @@ fn main() {
     let words: Vec<String> = env::args().skip(1).collect();
     if words.is_empty() {
         check_agreement();
-        times::print();
         instructions::print();
+        times::print();
     } else if !instructions::run(&words) {
         eprintln!("use: benchmark, without arguments");
     }

@@ -77,5 +77,5 @@ pub fn print() {
         }
     }
     let (mean, worst) = mean_and_worst(&ratios);
-    println!("\nengine / peer: geometric mean {mean:.2}, worst {worst:.2}\n");
+    println!("\nengine / peer: geometric mean {mean:.2}, worst {worst:.2}");
 }

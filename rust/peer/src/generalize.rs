@@ -6,7 +6,8 @@ use crate::table::Bounds;
 
 /// Makes the common part, or gives 11.
 pub fn generalize(joins: &Bounds, a: &Graph, b: &Graph, common: &mut Graph) -> Result<(), Refusal> {
-    const CLEAR: u16 = u16::MAX;
+    // A pair's number is at most 254.
+    const CLEAR: u8 = u8::MAX;
     let mut marks = [CLEAR; 65025];
     let mut queue = [(0u8, 0u8); 255];
     marks[0] = 0;
@@ -32,7 +33,7 @@ pub fn generalize(joins: &Bounds, a: &Graph, b: &Graph, common: &mut Graph) -> R
                 if end == 255 {
                     return Err(Refusal::of(11));
                 }
-                *mark = end as u16;
+                *mark = end as u8;
                 queue[end] = pair;
                 end += 1;
             }
@@ -40,7 +41,7 @@ pub fn generalize(joins: &Bounds, a: &Graph, b: &Graph, common: &mut Graph) -> R
                 return Err(Refusal::of(11));
             }
             common.features[links] = f;
-            common.targets[links] = *mark as u8;
+            common.targets[links] = *mark;
             links += 1;
             left.start += 1;
             right.start += 1;

@@ -53,7 +53,7 @@ impl Table {
         meets: &mut Bounds,
     ) -> Result<(), Refusal> {
         self.read(n, bytes)?;
-        fill(n, &self.down, meets).ok_or(Refusal::of(3))
+        fill(n, &self.down, End::High, meets).ok_or(Refusal::of(3))
     }
 
     /// The same, with the joins: where every two types have one, every two have a meet.
@@ -64,7 +64,7 @@ impl Table {
         joins: &mut Bounds,
     ) -> Result<(), Refusal> {
         self.read(n, bytes)?;
-        fill(n, &self.up, joins).ok_or(Refusal::of(3))
+        fill(n, &self.up, End::Low, joins).ok_or(Refusal::of(3))
     }
 
     pub fn is_below(&self, lower: u8, upper: u8) -> bool {
@@ -82,8 +82,16 @@ impl Table {
         })
     }
 
-    /// The greatest type whose meet with q is below p, if there is one.
+    /// The greatest type whose meet with q is below p, if there is one. At once where q is
+    /// below p, then it is the greatest type, and where q is the greatest type, then it is p.
     pub fn residual(&self, p: u8, q: u8) -> Option<u8> {
+        let top = (self.n - 1) as u8;
+        if self.is_below(q, p) {
+            return Some(top);
+        }
+        if q == top {
+            return Some(p);
+        }
         let (q, p) = (self.down[usize::from(q)], self.down[usize::from(p)]);
         let mut types = 0;
         for d in 0..self.n {
@@ -116,11 +124,37 @@ fn upper(n: usize, down: &[u64; 64]) -> Option<[u64; 64]> {
     (down[n - 1] == all).then_some(up)
 }
 
+/// An end of a word: where the type of a word is in it, if the table is numbered along the
+/// order, the highest bit for lower types and the lowest for upper ones.
+#[derive(Clone, Copy)]
+enum End {
+    Low,
+    High,
+}
+
+impl End {
+    /// The bit at this end; the word is not 0.
+    fn bit(self, word: u64) -> usize {
+        match self {
+            End::Low => word.trailing_zeros() as usize,
+            End::High => 63 - word.leading_zeros() as usize,
+        }
+    }
+
+    fn other(self) -> End {
+        match self {
+            End::Low => End::High,
+            End::High => End::Low,
+        }
+    }
+}
+
 /// Fills in the bound of every two types, if each two have one.
-fn fill(n: usize, words: &[u64; 64], bounds: &mut Bounds) -> Option<()> {
+fn fill(n: usize, words: &[u64; 64], end: End, bounds: &mut Bounds) -> Option<()> {
     for a in 0..n {
         for b in 0..=a {
-            let bound = word_of(words, words[a] & words[b])?;
+            let word = words[a] & words[b];
+            let bound = bound(words, word, [a, b], end)?;
             bounds[a][b] = bound;
             bounds[b][a] = bound;
         }
@@ -128,15 +162,39 @@ fn fill(n: usize, words: &[u64; 64], bounds: &mut Bounds) -> Option<()> {
     Some(())
 }
 
-/// The type whose word it is: one that is in it.
-fn word_of(words: &[u64; 64], word: u64) -> Option<u8> {
-    let mut left = word;
+/// The bound of two types with this word in common, if there is one: at once where it is at the
+/// end, or one of the two. The word is not 0, since the least type, or the greatest, is in both.
+fn bound(words: &[u64; 64], word: u64, [a, b]: [usize; 2], end: End) -> Option<u8> {
+    let likely = [end.bit(word), a, b];
+    match likely.into_iter().find(|&t| words[t] == word) {
+        Some(found) => Some(found as u8),
+        None => search(words, word, word, end),
+    }
+}
+
+/// The type whose word of lower types it is, if there is one.
+fn word_of(down: &[u64; 64], word: u64) -> Option<u8> {
+    if word == 0 {
+        return None;
+    }
+    let bit = End::High.bit(word);
+    if down[bit] == word {
+        return Some(bit as u8);
+    }
+    search(down, word, word & !down[bit], End::Low)
+}
+
+/// The type of a part of a word whose word it is, if there is one. It is sought from both ends
+/// in turn, and a type that is not it is put aside with all on its side.
+fn search(words: &[u64; 64], word: u64, part: u64, first: End) -> Option<u8> {
+    let (mut left, mut end) = (part, first);
     while left != 0 {
-        let highest = 63 - left.leading_zeros();
-        if words[highest as usize] == word {
-            return Some(highest as u8);
+        let bit = end.bit(left);
+        if words[bit] == word {
+            return Some(bit as u8);
         }
-        left ^= 1 << highest;
+        left &= !words[bit];
+        end = end.other();
     }
     None
 }

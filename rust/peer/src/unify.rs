@@ -8,11 +8,13 @@ use crate::table::Bounds;
 /// Up to 255 nodes of each graph, and their links.
 const NODES: usize = 510;
 const LINKS: usize = 4096;
-/// A merge appends a row of up to 64 links.
-const ROOM: usize = LINKS + 64 * NODES;
+/// Room for any links: a merge appends a row of up to 64, and there are fewer merges than nodes.
+const LARGE: usize = LINKS + 64 * NODES;
+/// Room for those of most graphs.
+const SMALL: usize = 5376;
 
 /// The links of each class: a span of places, features ascending.
-struct Rows {
+struct Rows<const ROOM: usize> {
     span: [(u16, u16); NODES],
     features: [u8; ROOM],
     targets: [u16; ROOM],
@@ -21,7 +23,22 @@ struct Rows {
 
 /// Writes the combination, or 9, 10, 11, 8.
 pub fn unify(meets: &Bounds, a: &Graph, b: &Graph, output: &mut [u8]) -> Result<usize, Refusal> {
-    let mut rows = Rows {
+    let most = a.links() + b.links() + 64 * (a.nodes + b.nodes - 1);
+    if most <= SMALL {
+        unify_within::<SMALL>(meets, a, b, output)
+    } else {
+        unify_within::<LARGE>(meets, a, b, output)
+    }
+}
+
+/// The same with room for so many links.
+fn unify_within<const ROOM: usize>(
+    meets: &Bounds,
+    a: &Graph,
+    b: &Graph,
+    output: &mut [u8],
+) -> Result<usize, Refusal> {
+    let mut rows: Rows<ROOM> = Rows {
         span: [(0, 0); NODES],
         features: [0; ROOM],
         targets: [0; ROOM],
@@ -102,7 +119,11 @@ pub fn unify(meets: &Bounds, a: &Graph, b: &Graph, output: &mut [u8]) -> Result<
 }
 
 /// Whether some classes stay when those are taken away whose incoming links all are.
-fn has_cycle(rows: &Rows, representative: &[u16], incoming: &mut [u16; NODES]) -> bool {
+fn has_cycle<const ROOM: usize>(
+    rows: &Rows<ROOM>,
+    representative: &[u16],
+    incoming: &mut [u16; NODES],
+) -> bool {
     let mut queue = [0u16; NODES];
     let mut end = 0;
     for (node, &count) in incoming[..representative.len()].iter().enumerate() {
@@ -126,7 +147,7 @@ fn has_cycle(rows: &Rows, representative: &[u16], incoming: &mut [u16; NODES]) -
     end < representative.len()
 }
 
-impl Rows {
+impl<const ROOM: usize> Rows<ROOM> {
     /// The links of a graph whose node 0 has this number.
     fn place(&mut self, graph: &Graph, root: usize) {
         for node in 0..graph.nodes {
