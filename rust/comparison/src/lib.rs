@@ -32,7 +32,7 @@ impl Comparison {
     pub fn new(call: Call, seed: u64) -> Comparison {
         Comparison {
             call,
-            random: Xorshift::new(seed),
+            random: Xorshift::stored(seed),
             inputs: 0,
             replies: [0; 14],
             yes: 0,

@@ -43,7 +43,7 @@ impl Broader {
         Broader {
             call: Comparison::new(call, seed),
             order: Comparison::new(ORDER, seed + 1),
-            random: Xorshift::new(seed + 2),
+            random: Xorshift::stored(seed + 2),
             replies: BTreeMap::new(),
         }
     }
@@ -137,7 +137,7 @@ fn large(random: &mut Xorshift, nodes: usize, features: Vec<Feature>) -> Shape {
 
 /// Quadruples over all kinds of accepted tables.
 fn check(compared: &mut Broader, seed: u64, count: usize, draw: Draw) {
-    let random = &mut Xorshift::new(seed);
+    let random = &mut Xorshift::stored(seed);
     for _ in 0..count {
         let table = random::valid_table(random);
         let narrow = draw(random, &table);

@@ -95,7 +95,7 @@ fn compare(
 #[test]
 fn common_parts_of_255_and_of_256_nodes() {
     let mut compared = Comparison::new(GENERALIZE, 51);
-    let random = &mut Xorshift::new(52);
+    let random = &mut Xorshift::stored(52);
     for limit in [MOST_NODES, MOST_NODES + 1] {
         let mut pairs = 0;
         while pairs < PAIRS {
@@ -120,7 +120,7 @@ fn common_parts_of_255_and_of_256_nodes() {
 #[test]
 fn common_parts_of_2048_and_of_2049_links() {
     let mut compared = Comparison::new(GENERALIZE, 53);
-    let random = &mut Xorshift::new(54);
+    let random = &mut Xorshift::stored(54);
     for limit in [MOST_LINKS, MOST_LINKS + 1] {
         let mut pairs = 0;
         while pairs < PAIRS {

@@ -32,7 +32,7 @@ fn records(random: &mut Xorshift, table: &TableBytes, shape: &Shape) -> [Vec<u8>
 /// At least 20,000 pairs of mostly small graphs, and some of any size.
 fn compare_pairs(call: Call, seed: u64) -> Comparison {
     let mut compared = Comparison::new(call, seed);
-    let random = &mut Xorshift::new(seed + 1);
+    let random = &mut Xorshift::stored(seed + 1);
     while compared.inputs() < 20_000 {
         let table = match random.chance(1, 16) {
             true => random::damaged_table(random),
@@ -53,7 +53,7 @@ fn compare_pairs(call: Call, seed: u64) -> Comparison {
 /// Pairs of graphs with up to 255 nodes and 2,048 links.
 fn compare_large(call: Call, seed: u64) -> Comparison {
     let mut compared = Comparison::new(call, seed);
-    let random = &mut Xorshift::new(seed + 1);
+    let random = &mut Xorshift::stored(seed + 1);
     for _ in 0..400 {
         let table = random::valid_table(random);
         let features = *random.choose(&[2, 8, 64]);
@@ -115,7 +115,7 @@ fn the_combination_of_large_pairs() {
 #[test]
 fn combinations_of_trees_around_255_nodes() {
     let mut compared = Comparison::new(UNIFY, 35);
-    let random = &mut Xorshift::new(36);
+    let random = &mut Xorshift::stored(36);
     let table = random::diamond();
     for _ in 0..600 {
         let shape = Shape {

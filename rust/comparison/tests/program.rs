@@ -5,7 +5,7 @@ use comparison::cases::cases;
 use comparison::program::{path, run};
 use reference::mapcalc;
 use reference::random::{self, Xorshift};
-use std::collections::BTreeMap;
+use std::collections::{BTreeMap, BTreeSet};
 use std::io::Write;
 use std::process::{Command, Stdio};
 use std::thread;
@@ -37,14 +37,8 @@ fn the_stored_lines() {
 #[test]
 fn every_line_is_stored() {
     let lines: Vec<&str> = STORED.lines().skip(2).step_by(3).collect();
-    let mut expected = vec!["yes".to_string(), "no".to_string(), "bad input".to_string()];
-    // 8 does not come: the program lends as many bytes as the longest record has.
-    expected.extend([1, 2, 3, 9, 10, 11, 12, 13].map(|number| format!("refused {number}")));
-    for side in ["first", "second"] {
-        expected.extend([4, 5, 6, 7].map(|number| format!("refused {number} {side}")));
-    }
-    for line in expected {
-        assert!(lines.contains(&line.as_str()), "{line}");
+    for kind in kinds() {
+        assert!(lines.iter().any(|line| kind_of(line) == kind), "{kind}");
     }
     assert!(lines.contains(&"ok 20 0203010000000000000001010000000000000000"));
 }
@@ -71,23 +65,38 @@ fn input_without_end_is_bad() {
     assert!(writer.join().expect("a writer") < 1_000);
 }
 
-/// The inputs of each thread, and their number together.
+/// How many threads run the program, and on how many inputs together. Each input is a
+/// process; the calls themselves are compared on more (`pairs.rs`, `rewrite.rs`).
 const THREADS: u64 = 4;
-const INPUTS: usize = 52_000;
+const INPUTS: usize = 5_000;
 
-/// Runs inputs of one seed; gives how often each first word or number came.
+/// Every line that the program can print but those with a record, which are `ok`
+/// here. 8 does not come: the program lends as many bytes as the longest record has.
+fn kinds() -> Vec<String> {
+    let mut kinds = ["ok", "yes", "no", "bad input"]
+        .map(str::to_string)
+        .to_vec();
+    kinds.extend([1, 2, 3, 9, 10, 11, 12, 13].map(|number| format!("refused {number}")));
+    for side in ["first", "second"] {
+        kinds.extend([4, 5, 6, 7].map(|number| format!("refused {number} {side}")));
+    }
+    kinds
+}
+
+/// The kind of a line.
+fn kind_of(line: &str) -> &str {
+    if line.starts_with("ok ") { "ok" } else { line }
+}
+
+/// Runs inputs of one seed; gives how often each kind of line came.
 fn compare(seed: u64) -> BTreeMap<String, usize> {
-    let random = &mut Xorshift::new(seed);
+    let random = &mut Xorshift::stored(seed);
     let mut counts = BTreeMap::new();
     for _ in 0..INPUTS / THREADS as usize {
         let input = random::mapcalc_input(random);
         let line = mapcalc::line(&input);
         assert_eq!(run(&path(), &input), line, "{input:?}");
-        let kind = match line.strip_prefix("ok") {
-            Some(_) => "ok".to_string(),
-            None => line,
-        };
-        *counts.entry(kind).or_insert(0) += 1;
+        *counts.entry(kind_of(&line).to_string()).or_insert(0) += 1;
     }
     counts
 }
@@ -103,10 +112,9 @@ fn random_requests() {
             *counts.entry(kind).or_insert(0) += count;
         }
     }
+    let came: BTreeSet<String> = counts.keys().cloned().collect();
+    assert_eq!(came, BTreeSet::from_iter(kinds()), "{counts:?}");
     for kind in ["ok", "yes", "no", "bad input"] {
-        assert!(counts[kind] >= 1_000, "{counts:?}");
-    }
-    for number in [1, 2, 9, 10, 12, 13] {
-        assert!(counts[&format!("refused {number}")] >= 100, "{counts:?}");
+        assert!(counts[kind] >= 200, "{counts:?}");
     }
 }

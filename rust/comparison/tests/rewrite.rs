@@ -82,7 +82,7 @@ fn random_bytes(random: &mut Xorshift) -> Vec<u8> {
 #[test]
 fn random_and_damaged_records_over_random_and_damaged_tables() {
     let mut compared = Comparison::new(REWRITE, 1);
-    let random = &mut Xorshift::new(2);
+    let random = &mut Xorshift::stored(2);
     while compared.inputs() < 20_000 {
         let table = match random.chance(1, 8) {
             true => random::damaged_table(random),
@@ -107,7 +107,7 @@ fn random_and_damaged_records_over_random_and_damaged_tables() {
 #[test]
 fn every_bit_of_a_record_and_every_length() {
     let mut compared = Comparison::new(REWRITE, 3);
-    let random = &mut Xorshift::new(4);
+    let random = &mut Xorshift::stored(4);
     for table in tables(random) {
         for most_nodes in [2, 4] {
             let record = small_record(random, table.n, most_nodes);
@@ -138,7 +138,7 @@ fn every_bit_of_a_record_and_every_length() {
 #[test]
 fn every_bit_of_a_table_and_every_number_of_types() {
     let mut compared = Comparison::new(REWRITE, 5);
-    let random = &mut Xorshift::new(6);
+    let random = &mut Xorshift::stored(6);
     for table in tables(random) {
         let record = small_record(random, table.n, 4);
         for row in 0..table.n {
@@ -172,7 +172,7 @@ fn every_bit_of_a_table_and_every_number_of_types() {
 #[test]
 fn links_up_to_and_past_2048() {
     let mut compared = Comparison::new(REWRITE, 7);
-    let random = &mut Xorshift::new(8);
+    let random = &mut Xorshift::stored(8);
     for table in [random::diamond(), random::middles(3), random::chain(64)] {
         for nodes in [40, 100, 254, MOST_NODES] {
             for (links, number) in [(2047, None), (2048, None), (2049, Some(4)), (2300, Some(4))] {
@@ -195,7 +195,7 @@ fn links_up_to_and_past_2048() {
 #[test]
 fn chains_of_255_nodes() {
     let mut compared = Comparison::new(REWRITE, 9);
-    let random = &mut Xorshift::new(10);
+    let random = &mut Xorshift::stored(10);
     let table = random::diamond();
     let features: Vec<u8> = (20..28).collect();
     for nodes in [1, 2, 128, 253, 254, MOST_NODES] {
@@ -240,7 +240,7 @@ fn chains_of_255_nodes() {
 #[test]
 fn loops_in_parts_that_the_root_does_not_reach() {
     let mut compared = Comparison::new(REWRITE, 11);
-    let random = &mut Xorshift::new(12);
+    let random = &mut Xorshift::stored(12);
     for table in tables(random) {
         for _ in 0..20 {
             let shape = Shape::small(random, 6, 3);

@@ -70,7 +70,7 @@ fn check(table: &TableBytes, first: &[u8], second: &[u8], room: usize, counts: &
 
 #[test]
 fn the_peer_answers_as_the_reference() {
-    let random = &mut Xorshift::new(41);
+    let random = &mut Xorshift::stored(41);
     let mut counts = [0; 14];
     for _ in 0..1_500 {
         let table = match random.chance(1, 12) {

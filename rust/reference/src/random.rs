@@ -11,6 +11,11 @@ pub use graphs::*;
 pub use inputs::*;
 pub use tables::*;
 
+use std::env;
+
+/// The environment variable that moves the stored seeds of the tests.
+pub const MOVED: &str = "RANDOM_SEED";
+
 /// The generator: xorshift on 64 bits.
 #[derive(Clone, Debug)]
 pub struct Xorshift {
@@ -32,6 +37,20 @@ impl Xorshift {
             generator.word();
         }
         generator
+    }
+
+    /// A test's generator, from the seed that is stored with the test. A number in the
+    /// environment variable `RANDOM_SEED` moves it to other inputs; 0 is as without
+    /// one. Prints how to come to the same inputs again, which is shown where the test
+    /// fails.
+    pub fn stored(seed: u64) -> Xorshift {
+        let moved: u32 = env::var(MOVED).map_or(0, |text| match text.parse() {
+            Ok(number) => number,
+            Err(_) => panic!("{MOVED} is a number below 2^32, not {text}"),
+        });
+        println!("stored seed {seed}; the same inputs again by {MOVED}={moved}");
+        // Stored seeds are small: moved ones are none of them.
+        Xorshift::new(seed.wrapping_add(u64::from(moved) << 32))
     }
 
     /// The next 64 bits.

@@ -32,7 +32,7 @@ fn equal_seeds_give_equal_inputs() {
 
 #[test]
 fn numbers_are_in_their_range_and_all_come_up() {
-    let mut random = Xorshift::new(3);
+    let mut random = Xorshift::stored(3);
     let picked: BTreeSet<usize> = (0..200).map(|_| random.pick(5)).collect();
     assert_eq!(picked, BTreeSet::from_iter(0..5));
     let between: BTreeSet<usize> = (0..200).map(|_| random.between(7, 9)).collect();
@@ -47,7 +47,7 @@ fn numbers_are_in_their_range_and_all_come_up() {
 
 #[test]
 fn valid_tables_are_accepted_and_damaged_ones_break_each_rule() {
-    let mut random = Xorshift::new(4);
+    let mut random = Xorshift::stored(4);
     let mut admitting = BTreeSet::new();
     for _ in 0..500 {
         let table = random::valid_table(&mut random);
@@ -73,7 +73,7 @@ fn valid_tables_are_accepted_and_damaged_ones_break_each_rule() {
 
 #[test]
 fn valid_records_are_accepted_and_damaged_ones_break_each_rule() {
-    let mut random = Xorshift::new(5);
+    let mut random = Xorshift::stored(5);
     let table = random::diamond().accepted();
     let mut largest = 0;
     for _ in 0..500 {
@@ -95,7 +95,7 @@ fn valid_records_are_accepted_and_damaged_ones_break_each_rule() {
 
 #[test]
 fn graphs_above_are_above() {
-    let mut random = Xorshift::new(6);
+    let mut random = Xorshift::stored(6);
     for _ in 0..300 {
         let table = random::valid_table(&mut random).accepted();
         let shape = Shape::any(&mut random);
@@ -117,7 +117,7 @@ fn ladders_and_chains_have_their_links() {
 
 #[test]
 fn whole_inputs_bring_up_every_kind_of_line() {
-    let mut random = Xorshift::new(7);
+    let mut random = Xorshift::stored(7);
     let mut kinds: BTreeMap<String, usize> = BTreeMap::new();
     for _ in 0..6000 {
         let line = mapcalc::line(&random::mapcalc_input(&mut random));

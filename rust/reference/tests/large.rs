@@ -121,7 +121,7 @@ fn merging_passes_down_two_long_chains() {
 
 #[test]
 fn large_random_graphs_keep_the_laws() {
-    let mut random = Xorshift::new(21);
+    let mut random = Xorshift::stored(21);
     let tables: [TableBytes; 3] = [random::diamond(), random::boolean(6), random::chain(64)];
     for round in 0..60 {
         let table = &tables[round % 3];

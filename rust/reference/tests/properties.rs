@@ -29,7 +29,7 @@ fn for_pairs_over(
     table: impl Fn(&mut Xorshift) -> TableBytes,
     mut property: impl FnMut(&Table, &Graph, &Graph),
 ) {
-    let mut random = Xorshift::new(seed);
+    let mut random = Xorshift::stored(seed);
     for _ in 0..count {
         let table = table(&mut random).accepted();
         for _ in 0..10 {
@@ -64,7 +64,7 @@ fn order_agrees_with_the_sentence_over_paths() {
 
 #[test]
 fn order_is_reflexive_transitive_and_tells_graphs_apart() {
-    let mut random = Xorshift::new(2);
+    let mut random = Xorshift::stored(2);
     let mut chains = 0;
     for_pairs(3, 400, |table, first, second| {
         assert!(below(table, first, first));
@@ -107,7 +107,7 @@ fn canonical_numbers_follow_the_least_paths() {
 
 #[test]
 fn rewriting_is_idempotent_and_forgets_the_numbering() {
-    let mut random = Xorshift::new(5);
+    let mut random = Xorshift::stored(5);
     let rewrite = |n: usize, table: &[u8], record: &[u8]| {
         let mut output = vec![0; record::LONGEST_RECORD];
         match calls::rewrite(n, table, record, &mut output) {
@@ -195,7 +195,7 @@ fn combination_agrees_with_the_sentence_over_paths() {
 
 #[test]
 fn combination_is_below_both_and_above_what_is_below_both() {
-    let mut random = Xorshift::new(9);
+    let mut random = Xorshift::stored(9);
     for_pairs(10, 500, |table, first, second| {
         let result = unification(table, first, second).map(|graph| canonical(&graph));
         let swapped = unification(table, second, first).map(|graph| canonical(&graph));
@@ -306,7 +306,7 @@ fn difference_restores_and_nothing_more_general_does() {
 
 #[test]
 fn difference_and_combination_give_back_the_bytes() {
-    let mut random = Xorshift::new(14);
+    let mut random = Xorshift::stored(14);
     for _ in 0..400 {
         let table = random::brouwer_table(&mut random);
         let accepted = table.accepted();
@@ -358,7 +358,7 @@ fn greatest(table: &Table, test: impl Fn(Type) -> bool) -> Option<Type> {
 
 #[test]
 fn tables_have_the_meets_joins_and_residuals_of_their_order() {
-    let mut random = Xorshift::new(17);
+    let mut random = Xorshift::stored(17);
     for _ in 0..150 {
         let table = random::valid_table(&mut random).accepted();
         if table.n() > 16 {
@@ -404,7 +404,7 @@ fn wanted_types_over_the_diamond() {
 
 #[test]
 fn the_output_beyond_the_record_and_under_a_refusal_is_unchanged() {
-    let mut random = Xorshift::new(18);
+    let mut random = Xorshift::stored(18);
     let mut numbers = BTreeSet::new();
     for round in 0..3000 {
         let table = match random.chance(1, 6) {
@@ -465,7 +465,7 @@ fn graphs_of_any_size_go_by_the_same_rules() {
         spread: 4,
         tops: 2,
     };
-    let mut random = Xorshift::new(19);
+    let mut random = Xorshift::stored(19);
     let mut largest = 0;
     for _ in 0..20 {
         let one = random::graph(&mut random, 4, &shape);
