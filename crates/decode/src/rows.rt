@@ -20,7 +20,7 @@ pub enum RowEnd {
     Short,
 }
 
-// Takes a target byte for each standing bit of the map, lowest first, and stores the links from a place on, below a limit.
+// Takes a target byte for each set bit of the map, lowest first, and stores the links from a place on, below a limit.
 pub fn take_links(
     bytes: &[u8],
     map: u64,

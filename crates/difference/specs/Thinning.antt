@@ -1,4 +1,4 @@
--- Rows with the kept links alone, as words.
+-- Rows with only the kept links, as words.
 use mathlib.Core.Path.{_≡_}
 use mathlib.Core.List.{List}
 use Prim.Native.Nat.{ℕ, _+_, _≤_, _<_}

@@ -8,7 +8,8 @@ ghost use Rattle.visits.specs.Walks.{Reaches};
 ghost use Rattle.difference.specs.Keeping.{Cause, Decides, Enters, Grown, Keeps, Onward, Ready, Settled, Sorted, Stays, Untop};
 ghost use Rattle.difference.specs.Wanted.{Types};
 
-// Keeps the node that the link at place k enters, where that is a cause; `entered` has 1 where an earlier link leads.
+// Where the link at place k leads its group: keeps the node that it enters, if nothing of g lies over the link or an earlier link that
+// leads its group enters the node too. `entered` has 1 at the nodes that such earlier links enter.
 fn keep_one<'a>(
     s: &'a [u16],
     marks: &'a [u8; 2560],
@@ -150,7 +151,7 @@ pub fn kept_nodes<'a>(
     keep[0] = 1;
     keep_entered(s, marks, keep);
     keep_typed(n, table, s[0] as usize, types, keep);
-    // there is no cycle: the order alone is wanted
+    // there is no cycle: only the order is needed
     let mut order = [0u16; 510];
     visits::cycle::has_cycle(s, &mut order);
     keep_below(s, marks, &order, keep)

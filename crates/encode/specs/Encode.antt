@@ -10,7 +10,7 @@ use Rattle.lattice.specs.Label.{Label}
 use Rattle.encode.specs.declared.Written.{Written}
 use Rattle.encode.specs.declared.Written.the-variants as outcome
 
--- the number whose k lowest bits say which of the features from f on stand among the links
+-- the number whose k lowest bits say which of the features from f on are among the links
 unfoldable pub bitsFrom : List (ℕ × ℕ) → ℕ → ℕ → ℕ
 bitsFrom links f zero = 0
 bitsFrom links f (suc k) = countSome (target links f) + 2 * bitsFrom links (suc f) k

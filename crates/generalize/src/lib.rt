@@ -14,7 +14,7 @@ ghost use Rattle.generalize.specs.Queue.{Marked, Offered, Spreads, commo
 // The mark of a pair that has no number yet. Numbers are below it.
 pub const CLEAR: u8 = 255;
 
-// What is answered for the number of pairs when one more has none left to get.
+// The count that is answered when a pair needs a number and none is left.
 const FULL: usize = 256;
 
 // Where the rows of a result begin: behind the number of nodes and 256 places, since how many nodes there are is known at the end.

@@ -45,7 +45,7 @@ entryOf k = lesser (k / 64) (k % 64)
 unfoldable pub meets : List ℕ
 meets = listed entryOf 0 4096
 
--- byte k of the type table (document 01, "Type table"): byte k mod 8 of the row of type k div 8, whose bit j stands when type
+-- byte k of the type table (document 01, "Type table"): byte k mod 8 of the row of type k div 8, whose bit j is set when type
 -- 8 × (k mod 8) + j is below that type
 abbrev pub byteOf : ℕ → ℕ
 byteOf k = word 8 λ j. under (8 * (k % 8) + j) (k / 8)

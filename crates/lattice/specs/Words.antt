@@ -29,11 +29,11 @@ related t false i j = below t j i
 abbrev pub Words : ℕ → List ℕ → Bool → List ℕ → Type 0
 Words n t up ws = (i : ℕ) → i < n → getD ws i 0 ≡ word 64 (related t up i)
 
--- bit j of w stands
+-- bit j of w is set
 unfoldable pub bit : ℕ → ℕ → Bool
 bit w j = eqb (w / 2 ^ j % 2) 1
 
--- the bits of a that do not stand in b
+-- the bits of a that are not set in b
 abbrev pub without : ℕ → ℕ → ℕ
 without a b = bitXor a (bitAnd a b)
 
@@ -41,7 +41,7 @@ without a b = bitXor a (bitAnd a b)
 unfoldable pub turned : ℕ → List ℕ → ℕ → ℕ
 turned n ws i = word n λ j. bit (getD ws j 0) i
 
--- all bits of a stand in b
+-- all bits of a are set in b
 abbrev pub partOf : ℕ → ℕ → Bool
 partOf a b = eqb (bitAnd a b) a
 
@@ -64,7 +64,7 @@ pub record Sided (n : ℕ) (ws : List ℕ) : Type 0 where
   pub inside : (i j : ℕ) → i < n → j < 64 → bit (getD ws i 0) j ≡ true → j < n
   pub anti : (i j : ℕ) → i < n → j < n → bit (getD ws i 0) j ≡ true → bit (getD ws j 0) i ≡ true → i ≡ j
 
--- no bit of w stands at n or above
+-- no bit of w is set at n or above
 abbrev pub Inside : ℕ → ℕ → Type 0
 Inside n w = (j : ℕ) → j < 64 → bit w j ≡ true → j < n
 
@@ -101,7 +101,7 @@ pub record Columns (n : ℕ) (ws : List ℕ) (rows : List (List ℕ)) (a : ℕ) 
 unfoldable pub allFound : ℕ → (ℕ → ℕ → Option ℕ) → Bool
 allFound n bound = every n λ a. every n λ b. found (bound a b)
 
--- `left` has bits of `word` alone, and that of every type that has the word
+-- `left` has only bits of `word`, and that of every type that has the word
 pub record Seeking (ws : List ℕ) (word left : ℕ) : Type 0 where
   pub part : (j : ℕ) → j < 64 → bit left j ≡ true → bit word j ≡ true
   pub kept : (n : ℕ) → n ≤ 64 → Sided n ws → Inside n word → (k : ℕ) → k < n → getD ws k 0 ≡ word → bit left k ≡ true

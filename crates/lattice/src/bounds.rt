@@ -9,7 +9,7 @@ ghost use Rattle.lattice.specs.Table.{every, implies, found as foundOf, 
 ghost use Rattle.lattice.specs.Words.{holder, wordBound, Columns, allFound, Sided, Inside, Seeking};
 
 // The type whose word is `word`, or 64 where there is none. It has a bit of its own in the word, so it is sought among the
-// standing bits: at first the lowest for `low`, else the highest.
+// set bits: at first the lowest for `low`, else the highest.
 pub fn find_word(words: &[u64; 64], word: u64, low: bool) -> u8
     ensures { λ r. ⌜ ((n : ℕ) → n ≤ 64 → Sided n (now (words .entry)) → Inside n word → r ≡ cell (holder n (now (words .entry)) word)) ⌝ }
 {

@@ -1,6 +1,6 @@
 // The type lattice of a table (document 01, "Type table"). Opening a table accepts it, or refuses it by 1, 2 or 3; where the
-// caller needs the meets or the joins, a table that it lends is filled with them. The order is kept as words: word i of a side
-// has bit j where type j stands on that side of type i, below it or above it.
+// caller needs the meets or the joins, a table that it lends is filled with them. The order is kept as words: bit j of word i is
+// set where type j is on one side of type i, below it or above it.
 ghost use mathlib.Core.Path.{_≡_};
 ghost use mathlib.Core.Bool.{_&&_};
 ghost use Rattle.lattice.specs.Table.{accepted, admits, meet, join};

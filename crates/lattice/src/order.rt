@@ -43,7 +43,7 @@ pub fn are_pairs_ordered(down: &[u64; 64], i: usize) -> bool
     all & lower == all
 }
 
-// Whether row i has no bit at n or above, has its own bit and that of 0, stands in row n - 1, and its pairs are ordered.
+// Whether row i has no bit at n or above, has its own bit and that of 0, bit i of row n - 1 is set, and its pairs are ordered.
 pub fn is_row_ordered(n: usize, down: &[u64; 64], i: usize) -> bool
     requires { ⌜ (i < n) × (n ≤ 64) ⌝ }
     ensures { λ r. ⌜ r ≡ rowOrdered n (now (down .entry)) i ⌝ }

@@ -1,4 +1,4 @@
-// The bits of a table, and the words that are made of them: bit j of word i stands where type j is on one side of type i,
+// The bits of a table, and the words that are made of them: bit j of word i is set where type j is on one side of type i,
 // below it or above it.
 ghost use mathlib.Core.Path.{_≡_};
 ghost use mathlib.Core.Bool.{true, false};
@@ -8,7 +8,7 @@ ghost use lib.ListN.{getD};
 ghost use Rattle.lattice.specs.Table.{below};
 ghost use Rattle.lattice.specs.Words.{digit, word, related, Words, bit, without as withoutOf, turned};
 
-// Whether the table's bit says that type j is below or equal to type i. Off the table no bit stands.
+// Whether the table's bit says that type j is below or equal to type i. Off the table no bit is set.
 pub fn is_below(table: &[u8], j: usize, i: usize) -> bool
     requires { ⌜ (j < 64) × (i < 64) ⌝ }
     ensures { λ r. ⌜ r ≡ below (now (table .entry)) j i ⌝ }
@@ -21,7 +21,7 @@ pub fn is_below(table: &[u8], j: usize, i: usize) -> bool
     }
 }
 
-// Whether bit j of a word stands.
+// Whether bit j of a word is set.
 pub fn has_bit(word: u64, j: usize) -> bool
     requires { ⌜ j < 64 ⌝ }
     ensures { λ r. ⌜ r ≡ bit word j ⌝ }
@@ -29,7 +29,7 @@ pub fn has_bit(word: u64, j: usize) -> bool
     (word >> j) % 2 == 1
 }
 
-// The bits of a word that do not stand in another.
+// The bits of a word that are not set in another.
 pub fn without(word: u64, other: u64) -> u64
     ensures { λ r. ⌜ r ≡ withoutOf word other ⌝ }
 {
@@ -52,7 +52,7 @@ pub fn without_lowest(word: u64) -> u64
     word & (word - 1)
 }
 
-// A standing bit: the lowest for `low`, else the highest.
+// A set bit: the lowest for `low`, else the highest.
 pub fn end_bit(word: u64, low: bool) -> usize
     requires { ⌜ 0 < word ⌝ }
     ensures { λ r. ⌜ (r < 64) × (bit word r ≡ true) × (low ≡ true → r ≡ trailingZeros 64 word) ⌝ }

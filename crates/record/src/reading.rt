@@ -12,7 +12,7 @@ pub enum Verdict {
     Refused(GraphFault),
 }
 
-// Reads a record over a table with n types into the lent words; they are of no meaning beside a refusal.
+// Reads a record over a table with n types into the lent words, which are unspecified on refusal.
 pub fn read(n: usize, bytes: &[u8], graph: &mut [u16; 2560]) -> Verdict
     requires { ⌜ length (now graph) ≡ 2560 ⌝ }
     ensures { λ r. ⌜ Reads n (now (bytes .entry)) r (now (graph .exit)) ⌝ }

@@ -45,7 +45,7 @@ threeMiddles = record { count = 5; table = rows (0x01 ∷ 0x03 ∷ 0x05 ∷ 0x09
 abbrev pub twoOverTwo : Types
 twoOverTwo = record { count = 6; table = rows (0x01 ∷ 0x03 ∷ 0x05 ∷ 0x0F ∷ 0x17 ∷ 0x3F ∷ []) }
 
--- a node in a record: its type, the features 0 to 7 that stand, and the nodes they lead to
+-- a node in a record: its type, the byte of its features 0 to 7, and the nodes they lead to
 abbrev pub node : ℕ → ℕ → List ℕ → List ℕ
 node type standing targets = type ∷ standing ∷ replicate 7 0 ++ targets
 

@@ -18,7 +18,7 @@ pub struct Ordered {
     pub map: [u16; 255],
 }
 
-// The node that no node is mapped to yet.
+// The entry of a node that is not mapped yet.
 pub const NONE: u16 = 0xFFFF;
 
 // The first place from `at` on, before `end`, whose feature is at least f.

@@ -26,7 +26,7 @@ module _ (ws : List ℕ) where
     pub closed : (u w : ℕ) → Leads ws u w → 2 ≤ getD colour u 0 → 2 ≤ getD colour w 0
     pub earlier : (u w : ℕ) → Leads ws u w → 2 ≤ getD colour u 0 → getD colour w 0 < getD colour u 0
 
-  -- From one colouring to a later one white nodes alone change, and none stays on the way down.
+  -- From one colouring to a later one only white nodes change, and none stays on the way down.
   pub record Advanced (colour : List ℕ) (count : ℕ) (later order : List ℕ) (more : ℕ) : Type 0 where
     pub placed : Placed later order more
     pub kept : (u : ℕ) → 0 < getD colour u 0 → getD later u 0 ≡ getD colour u 0
