@@ -1,6 +1,6 @@
 //! Links the engine's static library, `librecord_engine.a`, which `rt staticlib
 //! record_engine` writes to the repository's `target/staticlib`. The environment
-//! variable `RECORD_ENGINE_LIB_DIR` names another folder that holds it.
+//! variable `RECORD_ENGINE_LIB_DIR` has the absolute path of another folder with it.
 
 use std::env;
 use std::path::{Path, PathBuf};

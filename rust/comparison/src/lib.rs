@@ -9,7 +9,7 @@ pub mod program;
 
 pub use calls::{Call, DIFFERENCE, GENERALIZE, ORDER, REWRITE, UNIFY};
 
-use reference::random::{TableBytes, Xorshift};
+use reference::random::{self, TableBytes, Xorshift};
 use reference::record::LONGEST_RECORD;
 use reference::reply::Reply;
 
@@ -100,8 +100,10 @@ impl Comparison {
         (reference, by_engine[MARGIN..MARGIN + length].to_vec())
     }
 
-    /// Each of these replies came at least so often, and no other at all; 0 is a length.
+    /// Each of these replies came at least so often, for the stored seeds, and no other
+    /// at all; 0 is a length.
     pub fn assert_replies(&self, numbers: &[usize], least: usize) {
+        let least = random::least(least);
         for (number, &count) in self.replies.iter().enumerate() {
             let enough = match numbers.contains(&number) {
                 true => count >= least,
@@ -111,9 +113,10 @@ impl Comparison {
         }
     }
 
-    /// Yes and no came at least so often.
+    /// Yes and no came at least so often, for the stored seeds.
     pub fn assert_answers(&self, least: usize) {
         let answers = (self.yes, self.no);
-        assert!(answers.0.min(answers.1) >= least, "yes and no: {answers:?}");
+        let enough = answers.0.min(answers.1) >= random::least(least);
+        assert!(enough, "yes and no: {answers:?}");
     }
 }

@@ -83,12 +83,13 @@ impl Broader {
     }
 
     /// Two replies of which the narrower pair's is among the first and the broader
-    /// pair's among the second came at least so often.
+    /// pair's among the second came at least so often, for the stored seeds.
     fn assert_came(&self, narrow: &[u8], broad: &[u8], least: usize) {
         let came = |[under, over]: &[u8; 2]| narrow.contains(under) && broad.contains(over);
         let matching = self.replies.iter().filter(|(numbers, _)| came(numbers));
         let count: usize = matching.map(|(_, count)| count).sum();
-        assert!(count >= least, "{narrow:?} {broad:?}: {:?}", self.replies);
+        let enough = count >= random::least(least);
+        assert!(enough, "{narrow:?} {broad:?}: {:?}", self.replies);
     }
 }
 

@@ -5,7 +5,8 @@
 //! The functions behind these calls are proved (`crates/engine`); here is only
 //! the passage to them, by the static library `librecord_engine.a`, which
 //! `rt staticlib record_engine` writes to the repository's `target/staticlib`. The
-//! environment variable `RECORD_ENGINE_LIB_DIR` names another folder that holds it.
+//! environment variable `RECORD_ENGINE_LIB_DIR` has the absolute path of another
+//! folder with it.
 //! On a refusal no byte of the output is changed. On success the output's first
 //! bytes are the record and its other bytes are unchanged.
 //!

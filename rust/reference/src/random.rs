@@ -14,7 +14,21 @@ pub use tables::*;
 use std::env;
 
 /// The environment variable that moves the stored seeds of the tests.
-pub const MOVED: &str = "RANDOM_SEED";
+const MOVED: &str = "RANDOM_SEED";
+
+/// What the stored seeds are moved by.
+fn moved() -> u32 {
+    env::var(MOVED).map_or(0, |text| match text.parse() {
+        Ok(number) => number,
+        Err(_) => panic!("{MOVED} is a number below 2^32, not {text}"),
+    })
+}
+
+/// How often something has to come up in a test: so often from its stored seed, which
+/// is known to bring it up; from a moved one it need not.
+pub fn least(count: usize) -> usize {
+    if moved() == 0 { count } else { 0 }
+}
 
 /// The generator: xorshift on 64 bits.
 #[derive(Clone, Debug)]
@@ -44,10 +58,7 @@ impl Xorshift {
     /// one. Prints how to come to the same inputs again, which is shown where the test
     /// fails.
     pub fn stored(seed: u64) -> Xorshift {
-        let moved: u32 = env::var(MOVED).map_or(0, |text| match text.parse() {
-            Ok(number) => number,
-            Err(_) => panic!("{MOVED} is a number below 2^32, not {text}"),
-        });
+        let moved = moved();
         println!("stored seed {seed}; the same inputs again by {MOVED}={moved}");
         // Stored seeds are small: moved ones are none of them.
         Xorshift::new(seed.wrapping_add(u64::from(moved) << 32))
