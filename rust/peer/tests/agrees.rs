@@ -100,5 +100,6 @@ fn the_peer_answers_as_the_reference() {
             check(&table, &records[0], &records[1], room, &mut counts);
         }
     }
-    assert!(counts.into_iter().all(|count| count >= 5), "{counts:?}");
+    let least = random::least(5);
+    assert!(counts.iter().all(|&count| count >= least), "{counts:?}");
 }
