@@ -100,23 +100,23 @@ impl Comparison {
         (reference, by_engine[MARGIN..MARGIN + length].to_vec())
     }
 
-    /// Each of these replies came at least so often, for the stored seeds, and no other
+    /// From the stored seeds, each of these replies came at least so often, and no other
     /// at all; 0 is a length.
     pub fn assert_replies(&self, numbers: &[usize], least: usize) {
-        let least = random::least(least);
         for (number, &count) in self.replies.iter().enumerate() {
             let enough = match numbers.contains(&number) {
                 true => count >= least,
                 false => count == 0,
             };
+            let enough = enough || !random::is_stored();
             assert!(enough, "reply {number}: {:?}", self.replies);
         }
     }
 
-    /// Yes and no came at least so often, for the stored seeds.
+    /// From the stored seeds, yes and no came at least so often.
     pub fn assert_answers(&self, least: usize) {
         let answers = (self.yes, self.no);
-        let enough = answers.0.min(answers.1) >= random::least(least);
+        let enough = answers.0.min(answers.1) >= least || !random::is_stored();
         assert!(enough, "yes and no: {answers:?}");
     }
 }

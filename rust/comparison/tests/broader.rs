@@ -82,13 +82,13 @@ impl Broader {
         assert_eq!(answer, Reply::Yes, "{table:?} {lower:?} {upper:?}");
     }
 
-    /// Two replies of which the narrower pair's is among the first and the broader
-    /// pair's among the second came at least so often, for the stored seeds.
+    /// From the stored seeds, two replies of which the narrower pair's is among the first
+    /// and the broader pair's among the second came at least so often.
     fn assert_came(&self, narrow: &[u8], broad: &[u8], least: usize) {
         let came = |[under, over]: &[u8; 2]| narrow.contains(under) && broad.contains(over);
         let matching = self.replies.iter().filter(|(numbers, _)| came(numbers));
         let count: usize = matching.map(|(_, count)| count).sum();
-        let enough = count >= random::least(least);
+        let enough = count >= least || !random::is_stored();
         assert!(enough, "{narrow:?} {broad:?}: {:?}", self.replies);
     }
 }

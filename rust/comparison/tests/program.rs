@@ -114,9 +114,10 @@ fn random_requests() {
     }
     // Every kind comes from the stored seeds, and from no seed another line.
     for kind in kinds() {
-        let least = random::least(if kind.starts_with("refused") { 1 } else { 200 });
+        let least = if kind.starts_with("refused") { 1 } else { 200 };
         let count = counts.remove(&kind).unwrap_or(0);
-        assert!(count >= least, "{kind}: {count}");
+        let enough = count >= least || !random::is_stored();
+        assert!(enough, "{kind}: {count}");
     }
     assert_eq!(counts, BTreeMap::new());
 }

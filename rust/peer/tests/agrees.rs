@@ -100,6 +100,6 @@ fn the_peer_answers_as_the_reference() {
             check(&table, &records[0], &records[1], room, &mut counts);
         }
     }
-    let least = random::least(5);
-    assert!(counts.iter().all(|&count| count >= least), "{counts:?}");
+    let enough = counts.iter().all(|&count| count >= 5) || !random::is_stored();
+    assert!(enough, "{counts:?}");
 }

@@ -24,10 +24,10 @@ fn moved() -> u32 {
     })
 }
 
-/// How often something has to come up in a test: so often from its stored seed, which
-/// is known to bring it up; from a moved one it need not.
-pub fn least(count: usize) -> usize {
-    if moved() == 0 { count } else { 0 }
+/// Whether tests go by their stored seeds, which are known to bring up all that a test
+/// is about; a moved seed need not.
+pub fn is_stored() -> bool {
+    moved() == 0
 }
 
 /// The generator: xorshift on 64 bits.
