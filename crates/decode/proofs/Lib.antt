@@ -1,7 +1,6 @@
 -- Laws of decoding.
 pub mod Steps
 pub mod Thin
-pub mod Ranging
 pub mod Word
 pub mod Reading
 pub mod Decoded

@@ -1,5 +1,4 @@
-// Decoding: a record's bytes into a graph, or nothing where refusal 4 is due, and the range test of refusal 5.
+// Decoding: a record's bytes into a graph, or nothing where refusal 4 is due.
 
-pub mod ranges;
 pub mod reader;
 pub mod rows;

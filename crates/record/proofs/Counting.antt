@@ -10,10 +10,11 @@ use borrow.Author.Tests.{eq-eqb, ne-eqb, leb-true, le-leb}
 use lib.Dec.{eqb, leb}
 use lib.ListN.{length, getD, set, replicate, length-set, length-replicate, getD-replicate}
 use lib.Seq.{getD-set-same, getD-set-other}
-use Rattle.layout.specs.Layout.{size, rowFrom, linksFrom, rowEnd, targetAt, Sound}
+use Rattle.graphs.proofs.Search.{true-false}
+use Rattle.layout.specs.Layout.{size, rowFrom, linksFrom, rowEnd, labelAt, targetAt, Shaped, Sound}
 use Rattle.visits.specs.Colouring.{whites}
 use Rattle.visits.proofs.Colouring.{whites-bound}
-use Rattle.record.specs.Counts.{hit, among, into, entering, Counted, Queued, RowDue, RowTaken}
+use Rattle.record.specs.Counts.{hit, among, into, entering, Counted, Within, RowCount, Count, Queued, RowDue, RowTaken}
 
 -- A place that counts.
 
@@ -207,59 +208,61 @@ module _ (ws : List ℕ) (w : ℕ) where
 -- Counting all links.
 
 -- the links of the nodes before v stand before the row of v
-entering-before : {ws : List ℕ} → Sound ws → (w v : ℕ) → v ≤ size ws → entering (λ _. true) ws w v ≤ rowFrom ws v
-entering-before {ws} sound w zero h = omega (arith, entering-none ws w (λ _. true))
-entering-before {ws} sound w (suc v) h =
+entering-before : {ws : List ℕ} → Shaped ws → (w v : ℕ) → v ≤ size ws → entering (λ _. true) ws w v ≤ rowFrom ws v
+entering-before {ws} shaped w zero h = omega (arith, entering-none ws w (λ _. true))
+entering-before {ws} shaped w (suc v) h =
     let e : v + 2 ≡ suc v + 1 = omega arith in
     omega (
       arith,
       entering-suc ws w (λ _. true) v,
-      entering-before sound w v (omega arith),
-      sound .shaped .node v h .begun,
-      among-bound ws w (linksFrom ws v) (rowEnd ws v) (sound .shaped .node v h .begun),
+      entering-before shaped w v (omega arith),
+      shaped .node v h .begun,
+      among-bound ws w (linksFrom ws v) (rowEnd ws v) (shaped .node v h .begun),
       ap (λ (k : ℕ). getD ws k 0) e,
     )
 
-pub counted-start : {ws : List ℕ} → Sound ws → size ws ≤ 255 → Counted ws 0 (replicate 255 0)
-counted-start {ws} sound small =
+pub counted-start : {ws : List ℕ} → Shaped ws → size ws ≤ 255 → Counted ws 0 (replicate 255 0)
+counted-start {ws} shaped small =
     record {
-      sound = sound;
+      shaped = shaped;
       small = small;
       long = length-replicate {A = ℕ} 255 0;
       counts = λ w h. getD-replicate {A = ℕ} 255 w 0 0 h ∙ sym (entering-none ws w (λ _. true));
     }
 
--- The links of v up to a place are counted.
+-- The links of v up to a place lead to nodes and are counted.
 pub record Counting (ws : List ℕ) (v : ℕ) (incoming : List ℕ) (k : ℕ) : Type 0 where
-  pub sound : Sound ws
+  pub shaped : Shaped ws
   pub small : size ws ≤ 255
   pub inside : v < size ws
   pub low : linksFrom ws v ≤ k
   pub high : k ≤ rowEnd ws v
+  pub within : (i : ℕ) → linksFrom ws v ≤ i → i < k → targetAt ws i < size ws
   pub long : length incoming ≡ 255
   pub counts : (w : ℕ) → w < 255 → getD incoming w 0 ≡ entering (λ _. true) ws w v + among ws w (linksFrom ws v) k
 
 module _ {ws incoming : List ℕ} {v : ℕ} (c : Counted ws v incoming) (inside : v < size ws) where
   pub row-listed : v + 2 < length ws
-  row-listed = c .sound .shaped .node v inside .listed
+  row-listed = c .shaped .node v inside .listed
 
   pub counting-start : Counting ws v incoming (linksFrom ws v)
   counting-start =
       record {
-        sound = c .sound;
+        shaped = c .shaped;
         small = c .small;
         inside = inside;
         low = omega arith;
-        high = c .sound .shaped .node v inside .begun;
+        high = c .shaped .node v inside .begun;
+        within = λ i low high. absurd (omega arith);
         long = c .long;
         counts = λ w h. omega (arith, c .counts w h, among-none ws w (linksFrom ws v) (linksFrom ws v) (omega arith));
       }
 
 module _ {ws incoming : List ℕ} {v k : ℕ} (c : Counting ws v incoming k) where
-  pub counting-done : rowEnd ws v ≤ k → Counted ws (v + 1) incoming
-  counting-done h =
+  counted-row : k ≡ rowEnd ws v → Counted ws (v + 1) incoming
+  counted-row last =
       record {
-        sound = c .sound;
+        shaped = c .shaped;
         small = c .small;
         long = c .long;
         counts = λ w i.
@@ -271,39 +274,49 @@ module _ {ws incoming : List ℕ} {v k : ℕ} (c : Counting ws v incoming k) whe
               ap (entering (λ _. true) ws w) (add-one v),
             );
       }
-    where
-      last : k ≡ rowEnd ws v
-      last = omega (arith, c .high)
+
+  pub counting-done : rowEnd ws v ≤ k → RowCount ws v true incoming
+  counting-done h =
+      record {
+        yes-stands = λ e. (λ i low high. c .within i low (omega arith), counted-row (omega (arith, c .high)));
+        no-stands = λ e. true-false refl e;
+      }
 
   module _ (more : k < rowEnd ws v) where
     pub counting-place : k < length ws
-    counting-place = omega (arith, c .sound .shaped .node v (c .inside) .ended)
+    counting-place = omega (arith, c .shaped .node v (c .inside) .ended)
 
-    pub counting-inside : targetAt ws k < 255
-    counting-inside = omega (arith, c .sound .targets v k (c .inside) (c .low) more, c .small)
+    -- the target is no node
+    pub counting-out : size ws ≤ targetAt ws k → RowCount ws v false incoming
+    counting-out out = record { yes-stands = λ e. true-false e refl; no-stands = λ e all. omega (arith, all k (c .low) more) }
 
     -- there is room to count one more
-    pub counting-room : getD incoming (targetAt ws k) 0 < rowEnd ws v
-    counting-room =
+    pub counting-room : targetAt ws k < size ws → getD incoming (targetAt ws k) 0 < rowEnd ws v
+    counting-room inside =
         omega (
           arith,
-          c .counts (targetAt ws k) counting-inside,
-          entering-before (c .sound) (targetAt ws k) v (omega (arith, c .inside)),
+          c .counts (targetAt ws k) (omega (arith, c .small)),
+          entering-before (c .shaped) (targetAt ws k) v (omega (arith, c .inside)),
           among-bound ws (targetAt ws k) (linksFrom ws v) k (c .low),
         )
 
-    pub counting-next : Counting ws v (set incoming (targetAt ws k) (getD incoming (targetAt ws k) 0 + 1)) (k + 1)
-    counting-next =
+    pub counting-next : targetAt ws k < size ws → Counting ws v (set incoming (targetAt ws k) (getD incoming (targetAt ws k) 0 + 1)) (k + 1)
+    counting-next here =
         record {
-          sound = c .sound;
+          shaped = c .shaped;
           small = c .small;
           inside = c .inside;
           low = omega (arith, c .low);
           high = omega arith;
+          within = λ i low high. passed i (ℕ-discrete i k) low high;
           long = length-set incoming (targetAt ws k) (getD incoming (targetAt ws k) 0 + 1) ∙ c .long;
           counts = λ w h. go w h (ℕ-discrete w (targetAt ws k));
         }
       where
+        passed : (i : ℕ) → Dec (i ≡ k) → linksFrom ws v ≤ i → i < k + 1 → targetAt ws i < size ws
+        passed i (yes e) low high = subst (λ (j : ℕ). targetAt ws j < size ws) (sym e) here
+        passed i (no d) low high = c .within i low (omega arith)
+
         go : (w : ℕ) → w < 255 → Dec (w ≡ targetAt ws k) →
             getD (set incoming (targetAt ws k) (getD incoming (targetAt ws k) 0 + 1)) w 0
             ≡ entering (λ _. true) ws w v + among ws w (linksFrom ws v) (k + 1)
@@ -311,7 +324,7 @@ module _ {ws incoming : List ℕ} {v k : ℕ} (c : Counting ws v incoming k) whe
             omega (
               arith,
               ap (λ (u : ℕ). getD (set incoming (targetAt ws k) (getD incoming (targetAt ws k) 0 + 1)) u 0) e,
-              getD-set-same incoming (targetAt ws k) (getD incoming (targetAt ws k) 0 + 1) 0 (omega (arith, c .long, counting-inside)),
+              getD-set-same incoming (targetAt ws k) (getD incoming (targetAt ws k) 0 + 1) 0 (omega (arith, c .long, c .small)),
               ap (λ (u : ℕ). getD incoming u 0) e,
               c .counts w h,
               among-next ws w (linksFrom ws v) k (c .low),
@@ -326,8 +339,49 @@ module _ {ws incoming : List ℕ} {v k : ℕ} (c : Counting ws v incoming k) whe
               hit-other true (targetAt ws k) w (λ q. d (sym q)),
             )
 
-pub counted-done : {ws incoming : List ℕ} {v : ℕ} → Counted ws v incoming → v ≤ size ws → size ws ≤ v → Counted ws (size ws) incoming
-counted-done {ws} {incoming} {v} c low high = subst (λ (n : ℕ). Counted ws n incoming) (omega arith) c
+-- The first v rows are in range and their links counted.
+pub record Passed (n : ℕ) (ws : List ℕ) (v : ℕ) (incoming : List ℕ) : Type 0 where
+  pub labels : (u : ℕ) → u < v → (0 < labelAt ws u) × (labelAt ws u < n)
+  pub targets : (u : ℕ) → u < v → Within ws u
+  pub counted : Counted ws v incoming
+
+pub passed-none : (n : ℕ) {ws incoming : List ℕ} → Counted ws 0 incoming → Passed n ws 0 incoming
+passed-none n c = record { labels = λ u h. absurd (omega arith); targets = λ u h. absurd (omega arith); counted = c }
+
+module _ {n : ℕ} {ws : List ℕ} {v : ℕ} where
+  pub passed-more : {answer : Bool} {before incoming : List ℕ} → Passed n ws v before → 0 < labelAt ws v → labelAt ws v < n →
+      RowCount ws v answer incoming → answer ≡ true → Passed n ws (v + 1) incoming
+  passed-more p some few row yes-row =
+      record {
+        labels = λ u h. label u (ℕ-discrete u v) h;
+        targets = λ u h. target u (ℕ-discrete u v) h;
+        counted = row .yes-stands yes-row .1;
+      }
+    where
+      label : (u : ℕ) → Dec (u ≡ v) → u < v + 1 → (0 < labelAt ws u) × (labelAt ws u < n)
+      label u (yes e) h = subst (λ (w : ℕ). (0 < labelAt ws w) × (labelAt ws w < n)) (sym e) (some, few)
+      label u (no d) h = p .labels u (omega arith)
+
+      target : (u : ℕ) → Dec (u ≡ v) → u < v + 1 → Within ws u
+      target u (yes e) h = subst (Within ws) (sym e) (row .yes-stands yes-row .0)
+      target u (no d) h = p .targets u (omega arith)
+
+  pub passed-all : {incoming : List ℕ} → Passed n ws v incoming → v ≡ size ws → Count n ws true incoming
+  passed-all {incoming} p all =
+      record {
+        yes-stands = λ e. (
+          record { labels = λ u h. p .labels u (omega arith); targets = λ u h. p .targets u (omega arith) },
+          subst (λ (k : ℕ). Counted ws k incoming) all (p .counted),
+        );
+        no-stands = λ e. true-false refl e;
+      }
+
+  -- a row is out of range
+  pub label-out : {incoming : List ℕ} → v < size ws → ((0 < labelAt ws v) × (labelAt ws v < n) → ⊥) → Count n ws false incoming
+  label-out h out = record { yes-stands = λ e. true-false e refl; no-stands = λ e r. out (r .labels v h) }
+
+  pub target-out : {answer : Bool} {incoming : List ℕ} → v < size ws → RowCount ws v answer incoming → answer ≡ false → Count n ws false incoming
+  target-out h row no-row = record { yes-stands = λ e. true-false e refl; no-stands = λ e r. row .no-stands no-row (r .targets v h) }
 
 -- How many of the first n are 0.
 

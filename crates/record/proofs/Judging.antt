@@ -10,7 +10,7 @@ use Rattle.graphs.proofs.Search.{not-true, true-false}
 use Rattle.lattice.specs.Label.{Label}
 use Rattle.layout.specs.Layout.{size, rowsOf, Shaped, Sound}
 use Rattle.decode.specs.Decode.{decoded}
-use Rattle.decode.specs.Answers.{Held, Parses, Ranged, Ranges}
+use Rattle.decode.specs.Answers.{Held, Parses}
 use Rattle.decode.proofs.Decoded.{Decoded, decoded-says}
 use Rattle.record.specs.declared.GraphFault.{GraphFault}
 use Rattle.record.specs.declared.GraphFault.the-variants.{Malformed, OutOfRange, Cyclic, Unreached}
@@ -18,7 +18,7 @@ use Rattle.record.specs.declared.reading.Verdict.the-variants.{Accepted,
 use Rattle.record.specs.declared.peeling.Shape.{Shape}
 use Rattle.record.specs.declared.peeling.Shape.the-variants as shapes
 use Rattle.record.specs.Read.{refused, accepted, reading, inRange, cyclic, reachesAll}
-use Rattle.record.specs.Counts.{Peels}
+use Rattle.record.specs.Counts.{Count, Counted, Peels, Ranged}
 use Rattle.record.specs.Reads.{Holds, Reads, verdictOf}
 use Rattle.record.proofs.Readings.{Stands, reading-says, in-range}
 use Rattle.record.proofs.Nodes as rows
@@ -75,23 +75,27 @@ module _ (n : ℕ) (bytes : List ℕ) {ws : List ℕ} {parsed : Bool} (parses : 
     facts = decoded-says bytes own (given .is)
 
     -- 5
-    pub out-of-range : {passed : Bool} → Ranges n ws passed → passed ≡ false → Reads n bytes (Refused OutOfRange) ws
-    out-of-range ranges fails =
+    pub out-of-range : {passed : Bool} {incoming : List ℕ} → Count n ws passed incoming → passed ≡ false →
+        Reads n bytes (Refused OutOfRange) ws
+    out-of-range count fails =
         refuses OutOfRange (
           own,
           given .is,
-          not-true (inRange n own) (λ e. ranges .no-stands fails (rows-ranged shaped n (in-range n own .0 e))),
+          not-true (inRange n own) (λ e. count .no-stands fails (rows-ranged shaped n (in-range n own .0 e))),
         )
 
-    module _ {passed : Bool} (ranges : Ranges n ws passed) (yes : passed ≡ true) where
+    module _ {passed : Bool} {incoming : List ℕ} (count : Count n ws passed incoming) (yes : passed ≡ true) where
       ranged : Ranged n ws
-      ranged = ranges .yes-stands yes
+      ranged = count .yes-stands yes .0
+
+      pub counted : Counted ws (size ws) incoming
+      counted = count .yes-stands yes .1
 
       range-passes : inRange n own ≡ true
       range-passes = in-range n own .1 (ranged-rows shaped n ranged)
 
       pub sound : Sound ws
-      sound = record { shaped = shaped; targets = ranged .targets }
+      sound = record { shaped = shaped; targets = λ v k h. ranged .targets v h k }
 
       rows-linked : rows.Linked own
       rows-linked = rows.decoded-linked facts (in-range n own .0 range-passes)

@@ -74,11 +74,11 @@ module _ {ws : List ℕ} where
       let (k, low, high, is) = among-source ws w (linksFrom ws v) (rowEnd ws v) some in
       (v, record { inside = inside; place = k; low = low; high = high; target-is = is }, c)
 
-  pub peeling-start : {sources : ℕ} {incoming queue : List ℕ} → Counted ws (size ws) incoming → Queued (size ws) incoming queue sources →
+  pub peeling-start : {sources : ℕ} {incoming queue : List ℕ} → Sound ws → Counted ws (size ws) incoming → Queued (size ws) incoming queue sources →
       Peeling ws sources incoming queue 0 sources
-  peeling-start {sources} {incoming} {queue} c q =
+  peeling-start {sources} {incoming} {queue} sound c q =
       record {
-        sound = c .sound;
+        sound = sound;
         small = c .small;
         long = c .long;
         listing = q;

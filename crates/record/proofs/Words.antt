@@ -20,9 +20,8 @@ use Rattle.layout.proofs.Places.{link-at, link-place}
 use Rattle.layout.proofs.Rows.{length-rows, rows-member, rows-source}
 use Rattle.layout.proofs.Spans.{linkAt, links-member, links-at}
 use Rattle.visits.specs.Walks.{Leads, Reaches, one, more}
-use Rattle.decode.specs.Answers.{Ranged}
 use Rattle.record.specs.Read.{reachesAll}
-use Rattle.record.specs.Counts.{Earlier}
+use Rattle.record.specs.Counts.{Ranged, Earlier}
 use Rattle.record.specs.Reads.{Holds}
 use Rattle.record.proofs.Readings.{InRange}
 use Rattle.record.proofs.Nodes as rows
@@ -47,14 +46,14 @@ module _ {ws : List ℕ} (shaped : Shaped ws) where
             links-member ws (rowEnd ws v) (shaped .node v h .ended) (rowEnd ws v - linksFrom ws v) (linksFrom ws v)
             (omega (arith, shaped .node v h .begun)) l
             (subst (λ (ls : List (ℕ × ℕ)). List·Memᴰ l ls) (ap (λ (x : Row Label). x .1) e) i) in
-            omega (arith, ranged .targets v k h low high, held-length ws),
+            omega (arith, ranged .targets v h k low high, held-length ws),
       )
 
   pub rows-ranged : (n : ℕ) → InRange n (rowsOf ws) → Ranged n ws
   rows-ranged n all =
       record {
         labels = λ v h. let (a, b, c) = all (labelAt ws v, linksAt ws v) (listed v h) in (a, b);
-        targets = λ v k h low high.
+        targets = λ v h k low high.
             let (a, b, c) = all (labelAt ws v, linksAt ws v) (listed v h) in
             omega (
               arith,

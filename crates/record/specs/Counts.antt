@@ -1,12 +1,12 @@
--- What taking the sources away finds and keeps. A source is a node that no link enters; `incoming` counts for each node the links
--- that still enter it, and `queue` lists the nodes that none enters any more.
+-- What counting the links and taking the sources away finds and keeps. A source is a node that no link enters; `incoming` counts
+-- for each node the links that still enter it, and `queue` lists the nodes that none enters any more.
 use mathlib.Core.Path.{_≡_}
-use mathlib.Core.Bool.{Bool, true, cond}
+use mathlib.Core.Bool.{Bool, true, false, cond}
 use mathlib.Core.List.{List}
 use Prim.Native.Nat.{ℕ, zero, suc, _+_, _≤_, _<_}
 use lib.Dec.{eqb, leb}
 use lib.ListN.{length, getD}
-use Rattle.layout.specs.Layout.{size, linksFrom, rowEnd, targetAt, Sound}
+use Rattle.layout.specs.Layout.{size, linksFrom, rowEnd, labelAt, targetAt, Shaped, Sound}
 use Rattle.visits.specs.Colouring.{whites}
 use Rattle.visits.specs.Walks.{Leads, Reaches}
 use Rattle.record.specs.declared.peeling.Shape.{Shape}
@@ -32,10 +32,29 @@ entering counts ws w (suc v) = entering counts ws w v + cond (counts v) (into ws
 
 -- the links of the nodes before v are counted
 pub record Counted (ws : List ℕ) (v : ℕ) (incoming : List ℕ) : Type 0 where
-  pub sound : Sound ws
+  pub shaped : Shaped ws
   pub small : size ws ≤ 255
   pub long : length incoming ≡ 255
   pub counts : (w : ℕ) → w < 255 → getD incoming w 0 ≡ entering (λ _. true) ws w v
+
+-- every target of node v is a node
+abbrev pub Within : List ℕ → ℕ → Type 0
+Within ws v = (k : ℕ) → linksFrom ws v ≤ k → k < rowEnd ws v → targetAt ws k < size ws
+
+-- whether that is so, and if so the links of v are counted too
+pub record RowCount (ws : List ℕ) (v : ℕ) (answer : Bool) (incoming : List ℕ) : Type 0 where
+  pub yes-stands : answer ≡ true → Within ws v × Counted ws (v + 1) incoming
+  pub no-stands : answer ≡ false → Within ws v → ⊥
+
+-- every type is one of the n and not 0, every target is a node
+pub record Ranged (n : ℕ) (ws : List ℕ) : Type 0 where
+  pub labels : (v : ℕ) → v < size ws → (0 < labelAt ws v) × (labelAt ws v < n)
+  pub targets : (v : ℕ) → v < size ws → Within ws v
+
+-- whether that is so, and if so all links are counted
+pub record Count (n : ℕ) (ws : List ℕ) (answer : Bool) (incoming : List ℕ) : Type 0 where
+  pub yes-stands : answer ≡ true → Ranged n ws × Counted ws (size ws) incoming
+  pub no-stands : answer ≡ false → Ranged n ws → ⊥
 
 -- the first `count` of the queue are the nodes that no link enters, each once
 pub record Queued (nodes : ℕ) (incoming queue : List ℕ) (count : ℕ) : Type 0 where

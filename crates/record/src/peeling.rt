@@ -1,12 +1,12 @@
-// Cycles and reach in one pass (Kahn's topological sort): nodes that no link enters are taken away with their links, as long as there
-// are any. A graph where some stay has a cycle, and in one where none stays the root reaches every node exactly where it is the only
-// node that no link entered to start with.
+// The range test, which counts the links that enter each node as it goes. Then cycles and reach in one pass (Kahn's topological
+// sort): nodes that no link enters are taken away with their links, as long as there are any. A graph where some stay has a cycle,
+// and in one where none stays the root reaches every node exactly where it is the only node that no link entered to start with.
 
 ghost use Prim.Native.Nat.{_+_, _≤_, _<_};
 ghost use mathlib.Core.Path.{_≡_};
 ghost use lib.ListN.{length};
 ghost use Rattle.layout.specs.Layout.{Sound, rowEnd, size};
-ghost use Rattle.record.specs.Counts.{Counted, Peels, Queued, RowDue, RowTaken};
+ghost use Rattle.record.specs.Counts.{Count, Counted, Peels, Queued, RowCount, RowDue, RowTaken};
 
 // What is found: a cycle; else a node beside the root that no link enters; else neither.
 pub enum Shape {
@@ -15,32 +15,49 @@ pub enum Shape {
     Rooted,
 }
 
-// Counts the links of node v, those of the nodes before it being counted.
-fn count_row<'a>(graph: &'a [u16], v: usize, incoming: &mut [u16; 255])
+// Whether the targets of the links of node v are nodes; if so the links are counted, those of the nodes before v being counted.
+fn count_row<'a>(graph: &'a [u16], v: usize, incoming: &mut [u16; 255]) -> bool
     requires { ⌜ v < size (now graph) ⌝ }
     requires { ⌜ Counted (now graph) v (now incoming) ⌝ }
-    ensures { λ _. ⌜ Counted (now (graph .entry)) (v + 1) (now (incoming .exit)) ⌝ }
+    ensures { λ r. ⌜ RowCount (now (graph .entry)) v r (now (incoming .exit)) ⌝ }
 {
+    let nodes = graph[0] as usize;
     let end = graph[v + 2] as usize;
     let mut k = graph[v + 1] as usize + layout::HEADER;
     while k < end {
         let w = (graph[k] % layout::SCALE) as usize;
+        if nodes <= w {
+            return false;
+        }
         incoming[w] = incoming[w] + 1;
         k += 1;
     }
+    true
 }
 
-// Counts for each node the links that enter it, none being counted before.
-fn count_incoming<'a>(graph: &'a [u16], incoming: &mut [u16; 255])
+// Whether the types of the nodes are among the n and not 0, and the targets of their links among the nodes (refusal 5 otherwise); if
+// so the links that enter each node are counted, none being counted before.
+pub fn count_incoming(n: usize, graph: &[u16], incoming: &mut [u16; 255]) -> bool
     requires { ⌜ Counted (now graph) 0 (now incoming) ⌝ }
-    ensures { λ _. ⌜ Counted (now (graph .entry)) (size (now (graph .entry))) (now (incoming .exit)) ⌝ }
+    ensures { λ r. ⌜ Count n (now (graph .entry)) r (now (incoming .exit)) ⌝ }
 {
     let nodes = graph[0] as usize;
     let mut v = 0;
     while v < nodes {
-        count_row(graph, v, incoming);
+        let row = graph[v + 1] as usize;
+        let t = graph[row] as usize;
+        if t == 0 {
+            return false;
+        }
+        if n <= t {
+            return false;
+        }
+        if !count_row(graph, v, incoming) {
+            return false;
+        }
         v += 1;
     }
+    true
 }
 
 // Lists the nodes that no link enters; answers how many.
@@ -88,22 +105,20 @@ fn take_links<'a>(
     count
 }
 
-// Whether some node reaches itself, and if none does, whether a link enters every node but the root.
-pub fn sources_first(graph: &[u16]) -> Shape
+// Whether some node reaches itself, and if none does, whether a link enters every node but the root. The counts are used up.
+pub fn sources_first(graph: &[u16], incoming: &mut [u16; 255]) -> Shape
     requires { ⌜ Sound (now graph) ⌝ }
-    requires { ⌜ size (now graph) ≤ 255 ⌝ }
+    requires { ⌜ Counted (now graph) (size (now graph)) (now incoming) ⌝ }
     ensures { λ r. ⌜ Peels (now (graph .entry)) r ⌝ }
 {
     let nodes = graph[0] as usize;
-    let mut incoming = [0u16; 255];
     let mut queue = [0u16; 255];
-    count_incoming(graph, &mut incoming);
-    let sources = find_sources(nodes, &incoming, &mut queue);
+    let sources = find_sources(nodes, incoming, &mut queue);
     let mut count = sources;
     let mut next = 0;
     while next < count {
         let v = queue[next] as usize;
-        count = take_links(graph, v, &mut incoming, &mut queue, count);
+        count = take_links(graph, v, incoming, &mut queue, count);
         next += 1;
     }
     if count < nodes {

@@ -21,10 +21,11 @@ pub fn read(n: usize, bytes: &[u8], graph: &mut [u16; 2560]) -> Verdict
     if !decode::rows::parse(bytes, graph) {
         return Verdict::Refused(GraphFault::Malformed);
     }
-    if !decode::ranges::in_range(n, graph) {
+    let mut incoming = [0u16; 255];
+    if !crate::peeling::count_incoming(n, graph, &mut incoming) {
         return Verdict::Refused(GraphFault::OutOfRange);
     }
-    match crate::peeling::sources_first(graph) {
+    match crate::peeling::sources_first(graph, &mut incoming) {
         Shape::Cyclic => Verdict::Refused(GraphFault::Cyclic),
         Shape::Apart => Verdict::Refused(GraphFault::Unreached),
         Shape::Rooted => Verdict::Accepted,

@@ -1,4 +1,4 @@
--- `peeling::count_row` meets its contract. The loop's invariant: the links of v before k are counted.
+-- `peeling::count_row` meets its contract. The loop's invariant: the links of v before k lead to nodes and are counted.
 use Prim.Native.Nat.{_+_, _-_}
 use native.Mathlib.Omega.{arith}
 use Rattle.record.proofs.Counting.{
@@ -6,7 +6,7 @@ use Rattle.record.proofs.Counting.{
   row-listed,
   counting-start,
   counting-place,
-  counting-inside,
+  counting-out,
   counting-room,
   counting-next,
   counting-done,
@@ -16,10 +16,16 @@ use Rattle.record.proofs.peeling.count_row.Statement.{statement}
 use Rattle.record.proofs.peeling.count_row.Tie as tie
 
 abbrev Inv-loop : tie.InvT-loop
-Inv-loop graph v incoming₀ end k₀ incoming k = Counting graph v incoming k
+Inv-loop graph v incoming₀ nodes end k₀ incoming k = Counting graph v incoming k
 
 abbrev μ-loop : tie.MeasureT-loop
-μ-loop graph v incoming₀ end k₀ incoming k = end - k
+μ-loop graph v incoming₀ nodes end k₀ incoming k = end - k
+
+shared-slice-read-nodes : tie.Need-shared-slice-read-nodes Inv-loop μ-loop
+shared-slice-read-nodes c = omega (arith, row-listed (c .before .pre .1) (c .before .pre .0))
+
+cast-nodes : tie.Need-cast-nodes Inv-loop μ-loop
+cast-nodes c = search needs
 
 add-end : tie.Need-add-end Inv-loop μ-loop
 add-end c = search needs
@@ -28,10 +34,10 @@ mul-end : tie.Need-mul-end Inv-loop μ-loop
 mul-end c = search needs
 
 shared-slice-read-end : tie.Need-shared-slice-read-end Inv-loop μ-loop
-shared-slice-read-end c = row-listed (c .before .pre .1) (c .before .pre .0)
+shared-slice-read-end c = row-listed (c .before .before .pre .1) (c .before .before .pre .0)
 
 cast-end : tie.Need-cast-end Inv-loop μ-loop
-cast-end c = omega (arith, c .shared-slice-known .given (c .before .args .v + 2))
+cast-end c = omega (arith, c .shared-slice-known2 .given (c .before .before .args .v + 2))
 
 add-k : tie.Need-add-k Inv-loop μ-loop
 add-k c = search needs
@@ -40,59 +46,65 @@ mul-k : tie.Need-mul-k Inv-loop μ-loop
 mul-k c = search needs
 
 shared-slice-read-k : tie.Need-shared-slice-read-k Inv-loop μ-loop
-shared-slice-read-k c = omega (arith, row-listed (c .before .before .pre .1) (c .before .before .pre .0))
+shared-slice-read-k c = omega (arith, row-listed (c .before .before .before .pre .1) (c .before .before .before .pre .0))
 
 cast-k : tie.Need-cast-k Inv-loop μ-loop
-cast-k c = omega (arith, c .shared-slice-known2 .given (c .before .before .args .v + 1))
+cast-k c = omega (arith, c .shared-slice-known3 .given (c .before .before .before .args .v + 1))
 
 add-k-2 : tie.Need-add-k-2 Inv-loop μ-loop
-add-k-2 c = omega (arith, c .shared-slice-known2 .given (c .before .before .args .v + 1))
+add-k-2 c = omega (arith, c .shared-slice-known3 .given (c .before .before .before .args .v + 1))
 
 loop-holds : tie.Need-loop-holds Inv-loop μ-loop
-loop-holds c = counting-start (c .before .before .pre .1) (c .before .before .pre .0)
+loop-holds c = counting-start (c .before .before .before .pre .1) (c .before .before .before .pre .0)
 
 mul-w : tie.Need-mul-w Inv-loop μ-loop
-mul-w c = let entry = c .before .before .before in omega (arith, entry .shared-slice-known .given (entry .before .args .v + 2))
+mul-w c = let entry = c .before .before .before in omega (arith, entry .shared-slice-known2 .given (entry .before .before .args .v + 2))
 
 shared-slice-read-w : tie.Need-shared-slice-read-w Inv-loop μ-loop
 shared-slice-read-w c = counting-place (c .before .before .loop .inv) (c .before .loop-test .taken)
 
 cast-w : tie.Need-cast-w Inv-loop μ-loop
-cast-w c = omega (arith, c .shared-slice-known3 .given (c .before .before .loop .k))
+cast-w c = omega (arith, c .shared-slice-known4 .given (c .before .before .loop .k))
+
+returns : tie.Need-returns Inv-loop μ-loop
+returns c = counting-out (c .before .before .before .loop .inv) (c .before .before .loop-test .taken) (c .if1 .taken)
 
 mul-incoming : tie.Need-mul-incoming Inv-loop μ-loop
-mul-incoming c = omega (arith, counting-inside (c .before .before .loop .inv) (c .before .loop-test .taken))
+mul-incoming c = omega (arith, c .before .before .before .loop .inv .small, c .if1 .left)
 
 element-copy-out-incoming : tie.Need-element-copy-out-incoming Inv-loop μ-loop
-element-copy-out-incoming c = omega (arith, counting-inside (c .before .before .loop .inv) (c .before .loop-test .taken))
+element-copy-out-incoming c = omega (arith, c .before .before .before .loop .inv .small, c .if1 .left)
 
 add-incoming : tie.Need-add-incoming Inv-loop μ-loop
 add-incoming c =
-    let turn = c .before .before in
+    let turn = c .before .before .before in
     let entry = turn .before .before .before in
     omega (
       arith,
-      counting-room (turn .before .loop .inv) (turn .loop-test .taken),
-      entry .shared-slice-known .given (entry .before .args .v + 2),
+      counting-room (turn .before .loop .inv) (turn .loop-test .taken) (omega (arith, c .before .if1 .left)),
+      entry .shared-slice-known2 .given (entry .before .before .args .v + 2),
     )
 
 mul-incoming-2 : tie.Need-mul-incoming-2 Inv-loop μ-loop
-mul-incoming-2 c = omega (arith, counting-inside (c .before .before .before .loop .inv) (c .before .before .loop-test .taken))
+mul-incoming-2 c = omega (arith, c .before .before .before .before .loop .inv .small, c .before .if1 .left)
 
 element-write-incoming : tie.Need-element-write-incoming Inv-loop μ-loop
-element-write-incoming c = omega (arith, counting-inside (c .before .before .before .loop .inv) (c .before .before .loop-test .taken))
+element-write-incoming c = omega (arith, c .before .before .before .before .loop .inv .small, c .before .if1 .left)
 
 add-k-3 : tie.Need-add-k-3 Inv-loop μ-loop
-add-k-3 c = let entry = c .before .before .before .before .before in omega (arith, entry .shared-slice-known .given (entry .before .args .v + 2))
+add-k-3 c =
+    let entry = c .before .before .before .before .before .before in
+    omega (arith, entry .shared-slice-known2 .given (entry .before .before .args .v + 2))
 
 loop-less : tie.Need-loop-less Inv-loop μ-loop
-loop-less c = search needs
+loop-less c = omega arith
 
 loop-again : tie.Need-loop-again Inv-loop μ-loop
-loop-again c = counting-next (c .before .before .before .loop .inv) (c .before .before .loop-test .taken)
+loop-again c =
+    counting-next (c .before .before .before .before .loop .inv) (c .before .before .before .loop-test .taken) (omega (arith, c .before .if1 .left))
 
-returns : tie.Need-returns Inv-loop μ-loop
-returns c = counting-done (c .before .loop .inv) (c .loop-test .left)
+returns-2 : tie.Need-returns-2 Inv-loop μ-loop
+returns-2 c = counting-done (c .before .loop .inv) (c .loop-test .left)
 
 pub count-row-spec : {M : Type 1} → statement M
 count-row-spec =
@@ -100,6 +112,8 @@ count-row-spec =
     (tie.spec
     Inv-loop
     μ-loop
+    shared-slice-read-nodes
+    cast-nodes
     add-end
     mul-end
     shared-slice-read-end
@@ -113,6 +127,7 @@ count-row-spec =
     mul-w
     shared-slice-read-w
     cast-w
+    returns
     mul-incoming
     element-copy-out-incoming
     add-incoming
@@ -121,4 +136,4 @@ count-row-spec =
     add-k-3
     loop-less
     loop-again
-    returns)
+    returns-2)

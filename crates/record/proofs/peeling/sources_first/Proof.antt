@@ -3,7 +3,6 @@ use mathlib.Core.Logic.{⊎-elim}
 use Prim.Native.Nat.{_-_}
 use native.Mathlib.Omega.{arith}
 use Rattle.layout.proofs.Places.{sized}
-use Rattle.record.proofs.Counting.{counted-start}
 use Rattle.record.proofs.Passes.{
   Peeling,
   peeling-start,
@@ -21,10 +20,10 @@ use Rattle.record.proofs.peeling.sources_first.Statement.{statement}
 use Rattle.record.proofs.peeling.sources_first.Tie as tie
 
 abbrev Inv-loop : tie.InvT-loop
-Inv-loop graph nodes incoming₀ queue₀ sources count₀ next₀ incoming queue count next = Peeling graph sources incoming queue next count
+Inv-loop graph incoming₀ nodes queue₀ sources count₀ next₀ incoming queue count next = Peeling graph sources incoming queue next count
 
 abbrev μ-loop : tie.MeasureT-loop
-μ-loop graph nodes incoming₀ queue₀ sources count₀ next₀ incoming queue count next = nodes - next
+μ-loop graph incoming₀ nodes queue₀ sources count₀ next₀ incoming queue count next = nodes - next
 
 shared-slice-read-nodes : tie.Need-shared-slice-read-nodes Inv-loop μ-loop
 shared-slice-read-nodes c = sized (c .before .before .pre .0)
@@ -32,14 +31,11 @@ shared-slice-read-nodes c = sized (c .before .before .pre .0)
 cast-nodes : tie.Need-cast-nodes Inv-loop μ-loop
 cast-nodes c = search needs
 
-count-incoming-requires : tie.Need-count-incoming-requires Inv-loop μ-loop
-count-incoming-requires c κs = counted-start (c .before .before .before .pre .0) (c .before .before .before .pre .1)
-
 find-sources-requires : tie.Need-find-sources-requires Inv-loop μ-loop
-find-sources-requires c κs = (c .before .before .before .before .before .before .pre .1, (c .before .before .count-incoming .ensures .long, search needs))
+find-sources-requires c κs = let start = c .before .before .before .before in (start .pre .1 .small, (start .pre .1 .long, search needs))
 
 loop-holds : tie.Need-loop-holds Inv-loop μ-loop
-loop-holds c = peeling-start (c .before .before .before .count-incoming .ensures) (c .find-sources .ensures)
+loop-holds c = let start = c .before .before .before .before .before in peeling-start (start .pre .0) (start .pre .1) (c .find-sources .ensures)
 
 mul-v : tie.Need-mul-v Inv-loop μ-loop
 mul-v c = omega (arith, peeling-few (c .before .loop .inv), c .before .loop .inv .small)
@@ -85,7 +81,6 @@ sources-first-spec =
     μ-loop
     shared-slice-read-nodes
     cast-nodes
-    count-incoming-requires
     find-sources-requires
     loop-holds
     mul-v

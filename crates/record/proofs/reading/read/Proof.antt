@@ -1,6 +1,7 @@
 -- `reading::read` meets its contract: each return hands what the parts found to the step of that refusal.
 use borrow.Author.Needs.{needs}
 use borrow.Author.Tests.{not-true, not-false}
+use Rattle.record.proofs.Counting.{counted-start}
 use Rattle.record.proofs.Judging as judging
 use Rattle.record.proofs.reading.read.Statement.{statement}
 use Rattle.record.proofs.reading.read.Tie as tie
@@ -16,34 +17,37 @@ returns c =
       parsed .parse .ensures .1,
     )
 
-in-range-requires : tie.Need-in-range-requires
-in-range-requires c κs =
-    let tried = c .before .before in
+count-incoming-requires : tie.Need-count-incoming-requires
+count-incoming-requires c κs =
+    let tried = c .before .before .before in
     let parsed = tried .before in
     let start = parsed .before .before .before in
-    judging.shaped (start .args .n) (start .args .bytes .now) (parsed .parse .ensures .0) (not-false (parsed .parse .result) (tried .if1 .left))
+    counted-start
+    (judging.shaped (start .args .n) (start .args .bytes .now) (parsed .parse .ensures .0) (not-false (parsed .parse .result) (tried .if1 .left)))
+    (judging.small (start .args .n) (start .args .bytes .now) (parsed .parse .ensures .0) (not-false (parsed .parse .result) (tried .if1 .left)))
 
 returns-2 : tie.Need-returns-2
 returns-2 c =
-    let ranged = c .before in
-    let tried = ranged .before .before .before in
+    let counted = c .before in
+    let tried = counted .before .before .before .before in
     let parsed = tried .before in
     let start = parsed .before .before .before in (
       judging.out-of-range (start .args .n) (start .args .bytes .now) (parsed .parse .ensures .0)
-          (not-false (parsed .parse .result) (tried .if1 .left)) (ranged .in-range .ensures) (not-true (ranged .in-range .result) (c .if2 .taken)),
+          (not-false (parsed .parse .result) (tried .if1 .left)) (counted .count-incoming .ensures) (not-true (counted .count-incoming .result) (c .if2 .taken)),
       parsed .parse .ensures .1,
     )
 
 sources-first-requires : tie.Need-sources-first-requires
 sources-first-requires c κs =
-    let passed = c .before .before in
-    let ranged = passed .before in
-    let tried = ranged .before .before .before in
+    let passed = c .before .before .before in
+    let counted = passed .before in
+    let tried = counted .before .before .before .before in
     let parsed = tried .before in
     let start = parsed .before .before .before in (
       judging.sound (start .args .n) (start .args .bytes .now) (parsed .parse .ensures .0) (not-false (parsed .parse .result) (tried .if1 .left))
-          (ranged .in-range .ensures) (not-false (ranged .in-range .result) (passed .if2 .left)),
-      judging.small (start .args .n) (start .args .bytes .now) (parsed .parse .ensures .0) (not-false (parsed .parse .result) (tried .if1 .left)),
+          (counted .count-incoming .ensures) (not-false (counted .count-incoming .result) (passed .if2 .left)),
+      judging.counted (start .args .n) (start .args .bytes .now) (parsed .parse .ensures .0) (not-false (parsed .parse .result) (tried .if1 .left))
+          (counted .count-incoming .ensures) (not-false (counted .count-incoming .result) (passed .if2 .left)),
     )
 
 enum-told : tie.Need-enum-told
@@ -58,13 +62,13 @@ enum-told-3 c = search needs
 returns-3 : tie.Need-returns-3
 returns-3 c =
     let found = c .before .before in
-    let passed = found .before .before .before in
-    let ranged = passed .before in
-    let tried = ranged .before .before .before in
+    let passed = found .before .before .before .before in
+    let counted = passed .before in
+    let tried = counted .before .before .before .before in
     let parsed = tried .before in
     let start = parsed .before .before .before in (
       judging.with-cycle (start .args .n) (start .args .bytes .now) (parsed .parse .ensures .0) (not-false (parsed .parse .result) (tried .if1 .left))
-          (ranged .in-range .ensures) (not-false (ranged .in-range .result) (passed .if2 .left)) (found .sources-first .ensures)
+          (counted .count-incoming .ensures) (not-false (counted .count-incoming .result) (passed .if2 .left)) (found .sources-first .ensures)
           (c .enum-told .given .1),
       parsed .parse .ensures .1,
     )
@@ -72,13 +76,13 @@ returns-3 c =
 returns-4 : tie.Need-returns-4
 returns-4 c =
     let found = c .before .before in
-    let passed = found .before .before .before in
-    let ranged = passed .before in
-    let tried = ranged .before .before .before in
+    let passed = found .before .before .before .before in
+    let counted = passed .before in
+    let tried = counted .before .before .before .before in
     let parsed = tried .before in
     let start = parsed .before .before .before in (
       judging.unreached (start .args .n) (start .args .bytes .now) (parsed .parse .ensures .0) (not-false (parsed .parse .result) (tried .if1 .left))
-          (ranged .in-range .ensures) (not-false (ranged .in-range .result) (passed .if2 .left)) (found .sources-first .ensures)
+          (counted .count-incoming .ensures) (not-false (counted .count-incoming .result) (passed .if2 .left)) (found .sources-first .ensures)
           (c .enum-told2 .given .1),
       parsed .parse .ensures .1,
     )
@@ -86,13 +90,13 @@ returns-4 c =
 returns-5 : tie.Need-returns-5
 returns-5 c =
     let found = c .before .before in
-    let passed = found .before .before .before in
-    let ranged = passed .before in
-    let tried = ranged .before .before .before in
+    let passed = found .before .before .before .before in
+    let counted = passed .before in
+    let tried = counted .before .before .before .before in
     let parsed = tried .before in
     let start = parsed .before .before .before in (
       judging.accepts (start .args .n) (start .args .bytes .now) (parsed .parse .ensures .0) (not-false (parsed .parse .result) (tried .if1 .left))
-          (ranged .in-range .ensures) (not-false (ranged .in-range .result) (passed .if2 .left)) (found .sources-first .ensures)
+          (counted .count-incoming .ensures) (not-false (counted .count-incoming .result) (passed .if2 .left)) (found .sources-first .ensures)
           (c .enum-told3 .given .1),
       parsed .parse .ensures .1,
     )
@@ -103,7 +107,7 @@ read-spec =
     (tie.spec
     parse-requires
     returns
-    in-range-requires
+    count-incoming-requires
     returns-2
     sources-first-requires
     enum-told
