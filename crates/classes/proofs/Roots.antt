@@ -3,6 +3,7 @@
 use mathlib.Core.Path.{_≡_, refl, sym, _∙_, ap, subst}
 use mathlib.Core.Bool.{Bool, cond}
 use mathlib.Core.List.{List}
+use mathlib.Core.Logic.{_⊎_, inl, inr}
 use Prim.Native.Nat.{ℕ, zero, suc, _≤_, _<_}
 use native.Mathlib.Decide.{decLt, ℕ-discrete}
 use native.Mathlib.Omega.{arith}
@@ -10,7 +11,7 @@ use borrow.Author.Tests.{eq-eqb, ne-eqb}
 use lib.Dec.{eqb}
 use lib.ListN.{length, getD, set, length-set}
 use lib.Seq.{getD-set-same, getD-set-other}
-use Rattle.classes.specs.Forest.{climb, rootOf, Forest, SameRoots}
+use Rattle.classes.specs.Forest.{climb, rootOf, Forest, SameRoots, United, Flat}
 
 -- a value stored in an array of numbers, and the others
 pub stored : (l : List ℕ) (i a : ℕ) → i < length l → getD (set l i a) i 0 ≡ a
@@ -221,6 +222,117 @@ module _ {parent : List ℕ} (forest : Forest parent) (lo hi : ℕ) (less : lo <
               let e : rootOf parent x ≡ x = fixed-root forest x (sym (hung-other x d) ∙ q) in
               ap (joined lo hi) e ∙ joined-other lo hi x d
 
+  -- the root put below is that of hi's class, which is one with lo's
+  module _ (a b : ℕ) (a-small : a < 510) (b-small : b < 510) (lo-is : lo ≡ rootOf parent a) (hi-is : hi ≡ rootOf parent b) where
+    pub hung-unites : United parent a b (set parent hi lo)
+    hung-unites =
+        record {
+          forest = hung-forest;
+          merged =
+              hung-roots a a-small ∙ joined-other lo hi (rootOf parent a) (λ q. omega (arith, lo-is)) ∙ sym lo-is ∙
+              sym (hung-roots b b-small ∙ joined-here lo hi (rootOf parent b) (sym hi-is));
+          kept = λ x y h l e. hung-roots x h ∙ ap (joined lo hi) e ∙ sym (hung-roots y l);
+          only = λ x y h l e.
+              only x y (ℕ-discrete (rootOf parent x) hi) (ℕ-discrete (rootOf parent y) hi) (sym (hung-roots x h) ∙ e ∙ hung-roots y l);
+        }
+      where
+        only : (x y : ℕ) → Dec (rootOf parent x ≡ hi) → Dec (rootOf parent y ≡ hi) →
+            joined lo hi (rootOf parent x) ≡ joined lo hi (rootOf parent y) →
+            (rootOf parent x ≡ rootOf parent y) ⊎ ((rootOf parent x ≡ rootOf parent a) × (rootOf parent y ≡ rootOf parent b)) ⊎
+            ((rootOf parent x ≡ rootOf parent b) × (rootOf parent y ≡ rootOf parent a))
+        only x y (yes p) (yes q) e = inl (p ∙ sym q)
+        only x y (yes p) (no q) e =
+            inr
+            (inr
+            (p ∙ hi-is, sym (joined-other lo hi (rootOf parent y) q) ∙ sym e ∙ joined-here lo hi (rootOf parent x) p ∙ lo-is))
+        only x y (no p) (yes q) e =
+            inr
+            (inl
+            (sym (joined-other lo hi (rootOf parent x) p) ∙ e ∙ joined-here lo hi (rootOf parent y) q ∙ lo-is, q ∙ hi-is))
+        only x y (no p) (no q) e =
+            inl (sym (joined-other lo hi (rootOf parent x) p) ∙ e ∙ joined-other lo hi (rootOf parent y) q)
+
+-- One class of two, in either order, and in a forest with the same roots.
+
+united-back : {parent later : List ℕ} {a b : ℕ} → United parent b a later → United parent a b later
+united-back u =
+    record { forest = u .forest; merged = sym (u .merged); kept = u .kept; only = λ x y h l e. turn (u .only x y h l e) }
+  where
+    turn : {P Q R : Type 0} → P ⊎ Q ⊎ R → P ⊎ R ⊎ Q
+    turn (inl p) = inl p
+    turn (inr (inl q)) = inr (inr q)
+    turn (inr (inr r)) = inr (inl r)
+
+module _ {parent₀ parent : List ℕ} (s : SameRoots parent₀ parent) {a b : ℕ} (a-small : a < 510) (b-small : b < 510) where
+  united-before : {later : List ℕ} → United parent a b later → United parent₀ a b later
+  united-before {later} u =
+      record {
+        forest = u .forest;
+        merged = u .merged;
+        kept = λ x y h l e. u .kept x y h l (s .same x h ∙ e ∙ sym (s .same y l));
+        only = λ x y h l e. only x y h l (u .only x y h l e);
+      }
+    where
+      to : (x y : ℕ) → x < 510 → y < 510 → rootOf parent x ≡ rootOf parent y → rootOf parent₀ x ≡ rootOf parent₀ y
+      to x y h l e = sym (s .same x h) ∙ e ∙ s .same y l
+
+      only : (x y : ℕ) → x < 510 → y < 510 →
+          (rootOf parent x ≡ rootOf parent y) ⊎ ((rootOf parent x ≡ rootOf parent a) × (rootOf parent y ≡ rootOf parent b)) ⊎
+          ((rootOf parent x ≡ rootOf parent b) × (rootOf parent y ≡ rootOf parent a)) →
+          (rootOf parent₀ x ≡ rootOf parent₀ y) ⊎ ((rootOf parent₀ x ≡ rootOf parent₀ a) × (rootOf parent₀ y ≡ rootOf parent₀ b)) ⊎
+          ((rootOf parent₀ x ≡ rootOf parent₀ b) × (rootOf parent₀ y ≡ rootOf parent₀ a))
+      only x y h l (inl e) = inl (to x y h l e)
+      only x y h l (inr (inl (p, q))) = inr (inl (to x a h a-small p, to y b l b-small q))
+      only x y h l (inr (inr (p, q))) = inr (inr (to x b h b-small p, to y a l a-small q))
+
+  united-already : rootOf parent₀ a ≡ rootOf parent₀ b → United parent₀ a b parent
+  united-already e =
+      record {
+        forest = s .forest;
+        merged = s .same a a-small ∙ e ∙ sym (s .same b b-small);
+        kept = λ x y h l q. s .same x h ∙ q ∙ sym (s .same y l);
+        only = λ x y h l q. inl (sym (s .same x h) ∙ q ∙ s .same y l);
+      }
+
+-- The roots x and y of a and b are found, and the greater is put below the lesser.
+module _ {parent₀ parent₁ parent : List ℕ} {a b x y : ℕ} (a-small : a < 510) (b-small : b < 510)
+    (x-is : x ≡ rootOf parent₀ a) (first : SameRoots parent₀ parent₁) (y-is : y ≡ rootOf parent₁ b) (second : SameRoots parent₁ parent) where
+  both : SameRoots parent₀ parent
+  both = record { forest = second .forest; same = λ z h. second .same z h ∙ first .same z h }
+
+  x-root : x ≡ rootOf parent a
+  x-root = x-is ∙ sym (both .same a a-small)
+
+  y-root : y ≡ rootOf parent b
+  y-root = y-is ∙ sym (second .same b b-small)
+
+  pub unite-bounds : (x < 510) × (y < 510)
+  unite-bounds = (
+    omega (arith, x-root, root-low (both .forest) a a-small),
+    omega (arith, y-root, root-low (both .forest) b b-small),
+  )
+
+  top-x : rootOf parent x ≡ x
+  top-x = ap (rootOf parent) x-root ∙ root-twice (both .forest) a a-small ∙ sym x-root
+
+  top-y : rootOf parent y ≡ y
+  top-y = ap (rootOf parent) y-root ∙ root-twice (both .forest) b b-small ∙ sym y-root
+
+  pub unite-below : x < y → United parent₀ a b (set parent y x)
+  unite-below h =
+      united-before both a-small b-small
+      (hung-unites (both .forest) x y h (unite-bounds .1) top-x top-y a b a-small b-small x-root y-root)
+
+  pub unite-above : y < x → United parent₀ a b (set parent x y)
+  unite-above h =
+      united-before both a-small b-small
+      (united-back (hung-unites (both .forest) y x h (unite-bounds .0) top-y top-x b a b-small a-small y-root x-root))
+
+  pub unite-none : y ≤ x → x ≤ y → United parent₀ a b parent
+  unite-none low high =
+      let e : x ≡ y = omega arith in
+      united-already both a-small b-small (sym x-is ∙ e ∙ y-is ∙ first .same b b-small)
+
 -- Every node of its own.
 
 pub separate-forest : {parent : List ℕ} → length parent ≡ 510 → ((x : ℕ) → x < 510 → getD parent x 0 ≡ x) → Forest parent
@@ -235,19 +347,19 @@ separate-step l n h all x k = go (ℕ-discrete x n)
     go (no d) = unstored l n n x d ∙ all x (omega arith)
 
 -- The nodes below n are put right below their roots.
-pub record Flat (parent later : List ℕ) (n : ℕ) : Type 0 where
+pub record Flattening (parent later : List ℕ) (n : ℕ) : Type 0 where
   pub long : length later ≡ 510
   pub done : (x : ℕ) → x < n → getD later x 0 ≡ rootOf parent x
   pub left : (x : ℕ) → n ≤ x → getD later x 0 ≡ getD parent x 0
 
-pub flat-start : {parent : List ℕ} → Forest parent → Flat parent parent 0
+pub flat-start : {parent : List ℕ} → Forest parent → Flattening parent parent 0
 flat-start forest = record { long = forest .long; done = λ x h. absurd (omega arith); left = λ x h. refl }
 
-pub flat-up : {parent later : List ℕ} → Forest parent → (n : ℕ) → n < 510 → Flat parent later n → getD later n 0 ≤ n
+pub flat-up : {parent later : List ℕ} → Forest parent → (n : ℕ) → n < 510 → Flattening parent later n → getD later n 0 ≤ n
 flat-up forest n h f = omega (arith, f .left n (omega arith), forest .down n h)
 
-pub flat-step : {parent later : List ℕ} → Forest parent → (n : ℕ) → n < 510 → Flat parent later n →
-    Flat parent (set later n (getD later (getD later n 0) 0)) (suc n)
+pub flat-step : {parent later : List ℕ} → Forest parent → (n : ℕ) → n < 510 → Flattening parent later n →
+    Flattening parent (set later n (getD later (getD later n 0) 0)) (suc n)
 flat-step {parent} {later} forest n small f =
     record {
       long = length-set later n (getD later (getD later n 0) 0) ∙ f .long;
@@ -271,6 +383,19 @@ flat-step {parent} {later} forest n small f =
         stored later n (getD later (getD later n 0) 0) (omega (arith, f .long)) ∙
         value (decLt (getD parent n 0) n) ∙ ap (rootOf parent) (sym e)
     done x h (no d) = unstored later n (getD later (getD later n 0) 0) x d ∙ f .done x (omega arith)
+
+-- a forest whose parents are the roots of another
+pub flattened : {parent later : List ℕ} → Forest parent → length later ≡ 510 →
+    ((x : ℕ) → x < 510 → getD later x 0 ≡ rootOf parent x) → SameRoots parent later × Flat later
+flattened {parent} {later} forest long e =
+    (record { forest = down; same = same }, record { forest = down; near = λ x h. e x h ∙ sym (same x h) })
+  where
+    down : Forest later
+    down = record { long = long; down = λ x h. omega (arith, e x h, root-low forest x h) }
+
+    same : (x : ℕ) → x < 510 → rootOf later x ≡ rootOf parent x
+    same x h =
+        roots-by down (rootOf parent) (λ z l. ap (rootOf parent) (e z l) ∙ root-twice forest z l) (λ z l q. sym (e z l) ∙ q) x h
 
 -- The way up from x has come to v, whose parent is `up`.
 pub record Climbing (parent₀ : List ℕ) (x : ℕ) (parent : List ℕ) (v up : ℕ) : Type 0 where

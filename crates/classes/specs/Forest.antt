@@ -2,6 +2,7 @@
 -- represents the node's class.
 use mathlib.Core.Path.{_≡_}
 use mathlib.Core.List.{List}
+use mathlib.Core.Logic.{_⊎_}
 use Prim.Native.Nat.{ℕ, zero, suc, _≤_, _<_}
 use lib.ListN.{length, getD}
 
@@ -22,3 +23,17 @@ pub record Forest (parent : List ℕ) : Type 0 where
 pub record SameRoots (parent later : List ℕ) : Type 0 where
   pub forest : Forest later
   pub same : (x : ℕ) → x < 510 → rootOf later x ≡ rootOf parent x
+
+-- In a later forest the classes of a and b are one, and the others are as they were.
+pub record United (parent : List ℕ) (a b : ℕ) (later : List ℕ) : Type 0 where
+  pub forest : Forest later
+  pub merged : rootOf later a ≡ rootOf later b
+  pub kept : (x y : ℕ) → x < 510 → y < 510 → rootOf parent x ≡ rootOf parent y → rootOf later x ≡ rootOf later y
+  pub only : (x y : ℕ) → x < 510 → y < 510 → rootOf later x ≡ rootOf later y →
+      (rootOf parent x ≡ rootOf parent y) ⊎ ((rootOf parent x ≡ rootOf parent a) × (rootOf parent y ≡ rootOf parent b)) ⊎
+      ((rootOf parent x ≡ rootOf parent b) × (rootOf parent y ≡ rootOf parent a))
+
+-- Each node's parent is its root.
+pub record Flat (parent : List ℕ) : Type 0 where
+  pub forest : Forest parent
+  pub near : (x : ℕ) → x < 510 → getD parent x 0 ≡ rootOf parent x

@@ -3,7 +3,7 @@
 ghost use Prim.Native.Nat.{ℕ, _<_};
 ghost use lib.ListN.{length, getD};
 ghost use mathlib.Core.Path.{_≡_};
-ghost use Rattle.classes.specs.Forest.{Forest, SameRoots, rootOf};
+ghost use Rattle.classes.specs.Forest.{Forest, SameRoots, United, rootOf};
 
 // Makes each node a class of its own.
 pub fn separate(parent: &mut [u16; 510])
@@ -34,6 +34,21 @@ pub fn find(parent: &mut [u16; 510], x: usize) -> usize
         up = parent[v] as usize;
     }
     v
+}
+
+// Makes one class of those of a and b.
+pub fn unite(parent: &mut [u16; 510], a: usize, b: usize)
+    requires { ⌜ Forest (now parent) ⌝ }
+    requires { ⌜ (a < 510) × (b < 510) ⌝ }
+    ensures { λ _. ⌜ United (now (parent .entry)) a b (now (parent .exit)) ⌝ }
+{
+    let x = find(parent, a);
+    let y = find(parent, b);
+    if x < y {
+        parent[y] = x as u16;
+    } else if y < x {
+        parent[x] = y as u16;
+    }
 }
 
 // Puts each node right below its root.

@@ -12,7 +12,8 @@ use lib.Seq.{getD-set-same, getD-set-other}
 use Rattle.layout.specs.Layout.{size, rowFrom, linksFrom, rowEnd, featureAt, targetAt, Node, Place, rowsEnd}
 use Rattle.layout.proofs.Order.{next-row, place-from, place-before, one-row, no-header, place-rises, one-feature}
 use Rattle.subsume.specs.Following.{Sought}
-use Rattle.groups.specs.Classes.{Separate, Joined, root}
+use Rattle.classes.specs.Forest.{Forest, SameRoots, United, Flat, rootOf}
+use Rattle.classes.proofs.Roots.{separate-forest, fixed-root}
 use Rattle.groups.specs.Cover.{Lying, Over, Covers, Tied, same, shared, back, next, Grouping, Owns}
 use Rattle.groups.specs.Marks.{Owned}
 
@@ -71,13 +72,13 @@ module _ {s g map : List ℕ} (lying : Lying s g map) where
   owner-low group j h d = entered-low (group .owned j h d)
 
   -- what the marks ask of owners and classes
-  pub grouping-owned : {bound : ℕ} {owner parent : List ℕ} → Grouping s g map bound owner parent → Owned s owner parent
-  grouping-owned group =
+  pub grouping-owned : {bound : ℕ} {owner parent : List ℕ} → Grouping s g map bound owner parent → Flat parent → Owned s owner parent
+  grouping-owned group flat =
       record {
         shaped = lying .lower .sound .shaped;
         short = lying .short;
         long = group .owner-long;
-        forest = group .forest;
+        flat = flat;
         low = owner-low group;
         linked = λ j h d. let (i, l, o, e) = group .owned j h d in (getD map (o .node) 0, o .under);
       }
@@ -95,18 +96,24 @@ module _ {s g map : List ℕ} (lying : Lying s g map) where
       }
 
   -- no place yet
-  pub grouping-start : {owner parent : List ℕ} → length owner ≡ 2560 → ((j : ℕ) → j < 2560 → getD owner j 0 ≡ 65535) → Separate parent →
-      Grouping s g map (rowFrom g 0) owner parent
-  grouping-start long free apart =
+  pub grouping-start : {owner parent : List ℕ} → length owner ≡ 2560 → ((j : ℕ) → j < 2560 → getD owner j 0 ≡ 65535) →
+      length parent ≡ 510 → ((x : ℕ) → x < 510 → getD parent x 0 ≡ x) → Grouping s g map (rowFrom g 0) owner parent
+  grouping-start {owner} {parent} long free parent-long apart =
       record {
         owner-long = long;
-        forest = apart .forest;
+        forest = forest;
         owned = λ j h d. absurd (d (free j h));
         covered = λ j z c. absurd (omega (arith, place-from (lying .upper .sound .shaped) (c .2 .place), c .1));
         tied = λ x y h l e.
-            let z : x ≡ y = sym (apart .alone x h) ∙ e ∙ apart .alone y l in
+            let z : x ≡ y = sym (alone x (omega arith)) ∙ e ∙ alone y (omega arith) in
             rw z same;
       }
+    where
+      forest : Forest parent
+      forest = separate-forest parent-long apart
+
+      alone : (x : ℕ) → x < 510 → rootOf parent x ≡ x
+      alone x h = fixed-root forest x (apart x h)
 
   -- One place more.
 
@@ -140,53 +147,54 @@ module _ {s g map : List ℕ} (lying : Lying s g map) where
             rw same (group .owned i h λ q. d (same ∙ q))
 
         covered : (i z : ℕ) (c : Covers s g map (k + 1) i z) → Dec (c .0 ≡ k) →
-            (getD new i 0 ≡ 65535 → ⊥) × (root parent (getD new i 0) ≡ root parent z)
+            (getD new i 0 ≡ 65535 → ⊥) × (rootOf parent (getD new i 0) ≡ rootOf parent z)
         covered i z (p, h, q, e) (yes r) =
             let at : Over s g map k i = rw (sym r) q in
             let same : i ≡ j = over-one at o in
             let value : getD new i 0 ≡ z = ap (λ (x : ℕ). getD new x 0) same ∙ here ∙ ap (λ (x : ℕ). targetAt g x) (sym r) ∙ e in
-            (λ x. omega (arith, sym value ∙ x, entered-low (p, h, q, e)), ap (root parent) value)
+            (λ x. omega (arith, sym value ∙ x, entered-low (p, h, q, e)), ap (rootOf parent) value)
         covered i z (p, h, q, e) (no r) =
             let old = group .covered i z (p, omega arith, q, e) in
             let same : getD new i 0 ≡ getD owner i 0 =
             getD-set-other owner j i z₀ 0 (λ s. old .0 (ap (λ (x : ℕ). getD owner x 0) s ∙ free)) in
-            (λ x. old .0 (sym same ∙ x), ap (root parent) same ∙ old .1)
+            (λ x. old .0 (sym same ∙ x), ap (rootOf parent) same ∙ old .1)
 
-    grouping-joined : {parent′ : List ℕ} → (getD owner j 0 ≡ 65535 → ⊥) → Joined parent (getD owner j 0) (targetAt g k) parent′ →
+    grouping-united : {parent′ : List ℕ} → (getD owner j 0 ≡ 65535 → ⊥) → United parent (getD owner j 0) (targetAt g k) parent′ →
         Grouping s g map (k + 1) owner parent′
-    grouping-joined {parent′} held u =
+    grouping-united {parent′} held u =
         record {
           owner-long = group .owner-long;
           forest = u .forest;
           owned = group .owned;
           covered = λ i z c. covered i z c (ℕ-discrete (c .0) k);
-          tied = λ x y h l e. tied x y h l (u .only x y h l e);
+          tied = λ x y h l e. tied x y h l (u .only x y (omega arith) (omega arith) e);
         }
       where
         first : Covers s g map (rowsEnd g) j (getD owner j 0)
         first = group .owned j (over-within o) held
 
         covered : (i z : ℕ) (c : Covers s g map (k + 1) i z) → Dec (c .0 ≡ k) →
-            (getD owner i 0 ≡ 65535 → ⊥) × (root parent′ (getD owner i 0) ≡ root parent′ z)
+            (getD owner i 0 ≡ 65535 → ⊥) × (rootOf parent′ (getD owner i 0) ≡ rootOf parent′ z)
         covered i z (p, h, q, e) (yes r) =
             let at : Over s g map k i = rw (sym r) q in
             let same : i ≡ j = over-one at o in (
               λ x. held (ap (λ (y : ℕ). getD owner y 0) (sym same) ∙ x),
-              ap (λ (y : ℕ). root parent′ (getD owner y 0)) same ∙ u .merged ∙
-                  ap (root parent′) (ap (λ (y : ℕ). targetAt g y) (sym r) ∙ e),
+              ap (λ (y : ℕ). rootOf parent′ (getD owner y 0)) same ∙ u .merged ∙
+                  ap (rootOf parent′) (ap (λ (y : ℕ). targetAt g y) (sym r) ∙ e),
             )
         covered i z (p, h, q, e) (no r) =
             let old = group .covered i z (p, omega arith, q, e) in (
               old .0,
-              u .kept (getD owner i 0) z (entered-low (group .owned i (over-within q) (old .0))) (entered-low (p, h, q, e)) (old .1),
+              u .kept (getD owner i 0) z (omega (arith, entered-low (group .owned i (over-within q) (old .0))))
+                  (omega (arith, entered-low (p, h, q, e))) (old .1),
             )
 
         link : Tied s g map (getD owner j 0) (targetAt g k)
         link = shared j first enters
 
         tied : (x y : ℕ) → x < 255 → y < 255 →
-            (root parent x ≡ root parent y) ⊎ ((root parent x ≡ root parent (getD owner j 0)) × (root parent y ≡ root parent (targetAt g k))) ⊎
-            ((root parent x ≡ root parent (targetAt g k)) × (root parent y ≡ root parent (getD owner j 0))) →
+            (rootOf parent x ≡ rootOf parent y) ⊎ ((rootOf parent x ≡ rootOf parent (getD owner j 0)) × (rootOf parent y ≡ rootOf parent (targetAt g k))) ⊎
+            ((rootOf parent x ≡ rootOf parent (targetAt g k)) × (rootOf parent y ≡ rootOf parent (getD owner j 0))) →
             Tied s g map x y
         tied x y h l (inl e) = group .tied x y h l e
         tied x y h l (inr (inl (a, b))) =
@@ -202,7 +210,7 @@ module _ {s g map : List ℕ} (lying : Lying s g map) where
       where
         go : Dec (getD owner j 0 ≡ 65535) → Grouping s g map (k + 1) owner′ parent′
         go (yes e) = let (a, b) = w .first e in rw (a, b) (grouping-new e)
-        go (no d) = let (a, b) = w .later d in rw a (grouping-joined d b)
+        go (no d) = let (a, b) = w .later d in rw a (grouping-united d b)
 
   -- The loop over a row of g.
 
@@ -285,6 +293,25 @@ pub covering-done : {s g map : List ℕ} {y k j : ℕ} {owner parent : List ℕ}
     Grouping s g map (rowEnd g y) owner parent
 covering-done {s} {g} {map} {y} {k} {j} {owner} {parent} c h =
     subst (λ (i : ℕ). Grouping s g map i owner parent) (omega (arith, c .high)) (c .grouping)
+
+-- the same roots
+pub grouping-same : {s g map : List ℕ} {bound : ℕ} {owner parent later : List ℕ} → Lying s g map → Grouping s g map bound owner parent →
+    SameRoots parent later → Grouping s g map bound owner later
+grouping-same {s} {g} {map} {bound} {owner} {parent} {later} lying group roots =
+    record {
+      owner-long = group .owner-long;
+      forest = roots .forest;
+      owned = group .owned;
+      covered = λ j z c.
+          let (o, e) = group .covered j z c in (
+            o,
+            roots .same (getD owner j 0)
+                (omega (arith, owner-low lying group j (over-within lying (c .2)) o)) ∙ e ∙
+                sym (roots .same z (omega (arith, entered-low lying c))),
+          );
+      tied = λ x y h l e.
+          group .tied x y h l (sym (roots .same x (omega arith)) ∙ e ∙ roots .same y (omega arith));
+    }
 
 -- the next row
 pub grouping-row : {s g map : List ℕ} (y : ℕ) {owner parent : List ℕ} → Grouping s g map (rowEnd g y) owner parent →

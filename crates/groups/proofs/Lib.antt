@@ -1,5 +1,4 @@
 -- Lemmas that several proofs share.
-pub mod Forests
 pub mod Covering
 pub mod Marking
 pub mod Leading

@@ -8,14 +8,22 @@ use lib.ListN.{length, getD, set, length-set}
 use lib.Seq.{getD-set-same, getD-set-other}
 use Rattle.layout.specs.Layout.{size, rowFrom, linksFrom, rowEnd, Place, rowsEnd}
 use Rattle.layout.proofs.Order.{next-row, place-from, no-header}
-use Rattle.groups.specs.Classes.{root}
+use Rattle.classes.specs.Forest.{Flat, rootOf}
 use Rattle.groups.specs.Marks.{Together, Mark, follows, leads, bare, Seen, Marks, Owned}
+
+-- the class of an owner
+module _ {parent : List ℕ} (flat : Flat parent) {x : ℕ} (small : x < 255) where
+  pub class-low : getD parent x 0 < 255
+  class-low = omega (arith, flat .forest .down x (omega arith))
+
+  pub class-is : getD parent x 0 ≡ rootOf parent x
+  class-is = flat .near x (omega arith)
 
 -- One place.
 
 module _ {owner parent : List ℕ} {k : ℕ} {seen : List ℕ} (m : Seen owner parent k seen) where
   -- a place whose class is seen already, or that has none
-  again : ((getD owner k 0 ≡ 65535 → ⊥) → getD seen (root parent (getD owner k 0)) 0 ≡ 0 → ⊥) → Seen owner parent (k + 1) seen
+  again : ((getD owner k 0 ≡ 65535 → ⊥) → getD seen (rootOf parent (getD owner k 0)) 0 ≡ 0 → ⊥) → Seen owner parent (k + 1) seen
   again here =
       record {
         long = m .long;
@@ -23,14 +31,14 @@ module _ {owner parent : List ℕ} {k : ℕ} {seen : List ℕ} (m : Seen owner p
         unmet = λ j l. unmet j l (ℕ-discrete j k);
       }
     where
-      unmet : (j : ℕ) → j < k + 1 → Dec (j ≡ k) → (getD owner j 0 ≡ 65535 → ⊥) → getD seen (root parent (getD owner j 0)) 0 ≡ 0 → ⊥
+      unmet : (j : ℕ) → j < k + 1 → Dec (j ≡ k) → (getD owner j 0 ≡ 65535 → ⊥) → getD seen (rootOf parent (getD owner j 0)) 0 ≡ 0 → ⊥
       unmet j l (yes e) = rw e here
       unmet j l (no d) = m .unmet j (omega arith)
 
   pub marking-bare : getD owner k 0 ≡ 65535 → Mark owner parent k 2 × Seen owner parent (k + 1) seen
   marking-bare none = (bare refl none, again (λ o _. o none))
 
-  module _ (o : getD owner k 0 ≡ 65535 → ⊥) {c : ℕ} (class : c ≡ root parent (getD owner k 0)) (small : c < 255) where
+  module _ (o : getD owner k 0 ≡ 65535 → ⊥) {c : ℕ} (class : c ≡ rootOf parent (getD owner k 0)) (small : c < 255) where
     pub marking-follows : (getD seen c 0 ≡ 0 → ⊥) → Mark owner parent k 0 × Seen owner parent (k + 1) seen
     marking-follows d =
         let (j, l, own, e) = m .met c small d in (
@@ -55,21 +63,21 @@ module _ {owner parent : List ℕ} {k : ℕ} {seen : List ℕ} (m : Seen owner p
         here = getD-set-same seen c 1 0 (omega (arith, m .long))
 
         met : (x : ℕ) → x < 255 → (getD (set seen c 1) x 0 ≡ 0 → ⊥) → Dec (x ≡ c) →
-            (j : ℕ) × (j < k + 1) × (getD owner j 0 ≡ 65535 → ⊥) × (root parent (getD owner j 0) ≡ x)
+            (j : ℕ) × (j < k + 1) × (getD owner j 0 ≡ 65535 → ⊥) × (rootOf parent (getD owner j 0) ≡ x)
         met x l d (yes e) = (k, omega arith, o, sym class ∙ sym e)
         met x l d (no n) =
             let (j, below, own, e) = m .met x l (λ q. d (getD-set-other seen c x 1 0 n ∙ q)) in
             (j, omega arith, own, e)
 
         unmet : (j : ℕ) → j < k + 1 → Dec (j ≡ k) → (getD owner j 0 ≡ 65535 → ⊥) →
-            getD (set seen c 1) (root parent (getD owner j 0)) 0 ≡ 0 → ⊥
+            getD (set seen c 1) (rootOf parent (getD owner j 0)) 0 ≡ 0 → ⊥
         unmet j l (yes e) own q =
-            omega (arith, here, ap (λ (x : ℕ). getD (set seen c 1) x 0) (class ∙ ap (λ (i : ℕ). root parent (getD owner i 0)) (sym e)), q)
-        unmet j l (no d) own q = go (ℕ-discrete (root parent (getD owner j 0)) c)
+            omega (arith, here, ap (λ (x : ℕ). getD (set seen c 1) x 0) (class ∙ ap (λ (i : ℕ). rootOf parent (getD owner i 0)) (sym e)), q)
+        unmet j l (no d) own q = go (ℕ-discrete (rootOf parent (getD owner j 0)) c)
           where
-            go : Dec (root parent (getD owner j 0) ≡ c) → ⊥
+            go : Dec (rootOf parent (getD owner j 0) ≡ c) → ⊥
             go (yes e) = omega (arith, here, ap (λ (x : ℕ). getD (set seen c 1) x 0) e, q)
-            go (no n) = m .unmet j (omega arith) own (sym (getD-set-other seen c (root parent (getD owner j 0)) 1 0 n) ∙ q)
+            go (no n) = m .unmet j (omega arith) own (sym (getD-set-other seen c (rootOf parent (getD owner j 0)) 1 0 n) ∙ q)
 
 -- All places.
 

@@ -4,7 +4,7 @@ use mathlib.Core.List.{List}
 use Prim.Native.Nat.{ℕ, _≤_, _<_}
 use lib.ListN.{length, getD, set}
 use Rattle.layout.specs.Layout.{size, featureAt, targetAt, Recorded, Place, rowsEnd}
-use Rattle.groups.specs.Classes.{Forest, Joined, root}
+use Rattle.classes.specs.Forest.{Forest, United, rootOf}
 
 module _ (s g map : List ℕ) where
   -- Two graphs and a map that takes the nodes of g to nodes of s, and each of g's links to one by the same feature.
@@ -39,10 +39,10 @@ module _ (s g map : List ℕ) where
     pub owner-long : length owner ≡ 2560
     pub forest : Forest parent
     pub owned : (j : ℕ) → j < 2560 → (getD owner j 0 ≡ 65535 → ⊥) → Covers (rowsEnd g) j (getD owner j 0)
-    pub covered : (j z : ℕ) → Covers bound j z → (getD owner j 0 ≡ 65535 → ⊥) × (root parent (getD owner j 0) ≡ root parent z)
-    pub tied : (x y : ℕ) → x < 255 → y < 255 → root parent x ≡ root parent y → Tied x y
+    pub covered : (j z : ℕ) → Covers bound j z → (getD owner j 0 ≡ 65535 → ⊥) × (rootOf parent (getD owner j 0) ≡ rootOf parent z)
+    pub tied : (x y : ℕ) → x < 255 → y < 255 → rootOf parent x ≡ rootOf parent y → Tied x y
 
--- z is an owner of place j, or joined with the one that there is
+-- z is an owner of place j, or in one class with the one that there is
 pub record Owns (owner parent : List ℕ) (j z : ℕ) (owner′ parent′ : List ℕ) : Type 0 where
   pub first : getD owner j 0 ≡ 65535 → (owner′ ≡ set owner j z) × (parent′ ≡ parent)
-  pub later : (getD owner j 0 ≡ 65535 → ⊥) → (owner′ ≡ owner) × Joined parent (getD owner j 0) z parent′
+  pub later : (getD owner j 0 ≡ 65535 → ⊥) → (owner′ ≡ owner) × United parent (getD owner j 0) z parent′

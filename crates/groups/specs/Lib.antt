@@ -1,4 +1,3 @@
--- Classes of nodes, links of g over links of s, and the marks of the links that lead their groups.
-pub mod Classes
+-- Links of g over links of s, and the marks of the links that lead their groups.
 pub mod Cover
 pub mod Marks

@@ -5,7 +5,7 @@ use mathlib.Core.List.{List}
 use Prim.Native.Nat.{ℕ, _≤_, _<_}
 use lib.ListN.{length, getD}
 use Rattle.layout.specs.Layout.{Shaped, Place, rowsEnd}
-use Rattle.groups.specs.Classes.{Forest, root}
+use Rattle.classes.specs.Forest.{Flat, rootOf}
 use Rattle.groups.specs.Cover.{Grouping}
 
 -- Owners of links of s, and the classes of the owners.
@@ -13,7 +13,7 @@ pub record Owned (s owner parent : List ℕ) : Type 0 where
   pub shaped : Shaped s
   pub short : length s ≤ 2560
   pub long : length owner ≡ 2560
-  pub forest : Forest parent
+  pub flat : Flat parent
   pub low : (j : ℕ) → j < 2560 → (getD owner j 0 ≡ 65535 → ⊥) → getD owner j 0 < 255
   pub linked : (j : ℕ) → j < 2560 → (getD owner j 0 ≡ 65535 → ⊥) → (u : ℕ) × Place s u j
 
@@ -22,7 +22,7 @@ module _ (owner parent : List ℕ) where
   pub record Together (j k : ℕ) : Type 0 where
     pub left : getD owner j 0 ≡ 65535 → ⊥
     pub right : getD owner k 0 ≡ 65535 → ⊥
-    pub class : root parent (getD owner j 0) ≡ root parent (getD owner k 0)
+    pub class : rootOf parent (getD owner j 0) ≡ rootOf parent (getD owner k 0)
 
   -- the mark of place k
   pub data Mark (k mark : ℕ) : Type 0 where
@@ -34,8 +34,8 @@ module _ (owner parent : List ℕ) where
   pub record Seen (k : ℕ) (seen : List ℕ) : Type 0 where
     pub long : length seen ≡ 255
     pub met : (c : ℕ) → c < 255 → (getD seen c 0 ≡ 0 → ⊥) →
-        (j : ℕ) × (j < k) × (getD owner j 0 ≡ 65535 → ⊥) × (root parent (getD owner j 0) ≡ c)
-    pub unmet : (j : ℕ) → j < k → (getD owner j 0 ≡ 65535 → ⊥) → getD seen (root parent (getD owner j 0)) 0 ≡ 0 → ⊥
+        (j : ℕ) × (j < k) × (getD owner j 0 ≡ 65535 → ⊥) × (rootOf parent (getD owner j 0) ≡ c)
+    pub unmet : (j : ℕ) → j < k → (getD owner j 0 ≡ 65535 → ⊥) → getD seen (rootOf parent (getD owner j 0)) 0 ≡ 0 → ⊥
 
 -- the links of s before place `bound` are marked
 pub record Marks (s owner parent : List ℕ) (bound : ℕ) (marks : List ℕ) : Type 0 where

@@ -5,14 +5,14 @@ ghost use mathlib.Core.Path.{_≡_};
 ghost use Prim.Native.Nat.{_<_};
 ghost use lib.ListN.{length, getD};
 ghost use Rattle.layout.specs.Layout.{size, rowFrom, rowEnd};
-ghost use Rattle.groups.specs.Classes.{Forest};
+ghost use Rattle.classes.specs.Forest.{Forest};
 ghost use Rattle.groups.specs.Cover.{Grouping, Lying, Owns};
 
 // The owner of a link with nothing of g over it.
 pub const NONE: u16 = 0xFFFF;
 
 // A link over place j enters z.
-pub fn own(owner: &mut [u16; 2560], parent: &mut [u16; 255], j: usize, z: u16)
+pub fn own(owner: &mut [u16; 2560], parent: &mut [u16; 510], j: usize, z: u16)
     requires { ⌜ length (now owner) ≡ 2560 ⌝ }
     requires { ⌜ Forest (now parent) ⌝ }
     requires { ⌜ (j < 2560) × (z < 255) ⌝ }
@@ -23,7 +23,7 @@ pub fn own(owner: &mut [u16; 2560], parent: &mut [u16; 255], j: usize, z: u16)
     if x == NONE {
         owner[j] = z;
     } else {
-        super::classes::join(parent, x as usize, z as usize)
+        classes::forest::unite(parent, x as usize, z as usize)
     }
 }
 
@@ -34,7 +34,7 @@ pub fn cover_row<'a>(
     map: &'a [u16; 255],
     y: usize,
     owner: &mut [u16; 2560],
-    parent: &mut [u16; 255],
+    parent: &mut [u16; 510],
 )
     requires { ⌜ Lying (now s) (now g) (now map) × (y < size (now g)) ⌝ }
     requires { ⌜ Grouping (now s) (now g) (now map) (rowFrom (now g) y) (now owner) (now parent) ⌝ }

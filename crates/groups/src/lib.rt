@@ -1,14 +1,14 @@
 // The groups of links of a difference (document 01, "Difference"): which links of s lead their group, for graphs s and g with
 // g's nodes mapped to those of s. The order of links is that of their places: by parent number, then feature.
 
-pub mod classes;
 pub mod cover;
 
+use classes::forest;
 ghost use mathlib.Core.Path.{_≡_};
 ghost use Prim.Native.Nat.{_+_, _<_};
 ghost use lib.ListN.{length, getD};
 ghost use Rattle.layout.specs.Layout.{rowsEnd};
-ghost use Rattle.groups.specs.Classes.{Forest};
+ghost use Rattle.classes.specs.Forest.{Flat};
 ghost use Rattle.groups.specs.Cover.{Lying};
 ghost use Rattle.groups.specs.Marks.{Mark, Marked, Marks, Owned, Seen};
 
@@ -21,9 +21,9 @@ pub const LEADS: u8 = 1;
 pub const BARE: u8 = 2;
 
 // The mark of place k; `seen` has 1 for each class that an earlier place is in.
-fn mark_of<'a>(owner: &'a [u16; 2560], parent: &'a [u16; 255], k: usize, seen: &mut [u8; 255]) -> u8
+fn mark_of<'a>(owner: &'a [u16; 2560], parent: &'a [u16; 510], k: usize, seen: &mut [u8; 255]) -> u8
     requires { ⌜ (k < 2560) × ((getD (now owner) k 0 ≡ 65535 → ⊥) → getD (now owner) k 0 < 255) ⌝ }
-    requires { ⌜ (length (now owner) ≡ 2560) × Forest (now parent) ⌝ }
+    requires { ⌜ (length (now owner) ≡ 2560) × Flat (now parent) ⌝ }
     requires { ⌜ Seen (now owner) (now parent) k (now seen) ⌝ }
     ensures { λ r. ⌜ Mark (now (owner .entry)) (now (parent .entry)) k r ⌝ }
     ensures { λ _. ⌜ Seen (now (owner .entry)) (now (parent .entry)) (k + 1) (now (seen .exit)) ⌝ }
@@ -32,7 +32,7 @@ fn mark_of<'a>(owner: &'a [u16; 2560], parent: &'a [u16; 255], k: usize, seen: &
     if x == cover::NONE {
         return BARE;
     }
-    let c = classes::find(parent, x as usize);
+    let c = parent[x as usize] as usize;
     if seen[c] == 0 {
         seen[c] = 1;
         return LEADS;
@@ -44,7 +44,7 @@ fn mark_of<'a>(owner: &'a [u16; 2560], parent: &'a [u16; 255], k: usize, seen: &
 pub fn mark<'a>(
     s: &'a [u16],
     owner: &'a [u16; 2560],
-    parent: &'a [u16; 255],
+    parent: &'a [u16; 510],
     marks: &mut [u8; 2560],
 )
     requires { ⌜ Owned (now s) (now owner) (now parent) × (length (now marks) ≡ 2560) ⌝ }
@@ -70,13 +70,14 @@ pub fn mark_links<'a>(s: &'a [u16], g: &'a [u16], map: &'a [u16; 255], marks: &m
     ensures { λ _. ⌜ Marked (now (s .entry)) (now (g .entry)) (now (map .entry)) (now (marks .exit)) ⌝ }
 {
     let mut owner = [cover::NONE; 2560];
-    let mut parent = [0u16; 255];
-    classes::separate(&mut parent);
+    let mut parent = [0u16; 510];
+    forest::separate(&mut parent);
     let nodes = g[0] as usize;
     let mut y = 0;
     while y < nodes {
         cover::cover_row(s, g, map, y, &mut owner, &mut parent);
         y += 1;
     }
+    forest::flatten(&mut parent);
     mark(s, &owner, &parent, marks)
 }

@@ -20,91 +20,69 @@ Inv-loop s owner parent marks₀ seen₀ nodes v₀ marks seen v = (v ≤ nodes)
 abbrev μ-loop : tie.MeasureT-loop
 μ-loop s owner parent marks₀ seen₀ nodes v₀ marks seen v = nodes - v
 
--- src/lib.rt:59:17
 shared-slice-read-nodes : tie.Need-shared-slice-read-nodes Inv-loop2 μ-loop2 Inv-loop μ-loop
 shared-slice-read-nodes c = omega (arith, c .before .before .pre .0 .shaped .node 0 (c .before .before .pre .0 .shaped .nonempty) .listed)
 
--- src/lib.rt:59:17
 cast-nodes : tie.Need-cast-nodes Inv-loop2 μ-loop2 Inv-loop μ-loop
 cast-nodes c = omega (arith, c .before .before .pre .0 .shaped .few)
 
--- src/lib.rt:61:5
 loop-holds : tie.Need-loop-holds Inv-loop2 μ-loop2 Inv-loop μ-loop
 loop-holds c = (omega arith, marking-start (c .before .before .pre .0) (c .before .before .pre .1) (length-replicate {A = ℕ} 255 0) (λ x h. getD-replicate {A = ℕ} 255 x 0 0 h))
 
--- src/lib.rt:62:21
 add-end : tie.Need-add-end Inv-loop2 μ-loop2 Inv-loop μ-loop
 add-end c = omega (arith, c .loop-test .taken, c .before .loop .inv .1 .owned .shaped .few)
 
--- src/lib.rt:62:19
 mul-end : tie.Need-mul-end Inv-loop2 μ-loop2 Inv-loop μ-loop
 mul-end c = omega (arith, c .loop-test .taken, c .before .loop .inv .1 .owned .shaped .few)
 
--- src/lib.rt:62:19
 shared-slice-read-end : tie.Need-shared-slice-read-end Inv-loop2 μ-loop2 Inv-loop μ-loop
 shared-slice-read-end c = let node = c .before .before .loop .inv .1 .owned .shaped .node (c .before .before .loop .v) (c .before .loop-test .taken) in omega (arith, node .listed)
 
--- src/lib.rt:62:19
 cast-end : tie.Need-cast-end Inv-loop2 μ-loop2 Inv-loop μ-loop
 cast-end c = omega (arith, c .shared-slice-known3 .given (c .before .before .loop .v + 2))
 
--- src/lib.rt:63:23
 add-k : tie.Need-add-k Inv-loop2 μ-loop2 Inv-loop μ-loop
 add-k c = omega (arith, c .before .loop-test .taken, c .before .before .loop .inv .1 .owned .shaped .few)
 
--- src/lib.rt:63:21
 mul-k : tie.Need-mul-k Inv-loop2 μ-loop2 Inv-loop μ-loop
 mul-k c = omega (arith, c .before .loop-test .taken, c .before .before .loop .inv .1 .owned .shaped .few)
 
--- src/lib.rt:63:21
 shared-slice-read-k : tie.Need-shared-slice-read-k Inv-loop2 μ-loop2 Inv-loop μ-loop
 shared-slice-read-k c = let node = c .before .before .before .loop .inv .1 .owned .shaped .node (c .before .before .before .loop .v) (c .before .before .loop-test .taken) in omega (arith, node .listed)
 
--- src/lib.rt:63:21
 cast-k : tie.Need-cast-k Inv-loop2 μ-loop2 Inv-loop μ-loop
 cast-k c = omega (arith, c .shared-slice-known4 .given (c .before .before .before .loop .v + 1))
 
--- src/lib.rt:63:21
 add-k-2 : tie.Need-add-k-2 Inv-loop2 μ-loop2 Inv-loop μ-loop
 add-k-2 c = omega (arith, c .shared-slice-known4 .given (c .before .before .before .loop .v + 1))
 
--- src/lib.rt:64:9
 loop2-holds : tie.Need-loop2-holds Inv-loop2 μ-loop2 Inv-loop μ-loop
 loop2-holds c = row-start (c .before .before .before .loop .v) (c .before .before .before .loop .inv .1) (c .before .before .loop-test .taken)
 
--- src/lib.rt:65:24
 mark-of-requires : tie.Need-mark-of-requires Inv-loop2 μ-loop2 Inv-loop μ-loop
-mark-of-requires c κs = let row = c .before .before .loop2 .inv in let owned = row .marking .owned in let place = row-within row (c .before .loop2-test .taken) in ((place, owned .low _ place), ((owned .long, owned .forest), row .marking .so-far))
+mark-of-requires c κs = let row = c .before .before .loop2 .inv in let owned = row .marking .owned in let place = row-within row (c .before .loop2-test .taken) in ((place, owned .low _ place), ((owned .long, owned .flat), row .marking .so-far))
 
--- src/lib.rt:65:13
 element-write-marks : tie.Need-element-write-marks Inv-loop2 μ-loop2 Inv-loop μ-loop
 element-write-marks c = row-within (c .before .before .before .loop2 .inv) (c .before .before .loop2-test .taken)
 
--- src/lib.rt:66:13
 add-k-3 : tie.Need-add-k-3 Inv-loop2 μ-loop2 Inv-loop μ-loop
 add-k-3 c = omega (arith, row-within (c .before .before .before .loop2 .inv) (c .before .before .loop2-test .taken))
 
--- src/lib.rt:64:9
 loop2-less : tie.Need-loop2-less Inv-loop2 μ-loop2 Inv-loop μ-loop
 loop2-less c = omega (arith, c .before .before .loop2-test .taken)
 
--- src/lib.rt:64:9
 loop2-again : tie.Need-loop2-again Inv-loop2 μ-loop2 Inv-loop μ-loop
 loop2-again c = row-next (c .before .before .before .loop2 .inv) (c .before .before .loop2-test .taken) (c .mark-of .ensures .0) (c .mark-of .ensures .1)
 
--- src/lib.rt:68:9
 add-v : tie.Need-add-v Inv-loop2 μ-loop2 Inv-loop μ-loop
 add-v c = omega (arith, c .before .before .before .before .loop-test .taken, c .before .before .before .before .before .loop .inv .1 .owned .shaped .few)
 
--- src/lib.rt:61:5
 loop-less : tie.Need-loop-less Inv-loop2 μ-loop2 Inv-loop μ-loop
 loop-less c = omega (arith, c .before .before .before .before .loop-test .taken)
 
--- src/lib.rt:61:5
 loop-again : tie.Need-loop-again Inv-loop2 μ-loop2 Inv-loop μ-loop
 loop-again c = (omega (arith, c .before .before .before .before .loop-test .taken), row-done (c .before .loop2 .inv) (c .loop2-test .left))
 
--- src/lib.rt:49:1
 returns : tie.Need-returns Inv-loop2 μ-loop2 Inv-loop μ-loop
 returns c = marking-all (c .before .loop .v) (c .before .loop .inv .1) (c .before .loop .inv .0) (c .loop-test .left)
 

@@ -3,12 +3,12 @@ use borrow.Author.Needs.{needs}
 -- `flatten` meets its contract: nodes before x are right below their roots.
 use Prim.Native.Nat.{_-_, _≤_}
 use native.Mathlib.Omega.{arith}
-use Rattle.classes.proofs.Roots.{Flat, flat-start, flat-up, flat-step}
+use Rattle.classes.proofs.Roots.{Flattening, flat-start, flat-up, flat-step}
 use Rattle.classes.proofs.forest.flatten.Statement.{statement}
 use Rattle.classes.proofs.forest.flatten.Tie as tie
 
 abbrev Inv-loop : tie.InvT-loop
-Inv-loop parent₀ x₀ parent x = Flat parent₀ parent x × (x ≤ 510)
+Inv-loop parent₀ x₀ parent x = Flattening parent₀ parent x × (x ≤ 510)
 
 abbrev μ-loop : tie.MeasureT-loop
 μ-loop parent₀ x₀ parent x = 510 - x

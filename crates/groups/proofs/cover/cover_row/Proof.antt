@@ -14,123 +14,93 @@ Inv-loop s g map y owner₀ parent₀ u k₀ g-end j₀ s-end owner parent k j =
 abbrev μ-loop : tie.MeasureT-loop
 μ-loop s g map y owner₀ parent₀ u k₀ g-end j₀ s-end owner parent k j = g-end - k
 
--- src/cover.rt:43:13
 mul-u : tie.Need-mul-u Inv-loop μ-loop
 mul-u c = let rows = rows-known (c .before .before .pre .0 .0) (c .before .before .args .y) (c .before .before .pre .0 .1) in omega (arith, rows .small)
 
--- src/cover.rt:43:13
 element-copy-out-u : tie.Need-element-copy-out-u Inv-loop μ-loop
 element-copy-out-u c = let rows = rows-known (c .before .before .pre .0 .0) (c .before .before .args .y) (c .before .before .pre .0 .1) in rows .small
 
--- src/cover.rt:43:13
 cast-u : tie.Need-cast-u Inv-loop μ-loop
 cast-u c = let rows = rows-known (c .before .before .before .pre .0 .0) (c .before .before .before .args .y) (c .before .before .before .pre .0 .1) in omega (arith, rows .under-small)
 
--- src/cover.rt:44:19
 add-k : tie.Need-add-k Inv-loop μ-loop
 add-k c = let rows = rows-known (c .before .before .before .pre .0 .0) (c .before .before .before .args .y) (c .before .before .before .pre .0 .1) in omega (arith, rows .small)
 
--- src/cover.rt:44:17
 mul-k : tie.Need-mul-k Inv-loop μ-loop
 mul-k c = let rows = rows-known (c .before .before .before .pre .0 .0) (c .before .before .before .args .y) (c .before .before .before .pre .0 .1) in omega (arith, rows .small)
 
--- src/cover.rt:44:17
 shared-slice-read-k : tie.Need-shared-slice-read-k Inv-loop μ-loop
 shared-slice-read-k c = let rows = rows-known (c .before .before .before .before .pre .0 .0) (c .before .before .before .before .args .y) (c .before .before .before .before .pre .0 .1) in omega (arith, rows .node .listed)
 
--- src/cover.rt:44:17
 cast-k : tie.Need-cast-k Inv-loop μ-loop
 cast-k c = omega (arith, c .shared-slice-known3 .given (c .before .before .before .before .args .y + 1))
 
--- src/cover.rt:44:17
 add-k-2 : tie.Need-add-k-2 Inv-loop μ-loop
 add-k-2 c = omega (arith, c .shared-slice-known3 .given (c .before .before .before .before .args .y + 1))
 
--- src/cover.rt:45:19
 add-g-end : tie.Need-add-g-end Inv-loop μ-loop
 add-g-end c = let rows = rows-known (c .before .before .before .before .pre .0 .0) (c .before .before .before .before .args .y) (c .before .before .before .before .pre .0 .1) in omega (arith, rows .small)
 
--- src/cover.rt:45:17
 mul-g-end : tie.Need-mul-g-end Inv-loop μ-loop
 mul-g-end c = let rows = rows-known (c .before .before .before .before .pre .0 .0) (c .before .before .before .before .args .y) (c .before .before .before .before .pre .0 .1) in omega (arith, rows .small)
 
--- src/cover.rt:45:17
 shared-slice-read-g-end : tie.Need-shared-slice-read-g-end Inv-loop μ-loop
 shared-slice-read-g-end c = let rows = rows-known (c .before .before .before .before .before .pre .0 .0) (c .before .before .before .before .before .args .y) (c .before .before .before .before .before .pre .0 .1) in omega (arith, rows .node .listed)
 
--- src/cover.rt:45:17
 cast-g-end : tie.Need-cast-g-end Inv-loop μ-loop
 cast-g-end c = omega (arith, c .shared-slice-known4 .given (c .before .before .before .before .before .args .y + 2))
 
--- src/cover.rt:46:19
 add-j : tie.Need-add-j Inv-loop μ-loop
 add-j c = let rows = rows-known (c .before .before .before .before .before .pre .0 .0) (c .before .before .before .before .before .args .y) (c .before .before .before .before .before .pre .0 .1) in omega (arith, rows .under-small)
 
--- src/cover.rt:46:17
 mul-j : tie.Need-mul-j Inv-loop μ-loop
 mul-j c = let rows = rows-known (c .before .before .before .before .before .pre .0 .0) (c .before .before .before .before .before .args .y) (c .before .before .before .before .before .pre .0 .1) in omega (arith, rows .under-small)
 
--- src/cover.rt:46:17
 shared-slice-read-j : tie.Need-shared-slice-read-j Inv-loop μ-loop
 shared-slice-read-j c = let rows = rows-known (c .before .before .before .before .before .before .pre .0 .0) (c .before .before .before .before .before .before .args .y) (c .before .before .before .before .before .before .pre .0 .1) in omega (arith, rows .under .listed)
 
--- src/cover.rt:46:17
 cast-j : tie.Need-cast-j Inv-loop μ-loop
 cast-j c = omega (arith, c .shared-slice-known5 .given (getD (c .before .before .before .before .before .before .args .map .now) (c .before .before .before .before .before .before .args .y) 0 + 1))
 
--- src/cover.rt:46:17
 add-j-2 : tie.Need-add-j-2 Inv-loop μ-loop
 add-j-2 c = omega (arith, c .shared-slice-known5 .given (getD (c .before .before .before .before .before .before .args .map .now) (c .before .before .before .before .before .before .args .y) 0 + 1))
 
--- src/cover.rt:47:19
 add-s-end : tie.Need-add-s-end Inv-loop μ-loop
 add-s-end c = let rows = rows-known (c .before .before .before .before .before .before .pre .0 .0) (c .before .before .before .before .before .before .args .y) (c .before .before .before .before .before .before .pre .0 .1) in omega (arith, rows .under-small)
 
--- src/cover.rt:47:17
 mul-s-end : tie.Need-mul-s-end Inv-loop μ-loop
 mul-s-end c = let rows = rows-known (c .before .before .before .before .before .before .pre .0 .0) (c .before .before .before .before .before .before .args .y) (c .before .before .before .before .before .before .pre .0 .1) in omega (arith, rows .under-small)
 
--- src/cover.rt:47:17
 shared-slice-read-s-end : tie.Need-shared-slice-read-s-end Inv-loop μ-loop
 shared-slice-read-s-end c = let rows = rows-known (c .before .before .before .before .before .before .before .pre .0 .0) (c .before .before .before .before .before .before .before .args .y) (c .before .before .before .before .before .before .before .pre .0 .1) in omega (arith, rows .under .listed)
 
--- src/cover.rt:47:17
 cast-s-end : tie.Need-cast-s-end Inv-loop μ-loop
 cast-s-end c = omega (arith, c .shared-slice-known6 .given (getD (c .before .before .before .before .before .before .before .args .map .now) (c .before .before .before .before .before .before .before .args .y) 0 + 2))
 
--- src/cover.rt:48:5
 loop-holds : tie.Need-loop-holds Inv-loop μ-loop
 loop-holds c = covering-start (c .before .before .before .before .before .before .before .pre .0 .0) (c .before .before .before .before .before .before .before .pre .0 .1) (c .before .before .before .before .before .before .before .pre .1)
 
--- src/cover.rt:49:20
 mul-link : tie.Need-mul-link Inv-loop μ-loop
 mul-link c = let rows = rows-known (c .before .loop .inv .lying) _ (c .before .loop .inv .inside) in omega (arith, rows .node .ended, c .loop-test .taken)
 
--- src/cover.rt:49:20
 shared-slice-read-link : tie.Need-shared-slice-read-link Inv-loop μ-loop
 shared-slice-read-link c = let rows = rows-known (c .before .before .loop .inv .lying) _ (c .before .before .loop .inv .inside) in omega (arith, rows .node .ended, c .before .loop-test .taken)
 
--- src/cover.rt:50:9
 seek-requires : tie.Need-seek-requires Inv-loop μ-loop
 seek-requires c κs = let rows = rows-known (c .before .before .loop .inv .lying) _ (c .before .before .loop .inv .inside) in (c .before .before .loop .inv .s-high, rows .under .ended, omega (arith, c .shared-slice-known7 .given (c .before .before .loop .k)))
 
--- src/cover.rt:51:9
 own-requires : tie.Need-own-requires Inv-loop μ-loop
 own-requires c κs = let covering = c .before .before .before .before .before .loop .inv in (covering .grouping .owner-long, (covering .grouping .forest, ((place-within (c .before .before .before .before .before .loop .inv) (c .before .before .before .before .loop-test .taken) (c .before .before .seek .ensures), target-low (c .before .before .before .before .before .loop .inv) (c .before .before .before .before .loop-test .taken) (c .before .before .seek .ensures)), place-owner (c .before .before .before .before .before .loop .inv) (c .before .before .before .before .loop-test .taken) (c .before .before .seek .ensures))))
 
--- src/cover.rt:52:9
 add-k-3 : tie.Need-add-k-3 Inv-loop μ-loop
 add-k-3 c = let rows = rows-known (c .before .before .before .before .before .before .loop .inv .lying) _ (c .before .before .before .before .before .before .loop .inv .inside) in omega (arith, rows .node .ended, c .before .before .before .before .before .loop-test .taken)
 
--- src/cover.rt:48:5
 loop-less : tie.Need-loop-less Inv-loop μ-loop
 loop-less c = omega (arith, c .before .before .before .before .before .loop-test .taken)
 
--- src/cover.rt:48:5
 loop-again : tie.Need-loop-again Inv-loop μ-loop
 loop-again c = covering-next (c .before .before .before .before .before .before .loop .inv) (c .before .before .before .before .before .loop-test .taken) (c .before .before .before .seek .ensures) (c .own .ensures)
 
--- src/cover.rt:31:1
 returns : tie.Need-returns Inv-loop μ-loop
 returns c = covering-done (c .before .loop .inv) (c .loop-test .left)
 

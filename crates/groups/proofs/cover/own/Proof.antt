@@ -4,39 +4,31 @@ use native.Mathlib.Omega.{arith}
 use mathlib.Core.Path.{refl}
 use Rattle.groups.proofs.cover.own.Statement.{statement}
 use Rattle.groups.proofs.cover.own.Tie as tie
-use Rattle.groups.proofs.classes.join.Reads as join-reads
+use Rattle.classes.proofs.forest.unite.Reads as unite-reads
 
--- src/cover.rt:22:13
 mul-x : tie.Need-mul-x
 mul-x c = search needs
 
--- src/cover.rt:22:13
 element-copy-out-x : tie.Need-element-copy-out-x
 element-copy-out-x c = search needs
 
--- src/cover.rt:24:9
 mul-owner : tie.Need-mul-owner
 mul-owner c = search needs
 
--- src/cover.rt:24:9
 element-write-owner : tie.Need-element-write-owner
 element-write-owner c = search needs
 
--- src/cover.rt:26:38
-cast-join : tie.Need-cast-join
-cast-join c = omega (arith, c .before .before .before .pre .1 .1 .1 (λ e. omega (arith, c .before .if1 .left, e)))
+cast-unite : tie.Need-cast-unite
+cast-unite c = omega (arith, c .before .before .before .pre .1 .1 .1 (λ e. omega (arith, c .before .if1 .left, e)))
 
--- src/cover.rt:26:9
-join-requires : tie.Need-join-requires
-join-requires c κs = let start = c .before .before .before in let first = start .pre .1 .1 .1 (λ e. omega (arith, c .before .if1 .left, e)) in let second = start .pre .1 .1 .0 .1 in (start .pre .1 .0, (omega (arith, first, second), omega (arith, first, second)))
+unite-requires : tie.Need-unite-requires
+unite-requires c κs = let start = c .before .before .before in let first = start .pre .1 .1 .1 (λ e. omega (arith, c .before .if1 .left, e)) in let second = start .pre .1 .1 .0 .1 in (start .pre .1 .0, (omega (arith, first, second), omega (arith, first, second)))
 
--- src/cover.rt:15:1
 returns : tie.Need-returns
 returns c = record { first = λ e. (refl, refl); later = λ d. absurd (d (c .if1 .taken)) }
 
--- src/cover.rt:15:1
 returns-2 : tie.Need-returns-2
-returns-2 c = record { first = λ e. absurd (omega (arith, c .before .before .if1 .left, e)); later = λ d. (refl, c .join .ensures) }
+returns-2 c = record { first = λ e. absurd (omega (arith, c .before .before .if1 .left, e)); later = λ d. (refl, c .unite .ensures) }
 
 pub own-spec : {M : Type 1} → statement M
 own-spec =
@@ -46,7 +38,7 @@ own-spec =
     element-copy-out-x
     mul-owner
     element-write-owner
-    cast-join
-    join-requires
+    cast-unite
+    unite-requires
     returns
     returns-2)
