@@ -3,10 +3,11 @@ use mathlib.Core.Path.{_≡_, refl, sym, ap, ap₂, _∙_, subst, subst₂}
 use mathlib.Core.Bool.{Bool, true, false, cond}
 use mathlib.Core.List.{List, [], _∷_, _++_, append-nil}
 use mathlib.Core.Option.{Option, none, some}
-use Prim.Native.Nat.{ℕ, zero, suc, _+_, _-_, _*_, _/_, _^_, _≤_, _<_}
+use Prim.Native.Nat.{ℕ, suc, _+_, _-_, _*_, _^_, _≤_, _<_}
 use native.Mathlib.Numerals.{add-one}
 use native.Mathlib.Omega.{arith}
 use borrow.Author.Tests.{eq-eqb, ne-eqb}
+use lib.Bits.{bitAnd, and-le-l}
 use lib.Count.{trailingZeros}
 use lib.Dec.{eqb}
 use lib.ListN.{length, getD, set, drop, length-drop, length-set, drop-of-length-le}
@@ -15,6 +16,8 @@ use Rattle.graphs.specs.Graph.{onward, andThen}
 use Rattle.graphs.specs.Rows.{Row}
 use Rattle.graphs.proofs.Walk.{some-injective, none-some}
 use Rattle.lattice.specs.Label.{Label}
+use Rattle.lattice.specs.Words.{without}
+use Rattle.lattice.proofs.Bits.{lowest-bit, lowest-cleared}
 use Rattle.layout.specs.Layout.{header, labelFrom, linkWord, size, linksBetween, rowsFrom, rowsOf}
 use Rattle.layout.specs.Builder.{Built, Open, Same}
 use Rattle.layout.proofs.Spans.{links-none}
@@ -28,16 +31,14 @@ use Rattle.decode.specs.Word.{wordOf, takeWord}
 use Rattle.decode.proofs.Decoded.{are-bytes, decoded-says, decoded-orderly}
 use Rattle.decode.proofs.Reading.{after, after-none, after-more, no-room, no-bytes, one-target, untaken, row-is, Counted, rows-one, decoded-rows}
 use Rattle.decode.proofs.Steps.{ByteTaken, MapTaken}
-use Rattle.decode.proofs.Word.{Skip, skip, word-none}
+use Rattle.decode.proofs.Word.{first-digit, word-none}
 
 -- Links.
 
--- `read` is the links that stand between `at` and `end`, and those that `left` holds.
-pub record Linking (read : Option (Taken (List (ℕ × ℕ)))) (bytes : List ℕ) (at limit : ℕ) (ws₀ ws : List ℕ) (left feature next end : ℕ) : Type 0 where
-  pub digits : ℕ
-  pub up-to : feature + digits ≡ 64
-  pub small : left < 2 ^ digits
-  pub read-is : read ≡ after (linksBetween ws at end) (takeWord digits feature left (limit - end) (drop next bytes))
+-- `read` is the links that stand between `at` and `end`, and those that the digits of `left` state.
+pub record Linking (read : Option (Taken (List (ℕ × ℕ)))) (bytes : List ℕ) (at limit : ℕ) (ws₀ ws : List ℕ) (left next end : ℕ) : Type 0 where
+  pub small : left < 2 ^ 64
+  pub read-is : read ≡ after (linksBetween ws at end) (takeWord 64 0 left (limit - end) (drop next bytes))
   pub low : at ≤ end
   pub room : end ≤ limit
   pub inside : next ≤ length bytes
@@ -47,11 +48,9 @@ pub record Linking (read : Option (Taken (List (ℕ × ℕ)))) (bytes : List ℕ
   pub few : limit ≤ 2560
 
 pub link-begin : (bytes : List ℕ) (word start at limit : ℕ) (ws : List ℕ) → word < 2 ^ 64 → Fits bytes start at limit ws →
-    Linking (takeWord 64 0 word (limit - at) (drop start bytes)) bytes at limit ws ws word 0 start at
+    Linking (takeWord 64 0 word (limit - at) (drop start bytes)) bytes at limit ws ws word start at
 link-begin bytes word start at limit ws small f =
     record {
-      digits = 64;
-      up-to = refl;
       small = small;
       read-is =
           after-none (takeWord 64 0 word (limit - at) (drop start bytes))
@@ -65,19 +64,19 @@ link-begin bytes word start at limit ws small f =
       few = f .few;
     }
 
-module _ {read : Option (Taken (List (ℕ × ℕ)))} {bytes : List ℕ} {at limit : ℕ} {ws₀ ws : List ℕ} {left feature next end : ℕ}
-    (s : Linking read bytes at limit ws₀ ws left feature next end) where
-  next-digit : (left ≡ 0 → ⊥) → Skip (s .digits) feature left (trailingZeros 64 left)
-  next-digit n = skip 64 (s .digits) feature left (omega (arith, s .up-to)) (s .small) n
+module _ {read : Option (Taken (List (ℕ × ℕ)))} {bytes : List ℕ} {at limit : ℕ} {ws₀ ws : List ℕ} {left next end : ℕ}
+    (s : Linking read bytes at limit ws₀ ws left next end) where
+  pub link-feature : (left ≡ 0 → ⊥) → trailingZeros 64 left < 64
+  link-feature n = lowest-bit 64 left (s .small) (omega arith) .0
 
-  pub link-feature : (left ≡ 0 → ⊥) → feature + trailingZeros 64 left < 64
-  link-feature n = omega (arith, s .up-to, next-digit n .counted)
-
-  read-next : (n : left ≡ 0 → ⊥) →
-      read ≡ after (linksBetween ws at end) (takeTarget (feature + trailingZeros 64 left)
-      (takeWord (next-digit n .digits) (suc (feature + trailingZeros 64 left)) (left / 2 ^ trailingZeros 64 left / 2)) (limit - end)
-      (drop next bytes))
-  read-next n = s .read-is ∙ ap (after (linksBetween ws at end)) (next-digit n .found (limit - end) (drop next bytes))
+  read-next : (left ≡ 0 → ⊥) →
+      read ≡ after (linksBetween ws at end)
+      (takeTarget (trailingZeros 64 left) (takeWord 64 0 (bitAnd left (left - 1))) (limit - end) (drop next bytes))
+  read-next n =
+      let e : 0 + trailingZeros 64 left ≡ trailingZeros 64 left = omega arith in
+      s .read-is
+      ∙ ap (after (linksBetween ws at end)) (first-digit 64 0 left (s .small) n (limit - end) (drop next bytes)
+      ∙ ap (λ (f : ℕ). takeTarget f (takeWord 64 0 (bitAnd left (left - 1))) (limit - end) (drop next bytes)) e)
 
   pub link-full : (left ≡ 0 → ⊥) → limit ≤ end → read ≡ none
   unfolding after
@@ -89,29 +88,23 @@ module _ {read : Option (Taken (List (ℕ × ℕ)))} {bytes : List ℕ} {at limi
       read-next n ∙ ap (after (linksBetween ws at end)) (no-bytes _ _ (limit - end) (drop next bytes) (drop-of-length-le bytes h))
 
   link-step : (left ≡ 0 → ⊥) → end < limit → next < length bytes → getD bytes next 0 < 256 →
-      Linking read bytes at limit ws₀ (set ws end (linkWord (feature + trailingZeros 64 left, getD bytes next 0)))
-      (left / 2 ^ trailingZeros 64 left / 2) (feature + trailingZeros 64 left + 1) (next + 1) (end + 1)
+      Linking read bytes at limit ws₀ (set ws end (linkWord (trailingZeros 64 left, getD bytes next 0)))
+      (bitAnd left (left - 1)) (next + 1) (end + 1)
   link-step n h l small =
-      let z : ℕ = trailingZeros 64 left in
-      let link : ℕ × ℕ = (feature + z, getD bytes next 0) in
-      let d : Skip (s .digits) feature left z = next-digit n in
+      let link : ℕ × ℕ = (trailingZeros 64 left, getD bytes next 0) in
+      let others : ℕ = bitAnd left (left - 1) in
       record {
-        digits = d .digits;
-        up-to = omega (arith, s .up-to, d .counted);
-        small = d .small;
+        small = omega (arith, s .small, and-le-l left (left - 1));
         read-is =
             read-next n
-            ∙ ap (λ (l : List ℕ). after (linksBetween ws at end) (takeTarget (feature + z)
-            (takeWord (d .digits) (suc (feature + z)) (left / 2 ^ z / 2)) (limit - end) l)) (drop-cons bytes next 0 l)
-            ∙ ap (after (linksBetween ws at end)) (one-target (feature + z) (takeWord (d .digits) (suc (feature + z)) (left / 2 ^ z / 2))
+            ∙ ap (λ (l : List ℕ). after (linksBetween ws at end) (takeTarget (trailingZeros 64 left) (takeWord 64 0 others) (limit - end) l))
+            (drop-cons bytes next 0 l)
+            ∙ ap (after (linksBetween ws at end)) (one-target (trailingZeros 64 left) (takeWord 64 0 others)
             (limit - end) (limit - (end + 1)) (getD bytes next 0) (drop (suc next) bytes) (omega arith))
-            ∙ after-more (linksBetween ws at end) link (takeWord (d .digits) (suc (feature + z)) (left / 2 ^ z / 2) (limit - (end + 1))
-            (drop (suc next) bytes))
-            ∙ ap₂ (λ (f k : ℕ). after (linksBetween ws at end ++ (link ∷ []))
-            (takeWord (d .digits) f (left / 2 ^ z / 2) (limit - (end + 1)) (drop k bytes))) (sym (add-one (feature + z)))
+            ∙ after-more (linksBetween ws at end) link (takeWord 64 0 others (limit - (end + 1)) (drop (suc next) bytes))
+            ∙ ap (λ (k : ℕ). after (linksBetween ws at end ++ (link ∷ [])) (takeWord 64 0 others (limit - (end + 1)) (drop k bytes)))
             (sym (add-one next))
-            ∙ ap (λ (ls : List (ℕ × ℕ)). after ls
-            (takeWord (d .digits) (feature + z + 1) (left / 2 ^ z / 2) (limit - (end + 1)) (drop (next + 1) bytes)))
+            ∙ ap (λ (ls : List (ℕ × ℕ)). after ls (takeWord 64 0 others (limit - (end + 1)) (drop (next + 1) bytes)))
             (sym (links-put ws at end link (s .low) (omega (arith, s .few, s .full, s .long)) (omega arith)));
         low = omega (arith, s .low);
         room = omega arith;
@@ -122,15 +115,15 @@ module _ {read : Option (Taken (List (ℕ × ℕ)))} {bytes : List ℕ} {at limi
         few = s .few;
       }
 
-  pub link-next : {b behind word : ℕ} → (left ≡ 0 → ⊥) → end < limit → b < 256 → ByteTaken bytes next b behind →
-      word ≡ linkWord (feature + trailingZeros 64 left, b) →
-      Linking read bytes at limit ws₀ (set ws end word)
-      (left / 2 ^ trailingZeros 64 left / 2) (feature + trailingZeros 64 left + 1) behind (end + 1)
-  link-next {b} {behind} {word} n h small t e =
-      subst₂ (λ (w k : ℕ). Linking read bytes at limit ws₀ (set ws end w) (left / 2 ^ trailingZeros 64 left / 2)
-      (feature + trailingZeros 64 left + 1) k (end + 1))
-      (ap (λ (b : ℕ). linkWord (feature + trailingZeros 64 left, b)) (sym (t .byte-is)) ∙ sym e) (sym (t .next-is))
-      (link-step n h (t .inside) (omega (arith, t .byte-is)))
+  pub link-next : {b behind word others : ℕ} → (left ≡ 0 → ⊥) → end < limit → b < 256 → ByteTaken bytes next b behind →
+      word ≡ linkWord (trailingZeros 64 left, b) → others ≡ without left (2 ^ trailingZeros 64 left) →
+      Linking read bytes at limit ws₀ (set ws end word) others behind (end + 1)
+  link-next {b} {behind} {word} {others} n h small t e o =
+      subst (λ (l : ℕ). Linking read bytes at limit ws₀ (set ws end word) l behind (end + 1))
+      (lowest-cleared left (s .small) (omega arith) ∙ sym o)
+      (subst₂ (λ (w k : ℕ). Linking read bytes at limit ws₀ (set ws end w) (bitAnd left (left - 1)) k (end + 1))
+      (ap (λ (b : ℕ). linkWord (trailingZeros 64 left, b)) (sym (t .byte-is)) ∙ sym e) (sym (t .next-is))
+      (link-step n h (t .inside) (omega (arith, t .byte-is))))
 
   pub link-end : left ≡ 0 → Stored (linksBetween ws at end) read bytes limit next end
   unfolding after
@@ -138,8 +131,8 @@ module _ {read : Option (Taken (List (ℕ × ℕ)))} {bytes : List ℕ} {at limi
       record {
         read-is =
             s .read-is
-            ∙ ap (λ (w : ℕ). after (linksBetween ws at end) (takeWord (s .digits) feature w (limit - end) (drop next bytes))) e
-            ∙ ap (after (linksBetween ws at end)) (word-none (s .digits) feature (limit - end) (drop next bytes))
+            ∙ ap (λ (w : ℕ). after (linksBetween ws at end) (takeWord 64 0 w (limit - end) (drop next bytes))) e
+            ∙ ap (after (linksBetween ws at end)) (word-none 64 0 (limit - end) (drop next bytes))
             ∙ ap (λ ls. some (record { value = ls; room = limit - end; rest = drop next bytes })) (append-nil (linksBetween ws at end));
         room = s .room;
         inside = s .inside;

@@ -9,7 +9,7 @@ use native.Mathlib.Nat.{add-zero, mod-lt, lt-of-lt-of-le}
 use native.Mathlib.Omega.{arith}
 use borrow.Author.Tests.{eq-eqb}
 use lib.Arith.{lt-one, digits-lt}
-use lib.Bits.{block-half, block-odd}
+use lib.Bits.{bitAnd, and-step, and-self, block-half, block-odd}
 use lib.Count.{trailingZeros, under}
 use lib.Dec.{eqb}
 use lib.ListN.{getD, drop}
@@ -129,46 +129,48 @@ word-links stands (suc k) f w same room rest = go (word-links stands k (suc f) (
         ≡ cond (stands f) (takeTarget f (takeLinks stands (from (suc f) k)) room rest) (takeLinks stands (from (suc f) k) room rest)
     go ih = λ i. cond (first i) (takeTarget f (λ r s. ih r s i) room rest) (ih room rest i)
 
--- The lowest standing digit of a word is `z` up; what is above it makes a word of `digits` digits.
-pub record Skip (k f w z : ℕ) : Type 0 where
-  pub digits : ℕ
-  pub counted : k ≡ suc (z + digits)
-  pub small : w / 2 ^ z / 2 < 2 ^ digits
-  pub found : (room : ℕ) (rest : List ℕ) →
-      takeWord k f w room rest ≡ takeTarget (f + z) (takeWord digits (suc (f + z)) (w / 2 ^ z / 2)) room rest
+-- a digit that does not stand states no link
+even-digit : (k f w v : ℕ) → w % 2 ≡ 0 → w / 2 ≡ v → (room : ℕ) (rest : List ℕ) →
+    takeWord (suc k) f w room rest ≡ takeWord k (suc f) v room rest
+unfolding takeWord
+even-digit k f w v e h room rest =
+    ap₂ (λ (d x : ℕ). cond (eqb d 1) (takeTarget f (takeWord k (suc f) x) room rest) (takeWord k (suc f) x room rest)) e h
 
-pub skip : (K k f w : ℕ) → k ≤ K → w < 2 ^ k → (w ≡ 0 → ⊥) → Skip k f w (trailingZeros K w)
+-- the lowest standing digit of a word states the first link, and the word with it cleared the others
+pub first-digit : (k f w : ℕ) → w < 2 ^ k → (w ≡ 0 → ⊥) → (room : ℕ) (rest : List ℕ) →
+    takeWord k f w room rest ≡ takeTarget (f + trailingZeros k w) (takeWord k f (bitAnd w (w - 1))) room rest
 unfolding trailingZeros takeWord
-skip K zero f w h l n = absurd (n (lt-one l))
-skip zero (suc k) f w h l n = absurd (omega arith)
-skip (suc K) (suc k) f w h l n = go (w % 2) refl (skip K k (suc f) (w / 2) (omega arith) half)
+first-digit zero f w l n room rest = absurd (n (lt-one l))
+first-digit (suc k) f w l n room rest = go (w % 2) refl (first-digit k (suc f) (w / 2) half)
   where
     half : w / 2 < 2 ^ k
     half = shr-lt k 1 (subst (λ (x : ℕ). w < 2 ^ x) (omega arith) l)
 
-    go : (d : ℕ) → w % 2 ≡ d → ((w / 2 ≡ 0 → ⊥) → Skip k (suc f) (w / 2) (trailingZeros K (w / 2))) →
-        Skip (suc k) f w (under d (trailingZeros K (w / 2)))
+    cleared : (v : ℕ) → bitAnd w (w - 1) ≡ v * 2 → (room : ℕ) (rest : List ℕ) →
+        takeWord k (suc f) v room rest ≡ takeWord (suc k) f (bitAnd w (w - 1)) room rest
+    cleared v e room rest = sym (even-digit k f (bitAnd w (w - 1)) v (omega arith) (omega arith) room rest)
+
+    go : (d : ℕ) → w % 2 ≡ d →
+        ((w / 2 ≡ 0 → ⊥) → (room : ℕ) (rest : List ℕ) → takeWord k (suc f) (w / 2) room rest
+        ≡ takeTarget (suc f + trailingZeros k (w / 2)) (takeWord k (suc f) (bitAnd (w / 2) (w / 2 - 1))) room rest) →
+        takeWord (suc k) f w room rest
+        ≡ takeTarget (f + under d (trailingZeros k (w / 2))) (takeWord (suc k) f (bitAnd w (w - 1))) room rest
     go zero e ih =
-        let s : Skip k (suc f) (w / 2) (trailingZeros K (w / 2)) = ih (λ q. n (omega arith)) in
-        let z : ℕ = trailingZeros K (w / 2) in
-        record {
-          digits = s .digits;
-          counted = omega (arith, s .counted);
-          small = subst (λ (x : ℕ). x / 2 < 2 ^ s .digits) (sym (half-shift w z)) (s .small);
-          found = λ room rest.
-              ap (λ (x : ℕ). cond (eqb x 1) (takeTarget f (takeWord k (suc f) (w / 2)) room rest) (takeWord k (suc f) (w / 2) room rest)) e
-              ∙ s .found room rest
-              ∙ ap₂ (λ (g x : ℕ). takeTarget g (takeWord (s .digits) (suc g) (x / 2)) room rest) (omega arith) (sym (half-shift w z));
-        }
-    go (suc d) e ih = record {
-      digits = k;
-      counted = omega arith;
-      small = subst (λ (x : ℕ). x / 2 < 2 ^ k) (sym (no-shift w)) half;
-      found = λ room rest.
-          ap (λ (b : Bool). cond b (takeTarget f (takeWord k (suc f) (w / 2)) room rest) (takeWord k (suc f) (w / 2) room rest))
-          (eq-eqb (w % 2) 1 (omega (arith, mod-lt w {m = 2} (omega arith))))
-          ∙ ap₂ (λ (g x : ℕ). takeTarget g (takeWord k (suc g) (x / 2)) room rest) (sym (add-zero f)) (sym (no-shift w));
-    }
+        let before : (w - 1) / 2 ≡ w / 2 - 1 = omega arith in
+        let odd : (w - 1) % 2 ≡ 1 = omega arith in
+        let both : bitAnd w (w - 1) ≡ bitAnd (w / 2) (w / 2 - 1) * 2 = and-step w (w - 1) ∙ rw (before, odd, e) (omega arith) in
+        let place : suc f + trailingZeros k (w / 2) ≡ f + suc (trailingZeros k (w / 2)) = omega arith in
+        even-digit k f w (w / 2) e refl room rest
+        ∙ ih (λ q. n (omega arith)) room rest
+        ∙ (λ i. takeTarget (place i) (λ r s. cleared (bitAnd (w / 2) (w / 2 - 1)) both r s i) room rest)
+    go (suc d) e ih =
+        let own : w % 2 ≡ 1 = omega (arith, mod-lt w {m = 2} (omega arith)) in
+        let before : (w - 1) / 2 ≡ w / 2 = omega arith in
+        let even : (w - 1) % 2 ≡ 0 = omega arith in
+        let both : bitAnd w (w - 1) ≡ w / 2 * 2 = and-step w (w - 1) ∙ rw (before, even, own, and-self (w / 2)) (omega arith) in
+        ap (λ (b : Bool). cond b (takeTarget f (takeWord k (suc f) (w / 2)) room rest) (takeWord k (suc f) (w / 2) room rest))
+        (eq-eqb (w % 2) 1 own)
+        ∙ (λ i. takeTarget (sym (add-zero f) i) (λ r s. cleared (w / 2) both r s i) room rest)
 
 -- no digit stands
 pub word-none : (k f room : ℕ) (rest : List ℕ) → takeWord k f 0 room rest ≡ some (record { value = []; room = room; rest = rest })

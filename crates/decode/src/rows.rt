@@ -33,7 +33,6 @@ pub fn take_links(
     ensures { λ r. ⌜ TookLinks map (now (bytes .entry)) start at limit (now (graph .entry)) r (now (graph .exit)) ⌝ }
 {
     let mut left = map;
-    let mut feature: u16 = 0;
     let mut next = start;
     let mut end = at;
     while left != 0 {
@@ -44,11 +43,8 @@ pub fn take_links(
         let Step::Byte(target, behind) = step else {
             return RowEnd::Short;
         };
-        let zeros = u64::trailing_zeros(left);
-        feature += zeros as u16;
-        graph[end] = layout::link(feature, target as u16);
-        left = (left >> zeros) >> 1;
-        feature += 1;
+        graph[end] = layout::link(u64::trailing_zeros(left) as u16, target as u16);
+        left = lattice::words::without_lowest(left);
         next = behind;
         end += 1;
     }

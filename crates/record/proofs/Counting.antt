@@ -11,7 +11,7 @@ use lib.Dec.{eqb, leb}
 use lib.ListN.{length, getD, set, replicate, length-set, length-replicate, getD-replicate}
 use lib.Seq.{getD-set-same, getD-set-other}
 use Rattle.graphs.proofs.Search.{true-false}
-use Rattle.layout.specs.Layout.{size, rowFrom, linksFrom, rowEnd, labelAt, targetAt, Shaped, Sound}
+use Rattle.layout.specs.Layout.{size, rowFrom, linksFrom, rowEnd, labelAt, targetAt, Shaped}
 use Rattle.visits.specs.Colouring.{whites}
 use Rattle.visits.proofs.Colouring.{whites-bound}
 use Rattle.record.specs.Counts.{hit, among, into, entering, Counted, Within, RowCount, Count, Queued, RowDue, RowTaken}

@@ -11,11 +11,11 @@ use Rattle.decode.proofs.rows.take_links.Statement.{statement}
 use Rattle.decode.proofs.rows.take_links.Tie as tie
 
 abbrev Inv-loop : tie.InvT-loop
-Inv-loop bytes map start graph₀ at limit left₀ feature₀ next₀ end₀ graph left feature next end =
-    Linking (takeWord 64 0 map (limit - at) (drop start bytes)) bytes at limit graph₀ graph left feature next end
+Inv-loop bytes map start graph₀ at limit left₀ next₀ end₀ graph left next end =
+    Linking (takeWord 64 0 map (limit - at) (drop start bytes)) bytes at limit graph₀ graph left next end
 
 abbrev μ-loop : tie.MeasureT-loop
-μ-loop bytes map start graph₀ at limit left₀ feature₀ next₀ end₀ graph left feature next end = 64 - feature
+μ-loop bytes map start graph₀ at limit left₀ next₀ end₀ graph left next end = limit - end
 
 loop-holds : tie.Need-loop-holds Inv-loop μ-loop
 loop-holds c =
@@ -45,63 +45,43 @@ returns-2 c =
     (byte-ended (now (l .before .before .args .bytes)) (l .loop .next) (r .byte-from .ensures) (c .enum-told .given .1)))
     (l .loop .inv .before) (l .loop .inv .long)
 
-cast-feature : tie.Need-cast-feature Inv-loop μ-loop
-cast-feature c =
-    let t = c .before .before .before .before .before in
-    omega (arith, link-feature (t .before .loop .inv) (t .loop-test .taken))
-
-add-feature : tie.Need-add-feature Inv-loop μ-loop
-add-feature c =
-    let t = c .before .before .before .before .before in
-    omega (arith, link-feature (t .before .loop .inv) (t .loop-test .taken))
-
 cast-link : tie.Need-cast-link Inv-loop μ-loop
-cast-link c = search needs
+cast-link c =
+    let turn = c .before .before .before .before .before in
+    omega (arith, link-feature (turn .before .loop .inv) (turn .loop-test .taken))
+
+cast-link-2 : tie.Need-cast-link-2 Inv-loop μ-loop
+cast-link-2 c = search needs
 
 link-requires : tie.Need-link-requires Inv-loop μ-loop
 link-requires c κs =
-    let t = c .before .before .before .before .before in
-    (omega (arith, link-feature (t .before .loop .inv) (t .loop-test .taken)), search needs)
+    let turn = c .before .before .before .before .before in
+    (link-feature (turn .before .loop .inv) (turn .loop-test .taken), search needs)
 
 mul-graph : tie.Need-mul-graph Inv-loop μ-loop
-mul-graph c =
-    omega (arith, c .before .before .before .before .before .before .before .loop .inv .few, c .before .before .before .before .before .if1 .left)
+mul-graph c = omega (arith, c .before .before .before .before .before .before .before .loop .inv .few, c .before .before .before .before .before .if1 .left)
 
 element-write-graph : tie.Need-element-write-graph Inv-loop μ-loop
-element-write-graph c =
-    omega (arith, c .before .before .before .before .before .before .before .loop .inv .few, c .before .before .before .before .before .if1 .left)
+element-write-graph c = omega (arith, c .before .before .before .before .before .before .before .loop .inv .few, c .before .before .before .before .before .if1 .left)
 
-cast-left : tie.Need-cast-left Inv-loop μ-loop
-cast-left c =
-    let t = c .before .before .before .before .before .before in
-    omega (arith, link-feature (t .before .loop .inv) (t .loop-test .taken))
-
-shr-left : tie.Need-shr-left Inv-loop μ-loop
-shr-left c =
-    let t = c .before .before .before .before .before .before in
-    omega (arith, link-feature (t .before .loop .inv) (t .loop-test .taken))
-
-add-feature-2 : tie.Need-add-feature-2 Inv-loop μ-loop
-add-feature-2 c =
-    let t = c .before .before .before .before .before .before in
-    omega (arith, link-feature (t .before .loop .inv) (t .loop-test .taken))
+without-lowest-requires : tie.Need-without-lowest-requires Inv-loop μ-loop
+without-lowest-requires c κs = let turn = c .before .before .before .before .before .before in omega (arith, turn .loop-test .taken)
 
 add-end : tie.Need-add-end Inv-loop μ-loop
-add-end c =
-    omega (arith, c .before .before .before .before .before .before .before .loop .inv .few, c .before .before .before .before .before .if1 .left)
+add-end c = omega (arith, c .before .before .before .before .before .before .before .before .loop .inv .few, c .before .before .before .before .before .before .if1 .left)
 
 loop-less : tie.Need-loop-less Inv-loop μ-loop
-loop-less c =
-    let t = c .before .before .before .before .before .before in
-    omega (arith, link-feature (t .before .loop .inv) (t .loop-test .taken))
+loop-less c = omega (arith, c .before .before .before .before .before .before .if1 .left)
 
 loop-again : tie.Need-loop-again Inv-loop μ-loop
 loop-again c =
-    let r = c .before .before .before .before in
-    let l = r .before .before .before in
-    let t = byte-taken _ _ (r .byte-from .ensures) (c .before .before .step .given .1) in
-    link-next (l .loop .inv) (r .before .before .loop-test .taken) (r .before .if1 .left)
-    (omega (arith, t .byte-is, l .before .shared-slice-known .given (l .loop .next))) t (c .link .ensures)
+    let read = c .before .before .before .before .before in
+    let turn = read .before .before in
+    let start = turn .before in
+    let taken = byte-taken _ _ (read .byte-from .ensures) (c .before .before .before .step .given .1) in
+    link-next (start .loop .inv) (turn .loop-test .taken) (read .before .if1 .left)
+    (omega (arith, taken .byte-is, start .before .shared-slice-known .given (start .loop .next))) taken (c .before .link .ensures)
+    (c .without-lowest .ensures)
 
 returns-3 : tie.Need-returns-3 Inv-loop μ-loop
 returns-3 c =
@@ -120,15 +100,12 @@ take-links-spec =
     enum-known-step
     enum-told
     returns-2
-    cast-feature
-    add-feature
     cast-link
+    cast-link-2
     link-requires
     mul-graph
     element-write-graph
-    cast-left
-    shr-left
-    add-feature-2
+    without-lowest-requires
     add-end
     loop-less
     loop-again
