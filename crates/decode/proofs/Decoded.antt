@@ -5,16 +5,15 @@ use mathlib.Core.Path.{_≡_, refl, sym, ap, subst}
 use mathlib.Core.Bool.{Bool, true, false, cond}
 use mathlib.Core.List.{List, [], _∷_, List·Memᴰ, List·Memᴰ·head, List·Memᴰ·tail, List·Memᴰ·not-nil, List·Memᴰ·cases-cons}
 use mathlib.Core.Logic.{⊎-elim}
-use mathlib.Core.Option.{Option, none, some}
+use mathlib.Core.Option.{Option, none, some, Option·map, bind, map-eq-some-iff}
 use Prim.Native.Nat.{ℕ, zero, suc, _+_, _≤_, _<_}
 use native.Mathlib.Omega.{arith}
 use borrow.Author.Tests.{leb-true, eqb-false}
 use lib.Dec.{eqb, leb}
 use lib.ListN.{length, getD, drop}
-use Rattle.graphs.specs.Graph.{onward, andThen}
 use Rattle.graphs.specs.Rows.{Row, from, features}
 use Rattle.graphs.specs.Large.{linksIn, Ascending}
-use Rattle.graphs.proofs.Walk.{some-injective, none-some, onward-some}
+use Rattle.graphs.proofs.Walk.{some-injective, none-some}
 use Rattle.graphs.proofs.Search.{cond-some}
 use Rattle.decode.specs.Decode.{Taken, changed, takeTarget, takeLinks, takeRow, takeRows, bitOf, whole, decoded}
 use Rattle.lattice.specs.Label.{Label}
@@ -94,7 +93,7 @@ links-taken stands k (suc n) room rest t e = go (stands k) e (links-taken stands
     target zero rest q later = none-some q
     target (suc room) [] q later = none-some q
     target (suc room) (b ∷ rest) q later =
-        let (s, h, same) = onward-some (changed λ ls. (k, b) ∷ ls) (takeLinks stands (from (suc k) n) room rest) q in
+        let (s, h, same) = map-eq-some-iff (changed λ ls. (k, b) ∷ ls) (takeLinks stands (from (suc k) n) room rest) .0 q in
         subst (LinksTaken k (suc n) (suc room) (b ∷ rest)) same (taken-target k n room b rest s (later room rest s h))
 
     go : (b : Bool) →
@@ -123,9 +122,9 @@ row-taken : (room : ℕ) (rest : List ℕ) (t : Taken (Row Label)) → takeRow r
 unfolding takeRow
 row-taken room rest t e =
     let (enough, q) = cond-some (leb 9 (length rest))
-    (onward (changed λ ls. (getD rest 0 0, ls)) (takeLinks (bitOf (drop 1 rest)) features room (drop 9 rest))) t e in
-    let (s, h, same) = onward-some (changed {Y = Row Label} λ ls. (getD rest 0 0, ls))
-    (takeLinks (bitOf (drop 1 rest)) features room (drop 9 rest)) q in
+    (Option·map (changed λ ls. (getD rest 0 0, ls)) (takeLinks (bitOf (drop 1 rest)) features room (drop 9 rest))) t e in
+    let (s, h, same) = map-eq-some-iff (changed {Y = Row Label} λ ls. (getD rest 0 0, ls))
+    (takeLinks (bitOf (drop 1 rest)) features room (drop 9 rest)) .0 q in
     let taken = links-taken (bitOf (drop 1 rest)) 0 64 room (drop 9 rest) s h in
     let long = leb-true 9 (length rest) enough in
     subst (RowTaken room rest) same
@@ -161,17 +160,17 @@ one-more k room rest r t taken later =
     }
 
 rows-taken : (k room : ℕ) (rest : List ℕ) (t : Taken (List (Row Label))) → takeRows k room rest ≡ some t → RowsTaken k room rest t
-unfolding takeRows
+unfolding bind takeRows
 rows-taken zero room rest t e = subst (RowsTaken 0 room rest) (some-injective e) (no-rows room rest)
 rows-taken (suc k) room rest t e = go (takeRow room rest) refl e (rows-taken k)
   where
     go : (o : Option (Taken (Row Label))) → takeRow room rest ≡ o →
-        andThen o (λ r. onward (changed λ rs. r .value ∷ rs) (takeRows k (r .room) (r .rest))) ≡ some t →
+        bind o (λ r. Option·map (changed λ rs. r .value ∷ rs) (takeRows k (r .room) (r .rest))) ≡ some t →
         ((room : ℕ) (rest : List ℕ) (t : Taken (List (Row Label))) → takeRows k room rest ≡ some t → RowsTaken k room rest t) →
         RowsTaken (suc k) room rest t
     go none h q later = none-some q
     go (some r) h q later =
-        let (s, i, same) = onward-some (changed λ rs. r .value ∷ rs) (takeRows k (r .room) (r .rest)) q in
+        let (s, i, same) = map-eq-some-iff (changed λ rs. r .value ∷ rs) (takeRows k (r .room) (r .rest)) .0 q in
         subst (RowsTaken (suc k) room rest) same
         (one-more k room rest r s (row-taken room rest r h) (later (r .room) (r .rest) s i))
 

@@ -2,7 +2,7 @@
 use mathlib.Core.Path.{_≡_, refl, sym, ap, _∙_}
 use mathlib.Core.Bool.{Bool, false, cond}
 use mathlib.Core.List.{List, [], _∷_, _++_, map, append-assoc}
-use mathlib.Core.Option.{Option, none, some}
+use mathlib.Core.Option.{Option, none, some, Option·map, bind}
 use Prim.Native.Nat.{ℕ, zero, suc, _+_, _-_, _/_, _%_, _^_, _≤_, _<_}
 use native.Mathlib.Nat.{add-zero, zero-add}
 use native.Mathlib.Omega.{arith}
@@ -10,7 +10,6 @@ use borrow.Author.Tests.{eq-eqb, ne-eqb, le-leb, lt-leb}
 use lib.Dec.{eqb}
 use lib.ListN.{length, getD, drop, length-drop}
 use lib.Seq.{getD-drop, drop-drop}
-use Rattle.graphs.specs.Graph.{onward, andThen}
 use Rattle.graphs.specs.Rows.{from}
 use Rattle.decode.specs.Decode.{Taken, changed, takeTarget, takeLinks, takeRow, takeRows, bitOf, whole, decoded}
 use Rattle.decode.proofs.Steps.{ByteTaken}
@@ -21,7 +20,7 @@ use Rattle.decode.proofs.Word.{word-digit, word-links}
 
 -- what is read, put behind what was read before
 unfoldable pub after : {X : Type 0} → List X → Option (Taken (List X)) → Option (Taken (List X))
-after before o = onward (changed λ ls. before ++ ls) o
+after before o = Option·map (changed λ ls. before ++ ls) o
 
 pub after-none : {X : Type 0} (o : Option (Taken (List X))) → o ≡ after [] o
 unfolding after
@@ -29,7 +28,7 @@ after-none none = refl
 after-none (some t) = refl
 
 pub after-more : {X : Type 0} (before : List X) (x : X) (o : Option (Taken (List X))) →
-    after before (onward (changed λ ls. x ∷ ls) o) ≡ after (before ++ (x ∷ [])) o
+    after before (Option·map (changed λ ls. x ∷ ls) o) ≡ after (before ++ (x ∷ [])) o
 unfolding after
 after-more before x none = refl
 after-more before x (some t) =
@@ -46,7 +45,7 @@ no-bytes f next zero rest e = refl
 no-bytes f next (suc room) rest e = ap (takeTarget f next (suc room)) e
 
 pub one-target : (f : ℕ) (next : ℕ → List ℕ → Option (Taken (List (ℕ × ℕ)))) (room r : ℕ) (b : ℕ) (rest : List ℕ) → room ≡ suc r →
-    takeTarget f next room (b ∷ rest) ≡ onward (changed λ ls. (f, b) ∷ ls) (next r rest)
+    takeTarget f next room (b ∷ rest) ≡ Option·map (changed λ ls. (f, b) ∷ ls) (next r rest)
 one-target f next room r b rest e = ap (λ (k : ℕ). takeTarget f next k (b ∷ rest)) e
 
 -- A row.
@@ -70,19 +69,19 @@ row-unmapped bytes at room t h = row-short bytes at room (omega (arith, t .next-
 -- the type, and the links by the word of the map
 pub row-is : (bytes : List ℕ) (at room : ℕ) → ((i : ℕ) → getD bytes i 0 < 256) → 9 ≤ length bytes - at →
     takeRow room (drop at bytes)
-    ≡ onward (changed λ ls. (getD bytes at 0, ls)) (takeWord 64 0 (wordOf 8 (drop (at + 1) bytes)) room (drop (at + 9) bytes))
+    ≡ Option·map (changed λ ls. (getD bytes at 0, ls)) (takeWord 64 0 (wordOf 8 (drop (at + 1) bytes)) room (drop (at + 9) bytes))
 unfolding takeRow bitOf
 row-is bytes at room small h =
-    ap (λ (b : Bool). cond b (onward (changed λ ls. (getD (drop at bytes) 0 0, ls))
+    ap (λ (b : Bool). cond b (Option·map (changed λ ls. (getD (drop at bytes) 0 0, ls))
     (takeLinks (bitOf (drop 1 (drop at bytes))) (from 0 64) room (drop 9 (drop at bytes)))) none)
     (le-leb 9 (length (drop at bytes)) (omega (arith, length-drop at bytes)))
-    ∙ ap (λ (l : List ℕ). onward (changed λ ls. (getD (drop at bytes) 0 0, ls))
+    ∙ ap (λ (l : List ℕ). Option·map (changed λ ls. (getD (drop at bytes) 0 0, ls))
     (takeLinks (bitOf l) (from 0 64) room (drop 9 (drop at bytes)))) (drop-drop 1 at bytes)
-    ∙ ap (λ (l : List ℕ). onward (changed λ ls. (getD (drop at bytes) 0 0, ls))
+    ∙ ap (λ (l : List ℕ). Option·map (changed λ ls. (getD (drop at bytes) 0 0, ls))
     (takeLinks (bitOf (drop (at + 1) bytes)) (from 0 64) room l)) (drop-drop 9 at bytes)
-    ∙ ap (λ (t : ℕ). onward (changed λ ls. (t, ls)) (takeLinks (bitOf (drop (at + 1) bytes)) (from 0 64) room (drop (at + 9) bytes)))
+    ∙ ap (λ (t : ℕ). Option·map (changed λ ls. (t, ls)) (takeLinks (bitOf (drop (at + 1) bytes)) (from 0 64) room (drop (at + 9) bytes)))
     (getD-drop at bytes 0 0 ∙ ap (λ (k : ℕ). getD bytes k 0) (add-zero at))
-    ∙ ap (onward (changed λ ls. (getD bytes at 0, ls)))
+    ∙ ap (Option·map (changed λ ls. (getD bytes at 0, ls)))
     (sym (word-links (bitOf (drop (at + 1) bytes)) 64 0 (wordOf 8 (drop (at + 1) bytes)) digit room (drop (at + 9) bytes)))
   where
     digit : (i : ℕ) → i < 64 → eqb (wordOf 8 (drop (at + 1) bytes) / 2 ^ i % 2) 1 ≡ bitOf (drop (at + 1) bytes) (0 + i)
@@ -100,12 +99,12 @@ pub record Counted (bytes : List ℕ) (nodes start : ℕ) : Type 0 where
 
 -- the next row, and the rest
 pub rows-one : (k room : ℕ) (rest : List ℕ) → 0 < k →
-    takeRows k room rest ≡ andThen (takeRow room rest) λ r. onward (changed λ rs. r .value ∷ rs) (takeRows (k - 1) (r .room) (r .rest))
+    takeRows k room rest ≡ bind (takeRow room rest) λ r. Option·map (changed λ rs. r .value ∷ rs) (takeRows (k - 1) (r .room) (r .rest))
 unfolding takeRows
 rows-one zero room rest h = absurd (omega arith)
 rows-one (suc k) room rest h =
     let less : k ≡ suc k - 1 = omega arith in
-    ap (λ (n : ℕ). andThen (takeRow room rest) λ r. onward (changed λ rs. r .value ∷ rs) (takeRows n (r .room) (r .rest))) less
+    ap (λ (n : ℕ). bind (takeRow room rest) λ r. Option·map (changed λ rs. r .value ∷ rs) (takeRows n (r .room) (r .rest))) less
 
 pub decoded-empty : (bytes : List ℕ) → length bytes ≤ 0 → decoded bytes ≡ none
 unfolding decoded

@@ -2,7 +2,7 @@
 use mathlib.Core.Path.{_≡_, refl, sym, ap, ap₂, _∙_, subst, subst₂}
 use mathlib.Core.Bool.{Bool, true, false, cond}
 use mathlib.Core.List.{List, [], _∷_, _++_, append-nil}
-use mathlib.Core.Option.{Option, none, some}
+use mathlib.Core.Option.{Option, none, some, Option·map, bind}
 use Prim.Native.Nat.{ℕ, suc, _+_, _-_, _*_, _^_, _≤_, _<_}
 use native.Mathlib.Numerals.{add-one}
 use native.Mathlib.Omega.{arith}
@@ -12,7 +12,6 @@ use lib.Count.{trailingZeros}
 use lib.Dec.{eqb}
 use lib.ListN.{length, getD, set, drop, length-drop, length-set, drop-of-length-le}
 use lib.Seq.{drop-cons, getD-set-same, getD-set-other}
-use Rattle.graphs.specs.Graph.{onward, andThen}
 use Rattle.graphs.specs.Rows.{Row}
 use Rattle.graphs.proofs.Walk.{some-injective, none-some}
 use Rattle.lattice.specs.Label.{Label}
@@ -173,14 +172,14 @@ row-took : (bytes : List ℕ) (start at limit word : ℕ) (ws : List ℕ) (answe
     Took rowBetween header (takeRow (limit - (at + header)) (drop start bytes)) bytes at limit ws answer ws′
 row-took bytes start at limit word ws answer ws′ small enough word-is inside t =
     record {
-      short-stands = λ q. same ∙ ap (onward (changed more)) (t .short-stands q);
+      short-stands = λ q. same ∙ ap (Option·map (changed more)) (t .short-stands q);
       at-stands = λ next end q.
           let (low, s) = t .at-stands next end q in (
             omega arith,
             record {
               read-is =
                   same
-                  ∙ ap (onward (changed more)) (s .read-is)
+                  ∙ ap (Option·map (changed more)) (s .read-is)
                   ∙ ap (λ (l : Label). some
                   (record { value = (l, linksBetween ws′ (at + header) end); room = limit - end; rest = drop next bytes })) (sym label);
               room = s .room;
@@ -203,10 +202,10 @@ row-took bytes start at limit word ws answer ws′ small enough word-is inside t
         label-same headed ws′ at (λ k low high. t .before k (omega arith) high) ∙ getD-set-same ws at (getD bytes start 0) 0 inside
 
     same : takeRow (limit - (at + header)) (drop start bytes)
-        ≡ onward (changed more) (takeWord 64 0 word (limit - (at + header)) (drop (start + 9) bytes))
+        ≡ Option·map (changed more) (takeWord 64 0 word (limit - (at + header)) (drop (start + 9) bytes))
     same =
         row-is bytes start (limit - (at + header)) small enough
-        ∙ ap (λ (w : ℕ). onward (changed more) (takeWord 64 0 w (limit - (at + header)) (drop (start + 9) bytes))) (sym word-is)
+        ∙ ap (λ (w : ℕ). Option·map (changed more) (takeWord 64 0 w (limit - (at + header)) (drop (start + 9) bytes))) (sym word-is)
 
 -- the same, where the reader took the label and the map
 pub row-read : (bytes : List ℕ) (start at limit word : ℕ) (ws : List ℕ) (answer : RowEnd) (ws′ : List ℕ) →
@@ -270,12 +269,12 @@ module _ {bytes : List ℕ} {nodes : ℕ} {ws : List ℕ} {at limit next v : ℕ
   -- no further row
   pub decoded-stop : {start : ℕ} → Counted bytes nodes start → v < nodes →
       takeRow (limit + header - (at + header)) (drop next bytes) ≡ none → decoded bytes ≡ none
-  unfolding after
+  unfolding after bind
   decoded-stop n h e =
       decoded-rows bytes nodes n
       ∙ ap whole (s .read-is
       ∙ ap (after (rowsFrom ws 0 v)) (rows-one (s .todo) (limit - at) (drop next bytes) (omega (arith, s .up-to))
-      ∙ ap (λ (o : Option (Taken (Row Label))). andThen o λ r. onward (changed λ rs. r .value ∷ rs)
+      ∙ ap (λ (o : Option (Taken (Row Label))). bind o λ r. Option·map (changed λ rs. r .value ∷ rs)
       (takeRows (s .todo - 1) (r .room) (r .rest))) (ap (λ (r : ℕ). takeRow r (drop next bytes)) (sym row-room) ∙ e)))
 
   -- one row more
@@ -283,6 +282,7 @@ module _ {bytes : List ℕ} {nodes : ℕ} {ws : List ℕ} {at limit next v : ℕ
       Took rowBetween header (takeRow (limit + header - (at + header)) (drop next bytes)) bytes at (limit + header) ws answer ws′ →
       answer ≡ At behind end →
       Filling bytes nodes (set ws′ (v + 2) end) end (limit + header) behind (v + 1)
+  unfolding bind
   fill-next behind end answer ws′ small h t e =
       record {
         todo = s .todo - 1;
@@ -290,7 +290,7 @@ module _ {bytes : List ℕ} {nodes : ℕ} {ws : List ℕ} {at limit next v : ℕ
         read-is =
             s .read-is
             ∙ ap (after rows) (rows-one (s .todo) (limit - at) (drop next bytes) (omega (arith, s .up-to))
-            ∙ ap (λ (o : Option (Taken (Row Label))). andThen o λ r. onward (changed λ rs. r .value ∷ rs)
+            ∙ ap (λ (o : Option (Taken (Row Label))). bind o λ r. Option·map (changed λ rs. r .value ∷ rs)
             (takeRows (s .todo - 1) (r .room) (r .rest)))
             (ap (λ (r : ℕ). takeRow r (drop next bytes)) (sym row-room) ∙ stored .read-is))
             ∙ after-more rows (rowBetween ws′ at end) (takeRows (s .todo - 1) (limit + header - end) (drop behind bytes))

@@ -1,11 +1,10 @@
 -- A record's bytes as rows (document 01, "Graph record"): what they state, or nothing where refusal 4 is due.
 use mathlib.Core.Bool.{Bool, cond}
 use mathlib.Core.List.{List, [], _∷_}
-use mathlib.Core.Option.{Option, none, some}
+use mathlib.Core.Option.{Option, none, some, Option·map, bind}
 use Prim.Native.Nat.{ℕ, zero, suc, _/_, _%_, _^_}
 use lib.Dec.{eqb, leb}
 use lib.ListN.{length, getD, drop}
-use Rattle.graphs.specs.Graph.{onward, andThen}
 use Rattle.graphs.specs.Rows.{Row, features}
 use Rattle.lattice.specs.Label.{Label}
 
@@ -26,7 +25,7 @@ changed make t = record { value = make (t .value); room = t .room; rest = t .res
 abbrev pub takeTarget : ℕ → (ℕ → List ℕ → Option (Taken (List (ℕ × ℕ)))) → ℕ → List ℕ → Option (Taken (List (ℕ × ℕ)))
 takeTarget f next zero rest = none
 takeTarget f next (suc room) [] = none
-takeTarget f next (suc room) (t ∷ rest) = onward (changed λ ls. (f, t) ∷ ls) (next room rest)
+takeTarget f next (suc room) (t ∷ rest) = Option·map (changed λ ls. (f, t) ∷ ls) (next room rest)
 
 -- "one target byte for each standing bit, lowest feature first"
 unfoldable pub takeLinks : (ℕ → Bool) → List ℕ → ℕ → List ℕ → Option (Taken (List (ℕ × ℕ)))
@@ -37,12 +36,12 @@ takeLinks stands (f ∷ fs) room rest = cond (stands f) (takeTarget f (takeLinks
 unfoldable pub takeRow : ℕ → List ℕ → Option (Taken (Row Label))
 takeRow room rest =
     cond (leb 9 (length rest))
-    (onward (changed λ ls. (getD rest 0 0, ls)) (takeLinks (bitOf (drop 1 rest)) features room (drop 9 rest)))
+    (Option·map (changed λ ls. (getD rest 0 0, ls)) (takeLinks (bitOf (drop 1 rest)) features room (drop 9 rest)))
     none
 
 unfoldable pub takeRows : ℕ → ℕ → List ℕ → Option (Taken (List (Row Label)))
 takeRows zero room rest = some (record { value = []; room = room; rest = rest })
-takeRows (suc k) room rest = andThen (takeRow room rest) λ r. onward (changed λ rs. r .value ∷ rs) (takeRows k (r .room) (r .rest))
+takeRows (suc k) room rest = bind (takeRow room rest) λ r. Option·map (changed λ rs. r .value ∷ rs) (takeRows k (r .room) (r .rest))
 
 -- "The record ends there."
 abbrev pub whole : Option (Taken (List (Row Label))) → Option (List (Row Label))

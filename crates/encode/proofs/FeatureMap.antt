@@ -4,7 +4,7 @@ use mathlib.Core.Path.{_≡_, refl, sym, _∙_, ap, ap₂}
 use mathlib.Core.Bool.{Bool, true, false, cond}
 use mathlib.Core.List.{List, [], _∷_, _++_, map, List·Memᴰ, List·Memᴰ·head, List·Memᴰ·tail, List·Memᴰ·not-nil, List·Memᴰ·cases-cons}
 use mathlib.Core.Logic.{⊎-elim}
-use mathlib.Core.Option.{Option, none, some}
+use mathlib.Core.Option.{Option, none, some, Option·map}
 use Prim.Native.Nat.{ℕ, zero, suc, _+_, _*_, _/_, _%_, _^_, _≤_, _<_}
 use native.Mathlib.Decide.{ℕ-discrete}
 use native.Mathlib.Nat.{pow-suc, mul-zero, mul-add, mul-assoc, mul-one, one-mul}
@@ -13,7 +13,6 @@ use borrow.Author.Tests.{eq-eqb, ne-eqb}
 use lib.Dec.{eqb}
 use lib.Bits.{bitOr, or-shifted-r}
 use lib.Pow.{pow-mono, shl-exact}
-use Rattle.graphs.specs.Graph.{onward}
 use Rattle.graphs.specs.Rows.{from, target}
 use Rattle.graphs.specs.Number.{countSome}
 use Rattle.graphs.specs.Large.{Ascending}
@@ -64,18 +63,18 @@ module _ (f : ℕ) where
 
   -- other names of the targets
   pub target-renamed : (name : ℕ → ℕ) (links : List (ℕ × ℕ)) →
-      target (map {B = ℕ × ℕ} (λ l. (l .0, name (l .1))) links) f ≡ onward name (target links f)
+      target (map {B = ℕ × ℕ} (λ l. (l .0, name (l .1))) links) f ≡ Option·map name (target links f)
   unfolding target
   target-renamed name [] = refl
   target-renamed name (l ∷ ls) = go (eqb (l .0) f) (target-renamed name ls)
     where
-      go : (t : Bool) → target (map {B = ℕ × ℕ} (λ l. (l .0, name (l .1))) ls) f ≡ onward name (target ls f) →
+      go : (t : Bool) → target (map {B = ℕ × ℕ} (λ l. (l .0, name (l .1))) ls) f ≡ Option·map name (target ls f) →
           cond t (some (name (l .1))) (target (map {B = ℕ × ℕ} (λ l. (l .0, name (l .1))) ls) f)
-          ≡ onward name (cond t (some (l .1)) (target ls f))
+          ≡ Option·map name (cond t (some (l .1)) (target ls f))
       go true e = refl
       go false e = e
 
-count-renamed : (name : ℕ → ℕ) (o : Option ℕ) → countSome (onward name o) ≡ countSome o
+count-renamed : (name : ℕ → ℕ) (o : Option ℕ) → countSome (Option·map name o) ≡ countSome o
 count-renamed name none = refl
 count-renamed name (some w) = refl
 

@@ -3,13 +3,12 @@ use mathlib.Core.Path.{_≡_, refl, sym, _∙_, ap, ap₂}
 use mathlib.Core.Bool.{Bool, true, false, cond}
 use mathlib.Core.List.{List, [], _∷_, map, List·Memᴰ, List·Memᴰ·head, List·Memᴰ·tail, List·Memᴰ·not-nil, List·Memᴰ·cases-cons}
 use mathlib.Core.Logic.{⊎-elim}
-use mathlib.Core.Option.{Option, some}
+use mathlib.Core.Option.{Option, some, Option·map}
 use Prim.Native.Nat.{ℕ, zero, suc, _<_}
 use native.Mathlib.Decide.{ℕ-discrete}
 use native.Mathlib.Omega.{arith}
 use borrow.Author.Tests.{eqb-true}
 use lib.Dec.{eqb}
-use Rattle.graphs.specs.Graph.{onward}
 use Rattle.graphs.specs.Rows.{from, target, linksOf, addLink}
 use Rattle.graphs.specs.Large.{Ascending}
 use Rattle.encode.proofs.FeatureMap.{Within, target-absent, target-first, target-later}
@@ -38,14 +37,14 @@ module _ (name : ℕ → ℕ) where
   renamed links = map {B = ℕ × ℕ} (λ l. (l .0, name (l .1))) links
 
   abbrev next : List (ℕ × ℕ) → ℕ → Option ℕ
-  next links f = onward name (target links f)
+  next links f = Option·map name (target links f)
 
   -- features past a link do not see it
   linksOf-later : (l : ℕ × ℕ) (ls : List (ℕ × ℕ)) (f k : ℕ) → l .0 < f → linksOf (next (l ∷ ls)) (from f k) ≡ linksOf (next ls) (from f k)
   unfolding linksOf from
   linksOf-later l ls f zero h = refl
   linksOf-later l ls f (suc k) h =
-      ap₂ (λ (o : Option ℕ) (ms : List (ℕ × ℕ)). addLink f (onward name o) ms) (target-later f l ls (λ (e : l .0 ≡ f). omega arith))
+      ap₂ (λ (o : Option ℕ) (ms : List (ℕ × ℕ)). addLink f (Option·map name o) ms) (target-later f l ls (λ (e : l .0 ≡ f). omega arith))
       (linksOf-later l ls (suc f) k (omega arith))
 
   pub linksOf-links : (links : List (ℕ × ℕ)) (f k : ℕ) → Ascending links → Within f k links →
@@ -63,13 +62,13 @@ module _ (name : ℕ → ℕ) where
       go : Dec (l .0 ≡ f) → After ls → After (l ∷ ls) →
           addLink f (next (l ∷ ls) f) (linksOf (next (l ∷ ls)) (from (suc f) k)) ≡ renamed (l ∷ ls)
       go (yes e) rest whole =
-          ap₂ (λ (o : Option ℕ) (ms : List (ℕ × ℕ)). addLink f (onward name o) ms) (target-first f l ls e)
+          ap₂ (λ (o : Option ℕ) (ms : List (ℕ × ℕ)). addLink f (Option·map name o) ms) (target-first f l ls e)
           (linksOf-later l ls (suc f) k (omega arith) ∙ rest (λ m i. omega (arith, up .0 m i, inside m (List·Memᴰ·tail i))))
           ∙ ap (λ (g : ℕ). (g, name (l .1)) ∷ renamed ls) (sym e)
       go (no d) rest whole =
           let low : f < l .0 = omega (arith, inside l (List·Memᴰ·head refl)) in
           let above : (m : ℕ × ℕ) → List·Memᴰ m (l ∷ ls) → f < m .0 =
           λ m i. ⊎-elim (λ (e : m ≡ l). omega (arith, ap (λ (x : ℕ × ℕ). x .0) e)) (λ n. omega (arith, up .0 m n)) (List·Memᴰ·cases-cons i) in
-          ap (λ (o : Option ℕ). addLink f (onward name o) (linksOf (next (l ∷ ls)) (from (suc f) k)))
+          ap (λ (o : Option ℕ). addLink f (Option·map name o) (linksOf (next (l ∷ ls)) (from (suc f) k)))
           (target-absent f (l ∷ ls) (λ m i (e : m .0 ≡ f). omega (arith, above m i)))
           ∙ whole (λ m i. omega (arith, above m i, inside m i))

@@ -4,14 +4,14 @@ use mathlib.Core.Path.{_≡_, refl, sym, _∙_, ap, ap₂, subst}
 use mathlib.Core.Bool.{Bool, cond}
 use mathlib.Core.List.{List, [], _∷_, map, reverse, List·Memᴰ, List·Memᴰ·head, List·Memᴰ·tail, List·Memᴰ·not-nil, List·Memᴰ·append-cases}
 use mathlib.Core.Logic.{⊎-elim}
-use mathlib.Core.Option.{Option, none, some}
+use mathlib.Core.Option.{Option, none, some, Option·map}
 use Prim.Native.Nat.{ℕ, _+_, _-_, _*_, _≤_, _<_}
 use native.Mathlib.Omega.{arith}
 use borrow.Author.Tests.{le-leb, lt-leb}
 use lib.Dec.{eqb}
 use lib.ListN.{length, getD, take, length-map, length-reverse, List·getD-map}
 use lib.Seq.{sets, ext-getD, getD-take, length-take-le}
-use Rattle.graphs.specs.Graph.{Graph, onward}
+use Rattle.graphs.specs.Graph.{Graph}
 use Rattle.graphs.specs.Rows.{Row, from, target, linksOf}
 use Rattle.graphs.specs.Number.{Canonical, canonical, counted, indexOf, linkCount, outDegree, manyLinks, manyNodes, rowOf, visit, written}
 use Rattle.graphs.proofs.Lists.{mem-reverse, mem-unreverse, getD-index, index-within, tells-eqb}
@@ -46,9 +46,9 @@ module _ {ws : List ℕ} (sound : Sound ws) where
 
   -- the links by feature are the row's links, however the targets are named
   row-links : (name : ℕ → ℕ) (v : ℕ) → Inside v →
-      linksOf (λ f. onward name (g .link v f)) (from 0 64) ≡ map {B = ℕ × ℕ} (λ l. (l .0, name (l .1))) (linksAt ws v)
+      linksOf (λ f. Option·map name (g .link v f)) (from 0 64) ≡ map {B = ℕ × ℕ} (λ l. (l .0, name (l .1))) (linksAt ws v)
   row-links name v h =
-      ap (λ (r : Row Label). linksOf (λ f. onward name (target (r .1) f)) (from 0 64)) (row-at ws (size ws) 0 v v (noLabel, []) (omega arith) h)
+      ap (λ (r : Row Label). linksOf (λ f. Option·map name (target (r .1) f)) (from 0 64)) (row-at ws (size ws) 0 v v (noLabel, []) (omega arith) h)
       ∙ linksOf-links name (linksAt ws v) 0 64 (row-ascending sound v h) (row-within sound v h)
 
   -- as many links as places

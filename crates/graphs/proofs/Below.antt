@@ -5,12 +5,12 @@ use mathlib.Core.Path.{_≡_, refl, sym, _∙_, ap}
 use mathlib.Core.Bool.{Bool, true, false, true≢false}
 use mathlib.Core.List.{List, [], _∷_, _++_, List·Memᴰ, List·Memᴰ·head, List·Memᴰ·tail, List·Memᴰ·not-nil, List·Memᴰ·cases-cons}
 use mathlib.Core.Logic.{_↔_, ⊎-elim, Dec·of-iff}
-use mathlib.Core.Option.{Option, none, some}
+use mathlib.Core.Option.{Option, none, some, Option·map, map-eq-some-iff}
 use Prim.Native.Nat.{ℕ}
 use Rattle.graphs.specs.Label.{Labels, Lattice}
-use Rattle.graphs.specs.Graph.{Graph, Below, SameMeaning, AnySize, Tells, walk, follow, step, onward, Reached, Corefer}
+use Rattle.graphs.specs.Graph.{Graph, Below, SameMeaning, AnySize, Tells, walk, follow, step, Reached, Corefer}
 use Rattle.graphs.specs.Map.{NodeMap, Exact}
-use Rattle.graphs.proofs.Walk.{some-injective, some-unique, none-some, onward-some, snoc-induction, follow-snoc, follow-last, walk-snoc}
+use Rattle.graphs.proofs.Walk.{some-injective, some-unique, none-some, snoc-induction, follow-snoc, follow-last, walk-snoc}
 
 module _ {𝓛 : Labels} (lattice : Lattice 𝓛) where
   pub below-refl : {A : Type 0} (g : Graph (𝓛 .L) A) → Below 𝓛 g g
@@ -185,19 +185,19 @@ same-meaning lattice g h =
 
 -- An exact map takes each walk to the walk by the same path, and what is no path to what is none.
 pub exact-walk : {L A B : Type 0} {to : A → B} {g : Graph L A} {h : Graph L B} → Exact to g h → (p : List ℕ) →
-    walk h p ≡ onward to (walk g p)
+    walk h p ≡ Option·map to (walk g p)
 unfolding follow
-exact-walk {A = A} {to = to} {g} {h} x = snoc-induction (λ p. walk h p ≡ onward to (walk g p)) (ap some (sym (x .root))) more
+exact-walk {A = A} {to = to} {g} {h} x = snoc-induction (λ p. walk h p ≡ Option·map to (walk g p)) (ap some (sym (x .root))) more
   where
-    more : (p : List ℕ) (f : ℕ) → walk h p ≡ onward to (walk g p) → walk h (p ++ (f ∷ [])) ≡ onward to (walk g (p ++ (f ∷ [])))
+    more : (p : List ℕ) (f : ℕ) → walk h p ≡ Option·map to (walk g p) → walk h (p ++ (f ∷ [])) ≡ Option·map to (walk g (p ++ (f ∷ [])))
     more p f ih = go (walk g p) refl
       where
-        go : (o : Option A) → walk g p ≡ o → walk h (p ++ (f ∷ [])) ≡ onward to (walk g (p ++ (f ∷ [])))
+        go : (o : Option A) → walk g p ≡ o → walk h (p ++ (f ∷ [])) ≡ Option·map to (walk g (p ++ (f ∷ [])))
         go none e =
-            follow-snoc (h .link) (some (h .root)) p f ∙ ap (λ o. step (h .link) o f) (ih ∙ ap (onward to) e) ∙
-            sym (ap (onward to) (follow-snoc (g .link) (some (g .root)) p f ∙ ap (λ o. step (g .link) o f) e))
+            follow-snoc (h .link) (some (h .root)) p f ∙ ap (λ o. step (h .link) o f) (ih ∙ ap (Option·map to) e) ∙
+            sym (ap (Option·map to) (follow-snoc (g .link) (some (g .root)) p f ∙ ap (λ o. step (g .link) o f) e))
         go (some v) e =
-            walk-snoc h p f (ih ∙ ap (onward to) e) ∙ x .links v f (p, e) ∙ sym (ap (onward to) (walk-snoc g p f e))
+            walk-snoc h p f (ih ∙ ap (Option·map to) e) ∙ x .links v f (p, e) ∙ sym (ap (Option·map to) (walk-snoc g p f e))
 
 -- An exact map shows that two graphs mean the same.
 pub exact-same : {𝓛 : Labels} {A B : Type 0} {to : A → B} {g : Graph (𝓛 .L) A} {h : Graph (𝓛 .L) B} → Exact to g h →
@@ -210,10 +210,10 @@ exact-same {A = A} {B} {to} {g} {h} x =
     }
   where
     there : (p : List ℕ) (v : A) → walk g p ≡ some v → walk h p ≡ some (to v)
-    there p v e = exact-walk x p ∙ ap (onward to) e
+    there p v e = exact-walk x p ∙ ap (Option·map to) e
 
     source : (p : List ℕ) (w : B) → walk h p ≡ some w → (v : A) × (walk g p ≡ some v) × (to v ≡ w)
-    source p w e = onward-some to (walk g p) (sym (exact-walk x p) ∙ e)
+    source p w e = map-eq-some-iff to (walk g p) .0 (sym (exact-walk x p) ∙ e)
 
     back : (p : List ℕ) (w : B) → walk h p ≡ some w → (v : A) × (walk g p ≡ some v) × (g .label v ≡ h .label w)
     back p w e =
@@ -240,12 +240,12 @@ same-exact {A = A} {B} {g} {h} m decide =
       },
     )
   where
-    links : (to : A → B) → Carries to g h → (v : A) (f : ℕ) → Reached g v → h .link (to v) f ≡ onward to (g .link v f)
+    links : (to : A → B) → Carries to g h → (v : A) (f : ℕ) → Reached g v → h .link (to v) f ≡ Option·map to (g .link v f)
     links to c v f r = go (g .link v f) refl (h .link (to v) f) refl
       where
-        go : (o : Option A) → g .link v f ≡ o → (i : Option B) → h .link (to v) f ≡ i → h .link (to v) f ≡ onward to (g .link v f)
-        go (some w) e i d = carry-links h g to c v w f r e ∙ sym (ap (onward to) e)
-        go none e none d = d ∙ sym (ap (onward to) e)
+        go : (o : Option A) → g .link v f ≡ o → (i : Option B) → h .link (to v) f ≡ i → h .link (to v) f ≡ Option·map to (g .link v f)
+        go (some w) e i d = carry-links h g to c v w f r e ∙ sym (ap (Option·map to) e)
+        go none e none d = d ∙ sym (ap (Option·map to) e)
         go none e (some w) d =
             let x = m .back (r .0 ++ (f ∷ [])) w (walk-snoc h (r .0) f (c (r .0) v (r .1)) ∙ d) in
             none-some (sym e ∙ sym (walk-snoc g (r .0) f (r .1)) ∙ x .1)

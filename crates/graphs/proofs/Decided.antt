@@ -4,10 +4,10 @@
 use mathlib.Core.Path.{_≡_, refl, sym, _∙_, ap}
 use mathlib.Core.List.{List, [], _∷_, List·Memᴰ, List·Memᴰ·head, List·Memᴰ·tail, List·Memᴰ·not-nil, List·Memᴰ·cases-cons}
 use mathlib.Core.Logic.{⊎-elim}
-use mathlib.Core.Option.{Option, none, some}
+use mathlib.Core.Option.{Option, none, some, Option·map}
 use Prim.Native.Nat.{ℕ, zero, suc}
 use Rattle.graphs.specs.Label.{Labels}
-use Rattle.graphs.specs.Graph.{Graph, AnySize, SameMeaning, Reached, walk, onward}
+use Rattle.graphs.specs.Graph.{Graph, AnySize, SameMeaning, Reached, walk}
 use Rattle.graphs.specs.Map.{Exact}
 use Rattle.graphs.proofs.Walk.{some-injective, none-some, follow-last, follow-nil, snoc-induction, reached-root, reached-link}
 use Rattle.graphs.proofs.Below.{exact-same, same-sym}
@@ -110,7 +110,7 @@ module _ {𝓛 : Labels} {E : Type 0} (e : Graph (𝓛 .L) E) (sound : AnySize �
           link = λ i f. numberOn (node i) (node-reached i) f (e .link (node i) f) refl;
         }
 
-    number-link : (v : E) (r : Reached e v) (f : ℕ) (o : Option E) (q : e .link v f ≡ o) → o ≡ onward node (numberOn v r f o q)
+    number-link : (v : E) (r : Reached e v) (f : ℕ) (o : Option E) (q : e .link v f ≡ o) → o ≡ Option·map node (numberOn v r f o q)
     unfolding numberOn
     number-link v r f none q = refl
     number-link v r f (some w) q = ap some (sym (node-number w (reached-link e f r q)))

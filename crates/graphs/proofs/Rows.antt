@@ -14,13 +14,12 @@ use mathlib.Core.List.{
   Memᴰ·cast,
 }
 use mathlib.Core.Logic.{⊎-elim}
-use mathlib.Core.Option.{Option, none, some}
+use mathlib.Core.Option.{Option, none, some, Option·map}
 use Prim.Native.Nat.{ℕ, zero, suc, _+_, _<_}
 use native.Mathlib.Omega.{arith}
 use borrow.Author.Tests.{eq-eqb, ne-eqb, leb-true, leb-false}
 use lib.Dec.{leb}
 use lib.ListN.{length}
-use Rattle.graphs.specs.Graph.{onward}
 use Rattle.graphs.specs.Rows.{from, features, target, linksOf, addLink}
 use Rattle.graphs.specs.Number.{countSome, outDegree}
 use Rattle.graphs.specs.Large.{Distinct, Ascending}
@@ -28,13 +27,13 @@ use Rattle.graphs.proofs.Lists.{mem-features, features-small, from-rang
 
 -- as many links as the node has
 pub linksOf-length : {A : Type 0} (link : A → ℕ → Option A) (name : A → ℕ) (v : A) (fs : List ℕ) →
-    length (linksOf (λ f. onward name (link v f)) fs) ≡ outDegree link v fs
+    length (linksOf (λ f. Option·map name (link v f)) fs) ≡ outDegree link v fs
 unfolding linksOf outDegree
 linksOf-length link name v [] = refl
 linksOf-length {A} link name v (f ∷ fs) = go (link v f) (linksOf-length link name v fs)
   where
-    go : (o : Option A) → length (linksOf (λ f. onward name (link v f)) fs) ≡ outDegree link v fs →
-        length (addLink f (onward name o) (linksOf (λ f. onward name (link v f)) fs)) ≡ countSome o + outDegree link v fs
+    go : (o : Option A) → length (linksOf (λ f. Option·map name (link v f)) fs) ≡ outDegree link v fs →
+        length (addLink f (Option·map name o) (linksOf (λ f. Option·map name (link v f)) fs)) ≡ countSome o + outDegree link v fs
     go none e = omega arith
     go (some w) e = omega arith
 

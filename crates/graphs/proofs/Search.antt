@@ -6,10 +6,10 @@ use mathlib.Core.Bool.{Bool, true, false, cond, _||_, true≢false}
 use mathlib.Core.List.{List, [], _∷_, List·Memᴰ, List·Memᴰ·head, List·Memᴰ·tail, List·Memᴰ·not-nil, List·Memᴰ·cases-cons}
 use mathlib.Core.Logic.{_⊎_, inl, inr, ⊎-elim}
 use mathlib.Core.Option.{Option, none, some}
+use mathlib.Mathlib.Data.Option.Basic.{orElse-eq-some, orElse-eq-none}
 use Prim.Native.Nat.{suc, _≤_, _<_}
 use native.Mathlib.Omega.{arith}
 use lib.ListN.{length}
-use Rattle.graphs.specs.Graph.{orElse}
 use Rattle.graphs.specs.Unify.{firstOf, anyOf}
 use Rattle.graphs.proofs.Walk.{none-some}
 
@@ -36,24 +36,16 @@ module _ {X Y : Type 0} (find : X → Option Y) where
   pub firstOf-some : (xs : List X) (y : Y) → firstOf xs find ≡ some y → (x : X) × List·Memᴰ x xs × (find x ≡ some y)
   unfolding firstOf
   firstOf-some [] y e = none-some e
-  firstOf-some (x ∷ xs) y e = go (find x) refl e (firstOf-some xs y)
-    where
-      go : (o : Option Y) → find x ≡ o → orElse o (firstOf xs find) ≡ some y →
-          (firstOf xs find ≡ some y → (z : X) × List·Memᴰ z xs × (find z ≡ some y)) →
-          (z : X) × List·Memᴰ z (x ∷ xs) × (find z ≡ some y)
-      go none h e later = let r = later e in (r .0, List·Memᴰ·tail (r .1), r .2)
-      go (some z) h e later = (x, List·Memᴰ·head refl, h ∙ e)
+  firstOf-some (x ∷ xs) y e =
+      ⊎-elim (λ h. (x, List·Memᴰ·head refl, h)) (λ r. let (z, m, h) = firstOf-some xs y (r .1) in (z, List·Memᴰ·tail m, h))
+      (orElse-eq-some (find x) (firstOf xs find) y .0 e)
 
   pub firstOf-none : (xs : List X) → firstOf xs find ≡ none → (x : X) → List·Memᴰ x xs → find x ≡ none
   unfolding firstOf
   firstOf-none [] e x m = absurd (List·Memᴰ·not-nil m)
-  firstOf-none (z ∷ xs) e x m = go (find z) refl e (firstOf-none xs) (List·Memᴰ·cases-cons m)
-    where
-      go : (o : Option Y) → find z ≡ o → orElse o (firstOf xs find) ≡ none →
-          (firstOf xs find ≡ none → (x : X) → List·Memᴰ x xs → find x ≡ none) → (x ≡ z) ⊎ List·Memᴰ x xs → find x ≡ none
-      go none h e later (inl q) = ap find q ∙ h
-      go none h e later (inr m) = later e x m
-      go (some y) h e later q = none-some (sym e)
+  firstOf-none (z ∷ xs) e x m =
+      let (h, later) = orElse-eq-none (find z) (firstOf xs find) .0 e in
+      ⊎-elim (λ q. ap find q ∙ h) (firstOf-none xs later x) (List·Memᴰ·cases-cons m)
 
   -- where something is found at some element, something is found
   pub firstOf-finds : (xs : List X) (x : X) (y : Y) → List·Memᴰ x xs → find x ≡ some y → (z : Y) × (firstOf xs find ≡ some z)

@@ -4,7 +4,7 @@ use mathlib.Core.List.{List, [], _∷_, _++_, append-nil, append-assoc}
 use mathlib.Core.Option.{Option, none, some}
 use Prim.Native.Nat.{ℕ}
 use native.Mathlib.Omega.{arith}
-use Rattle.graphs.specs.Graph.{Graph, onward, step, follow, walk, Reached}
+use Rattle.graphs.specs.Graph.{Graph, step, follow, walk, Reached}
 
 pub some-injective : {A : Type 0} {v w : A} → _≡_ {A = Option A} (some v) (some w) → v ≡ w
 some-injective e = cc
@@ -15,12 +15,6 @@ none-some e = let z : _≡_ {A = ℕ} 0 1 = cc in absurd (omega arith)
 -- what may be missing is one thing
 pub some-unique : {A : Type 0} {o : Option A} {v w : A} → o ≡ some v → o ≡ some w → v ≡ w
 some-unique d e = some-injective (sym d ∙ e)
-
--- what a function makes something of was something
-pub onward-some : {X Y : Type 0} (f : X → Y) (o : Option X) {y : Y} → onward f o ≡ some y →
-    (x : X) × (o ≡ some x) × (f x ≡ y)
-onward-some f none e = none-some e
-onward-some f (some x) e = (x, refl, some-injective e)
 
 -- Induction over a list from its end.
 pub snoc-induction :

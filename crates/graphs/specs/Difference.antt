@@ -5,12 +5,12 @@ use mathlib.Core.Path.{_≡_}
 use mathlib.Core.Bool.{Bool, true, false, cond, not, _&&_, _||_}
 use mathlib.Core.List.{List, [], _∷_, _++_, map}
 use mathlib.Core.Logic.{_⊎_}
-use mathlib.Core.Option.{Option, none, some}
+use mathlib.Core.Option.{Option, none, some, bind}
 use Prim.Native.Nat.{ℕ, zero, suc}
 use lib.Dec.{leb, eqb}
 use lib.ListN.{length}
 use Rattle.graphs.specs.Label.{Labels}
-use Rattle.graphs.specs.Graph.{Graph, andThen}
+use Rattle.graphs.specs.Graph.{Graph}
 use Rattle.graphs.specs.Rows.{features}
 use Rattle.graphs.specs.Unify.{anyOf, holds}
 
@@ -110,7 +110,7 @@ module _ {L A B : Type 0} (sameA : A → A → Bool) (sameB : B → B → Bool) 
 
       -- "the difference keeps the least link of each": a link is kept that is the least of its group and enters a kept node
       unfoldable pub keptLink : A → ℕ → Option A
-      keptLink u f = andThen (s .link u f) λ v. cond (sameLink (lead v (u, f)) (u, f) && keeps (length ss) v) (some v) none
+      keptLink u f = bind (s .link u f) λ v. cond (sameLink (lead v (u, f)) (u, f) && keeps (length ss) v) (some v) none
 
 -- "The root is always kept. Kept nodes carry their wanted types."
 module _ (𝓛 : Labels) {A B : Type 0} (sameA : A → A → Bool) (sameB : B → B → Bool) where

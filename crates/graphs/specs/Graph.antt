@@ -8,19 +8,6 @@ use mathlib.Core.Option.{Option, none, some}
 use Prim.Native.Nat.{ℕ, _<_}
 use Rattle.graphs.specs.Label.{Labels}
 
--- what a function makes of a value that may be missing
-abbrev pub onward : {X Y : Type 0} → (X → Y) → Option X → Option Y
-onward f none = none
-onward f (some x) = some (f x)
-
-abbrev pub andThen : {X Y : Type 0} → Option X → (X → Option Y) → Option Y
-andThen none k = none
-andThen (some x) k = k x
-
-abbrev pub orElse : {X : Type 0} → Option X → Option X → Option X
-orElse none o = o
-orElse (some x) o = some x
-
 -- a test that tells the elements of a type apart
 abbrev pub Tells : {A : Type 0} → (A → A → Bool) → Type 0
 Tells {A} same = (v w : A) → (same v w ≡ true) ↔ (v ≡ w)

@@ -2,10 +2,10 @@
 -- The map is a parameter and the records are its laws, on reached nodes only: what lies elsewhere is no part of a graph.
 use mathlib.Core.Path.{_≡_}
 use mathlib.Core.Bool.{true}
-use mathlib.Core.Option.{some}
+use mathlib.Core.Option.{some, Option·map}
 use Prim.Native.Nat.{ℕ}
 use Rattle.graphs.specs.Label.{Labels}
-use Rattle.graphs.specs.Graph.{Graph, Reached, onward}
+use Rattle.graphs.specs.Graph.{Graph, Reached}
 
 -- The map takes the nodes of g to nodes of s: root to root, along every link of g, to labels below or equal.
 pub record NodeMap (𝓛 : Labels) {A B : Type 0} (s : Graph (𝓛 .L) A) (g : Graph (𝓛 .L) B) (to : B → A) : Type 0 where
@@ -16,6 +16,6 @@ pub record NodeMap (𝓛 : Labels) {A B : Type 0} (s : Graph (𝓛 .L) A) (g : G
 -- The map renames the nodes of g to those of h: the same root, labels and links, and no two nodes become one.
 pub record Exact {L A B : Type 0} (to : A → B) (g : Graph L A) (h : Graph L B) : Type 0 where
   pub root : to (g .root) ≡ h .root
-  pub links : (v : A) (f : ℕ) → Reached g v → h .link (to v) f ≡ onward to (g .link v f)
+  pub links : (v : A) (f : ℕ) → Reached g v → h .link (to v) f ≡ Option·map to (g .link v f)
   pub labels : (v : A) → Reached g v → h .label (to v) ≡ g .label v
   pub injective : (v w : A) → Reached g v → Reached g w → to v ≡ to w → v ≡ w

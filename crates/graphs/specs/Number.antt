@@ -1,11 +1,11 @@
 -- The canonical numbering of a graph's nodes (document 01, "Graph record"), with the two ways of being too large.
 use mathlib.Core.Bool.{Bool, true, false, cond, _||_}
 use mathlib.Core.List.{List, [], _∷_, map, reverse}
-use mathlib.Core.Option.{Option, none, some}
+use mathlib.Core.Option.{Option, none, some, Option·map, bind}
 use Prim.Native.Nat.{ℕ, zero, suc, _+_}
 use lib.Dec.{leb}
 use lib.ListN.{length}
-use Rattle.graphs.specs.Graph.{Graph, onward, andThen}
+use Rattle.graphs.specs.Graph.{Graph}
 use Rattle.graphs.specs.Rows.{Row, features, linksOf}
 
 -- the first where the test holds, else the second, which is computed only then
@@ -35,7 +35,7 @@ module _ {A : Type 0} (link : A → ℕ → Option A) where
   -- "All that hangs below a link is numbered before the node's next link is followed": the links of v in turn
   unfoldable pub each : (A → List A → Option (List A)) → A → List ℕ → List A → Option (List A)
   each go v [] seen = some seen
-  each go v (f ∷ fs) seen = andThen (enter go (link v f) seen) (each go v fs)
+  each go v (f ∷ fs) seen = bind (enter go (link v f) seen) (each go v fs)
 
   -- the number of links that leave v by the features given
   unfoldable pub outDegree : A → List ℕ → ℕ
@@ -66,7 +66,7 @@ pub data Canonical (L : Type 0) : Type 0 where
 module _ {L A : Type 0} (same : A → A → Bool) (g : Graph L A) where
   -- the row of the node v, where the nodes are numbered by their places along a list
   unfoldable pub rowOf : List A → A → Row L
-  rowOf nodes v = (g .label v, linksOf (λ f. onward (λ w. indexOf same w nodes) (g .link v f)) features)
+  rowOf nodes v = (g .label v, linksOf (λ f. Option·map (λ w. indexOf same w nodes) (g .link v f)) features)
 
   abbrev pub counted : Option (List A) → Canonical L
   counted none = manyNodes

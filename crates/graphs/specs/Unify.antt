@@ -3,11 +3,11 @@ use mathlib.Core.Path.{_≡_}
 use mathlib.Core.Bool.{Bool, true, false, cond, _||_}
 use mathlib.Core.List.{List, [], _∷_, _++_, map, foldr}
 use mathlib.Core.Logic.{_↔_, _⊎_, inl, inr}
-use mathlib.Core.Option.{Option, none, some}
+use mathlib.Core.Option.{Option, none, some, Option·map, orElse}
 use Prim.Native.Nat.{ℕ, zero, suc, _+_}
 use lib.ListN.{length}
 use Rattle.graphs.specs.Label.{Labels}
-use Rattle.graphs.specs.Graph.{Graph, onward, orElse, walk, Corefer}
+use Rattle.graphs.specs.Graph.{Graph, walk, Corefer}
 use Rattle.graphs.specs.Generalize.{both}
 use Rattle.graphs.specs.Rows.{features}
 
@@ -49,8 +49,8 @@ module _ (𝓛 : Labels) {A B : Type 0} (g : Graph (𝓛 .L) A) (h : Graph (𝓛
 
 -- the graphs side by side
 abbrev pub beside : {A B : Type 0} → (A → ℕ → Option A) → (B → ℕ → Option B) → A ⊎ B → ℕ → Option (A ⊎ B)
-beside l m (inl v) f = onward inl (l v f)
-beside l m (inr v) f = onward inr (m v f)
+beside l m (inl v) f = Option·map inl (l v f)
+beside l m (inr v) f = Option·map inr (m v f)
 
 abbrev pub labelBeside : {L A B : Type 0} → (A → L) → (B → L) → A ⊎ B → L
 labelBeside l m (inl v) = l v
@@ -113,7 +113,7 @@ module _ {N : Type 0} (same : N → N → Bool) (link : N → ℕ → Option N) 
 
   -- the target of a class: that of any of its nodes
   unfoldable pub classLink : (N → N) → N → ℕ → Option N
-  classLink name c f = firstOf nodes λ x. cond (same (name x) c) (onward name (link x f)) none
+  classLink name c f = firstOf nodes λ x. cond (same (name x) c) (Option·map name (link x f)) none
 
 -- "a class has the meet of all types in it"
 unfoldable pub classLabel : (𝓛 : Labels) {N : Type 0} → (N → N → Bool) → List N → (N → 𝓛 .L) → (N → N) → N → 𝓛 .L

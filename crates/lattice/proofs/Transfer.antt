@@ -7,10 +7,10 @@ use mathlib.Core.Path.{_≡_, refl, sym, ap, ap₂, subst, _∙_, fun-ext}
 use mathlib.Core.Bool.{Bool, true, false, cond}
 use mathlib.Core.List.{List, [], _∷_, map, foldr, List·Memᴰ, List·Memᴰ·head, List·Memᴰ·tail, List·Memᴰ·append-cases, Memᴰ·of-map}
 use mathlib.Core.Logic.{_↔_, _⊎_, inl, inr, ⊎-elim}
-use mathlib.Core.Option.{Option, none, some}
+use mathlib.Core.Option.{Option, none, some, Option·map, map-id}
 use lib.Dec.{eqb}
 use Rattle.graphs.specs.Label.{Labels}
-use Rattle.graphs.specs.Graph.{Graph, Tells, Below, SameMeaning, AnySize, Reached, onward, walk}
+use Rattle.graphs.specs.Graph.{Graph, Tells, Below, SameMeaning, AnySize, Reached, walk}
 use Rattle.graphs.specs.Map.{NodeMap, Exact}
 use Rattle.graphs.specs.Number.{canonical}
 use Rattle.graphs.specs.Generalize.{both, generalization}
@@ -47,9 +47,8 @@ use Rattle.lattice.proofs.Lawful.{TypeBelow, typed, typed-number, type-
 abbrev pub lower : {n : ℕ} {A : Type 0} → Graph (TypeBelow n) A → Graph Label A
 lower g = relabel (λ x. x .0) g
 
-onward-same : {A : Type 0} (o : Option A) → o ≡ onward (λ v. v) o
-onward-same none = refl
-onward-same (some v) = refl
+map-same : {A : Type 0} (o : Option A) → o ≡ Option·map (λ v. v) o
+map-same o = ap (λ h. h o) (sym map-id)
 
 -- labels that a test picks, met along a list
 meets-folded : (𝓛 : Labels) {B : Type 0} (test : B → Bool) (label : B → 𝓛 .L) (ys : List B) →
@@ -83,7 +82,7 @@ module _ (n : ℕ) (t : List ℕ) (ok : accepted n t ≡ true) where
     lower-lift =
         record {
           root = refl;
-          links = λ v f r. onward-same (g .link v f);
+          links = λ v f r. map-same (g .link v f);
           labels = lifted-label;
           injective = λ v w r q e. e;
         }
@@ -225,7 +224,7 @@ module _ (n : ℕ) (t : List ℕ) (ok : accepted n t ≡ true) where
     generalization-exact =
         record {
           root = refl;
-          links = λ x f r. onward-same (both (g .link (x .0) f) (h .link (x .1) f));
+          links = λ x f r. map-same (both (g .link (x .0) f) (h .link (x .1) f));
           labels = λ x r.
               let d = Product.product-walks raw g h (r .0) (x .0) (x .1) .0 (r .1) in
               join-number n t ok (typed n t ok (g .label (x .0))) (typed n t ok (h .label (x .1))) ∙

@@ -1,6 +1,7 @@
 -- The record of document 01's case 7, top[0: a], written and read.
 use mathlib.Core.Path.{_≡_, refl}
 use mathlib.Core.List.{List, [], _∷_, _++_}
+use mathlib.Core.Option.{bind}
 use Prim.Native.Nat.{ℕ}
 use lib.ListN.{replicate}
 use Rattle.graphs.specs.Rows.{Row, from, target}
@@ -24,22 +25,22 @@ unfolding rows bytes encoded encodedRows encodedRow bitsFrom target from
 case-7-written = refl
 
 case-7-read : reading 4 bytes ≡ accepted rows
-unfolding rows bytes reading decoded takeRows takeRow takeLinks bitOf inRange allOf cyclic anyOf deep reachesAll visit each member target from
+unfolding rows bytes reading decoded bind takeRows takeRow takeLinks bitOf inRange allOf cyclic anyOf deep reachesAll visit each member target from
 case-7-read = refl
 
 -- with its target changed: to itself a cycle, to the root too, past the end out of range, cut short malformed
 self-loop : reading 4 (1 ∷ 3 ∷ 1 ∷ replicate 7 0 ++ 0 ∷ []) ≡ refused Cyclic
-unfolding reading decoded takeRows takeRow takeLinks bitOf inRange allOf cyclic anyOf deep reachesAll visit each member target from
+unfolding reading decoded bind takeRows takeRow takeLinks bitOf inRange allOf cyclic anyOf deep reachesAll visit each member target from
 self-loop = refl
 
 past-end : reading 4 (1 ∷ 3 ∷ 1 ∷ replicate 7 0 ++ 1 ∷ []) ≡ refused OutOfRange
-unfolding reading decoded takeRows takeRow takeLinks bitOf inRange allOf cyclic anyOf deep reachesAll visit each member target from
+unfolding reading decoded bind takeRows takeRow takeLinks bitOf inRange allOf cyclic anyOf deep reachesAll visit each member target from
 past-end = refl
 
 short : reading 4 (1 ∷ 3 ∷ 1 ∷ replicate 7 0) ≡ refused Malformed
-unfolding reading decoded takeRows takeRow takeLinks bitOf inRange allOf cyclic anyOf deep reachesAll visit each member target from
+unfolding reading decoded bind takeRows takeRow takeLinks bitOf inRange allOf cyclic anyOf deep reachesAll visit each member target from
 short = refl
 
 apart : reading 4 (2 ∷ 3 ∷ replicate 8 0 ++ 3 ∷ replicate 8 0) ≡ refused Unreached
-unfolding reading decoded takeRows takeRow takeLinks bitOf inRange allOf cyclic anyOf deep reachesAll visit each member target from
+unfolding reading decoded bind takeRows takeRow takeLinks bitOf inRange allOf cyclic anyOf deep reachesAll visit each member target from
 apart = refl

@@ -4,7 +4,7 @@ use mathlib.Core.Path.{_≡_, refl, sym, _∙_, ap, ap₂}
 use mathlib.Core.Bool.{Bool, cond}
 use mathlib.Core.List.{List, [], _∷_, _++_, map, append-assoc, append-nil, List·Memᴰ, List·Memᴰ·head, List·Memᴰ·tail, List·Memᴰ·not-nil, List·Memᴰ·cases-cons}
 use mathlib.Core.Logic.{⊎-elim}
-use mathlib.Core.Option.{Option, none, some}
+use mathlib.Core.Option.{Option, none, some, Option·map, bind}
 use Prim.Native.Nat.{ℕ, zero, suc, _+_, _*_, _-_, _/_, _%_, _^_, _≤_, _<_}
 use native.Mathlib.Decide.{ℕ-discrete}
 use native.Mathlib.Nat.{add-zero, zero-add}
@@ -13,7 +13,7 @@ use borrow.Author.Tests.{ne-eqb, le-leb}
 use lib.Dec.{eqb}
 use lib.ListN.{length, getD, List·getD-append}
 use lib.Pow.{shr-shr}
-use Rattle.graphs.specs.Graph.{Graph, Reached, Tells, onward, andThen}
+use Rattle.graphs.specs.Graph.{Graph, Reached, Tells}
 use Rattle.graphs.specs.Rows.{Row, from, target}
 use Rattle.graphs.specs.Number.{countSome, canonical, written}
 use Rattle.graphs.specs.Large.{Ascending, linksIn}
@@ -118,7 +118,7 @@ module _ (stands : ℕ → Bool) (room : ℕ) (rest : List ℕ) where
           (takeLinks stands (from (suc f) k) m (l .1 ∷ (map (λ l. l .1) ls ++ rest))))
           (agree f (omega arith) (omega arith) ∙ ap (λ (o : Option ℕ). eqb (countSome o) 1) (target-first f l ls q))
           n
-          ∙ ap (onward (changed λ ms. (f, l .1) ∷ ms))
+          ∙ ap (Option·map (changed λ ms. (f, l .1) ∷ ms))
           (later (λ m i. omega (arith, up .0 m i, inside m (List·Memᴰ·tail i)))
           (λ g low high.
           agree g (omega arith) (omega arith) ∙ ap (λ (o : Option ℕ). eqb (countSome o) 1) (target-later g l ls (λ (d : l .0 ≡ g). omega arith)))
@@ -145,10 +145,10 @@ row-taken r room rest (up, low) =
     ap
     (λ (t : Bool).
     cond t
-    (onward (changed λ ls. (r .0, ls)) (takeLinks (bitOf bytes) (from 0 64) (length (r .1) + room) (numbers ++ rest)))
+    (Option·map (changed λ ls. (r .0, ls)) (takeLinks (bitOf bytes) (from 0 64) (length (r .1) + room) (numbers ++ rest)))
     none)
     (le-leb 9 (length (encodedRow r ++ rest)) (omega arith))
-    ∙ ap (onward (changed λ ls. (r .0, ls)))
+    ∙ ap (Option·map (changed λ ls. (r .0, ls)))
     (links-taken (bitOf bytes) room rest (r .1) 0 64 (length (r .1) + room) up (λ l m. omega (arith, low l m))
     (λ g _ high.
     ap (λ (bs : List ℕ). bitOf bs g) (append-assoc (mapBytes (r .1)) numbers rest) ∙ bit-stood (r .1) (numbers ++ rest) g high)
@@ -156,7 +156,7 @@ row-taken r room rest (up, low) =
 
 rows-taken : (rows : List (Row Label)) (room total : ℕ) (rest : List ℕ) → ((r : Row Label) → List·Memᴰ r rows → Proper r) →
     total ≡ linksIn rows + room → takeRows (length rows) total (encodedRows rows ++ rest) ≡ took rows room rest
-unfolding takeRows encodedRows linksIn
+unfolding bind takeRows encodedRows linksIn
 rows-taken [] room total rest proper e =
     let q : total ≡ room = omega arith in
     ap (λ (n : ℕ). took {X = List (Row Label)} [] n rest) q
@@ -164,14 +164,14 @@ rows-taken (r ∷ rs) room total rest proper e =
     let q : total ≡ length (r .1) + (linksIn rs + room) = omega arith in
     ap₂
     (λ (n : ℕ) (bytes : List ℕ).
-    andThen (takeRow n bytes) λ t. onward (changed λ rs. t .value ∷ rs) (takeRows (length rs) (t .room) (t .rest)))
+    bind (takeRow n bytes) λ t. Option·map (changed λ rs. t .value ∷ rs) (takeRows (length rs) (t .room) (t .rest)))
     q
     (append-assoc (encodedRow r) (encodedRows rs) rest)
     ∙ ap
     (λ (o : Option (Taken (Row Label))).
-    andThen o λ t. onward (changed λ rs. t .value ∷ rs) (takeRows (length rs) (t .room) (t .rest)))
+    bind o λ t. Option·map (changed λ rs. t .value ∷ rs) (takeRows (length rs) (t .room) (t .rest)))
     (row-taken r (linksIn rs + room) (encodedRows rs ++ rest) (proper r (List·Memᴰ·head refl)))
-    ∙ ap (onward (changed λ rs. r ∷ rs)) (rows-taken rs room (linksIn rs + room) rest (λ x m. proper x (List·Memᴰ·tail m)) refl)
+    ∙ ap (Option·map (changed λ rs. r ∷ rs)) (rows-taken rs room (linksIn rs + room) rest (λ x m. proper x (List·Memᴰ·tail m)) refl)
 
 -- The round trip.
 pub decode-encode : (rows : List (Row Label)) → 0 < length rows → linksIn rows ≤ 2048 → ((r : Row Label) → List·Memᴰ r rows → Proper r) →

@@ -2,14 +2,13 @@
 use mathlib.Core.Path.{_≡_, refl, sym, _∙_, ap, ap₂, subst}
 use mathlib.Core.Bool.{cond}
 use mathlib.Core.List.{List, [], _∷_}
-use mathlib.Core.Option.{Option, none, some}
+use mathlib.Core.Option.{Option, none, some, bind}
 use Prim.Native.Nat.{ℕ, _+_, _-_, _*_, _≤_, _<_}
 use native.Mathlib.Omega.{arith}
 use borrow.Author.Tests.{le-leb, lt-leb, eq-eqb, ne-eqb}
 use lib.Dec.{leb}
 use lib.ListN.{length, getD, take, drop, length-drop}
 use lib.Seq.{drop-drop}
-use Rattle.graphs.specs.Graph.{andThen}
 use Rattle.request.specs.declared.parse.Operation.{Operation}
 use Rattle.request.specs.declared.parse.Operation.the-variants.{Generalize, Unify, Difference, Order}
 use Rattle.request.specs.declared.parse.Part.{Part}
@@ -94,10 +93,10 @@ afterSecond operation n table first second =
     atEnd (second .1) (record { operation = operation; n = n; table = table; first = first; second = second .0 })
 
 abbrev afterFirst : Operation → ℕ → List ℕ → List ℕ × List ℕ → Option Request
-afterFirst operation n table first = andThen (takeRecord (first .1)) (afterSecond operation n table (first .0))
+afterFirst operation n table first = bind (takeRecord (first .1)) (afterSecond operation n table (first .0))
 
 abbrev afterTable : Operation → ℕ → List ℕ × List ℕ → Option Request
-afterTable operation n table = andThen (takeRecord (table .1)) (afterFirst operation n (table .0))
+afterTable operation n table = bind (takeRecord (table .1)) (afterFirst operation n (table .0))
 
 pub end-left : (rest : List ℕ) (request : Request) → (length rest ≡ 0 → ⊥) → atEnd rest request ≡ none
 end-left rest request h = ap (λ b. cond b (some request) none) (ne-eqb (length rest) 0 h)
@@ -110,48 +109,54 @@ abbrev tableOf : List ℕ → Part
 tableOf input = record { start = 2; end = 2 + 8 * getD input 1 0 }
 
 module _ (operation : Operation) (input : List ℕ) (some-bytes : 2 ≤ length input) where
-  asked-table : askedOf operation (drop 1 input) ≡ andThen (takeBytes (8 * getD input 1 0) (drop 2 input)) (afterTable operation (getD input 1 0))
+  asked-table : askedOf operation (drop 1 input) ≡ bind (takeBytes (8 * getD input 1 0) (drop 2 input)) (afterTable operation (getD input 1 0))
   unfolding askedOf
   asked-table = ap (askedOf operation) (word-more input 1 (omega arith))
 
   pub table-short : length input < 2 + 8 * getD input 1 0 → askedOf operation (drop 1 input) ≡ none
+  unfolding bind
   table-short h =
       asked-table
-      ∙ ap (λ o. andThen o (afterTable operation (getD input 1 0)))
+      ∙ ap (λ o. bind o (afterTable operation (getD input 1 0)))
       (bytes-short (8 * getD input 1 0) (drop 2 input) (simp length-drop (omega arith)))
 
   module _ (enough : 2 + 8 * getD input 1 0 ≤ length input) where
     asked-first : askedOf operation (drop 1 input) ≡
-        andThen (takeRecord (drop (tableOf input .end) input)) (afterFirst operation (getD input 1 0) (between input (tableOf input)))
+        bind (takeRecord (drop (tableOf input .end) input)) (afterFirst operation (getD input 1 0) (between input (tableOf input)))
+    unfolding bind
     asked-first =
         asked-table
-        ∙ ap (λ o. andThen o (afterTable operation (getD input 1 0))) (part-there input 2 (8 * getD input 1 0) enough)
+        ∙ ap (λ o. bind o (afterTable operation (getD input 1 0))) (part-there input 2 (8 * getD input 1 0) enough)
 
     module _ {read : Taken} (takes : Takes (takeRecord (drop (tableOf input .end) input)) input read) where
       pub first-bad : read ≡ taken.Bad → askedOf operation (drop 1 input) ≡ none
+      unfolding bind
       first-bad e =
           asked-first
-          ∙ ap (λ o. andThen o (afterFirst operation (getD input 1 0) (between input (tableOf input)))) (takes .read-is ∙ ap (recordAt input) e)
+          ∙ ap (λ o. bind o (afterFirst operation (getD input 1 0) (between input (tableOf input)))) (takes .read-is ∙ ap (recordAt input) e)
 
       module _ (first : Part) (first-is : read ≡ taken.At first) {next : Taken} (more : Takes (takeRecord (drop (first .end) input)) input next) where
         asked-second : askedOf operation (drop 1 input) ≡
-            andThen (recordAt input next) (afterSecond operation (getD input 1 0) (between input (tableOf input)) (between input first))
+            bind (recordAt input next) (afterSecond operation (getD input 1 0) (between input (tableOf input)) (between input first))
+        unfolding bind
         asked-second =
             asked-first
-            ∙ ap (λ o. andThen o (afterFirst operation (getD input 1 0) (between input (tableOf input)))) (takes .read-is ∙ ap (recordAt input) first-is)
-            ∙ ap (λ o. andThen o (afterSecond operation (getD input 1 0) (between input (tableOf input)) (between input first))) (more .read-is)
+            ∙ ap (λ o. bind o (afterFirst operation (getD input 1 0) (between input (tableOf input)))) (takes .read-is ∙ ap (recordAt input) first-is)
+            ∙ ap (λ o. bind o (afterSecond operation (getD input 1 0) (between input (tableOf input)) (between input first))) (more .read-is)
 
         pub second-bad : next ≡ taken.Bad → askedOf operation (drop 1 input) ≡ none
+        unfolding bind
         second-bad e =
             asked-second
-            ∙ ap (λ o. andThen (recordAt input o) (afterSecond operation (getD input 1 0) (between input (tableOf input)) (between input first))) e
+            ∙ ap (λ o. bind (recordAt input o) (afterSecond operation (getD input 1 0) (between input (tableOf input)) (between input first))) e
 
         module _ (second : Part) (second-is : next ≡ taken.At second) where
           asked-end : askedOf operation (drop 1 input) ≡
               afterSecond operation (getD input 1 0) (between input (tableOf input)) (between input first) (between input second, drop (second .end) input)
+          unfolding bind
           asked-end =
               asked-second
-              ∙ ap (λ o. andThen (recordAt input o) (afterSecond operation (getD input 1 0) (between input (tableOf input)) (between input first)))
+              ∙ ap (λ o. bind (recordAt input o) (afterSecond operation (getD input 1 0) (between input (tableOf input)) (between input first)))
               second-is
 
           pub bytes-left : (second .end ≡ length input → ⊥) → askedOf operation (drop 1 input) ≡ none
@@ -180,27 +185,30 @@ module _ (operation : Operation) (input : List ℕ) (some-bytes : 2 ≤ length i
 -- The operation byte.
 
 -- nothing comes of a value that may be missing where nothing comes of any value
-pub and-then-none : {X Y : Type 0} (o : Option X) (next : X → Option Y) → ((x : X) → o ≡ some x → next x ≡ none) → andThen o next ≡ none
-and-then-none none next h = refl
-and-then-none (some x) next h = h x refl
+pub bind-none : {X Y : Type 0} (o : Option X) (next : X → Option Y) → ((x : X) → o ≡ some x → next x ≡ none) → bind o next ≡ none
+unfolding bind
+bind-none none next h = refl
+bind-none (some x) next h = h x refl
 
 pub input-short : (input : List ℕ) → length input < 2 → requested input ≡ none
 unfolding requested askedOf
 input-short [] h = refl
-input-short (o ∷ []) h = and-then-none (operationOf o) _ λ operation e. refl
+input-short (o ∷ []) h = bind-none (operationOf o) _ λ operation e. refl
 input-short (o ∷ n ∷ rest) h = absurd (omega arith)
 
 module _ (input : List ℕ) (some-bytes : 2 ≤ length input) where
-  requested-is : (o : Option Operation) → operationOf (getD input 0 0) ≡ o → requested input ≡ andThen o λ operation. askedOf operation (drop 1 input)
+  requested-is : (o : Option Operation) → operationOf (getD input 0 0) ≡ o → requested input ≡ bind o λ operation. askedOf operation (drop 1 input)
   unfolding requested
   requested-is o e =
-      ap requested (word-more input 0 (omega arith)) ∙ ap (λ o. andThen o λ operation. askedOf operation (drop 1 input)) e
+      ap requested (word-more input 0 (omega arith)) ∙ ap (λ o. bind o λ operation. askedOf operation (drop 1 input)) e
 
   pub parses-asked : (operation : Operation) {parsed : Parsed} → operationOf (getD input 0 0) ≡ some operation →
       Parses (askedOf operation (drop 1 input)) input parsed → Parses (requested input) input parsed
+  unfolding bind
   parses-asked operation {parsed} e p = subst (λ o. Parses o input parsed) (sym (requested-is (some operation) e)) p
 
   pub parses-other : operationOf (getD input 0 0) ≡ none → Parses (requested input) input Bad
+  unfolding bind
   parses-other e = parses-none (requested-is none e)
 
 -- the four operations, and no other

@@ -13,7 +13,7 @@ use lib.Seq.{getD-take, length-take-le, take-all}
 use Rattle.graphs.proofs.Walk.{some-injective, none-some}
 use Rattle.request.specs.Request.{operationOf, takeBytes, takeRecord, askedOf, requested}
 use Rattle.request.specs.Line.{lineFor, lineOf}
-use Rattle.request.proofs.Parsing.{and-then-none, end-left}
+use Rattle.request.proofs.Parsing.{bind-none, end-left}
 
 -- what is taken of the bytes, and what is left
 
@@ -42,12 +42,12 @@ record-count (low ∷ high ∷ rest) p e = go (leb (low + 256 * high) 8192) refl
 long-bad : (input : List ℕ) → getD input 1 0 < 256 → 18430 < length input → requested input ≡ none
 unfolding requested askedOf
 long-bad [] small long = refl
-long-bad (o ∷ []) small long = and-then-none (operationOf o) _ λ operation e. refl
+long-bad (o ∷ []) small long = bind-none (operationOf o) _ λ operation e. refl
 long-bad (o ∷ n ∷ rest) small long =
-    and-then-none (operationOf o) _ λ operation e.
-    and-then-none (takeBytes (8 * n) rest) _ λ table t.
-    and-then-none (takeRecord (table .1)) _ λ first f.
-    and-then-none (takeRecord (first .1)) _ λ second s.
+    bind-none (operationOf o) _ λ operation e.
+    bind-none (takeBytes (8 * n) rest) _ λ table t.
+    bind-none (takeRecord (table .1)) _ λ first f.
+    bind-none (takeRecord (first .1)) _ λ second s.
     end-left (second .1) _ λ none-left.
     omega (
       arith,

@@ -1,11 +1,10 @@
 -- What the input of `mapcalc` asks for (document 01, "Fittings to check").
 use mathlib.Core.Bool.{cond}
 use mathlib.Core.List.{List, [], _∷_}
-use mathlib.Core.Option.{Option, none, some}
+use mathlib.Core.Option.{Option, none, some, bind}
 use Prim.Native.Nat.{ℕ, _+_, _*_}
 use lib.Dec.{eqb, leb}
 use lib.ListN.{length, take, drop}
-use Rattle.graphs.specs.Graph.{andThen}
 use Rattle.request.specs.declared.parse.Operation.{Operation}
 use Rattle.request.specs.declared.parse.Operation.the-variants.{Generalize, Unify, Difference, Order}
 
@@ -43,12 +42,12 @@ atEnd rest request = cond (eqb (length rest) 0) (some request) none
 unfoldable pub askedOf : Operation → List ℕ → Option Request
 askedOf operation [] = none
 askedOf operation (n ∷ rest) =
-    andThen (takeBytes (8 * n) rest) λ table.
-    andThen (takeRecord (table .1)) λ first.
-    andThen (takeRecord (first .1)) λ second.
+    bind (takeBytes (8 * n) rest) λ table.
+    bind (takeRecord (table .1)) λ first.
+    bind (takeRecord (first .1)) λ second.
     atEnd (second .1) (record { operation = operation; n = n; table = table .0; first = first .0; second = second .0 })
 
 -- the request that the input is; nothing where it is bad
 unfoldable pub requested : List ℕ → Option Request
 requested [] = none
-requested (o ∷ rest) = andThen (operationOf o) λ operation. askedOf operation rest
+requested (o ∷ rest) = bind (operationOf o) λ operation. askedOf operation rest

@@ -3,6 +3,7 @@
 use mathlib.Core.Path.{_≡_, refl}
 use mathlib.Core.Bool.{false}
 use mathlib.Core.List.{List, flatMap}
+use mathlib.Core.Option.{bind, orElse}
 use Prim.Native.Nat.{ℕ}
 use Rattle.graphs.specs.Rows.{Row, from, target, linksOf}
 use Rattle.graphs.specs.Order.{allOf, within as walks, fitsAt, subsumes}
@@ -82,6 +83,7 @@ use Rattle.small_set.specs.Cases.{threeMiddles, twoOverTwo, refuses, Ans
 
 all-hold : AllHold cases
 unfolding
+    bind orElse
     generalizing generalized unifying unifiedRows differing differedRows differed differenceRows wanted over firstAt
     opened sized ordered within reflexive antisymmetric transitive least greatest bounded meet isMeet join isJoin every last below
     meetBelow isResidual residual admits

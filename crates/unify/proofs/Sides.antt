@@ -3,15 +3,15 @@
 use mathlib.Core.Path.{_≡_, refl, _∙_, ap, subst}
 use mathlib.Core.List.{List}
 use mathlib.Core.Logic.{_⊎_, inl, inr}
-use mathlib.Core.Option.{some}
+use mathlib.Core.Option.{some, Option·map, map-eq-some-iff}
 use Prim.Native.Nat.{ℕ, _+_, _-_, _≤_, _<_}
 use native.Mathlib.Decide.{decLt}
 use native.Mathlib.Omega.{arith}
 use lib.Dec.{eqb}
 use lib.ListN.{getD}
-use Rattle.graphs.specs.Graph.{onward, follow, walk, Reached}
+use Rattle.graphs.specs.Graph.{follow, walk, Reached}
 use Rattle.graphs.specs.Rows.{from}
-use Rattle.graphs.proofs.Walk.{some-injective, onward-some, snoc-induction, follow-last}
+use Rattle.graphs.proofs.Walk.{some-injective, snoc-induction, follow-last}
 use Rattle.graphs.proofs.Lists.{from-member, from-range, tells-eqb}
 use Rattle.graphs.proofs.Unification.Beside.{linkBeside, ReachedBeside, Lists, Operands}
 use Rattle.layout.specs.Layout.{size, linksFrom, featureAt, targetAt, graphIn}
@@ -118,7 +118,7 @@ module _ {n : ℕ} {a b : List ℕ} (left : Operand n a) (right : Operand n b) w
     pub link-in : (x y : ℕ ⊎ ℕ) (f : ℕ) → Inside x → linkBeside (graphIn a) (graphIn b) x f ≡ some y →
         Inside y × ((j : ℕ) × At start end (number (size a) x) j × (featureAt pool j ≡ f) × (targetAt pool j ≡ number (size a) y))
     link-in (inl v) y f i e =
-        let (w, d, q) = onward-some inl (graphIn a .link v f) e in
+        let (w, d, q) = map-eq-some-iff inl (graphIn a .link v f) .0 e in
         let (j, place, feature, target) = side-in left none first v w f i d in
         let z : 0 + v ≡ v = omega arith in
         subst
@@ -128,7 +128,7 @@ module _ {n : ℕ} {a b : List ℕ} (left : Operand n a) (right : Operand n b) w
           (j, subst (λ (x : ℕ). At start end x j) z place, feature, omega (arith, target)),
         )
     link-in (inr v) y f i e =
-        let (w, d, q) = onward-some inr (graphIn b .link v f) e in
+        let (w, d, q) = map-eq-some-iff inr (graphIn b .link v f) .0 e in
         let (j, place, feature, target) = side-in right (left .recorded .small) second v w f i d in
         subst
         (λ (y : ℕ ⊎ ℕ).
@@ -141,7 +141,7 @@ module _ {n : ℕ} {a b : List ℕ} (left : Operand n a) (right : Operand n b) w
     link-of (inl v) j i place =
         let z : v ≡ 0 + v = omega arith in
         let (w, w-in, l, e) = side-of left none first v j i (subst (λ (x : ℕ). At start end x j) z place) in
-        (inl w, w-in, ap (onward {X = ℕ} {Y = ℕ ⊎ ℕ} inl) l, omega (arith, e))
+        (inl w, w-in, ap (Option·map {A = ℕ} {B = ℕ ⊎ ℕ} inl) l, omega (arith, e))
     link-of (inr v) j i place =
         let (w, w-in, l, e) = side-of right (left .recorded .small) second v j i place in
-        (inr w, w-in, ap (onward {X = ℕ} {Y = ℕ ⊎ ℕ} inr) l, e)
+        (inr w, w-in, ap (Option·map {A = ℕ} {B = ℕ ⊎ ℕ} inr) l, e)

@@ -2,7 +2,7 @@
 -- features ascend and are below 64, so going through the features in turn meets its targets in turn.
 use mathlib.Core.Path.{_≡_, refl, sym, _∙_, ap}
 use mathlib.Core.List.{List, [], _∷_, map}
-use mathlib.Core.Option.{Option, none, some}
+use mathlib.Core.Option.{Option, none, some, bind}
 use Prim.Native.Nat.{ℕ, zero, suc, _+_, _-_, _%_, _≤_, _<_}
 use native.Mathlib.Decide.{ℕ-discrete}
 use native.Mathlib.Numerals.{add-one}
@@ -11,7 +11,6 @@ use borrow.Author.Tests.{eq-eqb, ne-eqb}
 use lib.Dec.{eqb, leb}
 use lib.ListN.{length, getD}
 use lib.Seq.{slice}
-use Rattle.graphs.specs.Graph.{andThen}
 use Rattle.graphs.specs.Rows.{from, target}
 use Rattle.graphs.specs.Number.{member, otherwise, enter, each, visit}
 use Rattle.layout.specs.Layout.{scale, size, linksFrom, rowEnd, linkOf, featureAt, targetAt, linksBetween, linksAt, graphIn, Sound}
@@ -46,11 +45,11 @@ module _ (n : ℕ) (link : ℕ → ℕ → Option ℕ) (go go′ : ℕ → List 
     (alike : (w : ℕ) (seen : List ℕ) → w < n → go w seen ≡ go′ w seen) (v : ℕ) where
   each-targets : (k f : ℕ) → f + k ≡ 64 → (ls : List (ℕ × ℕ)) → Ascends n f ls → ((g : ℕ) → f ≤ g → link v g ≡ target ls g) →
       (seen : List ℕ) → each link go v (from f k) seen ≡ eachTarget go′ (targetsOf ls) seen
-  unfolding each eachTarget from
+  unfolding bind each eachTarget from
   each-targets zero f e [] a same seen = refl
   each-targets zero f e (l ∷ ls) a same seen = absurd (omega arith)
   each-targets (suc k) f e [] a same seen =
-      ap (λ (o : Option ℕ). andThen (enter go o seen) (each link go v (from (suc f) k)))
+      ap (λ (o : Option ℕ). bind (enter go o seen) (each link go v (from (suc f) k)))
       (same f (omega arith) ∙ target-none n (suc f) [] f (omega arith) tt) ∙
       each-targets k (suc f) (omega arith) [] tt (λ g h. same g (omega arith)) seen
   each-targets (suc k) f e (l ∷ ls) a same seen =
@@ -61,22 +60,22 @@ module _ (n : ℕ) (link : ℕ → ℕ → Option ℕ) (go go′ : ℕ → List 
       Same rest = (g : ℕ) → suc f ≤ g → link v g ≡ target rest g
 
       through : (o : Option (List ℕ)) → ((mid : List ℕ) → each link go v (from (suc f) k) mid ≡ eachTarget go′ (targetsOf ls) mid) →
-          andThen o (each link go v (from (suc f) k)) ≡ andThen o (eachTarget go′ (targetsOf ls))
+          bind o (each link go v (from (suc f) k)) ≡ bind o (eachTarget go′ (targetsOf ls))
       through none later = refl
       through (some mid) later = later mid
 
       at : Dec (l .0 ≡ f) →
           (Ascends n (suc f) (l ∷ ls) → Same (l ∷ ls) → each link go v (from (suc f) k) seen ≡ eachTarget go′ (targetsOf (l ∷ ls)) seen) →
           (Ascends n (suc f) ls → Same ls → (mid : List ℕ) → each link go v (from (suc f) k) mid ≡ eachTarget go′ (targetsOf ls) mid) →
-          andThen (enter go (link v f) seen) (each link go v (from (suc f) k)) ≡
-          andThen (go′ (l .1) seen) (eachTarget go′ (targetsOf ls))
+          bind (enter go (link v f) seen) (each link go v (from (suc f) k)) ≡
+          bind (go′ (l .1) seen) (eachTarget go′ (targetsOf ls))
       at (yes q) stay on =
-          ap (λ (o : Option ℕ). andThen (enter go o seen) (each link go v (from (suc f) k)))
+          ap (λ (o : Option ℕ). bind (enter go o seen) (each link go v (from (suc f) k)))
           (same f (omega arith) ∙ target-here l ls f q) ∙
           through (go (l .1) seen) (on (rw q at (a .3)) (λ g h. same g (omega arith) ∙ target-later l ls g (omega arith))) ∙
-          ap (λ (o : Option (List ℕ)). andThen o (eachTarget go′ (targetsOf ls))) (alike (l .1) seen (a .2))
+          ap (λ (o : Option (List ℕ)). bind o (eachTarget go′ (targetsOf ls))) (alike (l .1) seen (a .2))
       at (no d) stay on =
-          ap (λ (o : Option ℕ). andThen (enter go o seen) (each link go v (from (suc f) k)))
+          ap (λ (o : Option ℕ). bind (enter go o seen) (each link go v (from (suc f) k)))
           (same f (omega arith) ∙ target-none n (suc f) (l ∷ ls) f (omega arith) later) ∙
           stay later (λ g h. same g (omega arith))
         where

@@ -2,7 +2,7 @@
 use mathlib.Core.Path.{_≡_, refl, sym, _∙_, ap, subst}
 use mathlib.Core.Bool.{Bool, true, false, cond, _||_}
 use mathlib.Core.List.{List, [], _∷_, map, reverse, reverse-reverse}
-use mathlib.Core.Option.{Option, none, some}
+use mathlib.Core.Option.{Option, none, some, bind}
 use Prim.Native.Nat.{ℕ, zero, suc, _+_, _-_, _%_, _≤_, _<_}
 use native.Mathlib.Nat.{le-refl}
 use native.Mathlib.Decide.{ℕ-discrete}
@@ -12,7 +12,6 @@ use borrow.Author.Tests.{eqb-true, eqb-false, le-leb, lt-leb}
 use lib.Dec.{eqb}
 use lib.ListN.{length, getD, set, take, length-set, length-reverse}
 use lib.Seq.{slice, slice-cons, slice-empty, length-take-le, take-suc-set, take-set-le, getD-set-same, getD-set-other, getD-take}
-use Rattle.graphs.specs.Graph.{andThen}
 use Rattle.graphs.specs.Number.{member}
 use Rattle.graphs.proofs.Lists.{reverse-snoc}
 use Rattle.layout.specs.Layout.{scale, size, linksFrom, rowEnd, targetAt, Sound}
@@ -202,7 +201,7 @@ module _ {ws numbers visited : List ℕ} {v depth count k : ℕ} {found : Option
     seen-count : length (seenOf visited count) ≡ count
     seen-count = length-seen visited count (omega (arith, f .marks .few, f .marks .visited-long))
 
-    here : found ≡ andThen (visitTargets (targetsAt ws) depth (targetAt ws k) (seenOf visited count))
+    here : found ≡ bind (visitTargets (targetsAt ws) depth (targetAt ws k) (seenOf visited count))
         (eachTarget (visitTargets (targetsAt ws) depth) (targetsFrom ws (k + 1) (rowEnd ws v)))
     unfolding eachTarget
     here =
@@ -211,11 +210,13 @@ module _ {ws numbers visited : List ℕ} {v depth count k : ℕ} {found : Option
         (ap (map (λ w. w % scale)) (slice-cons k (rowEnd ws v) ws 0 more (f .sound .shaped .node v (f .inside) .ended))))
 
     fails : visitTargets (targetsAt ws) depth (targetAt ws k) (seenOf visited count) ≡ none → found ≡ none
-    fails e = here ∙ ap (λ (o : Option (List ℕ)). andThen o (eachTarget (visitTargets (targetsAt ws) depth) (targetsFrom ws (k + 1) (rowEnd ws v)))) e
+    unfolding bind
+    fails e = here ∙ ap (λ (o : Option (List ℕ)). bind o (eachTarget (visitTargets (targetsAt ws) depth) (targetsFrom ws (k + 1) (rowEnd ws v)))) e
 
     goes : (seen : List ℕ) → visitTargets (targetsAt ws) depth (targetAt ws k) (seenOf visited count) ≡ some seen →
         found ≡ eachTarget (visitTargets (targetsAt ws) depth) (targetsFrom ws (k + 1) (rowEnd ws v)) seen
-    goes seen e = here ∙ ap (λ (o : Option (List ℕ)). andThen o (eachTarget (visitTargets (targetsAt ws) depth) (targetsFrom ws (k + 1) (rowEnd ws v)))) e
+    unfolding bind
+    goes seen e = here ∙ ap (λ (o : Option (List ℕ)). bind o (eachTarget (visitTargets (targetsAt ws) depth) (targetsFrom ws (k + 1) (rowEnd ws v)))) e
 
     -- the target has a number
     pub follow-met : (getD numbers (targetAt ws k) 0 ≡ 65535 → ⊥) → Follows ws v depth found numbers visited count (k + 1)

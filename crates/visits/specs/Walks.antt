@@ -3,12 +3,11 @@
 use mathlib.Core.Path.{_≡_}
 use mathlib.Core.Bool.{Bool, true, false}
 use mathlib.Core.List.{List, [], _∷_, map, reverse}
-use mathlib.Core.Option.{Option, none, some}
+use mathlib.Core.Option.{Option, none, some, bind}
 use Prim.Native.Nat.{ℕ, zero, suc, _%_, _≤_, _<_}
 use lib.Dec.{eqb, leb}
 use lib.ListN.{length, getD}
 use lib.Seq.{slice}
-use Rattle.graphs.specs.Graph.{andThen}
 use Rattle.graphs.specs.Number.{member, otherwise}
 use Rattle.layout.specs.Layout.{scale, size, linksFrom, rowEnd, targetAt}
 
@@ -35,7 +34,7 @@ pub record TargetsFirst (ws order : List ℕ) (place : ℕ → ℕ) : Type 0 whe
 
 unfoldable pub eachTarget : (ℕ → List ℕ → Option (List ℕ)) → List ℕ → List ℕ → Option (List ℕ)
 eachTarget go [] seen = some seen
-eachTarget go (w ∷ ws) seen = andThen (go w seen) (eachTarget go ws)
+eachTarget go (w ∷ ws) seen = bind (go w seen) (eachTarget go ws)
 
 unfoldable pub visitTargets : (ℕ → List ℕ) → ℕ → ℕ → List ℕ → Option (List ℕ)
 visitTargets next zero v seen = otherwise (member eqb v seen) (some seen) λ _. none

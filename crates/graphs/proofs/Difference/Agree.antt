@@ -2,12 +2,12 @@
 -- are the same, give one difference.
 use mathlib.Core.Path.{_≡_, refl, _∙_, ap, ap₂, fun-ext}
 use mathlib.Core.Bool.{Bool, cond, not, _&&_, _||_}
-use mathlib.Core.Option.{Option, none, some}
+use mathlib.Core.Option.{Option, none, some, bind}
 use mathlib.Core.List.{List, [], _∷_, List·Memᴰ, List·Memᴰ·head, List·Memᴰ·tail}
 use Prim.Native.Nat.{ℕ, zero, suc}
 use lib.ListN.{length}
 use Rattle.graphs.specs.Label.{Labels}
-use Rattle.graphs.specs.Graph.{Graph, andThen}
+use Rattle.graphs.specs.Graph.{Graph}
 use Rattle.graphs.specs.Rows.{features}
 use Rattle.graphs.specs.Unify.{anyOf, holds}
 use Rattle.graphs.specs.Difference.{
@@ -125,7 +125,7 @@ module _ {L A B : Type 0} (sameA : A → A → Bool) (sameB : B → B → Bool) 
           keptLink sameA sameB s ss g gs over earlier isTop u f ≡ keptLink sameA sameB s ss g gs other earlier isTop u f
       unfolding keptLink
       keptLink-agree u f =
-          ap (andThen (s .link u f))
+          ap (bind (s .link u f))
           (fun-ext
           (λ v. ap₂ (λ m b. cond (sameLink sameA sameB s ss g gs over m (u, f) && b) (some v) none) (lead-agree v (u, f))
           (keeps-agree (length ss) v)))

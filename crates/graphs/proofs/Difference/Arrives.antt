@@ -5,12 +5,12 @@
 use mathlib.Core.Path.{_≡_, refl, sym, _∙_, ap, subst, subst₂}
 use mathlib.Core.List.{List, [], _∷_, _++_}
 use mathlib.Core.Logic.{_↔_, _⊎_, inl, inr, Equivalence}
-use mathlib.Core.Option.{Option, some}
+use mathlib.Core.Option.{Option, some, map-eq-some-iff}
 use Prim.Native.Nat.{ℕ}
 use Rattle.graphs.specs.Label.{Labels}
 use Rattle.graphs.specs.Graph.{Graph, Below, follow, walk, Reached, Corefer}
 use Rattle.graphs.specs.Unify.{Joined, left, right, flip, chain, down}
-use Rattle.graphs.proofs.Walk.{some-injective, some-unique, onward-some, snoc-induction, follow-last, walk-snoc}
+use Rattle.graphs.proofs.Walk.{some-injective, some-unique, snoc-induction, follow-last, walk-snoc}
 use Rattle.graphs.proofs.Unification.Related.{Related, roots, back, next, feat}
 use Rattle.graphs.proofs.Unification.Beside.{Leads, linkBeside, RelatedBeside, leads-nil, leads-step, leads-last, related-reached}
 
@@ -205,20 +205,20 @@ module _ {𝓛 : Labels} {A B C : Type 0} {g : Graph (𝓛 .L) A} {h : Graph (�
       within : (u : C) (f : ℕ) (x x′ y y′ : A ⊎ B) → Lies g h s x u → Lies g h s y u → s .link u f ≡ some v →
           linkBeside g h x f ≡ some x′ → linkBeside g h y f ≡ some y′ → T x′ y′
       within u f (inl x) x′ (inl y) y′ i j e k l =
-          let (z, a, p) = onward-some inl (g .link x f) k in
-          let (w, b, q) = onward-some inl (g .link y f) l in
+          let (z, a, p) = map-eq-some-iff inl (g .link x f) .0 k in
+          let (w, b, q) = map-eq-some-iff inl (g .link y f) .0 l in
           subst₂ T p q (gg u f x z y w i j e a b)
       within u f (inl x) x′ (inr y) y′ i j e k l =
-          let (z, a, p) = onward-some inl (g .link x f) k in
-          let (w, b, q) = onward-some inr (h .link y f) l in
+          let (z, a, p) = map-eq-some-iff inl (g .link x f) .0 k in
+          let (w, b, q) = map-eq-some-iff inr (h .link y f) .0 l in
           subst₂ T p q (gh u f x z y w i j e a b)
       within u f (inr x) x′ (inl y) y′ i j e k l =
-          let (z, a, p) = onward-some inr (h .link x f) k in
-          let (w, b, q) = onward-some inl (g .link y f) l in
+          let (z, a, p) = map-eq-some-iff inr (h .link x f) .0 k in
+          let (w, b, q) = map-eq-some-iff inl (g .link y f) .0 l in
           subst₂ T p q (equal .symm _ _ (gh u f y w x z j i e b a))
       within u f (inr x) x′ (inr y) y′ i j e k l =
-          let (z, a, p) = onward-some inr (h .link x f) k in
-          let (w, b, q) = onward-some inr (h .link y f) l in
+          let (z, a, p) = map-eq-some-iff inr (h .link x f) .0 k in
+          let (w, b, q) = map-eq-some-iff inr (h .link y f) .0 l in
           subst₂ T p q (hh u f x z y w i j e a b)
 
   -- every link of s has a link of one of both graphs over it

@@ -5,13 +5,13 @@ use mathlib.Core.Path.{_≡_, refl, _∙_, ap, subst}
 use mathlib.Core.Bool.{Bool, true, false, cond, not, _&&_, _||_}
 use mathlib.Core.List.{List, [], _∷_, List·Memᴰ}
 use mathlib.Core.Logic.{_↔_, _⊎_, inl, inr, ⊎-elim}
-use mathlib.Core.Option.{Option, none, some}
+use mathlib.Core.Option.{Option, none, some, bind}
 use Prim.Native.Nat.{ℕ, zero, suc, _≤_, _<_}
 use native.Mathlib.Omega.{arith}
 use lib.ListN.{length}
 use borrow.Author.Tests.{not-true, not-false}
 use Rattle.graphs.specs.Label.{Labels}
-use Rattle.graphs.specs.Graph.{Graph, AnySize, Reached, follow, andThen}
+use Rattle.graphs.specs.Graph.{Graph, AnySize, Reached, follow}
 use Rattle.graphs.specs.Rows.{features}
 use Rattle.graphs.specs.Unify.{anyOf, holds}
 use Rattle.graphs.specs.Difference.{Link, differ, sameLink, incoming, bare, lead, leaders, keptItself, keeps, keptLink}
@@ -265,13 +265,13 @@ module _ {𝓛 : Labels} {A B : Type 0} {sameA : A → A → Bool} {sameB : B �
   kept u f = keptLink sameA sameB s ss g gs over earlier isTop u f
 
   pub kept-links : (u : A) (f : ℕ) (v : A) → Reached s u → (kept u f ≡ some v) ↔ (Leader s first v (u, f) × (keep v ≡ true))
-  unfolding keptLink
+  unfolding bind keptLink
   kept-links u f v r = (λ e. there (s .link u f) refl e, back)
     where
       test : A → Bool
       test w = isFirst w (u, f) && keep w
 
-      there : (o : Option A) → s .link u f ≡ o → andThen o (λ w. cond (test w) (some w) none) ≡ some v →
+      there : (o : Option A) → s .link u f ≡ o → bind o (λ w. cond (test w) (some w) none) ≡ some v →
           Leader s first v (u, f) × (keep v ≡ true)
       there none l e = none-some e
       there (some w) l e =
@@ -280,7 +280,7 @@ module _ {𝓛 : Labels} {A B : Type 0} {sameA : A → A → Bool} {sameB : B �
           let (c, d) = both-true (isFirst w (u, f)) (keep w) a in
           subst (λ x. Leader s first x (u, f) × (keep x ≡ true)) q (((r, l), leads w (u, f) .0 c), d)
 
-      back : Leader s first v (u, f) × (keep v ≡ true) → andThen (s .link u f) (λ w. cond (test w) (some w) none) ≡ some v
+      back : Leader s first v (u, f) × (keep v ≡ true) → bind (s .link u f) (λ w. cond (test w) (some w) none) ≡ some v
       back (a, k) =
-          ap (λ o. andThen o (λ w. cond (test w) (some w) none)) (a .0 .1) ∙
+          ap (λ o. bind o (λ w. cond (test w) (some w) none)) (a .0 .1) ∙
           ap (λ b. cond b (some v) none) (true-both (isFirst v (u, f)) (keep v) (leads v (u, f) .1 (a .1)) k)

@@ -7,17 +7,16 @@ use mathlib.Core.Path.{_≡_, refl, sym, _∙_, ap, subst}
 use mathlib.Core.Bool.{Bool, true, false, true≢false}
 use mathlib.Core.List.{List, [], _∷_, _++_, List·Memᴰ}
 use mathlib.Core.Logic.{_↔_, _⊎_, inl, inr, ⊎-elim, Equivalence}
-use mathlib.Core.Option.{Option, some}
+use mathlib.Core.Option.{Option, some, Option·map, map-eq-some-iff}
 use Prim.Native.Nat.{ℕ}
 use Rattle.graphs.specs.Label.{Labels, Lattice}
-use Rattle.graphs.specs.Graph.{Graph, AnySize, Below, Tells, onward, follow, walk, Reached, Corefer}
+use Rattle.graphs.specs.Graph.{Graph, AnySize, Below, Tells, follow, walk, Reached, Corefer}
 use Rattle.graphs.specs.Map.{NodeMap}
 use Rattle.graphs.specs.Unify.{Joined, UnderClass}
 use Rattle.graphs.specs.Difference.{Link}
 use Rattle.graphs.proofs.Walk.{
   some-injective,
   some-unique,
-  onward-some,
   snoc-induction,
   follow-last,
   reached-link,
@@ -88,7 +87,7 @@ module _ {𝓛 : Labels} {A B E : Type 0} {s : Graph (𝓛 .L) A} {g : Graph (�
   -- where a link of e enters
   past-over : (v : A) (l : Link A) (z : E) → s .link (l .0) (l .1) ≡ some v → Past l z → Over z v
   past-over v (u, f) z k (x, i, b) =
-      let (y, c, j) = lies-link belowE (map-below map) (inl x) (inl z) f u i (ap (onward inl) b) in
+      let (y, c, j) = lies-link belowE (map-below map) (inl x) (inl z) f u i (ap (Option·map inl) b) in
       subst (Over z) (some-unique c k) j
 
   one-lead : (v : A) (z : B) (l m : Link A) → over z ≡ v → Enters g over z l → Enters g over z m → lead v l ≡ lead v m
@@ -109,9 +108,9 @@ module _ {𝓛 : Labels} {A B E : Type 0} {s : Graph (𝓛 .L) A} {g : Graph (�
       go x y i a
     where
       go : (x y : E ⊎ B) → Lies e g s x u → linkBeside e g x f ≡ some y → Covered (u, f) ⊎ ((z : B) × Enters g over z (u, f))
-      go (inl x) y i a = let (z, b, _) = onward-some inl (e .link x f) a in inl (z, (x, i, b))
+      go (inl x) y i a = let (z, b, _) = map-eq-some-iff inl (e .link x f) .0 a in inl (z, (x, i, b))
       go (inr x) y i a =
-          let (z, b, _) = onward-some inr (g .link x f) a in
+          let (z, b, _) = map-eq-some-iff inr (g .link x f) .0 a in
           let (t, o) = over-lies x u i in
           inr (z, (x, t, o, b))
 

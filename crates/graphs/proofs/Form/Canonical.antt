@@ -14,18 +14,18 @@ use mathlib.Core.List.{
   List·Memᴰ·append-cases,
 }
 use mathlib.Core.Logic.{_↔_, ⊎-elim}
-use mathlib.Core.Option.{Option, none, some}
+use mathlib.Core.Option.{Option, none, some, Option·map, map-eq-some-iff}
 use Prim.Native.Nat.{ℕ, _≤_, _<_}
 use native.Mathlib.Omega.{arith}
 use borrow.Author.Tests.{leb-true}
 use lib.Dec.{eqb, leb}
 use lib.ListN.{length, getD}
 use Rattle.graphs.specs.Label.{Labels}
-use Rattle.graphs.specs.Graph.{Graph, Tells, onward, walk, Reached, SameMeaning}
+use Rattle.graphs.specs.Graph.{Graph, Tells, walk, Reached, SameMeaning}
 use Rattle.graphs.specs.Rows.{Row, target, graphOf}
 use Rattle.graphs.specs.Number.{canonical, counted, indexOf, linkCount, manyLinks, rowOf, visit, written}
 use Rattle.graphs.specs.Large.{Distinct}
-use Rattle.graphs.proofs.Walk.{some-injective, onward-some, reached-root, reached-link, snoc-induction, follow-last, follow-nil}
+use Rattle.graphs.proofs.Walk.{some-injective, reached-root, reached-link, snoc-induction, follow-last, follow-nil}
 use Rattle.graphs.proofs.Lists.{mem-reverse, mem-unreverse, reverse-snoc, getD-index, index-injective, index-first, tells-eqb}
 use Rattle.graphs.proofs.Rows.{target-linksOf}
 use Rattle.graphs.proofs.Below.{same-sym, same-trans}
@@ -140,18 +140,18 @@ module _ {L A : Type 0} (same : A → A → Bool) (tells : Tells same) (g : Grap
     numbered-links v i f (m, q) = subst (λ (o : Option ℕ). Alike Numbered (g .link v f) o) (sym found) (go (g .link v f) refl)
       where
         next : ℕ → Option ℕ
-        next f′ = onward (λ w. indexOf same w nodes) (g .link v f′)
+        next f′ = Option·map (λ w. indexOf same w nodes) (g .link v f′)
 
         next-narrow : (f′ w : ℕ) → next f′ ≡ some w → f′ < 64
-        next-narrow f′ w h = let (u, l, _) = onward-some (λ x. indexOf same x nodes) (g .link v f′) h in narrow v u f′ (listed-reached v m) l
+        next-narrow f′ w h = let (u, l, _) = map-eq-some-iff (λ x. indexOf same x nodes) (g .link v f′) .0 h in narrow v u f′ (listed-reached v m) l
 
-        found : target (getD rows i (d, []) .1) f ≡ onward (λ w. indexOf same w nodes) (g .link v f)
+        found : target (getD rows i (d, []) .1) f ≡ Option·map (λ w. indexOf same w nodes) (g .link v f)
         found =
             ap (λ (j : ℕ). target (getD rows j (d, []) .1) f) (sym q)
             ∙ ap (λ (r : Row L). target (r .1) f) (row-at v m)
             ∙ target-linksOf next next-narrow f
 
-        go : (o : Option A) → g .link v f ≡ o → Alike Numbered o (onward (λ w. indexOf same w nodes) o)
+        go : (o : Option A) → g .link v f ≡ o → Alike Numbered o (Option·map (λ w. indexOf same w nodes) o)
         go none l = absent
         go (some w) l = present (reached-listed w (onto v w f (listed-reached v m) l), refl)
 

@@ -3,13 +3,13 @@
 use mathlib.Core.Path.{_≡_, refl, sym, ap, ap₂}
 use mathlib.Core.Bool.{Bool, true, false, cond, _||_}
 use mathlib.Core.List.{List, [], _∷_, map, reverse, reverseAux}
-use mathlib.Core.Option.{Option, none, some}
+use mathlib.Core.Option.{Option, none, some, Option·map, bind}
 use Prim.Native.Nat.{ℕ, zero, suc, _+_}
 use native.Mathlib.Omega.{arith}
 use lib.Dec.{leb}
 use lib.ListN.{length}
 use Rattle.graphs.specs.Label.{Labels}
-use Rattle.graphs.specs.Graph.{Graph, Tells, onward, andThen, SameMeaning}
+use Rattle.graphs.specs.Graph.{Graph, Tells, SameMeaning}
 use Rattle.graphs.specs.Rows.{Row, features, linksOf, addLink}
 use Rattle.graphs.specs.Number.{canonical, counted, countSome, each, enter, indexOf, linkCount, member, otherwise, outDegree, rowOf, visit, written, manyLinks}
 use Rattle.graphs.proofs.Form.Bisimilar.{Alike, absent, present, Bisimilar, Together, same-bisimilar}
@@ -37,10 +37,11 @@ pointwise-reverse : {A B : Type 0} {R : A → B → Type 0} {vs : List A} {ws : 
     Pointwise R (reverse vs) (reverse ws)
 pointwise-reverse q = pointwise-reverseAux q empty
 
-alike-andThen : {A B X Y : Type 0} {R : A → B → Type 0} {S : X → Y → Type 0} {x : Option A} {y : Option B} {k : A → Option X}
-    {l : B → Option Y} → Alike R x y → ((v : A) (w : B) → R v w → Alike S (k v) (l w)) → Alike S (andThen x k) (andThen y l)
-alike-andThen absent next = absent
-alike-andThen (present {v = v} {w = w} r) next = next v w r
+alike-bind : {A B X Y : Type 0} {R : A → B → Type 0} {S : X → Y → Type 0} {x : Option A} {y : Option B} {k : A → Option X}
+    {l : B → Option Y} → Alike R x y → ((v : A) (w : B) → R v w → Alike S (k v) (l w)) → Alike S (bind x k) (bind y l)
+unfolding bind
+alike-bind absent next = absent
+alike-bind (present {v = v} {w = w} r) next = next v w r
 
 alike-otherwise : {X Y : Type 0} {S : X → Y → Type 0} (a b : Bool) {x : Option X} {y : Option Y} (k : Unit {0} → Option X)
     (l : Unit {0} → Option Y) → a ≡ b → Alike S x y → Alike S (k tt) (l tt) → Alike S (otherwise a x k) (otherwise b y l)
@@ -89,17 +90,17 @@ module _ {L A B : Type 0} (sameA : A → A → Bool) (sameB : B → B → Bool) 
   related-linkCount empty = refl
   related-linkCount (more {v = v} {w = w} r rs) = ap₂ _+_ (related-outDegree v w r features) (related-linkCount rs)
 
-  related-onward : {x : Option A} {y : Option B} {vs : List A} {ws : List B} → Alike R x y → Pointwise R vs ws →
-      onward (λ u. indexOf sameA u vs) x ≡ onward (λ u. indexOf sameB u ws) y
-  related-onward absent rs = refl
-  related-onward (present r) rs = ap some (related-index r rs)
+  related-map : {x : Option A} {y : Option B} {vs : List A} {ws : List B} → Alike R x y → Pointwise R vs ws →
+      Option·map (λ u. indexOf sameA u vs) x ≡ Option·map (λ u. indexOf sameB u ws) y
+  related-map absent rs = refl
+  related-map (present r) rs = ap some (related-index r rs)
 
   related-row : (v : A) (w : B) {vs : List A} {ws : List B} → R v w → Pointwise R vs ws → rowOf sameA g vs v ≡ rowOf sameB h ws w
   unfolding rowOf
   related-row v w {vs} {ws} r rs =
       ap₂ {C = Row L} (λ l ls. (l, ls)) (b .labels v w r)
-      (linksOf-cong (λ f. onward (λ u. indexOf sameA u vs) (g .link v f)) (λ f. onward (λ u. indexOf sameB u ws) (h .link w f))
-      (λ f. related-onward (b .links v w f r) rs) features)
+      (linksOf-cong (λ f. Option·map (λ u. indexOf sameA u vs) (g .link v f)) (λ f. Option·map (λ u. indexOf sameB u ws) (h .link w f))
+      (λ f. related-map (b .links v w f r) rs) features)
 
   related-rows : {vs xs : List A} {ws ys : List B} → Pointwise R vs ws → Pointwise R xs ys →
       map (rowOf sameA g vs) xs ≡ map (rowOf sameB h ws) ys
@@ -119,10 +120,10 @@ module _ {L A B : Type 0} (sameA : A → A → Bool) (sameB : B → B → Bool) 
   related-each : (go : A → List A → Option (List A)) (goes : B → List B → Option (List B)) → Goes go goes →
       (v : A) (w : B) → R v w → (fs : List ℕ) (vs : List A) (ws : List B) → Pointwise R vs ws →
       Alike (Pointwise R) (each (g .link) go v fs vs) (each (h .link) goes w fs ws)
-  unfolding each
+  unfolding bind each
   related-each go goes k v w r [] vs ws rs = present rs
   related-each go goes k v w r (f ∷ fs) vs ws rs =
-      alike-andThen (related-enter go goes k (b .links v w f r) rs) (λ vs′ ws′ rs′. related-each go goes k v w r fs vs′ ws′ rs′)
+      alike-bind (related-enter go goes k (b .links v w f r) rs) (λ vs′ ws′ rs′. related-each go goes k v w r fs vs′ ws′ rs′)
 
   related-visit : (d : ℕ) → Goes (visit sameA (g .link) d) (visit sameB (h .link) d)
   unfolding Goes visit

@@ -14,17 +14,17 @@ use mathlib.Core.List.{
   Memᴰ·of-map,
 }
 use mathlib.Core.Logic.{_↔_}
-use mathlib.Core.Option.{Option, none, some}
+use mathlib.Core.Option.{Option, none, some, Option·map, map-eq-some-iff}
 use Prim.Native.Nat.{ℕ, _<_}
 use native.Mathlib.Omega.{arith}
 use borrow.Author.Tests.{leb-true, leb-false}
 use lib.Dec.{leb}
 use lib.ListN.{length, length-append, length-map}
-use Rattle.graphs.specs.Graph.{Graph, Tells, onward, Reached}
+use Rattle.graphs.specs.Graph.{Graph, Tells, Reached}
 use Rattle.graphs.specs.Rows.{Row, features, linksOf}
 use Rattle.graphs.specs.Number.{Canonical, canonical, counted, linkCount, manyLinks, manyNodes, visit, written}
 use Rattle.graphs.specs.Large.{Distinct, ManyNodes, ManyLinks, Ascending}
-use Rattle.graphs.proofs.Walk.{onward-some, reached-root, reached-link}
+use Rattle.graphs.proofs.Walk.{reached-root, reached-link}
 use Rattle.graphs.proofs.Lists.{mem-features, flatMap-member, flatMap-source, distinct-bound, distinct-flatMap}
 use Rattle.graphs.proofs.Rows.{linksOf-length, linksOf-source, linksOf-member, linksOf-ascending}
 use Rattle.graphs.proofs.Form.Visited.{visit-many}
@@ -43,7 +43,7 @@ ascending-distinct {A} v (l ∷ ls) a = (
 module _ {A : Type 0} (link : A → ℕ → Option A) where
   -- the features of a node; the targets do not matter here, and each is 0
   rowLinks : A → List (ℕ × ℕ)
-  rowLinks v = linksOf (λ f. onward (λ _. 0) (link v f)) features
+  rowLinks v = linksOf (λ f. Option·map (λ _. 0) (link v f)) features
 
   -- the links of a node, by its features
   leaving : A → List (A × ℕ)
@@ -53,21 +53,21 @@ module _ {A : Type 0} (link : A → ℕ → Option A) where
   unfolding leaving rowLinks
   leaving-member v w f h e =
       Memᴰ·map {B = A × ℕ} (λ l. (v, l .0))
-      (linksOf-member (λ f. onward (λ _. 0) (link v f)) (mem-features f h) (ap (onward (λ _. 0)) e))
+      (linksOf-member (λ f. Option·map (λ _. 0) (link v f)) (mem-features f h) (ap (Option·map (λ _. 0)) e))
 
   leaving-source : (v : A) (l : A × ℕ) → List·Memᴰ l (leaving v) → (v ≡ l .0) × ((w : A) × (link (l .0) (l .1) ≡ some w))
   unfolding leaving rowLinks
   leaving-source v l m =
       let (k, i, e) = Memᴰ·of-map {B = A × ℕ} (λ l. (v, l .0)) (rowLinks v) m in
-      let (_, q) = linksOf-source (λ f. onward (λ _. 0) (link v f)) features k i in
-      let (w, h, _) = onward-some (λ _. 0) (link v (k .0)) q in
+      let (_, q) = linksOf-source (λ f. Option·map (λ _. 0) (link v f)) features k i in
+      let (w, h, _) = map-eq-some-iff {B = ℕ} (λ _. 0) (link v (k .0)) .0 q in
       (ap (λ (x : A × ℕ). x .0) e, (w, ap (λ (x : A × ℕ). link (x .0) (x .1)) (sym e) ∙ h))
 
   distinct-leaving : (vs : List A) → Distinct vs → Distinct (flatMap leaving vs)
   unfolding leaving rowLinks
   distinct-leaving vs d =
       distinct-flatMap leaving vs d
-      (λ v. ascending-distinct v (rowLinks v) (linksOf-ascending (λ f. onward (λ _. 0) (link v f)) 0 64))
+      (λ v. ascending-distinct v (rowLinks v) (linksOf-ascending (λ f. Option·map (λ _. 0) (link v f)) 0 64))
       (λ v w l m n. leaving-source v l m .0 ∙ sym (leaving-source w l n .0))
 
   leaving-length : (vs : List A) → length (flatMap leaving vs) ≡ linkCount link vs

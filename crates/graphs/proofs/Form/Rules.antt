@@ -4,15 +4,15 @@ use mathlib.Core.Path.{_≡_, refl, sym, _∙_, ap, subst}
 use mathlib.Core.Bool.{Bool}
 use mathlib.Core.List.{List, [], _∷_, _++_, map, reverse, reverse-cons, List·Memᴰ, Memᴰ·of-map}
 use mathlib.Core.Logic.{_↔_}
-use mathlib.Core.Option.{Option, some}
+use mathlib.Core.Option.{Option, some, Option·map, map-eq-some-iff}
 use Prim.Native.Nat.{ℕ, _+_, _≤_, _<_}
 use native.Mathlib.Omega.{arith}
 use lib.ListN.{length, length-map, length-reverse}
-use Rattle.graphs.specs.Graph.{Graph, Tells, onward, Reached}
+use Rattle.graphs.specs.Graph.{Graph, Tells, Reached}
 use Rattle.graphs.specs.Rows.{Row, features}
 use Rattle.graphs.specs.Number.{canonical, indexOf, linkCount, rowOf, visit, written}
 use Rattle.graphs.specs.Large.{Distinct, linksIn, Ascending}
-use Rattle.graphs.proofs.Walk.{onward-some, reached-root, reached-link}
+use Rattle.graphs.proofs.Walk.{reached-root, reached-link}
 use Rattle.graphs.proofs.Lists.{features-small, mem-reverse, mem-unreverse, reverse-snoc, index-within}
 use Rattle.graphs.proofs.Rows.{linksOf-length, linksOf-source, linksOf-ascending}
 use Rattle.graphs.proofs.Form.Visited.{visit-first}
@@ -45,12 +45,12 @@ module _ {L A : Type 0} (same : A → A → Bool) (g : Graph L A) where
       (l .0 < 64) × ((w : A) × (g .link v (l .0) ≡ some w) × (indexOf same w nodes ≡ l .1))
   unfolding rowOf
   row-link nodes v l m =
-      let (k, q) = linksOf-source (λ f. onward (λ w. indexOf same w nodes) (g .link v f)) features l m in
-      (features-small (l .0) k, onward-some (λ w. indexOf same w nodes) (g .link v (l .0)) q)
+      let (k, q) = linksOf-source (λ f. Option·map (λ w. indexOf same w nodes) (g .link v f)) features l m in
+      (features-small (l .0) k, map-eq-some-iff (λ w. indexOf same w nodes) (g .link v (l .0)) .0 q)
 
   row-ascending : (nodes : List A) (v : A) → Ascending (rowOf same g nodes v .1)
   unfolding rowOf
-  row-ascending nodes v = linksOf-ascending (λ f. onward (λ w. indexOf same w nodes) (g .link v f)) 0 64
+  row-ascending nodes v = linksOf-ascending (λ f. Option·map (λ w. indexOf same w nodes) (g .link v f)) 0 64
 
   row-label : (nodes : List A) (v : A) → rowOf same g nodes v .0 ≡ g .label v
   unfolding rowOf

@@ -17,13 +17,13 @@ use mathlib.Core.List.{
   Memᴰ·append-right,
 }
 use mathlib.Core.Logic.{⊎-elim}
-use mathlib.Core.Option.{Option, none, some}
+use mathlib.Core.Option.{Option, none, some, bind}
 use Prim.Native.Nat.{ℕ, zero, suc, _+_, _≤_, _<_}
 use native.Mathlib.Omega.{arith}
 use borrow.Author.Tests.{leb-true, leb-false}
 use lib.Dec.{leb}
 use lib.ListN.{length, length-append}
-use Rattle.graphs.specs.Graph.{Tells, andThen}
+use Rattle.graphs.specs.Graph.{Tells}
 use Rattle.graphs.specs.Rows.{features}
 use Rattle.graphs.specs.Number.{each, enter, member, otherwise, visit}
 use Rattle.graphs.specs.Large.{Distinct}
@@ -75,7 +75,7 @@ module _ {A : Type 0} (same : A → A → Bool) (tells : Tells same) (link : A �
 
   each-finds : (go : A → List A → Option (List A)) → Finds go → (v : A) → P v → (fs : List ℕ) (old now : List A) →
       each link go v fs old ≡ some now → EachFinds v fs old now
-  unfolding each Finds EachFinds
+  unfolding bind each Finds EachFinds
   each-finds go k v p [] old now e =
       (subst (λ (l : List A). Grown old l) (some-injective e) (grown-none old), λ f y m q. absurd (List·Memᴰ·not-nil m))
   each-finds go k v p (f ∷ fs) old now e = at (link v f) refl e (λ mid q. each-finds go k v p fs mid now q)
@@ -94,14 +94,14 @@ module _ {A : Type 0} (same : A → A → Bool) (tells : Tells same) (link : A �
             (List·Memᴰ·cases-cons m),
       )
 
-      through : (w : A) → link v f ≡ some w → (x : Option (List A)) → go w old ≡ x → andThen x (each link go v fs) ≡ some now →
+      through : (w : A) → link v f ≡ some w → (x : Option (List A)) → go w old ≡ x → bind x (each link go v fs) ≡ some now →
           Later → EachFinds v (f ∷ fs) old now
       through w l none h q ih = none-some q
       through w l (some mid) h q ih =
           let (gr, m) = k w old mid (onto v w f p l) h in
           later mid gr (λ y l′. subst (λ (u : A). List·Memᴰ u mid) (some-injective (sym l ∙ l′)) m) (ih mid q)
 
-      at : (x : Option A) → link v f ≡ x → andThen (enter go x old) (each link go v fs) ≡ some now → Later →
+      at : (x : Option A) → link v f ≡ x → bind (enter go x old) (each link go v fs) ≡ some now → Later →
           EachFinds v (f ∷ fs) old now
       at none l q ih = later old (grown-none old) (λ y l′. none-some (sym l ∙ l′)) (ih old q)
       at (some w) l q ih = through w l (go w old) refl q ih
@@ -177,7 +177,7 @@ module _ {A : Type 0} (same : A → A → Bool) (tells : Tells same) (link : A �
 
   each-fails : (d : ℕ) (go : A → List A → Option (List A)) → Finds go → Fails d go → (v : A) → P v → (fs : List ℕ) (old : List A) →
       Distinct old → ((x : A) → List·Memᴰ x old → P x) → 255 ≤ length old + d → each link go v fs old ≡ none → Many
-  unfolding each Finds Fails
+  unfolding bind each Finds Fails
   each-fails d go k n v p [] old di all h e = none-some (sym e)
   each-fails d go k n v p (f ∷ fs) old di all h e = at (link v f) refl e (each-fails d go k n v p fs)
     where
@@ -185,14 +185,14 @@ module _ {A : Type 0} (same : A → A → Bool) (tells : Tells same) (link : A �
       Later = (mid : List A) → Distinct mid → ((x : A) → List·Memᴰ x mid → P x) → 255 ≤ length mid + d →
           each link go v fs mid ≡ none → Many
 
-      through : (w : A) → link v f ≡ some w → (x : Option (List A)) → go w old ≡ x → andThen x (each link go v fs) ≡ none →
+      through : (w : A) → link v f ≡ some w → (x : Option (List A)) → go w old ≡ x → bind x (each link go v fs) ≡ none →
           Later → Many
       through w l none q r later = n w old (onto v w f p l) di all h q
       through w l (some mid) q r later =
           let (gr, m) = k w old mid (onto v w f p l) q in
           later mid (gr .distinct di) (with-grown gr all) (omega (arith, length-grown gr)) r
 
-      at : (x : Option A) → link v f ≡ x → andThen (enter go x old) (each link go v fs) ≡ none → Later → Many
+      at : (x : Option A) → link v f ≡ x → bind (enter go x old) (each link go v fs) ≡ none → Later → Many
       at none l r later = later old di all h r
       at (some w) l r later = through w l (go w old) refl r later
 

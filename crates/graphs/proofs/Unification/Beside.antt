@@ -18,12 +18,12 @@ use mathlib.Core.List.{
 }
 use mathlib.Core.Logic.{_↔_, _⊎_, inl, inr}
 use mathlib.Core.Sum.{inl-injective, inr-injective, inl-ne-inr, inr-ne-inl}
-use mathlib.Core.Option.{Option, some}
+use mathlib.Core.Option.{Option, some, Option·map, map-eq-some-iff}
 use Prim.Native.Nat.{ℕ, _<_}
 use Rattle.graphs.specs.Label.{Labels}
-use Rattle.graphs.specs.Graph.{Graph, Tells, onward, follow, walk, Reached, AnySize}
+use Rattle.graphs.specs.Graph.{Graph, Tells, follow, walk, Reached, AnySize}
 use Rattle.graphs.specs.Unify.{Joined, left, right, flip, chain, down, beside, sameBeside, nodesBeside}
-use Rattle.graphs.proofs.Walk.{some-injective, onward-some, snoc-induction, follow-last, walk-snoc}
+use Rattle.graphs.proofs.Walk.{some-injective, snoc-induction, follow-last, walk-snoc}
 use Rattle.graphs.proofs.Search.{true-false}
 use Rattle.graphs.proofs.Unification.Related.{Related, roots, back, next, feat, Listing}
 
@@ -58,20 +58,20 @@ module _ {L A B : Type 0} (g : Graph L A) (h : Graph L B) where
 
   pub leads-step : (p : List ℕ) (f : ℕ) (x y : A ⊎ B) → Leads p x → linkBeside x f ≡ some y → Leads (p ++ (f ∷ [])) y
   leads-step p f (inl v) y e d =
-      let (w, a, b) = onward-some inl (g .link v f) d in
+      let (w, a, b) = map-eq-some-iff inl (g .link v f) .0 d in
       subst (Leads (p ++ (f ∷ []))) b (walk-snoc g p f e ∙ a)
   leads-step p f (inr v) y e d =
-      let (w, a, b) = onward-some inr (h .link v f) d in
+      let (w, a, b) = map-eq-some-iff inr (h .link v f) .0 d in
       subst (Leads (p ++ (f ∷ []))) b (walk-snoc h p f e ∙ a)
 
   pub leads-last : (p : List ℕ) (f : ℕ) (y : A ⊎ B) → Leads (p ++ (f ∷ [])) y →
       (x : A ⊎ B) × Leads p x × (linkBeside x f ≡ some y)
   leads-last p f (inl w) e =
       let (v, a, b) = follow-last (g .link) (some (g .root)) p f w e in
-      (inl v, a, ap (onward inl) b)
+      (inl v, a, ap (Option·map inl) b)
   leads-last p f (inr w) e =
       let (v, a, b) = follow-last (h .link) (some (h .root)) p f w e in
-      (inr v, a, ap (onward inr) b)
+      (inr v, a, ap (Option·map inr) b)
 
   -- paths that lead to one node are joined
   pub leads-joined : (p q : List ℕ) (x : A ⊎ B) → Leads p x → Leads q x → Joined g h p q
@@ -160,10 +160,10 @@ module _ {L A B : Type 0} {sameA : A → A → Bool} {sameB : B → B → Bool} 
 
   pub feature-beside : (x y : A ⊎ B) (f : ℕ) → ReachedBeside g h x → linkBeside g h x f ≡ some y → f < 64
   feature-beside (inl v) y f r d =
-      let (w, a, b) = onward-some inl (g .link v f) d in
+      let (w, a, b) = map-eq-some-iff inl (g .link v f) .0 d in
       given .lists-left .features v w f r a
   feature-beside (inr v) y f r d =
-      let (w, a, b) = onward-some inr (h .link v f) d in
+      let (w, a, b) = map-eq-some-iff inr (h .link v f) .0 d in
       given .lists-right .features v w f r a
 
   pub beside-listing : Listing (linkBeside g h) (inl (g .root)) (inr (h .root)) (nodesBeside gs hs)

@@ -15,10 +15,10 @@ use mathlib.Core.List.{
   foldr,
 }
 use mathlib.Core.Logic.{_↔_, _⊎_, inl, inr}
-use mathlib.Core.Option.{Option, none, some}
+use mathlib.Core.Option.{Option, none, some, Option·map, map-eq-some-iff}
 use Prim.Native.Nat.{ℕ, _<_}
 use Rattle.graphs.specs.Label.{Labels, Lattice}
-use Rattle.graphs.specs.Graph.{Graph, Tells, onward, Reached}
+use Rattle.graphs.specs.Graph.{Graph, Tells, Reached}
 use Rattle.graphs.specs.Unify.{
   IsUnification,
   labelBeside,
@@ -29,7 +29,6 @@ use Rattle.graphs.specs.Unify.{
   className,
   classGraph,
 }
-use Rattle.graphs.proofs.Walk.{onward-some}
 use Rattle.graphs.proofs.Search.{true-false, cond-some, firstOf-some, firstOf-finds}
 use Rattle.graphs.proofs.Unification.Related.{feat, Classes, related-listed, named}
 use Rattle.graphs.proofs.Unification.Classes.{close-classes}
@@ -80,9 +79,9 @@ module _ {N : Type 0} {same : N → N → Bool} (tells : Tells same) (link : N �
       (x : N) × (y : N) × List·Memᴰ x nodes × (name x ≡ c) × (link x f ≡ some y) × (name y ≡ d)
   unfolding classLink
   classLink-source c d f e =
-      let (x, m, e1) = firstOf-some (λ x. cond (same (name x) c) (onward name (link x f)) none) nodes d e in
-      let (q, e2) = cond-some (same (name x) c) (onward name (link x f)) d e1 in
-      let (y, a, b) = onward-some name (link x f) e2 in
+      let (x, m, e1) = firstOf-some (λ x. cond (same (name x) c) (Option·map name (link x f)) none) nodes d e in
+      let (q, e2) = cond-some (same (name x) c) (Option·map name (link x f)) d e1 in
+      let (y, a, b) = map-eq-some-iff name (link x f) .0 e2 in
       (x, y, m, tells (name x) c .0 q, a, b)
 
   -- a link of a node is a link of its class
@@ -90,12 +89,12 @@ module _ {N : Type 0} {same : N → N → Bool} (tells : Tells same) (link : N �
       classLink same link nodes name (name x) f ≡ some (name y)
   unfolding classLink
   classLink-of classes x y f m e =
-      let (d, a) = firstOf-finds (λ z. cond (same (name z) (name x)) (onward name (link z f)) none) nodes x (name y) m found in
+      let (d, a) = firstOf-finds (λ z. cond (same (name z) (name x)) (Option·map name (link z f)) none) nodes x (name y) m found in
       let (v, w, n, q, b, p) = classLink-source (name x) d f a in
       a ∙ ap some (sym p ∙ classes .one (feat f (named classes v x n m .0 q) b e))
     where
-      found : cond (same (name x) (name x)) (onward name (link x f)) none ≡ some (name y)
-      found = ap (λ b. cond b (onward name (link x f)) none) (tells (name x) (name x) .1 refl) ∙ ap (onward name) e
+      found : cond (same (name x) (name x)) (Option·map name (link x f)) none ≡ some (name y)
+      found = ap (λ b. cond b (Option·map name (link x f)) none) (tells (name x) (name x) .1 refl) ∙ ap (Option·map name) e
 
 module _ {L A B : Type 0} {sameA : A → A → Bool} {sameB : B → B → Bool} {g : Graph L A} {gs : List A} {h : Graph L B} {hs : List B}
     (given : Operands sameA sameB g gs h hs) where
