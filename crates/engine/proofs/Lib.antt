@@ -1,4 +1,5 @@
 -- Laws of the calls.
+pub mod Numbers
 pub mod Readings
 pub mod Replies
 pub mod Tables

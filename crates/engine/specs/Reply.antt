@@ -1,8 +1,9 @@
 -- Replies: the number that document 01 gives to each ("Returned by a call"), and what each call answers and leaves in the output.
+use mathlib.Core.Path.{_≡_}
 use mathlib.Core.Bool.{cond}
 use mathlib.Core.List.{List}
 use mathlib.Core.Option.{Option, none, some}
-use Prim.Native.Nat.{ℕ}
+use Prim.Native.Nat.{ℕ, _≤_}
 use lib.Dec.{eqb}
 use lib.ListN.{length}
 use Rattle.graphs.specs.Rows.{Row}
@@ -19,38 +20,40 @@ use Rattle.encode.specs.declared.Written.the-variants as written
 use Rattle.encode.specs.Encode.{Outcome, writtenOut}
 use Rattle.record.specs.Read as graph
 use Rattle.generalize.specs.Pairs.{samePair}
-use Rattle.engine.specs.declared.Side.{Side}
 use Rattle.engine.specs.declared.Side.the-variants.{First, Second}
+use Rattle.engine.specs.declared.kinds.Kind.{Kind}
+use Rattle.engine.specs.declared.kinds.Kind.the-variants as kind
 use Rattle.engine.specs.declared.Reply.{Reply}
 use Rattle.engine.specs.declared.Reply.the-variants.{Length, Yes, No, Table, Graph, NoRoom, Cycle, Clash, TooLarge, NotBelow, NotAdmitted}
 
+-- what a reply tells: a refusal has a number, and one of a graph tells which of the two it is
+abbrev pub kindOf : Reply → Kind
+kindOf (Length l) = kind.Length l
+kindOf Yes = kind.Yes
+kindOf No = kind.No
+kindOf (Table fault) = kind.Refused (table.tableNumber fault)
+kindOf (Graph fault side) = kind.RefusedGraph (graph.graphNumber fault) side
+kindOf NoRoom = kind.Refused 8
+kindOf Cycle = kind.Refused 9
+kindOf Clash = kind.Refused 10
+kindOf TooLarge = kind.Refused 11
+kindOf NotBelow = kind.Refused 12
+kindOf NotAdmitted = kind.Refused 13
+
+abbrev pub refusalIn : Kind → Option ℕ
+refusalIn (kind.Length l) = none
+refusalIn kind.Yes = none
+refusalIn kind.No = none
+refusalIn (kind.Refused number) = some number
+refusalIn (kind.RefusedGraph number side) = some number
+
 -- the number of a refusal
 abbrev pub refusal : Reply → Option ℕ
-refusal (Length l) = none
-refusal Yes = none
-refusal No = none
-refusal (Table fault) = some (table.tableNumber fault)
-refusal (Graph fault side) = some (graph.graphNumber fault)
-refusal NoRoom = some 8
-refusal Cycle = some 9
-refusal Clash = some 10
-refusal TooLarge = some 11
-refusal NotBelow = some 12
-refusal NotAdmitted = some 13
+refusal reply = refusalIn (kindOf reply)
 
--- which graph a refusal tells of
-abbrev pub side : Reply → Option Side
-side (Length l) = none
-side Yes = none
-side No = none
-side (Table fault) = none
-side (Graph fault which) = some which
-side NoRoom = none
-side Cycle = none
-side Clash = none
-side TooLarge = none
-side NotBelow = none
-side NotAdmitted = none
+-- a record that a reply tells of has at most so many bytes
+abbrev pub Bounded : Reply → ℕ → Type 0
+Bounded reply most = (l : ℕ) → reply ≡ Length l → l ≤ most
 
 -- a reply and the output beside it
 pub record Result : Type 0 where

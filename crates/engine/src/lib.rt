@@ -19,6 +19,7 @@ ghost use Rattle.engine.specs.Pair.{joining, meeting, combinedReply};
 
 mod both;
 mod differences;
+pub mod kinds;
 
 // Which of two graphs is refused; a lone graph counts as the first.
 pub enum Side {

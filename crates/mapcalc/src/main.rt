@@ -7,7 +7,7 @@ fn main() {
     // One byte more than the longest input that is not bad.
     let mut input = [0u8; 18431];
     let count = io::read_full(STDIN_FILENO, &mut input);
-    let mut line = [0u8; 8697];
-    let end = request::line(&input[..count], &mut line);
-    io::write_all(STDOUT_FILENO, &line[..end]);
+    let line = request::line(&input[..count]);
+    let bytes = line.bytes;
+    io::write_all(STDOUT_FILENO, &bytes[..line.count]);
 }

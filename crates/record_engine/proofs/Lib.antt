@@ -1,2 +1,3 @@
 -- Laws of the codes.
 pub mod Codes
+pub mod Distinct

@@ -4,16 +4,13 @@
 
 use engine::Reply;
 use engine::Side;
-use lattice::TableFault;
-use record::GraphFault;
+use engine::kinds::Kind;
 ghost use mathlib.Core.Path.{_≡_};
 ghost use Prim.Native.Nat.{_<_};
 ghost use Rattle.encode.specs.Encode.{yielding};
 ghost use Rattle.engine.specs.Reply.{rewriting, ordering, generalizing};
 ghost use Rattle.engine.specs.Unification.{unifying};
 ghost use Rattle.engine.specs.Difference.{differing};
-ghost use Rattle.lattice.specs.Reply.{tableNumber};
-ghost use Rattle.record.specs.Read.{graphNumber};
 ghost use Rattle.record_engine.specs.Code.{codeOf, refusalCode, sideNumber};
 ghost use Rattle.record_engine.specs.Coded.{coded};
 ghost use Rattle.record_engine.specs.House.{tabling};
@@ -92,18 +89,13 @@ pub extern "C" fn record_house_table(out: &mut [u8]) -> u64
 fn code(reply: Reply) -> u64
     ensures { λ r. ⌜ r ≡ codeOf reply ⌝ }
 {
-    match reply {
-        Reply::Length(length) => length as u64,
-        Reply::Yes => 8589934593,
-        Reply::No => 8589934592,
-        Reply::Table(fault) => refusal(table_number(fault), 0),
-        Reply::Graph(fault, side) => refusal(graph_number(fault), side_number(side)),
-        Reply::NoRoom => refusal(8, 0),
-        Reply::Cycle => refusal(9, 0),
-        Reply::Clash => refusal(10, 0),
-        Reply::TooLarge => refusal(11, 0),
-        Reply::NotBelow => refusal(12, 0),
-        Reply::NotAdmitted => refusal(13, 0),
+    let kind = engine::kinds::kind_of(reply);
+    match kind {
+        Kind::Length(length) => length as u64,
+        Kind::Yes => 8589934593,
+        Kind::No => 8589934592,
+        Kind::Refused(number) => refusal(number as u64, 0),
+        Kind::RefusedGraph(number, side) => refusal(number as u64, side_number(side)),
     }
 }
 
@@ -114,29 +106,6 @@ fn refusal(number: u64, side: u64) -> u64
     ensures { λ r. ⌜ r ≡ refusalCode number side ⌝ }
 {
     4294967296 + 256 * side + number
-}
-
-fn table_number(fault: TableFault) -> u64
-    ensures is { λ r. ⌜ r ≡ tableNumber fault ⌝ }
-    ensures small { λ r. ⌜ r < 256 ⌝ }
-{
-    match fault {
-        TableFault::Size => 1,
-        TableFault::Order => 2,
-        TableFault::Bounds => 3,
-    }
-}
-
-fn graph_number(fault: GraphFault) -> u64
-    ensures is { λ r. ⌜ r ≡ graphNumber fault ⌝ }
-    ensures small { λ r. ⌜ r < 256 ⌝ }
-{
-    match fault {
-        GraphFault::Malformed => 4,
-        GraphFault::OutOfRange => 5,
-        GraphFault::Cyclic => 6,
-        GraphFault::Unreached => 7,
-    }
 }
 
 fn side_number(side: Side) -> u64

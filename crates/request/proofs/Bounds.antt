@@ -18,29 +18,28 @@ use Rattle.graphs.proofs.Walk.{none-some}
 use Rattle.lattice.specs.Label.{Label}
 use Rattle.lattice.specs.declared.Opened.{Opened}
 use Rattle.lattice.specs.declared.Opened.the-variants as opened
-use Rattle.lattice.specs.declared.TableFault.{TableFault}
-use Rattle.lattice.specs.declared.TableFault.the-variants as tableFault
 use Rattle.lattice.specs.Reply as table
 use Rattle.lattice.specs.Table.{admits}
 use Rattle.lattice.specs.Labels.{typeLabels}
-use Rattle.record.specs.declared.GraphFault.{GraphFault}
-use Rattle.record.specs.declared.GraphFault.the-variants as graphFault
 use Rattle.record.specs.Read as graph
 use Rattle.encode.specs.Encode.{encoded, fitted, writtenOut}
 use Rattle.encode.specs.declared.Written.the-variants as outcome
 use Rattle.generalize.specs.Pairs.{samePair}
 use Rattle.engine.specs.declared.Side.{Side}
 use Rattle.engine.specs.declared.Side.the-variants.{First, Second}
+use Rattle.engine.specs.declared.kinds.Kind.{Kind}
+use Rattle.engine.specs.declared.kinds.Kind.the-variants as kind
 use Rattle.engine.specs.declared.Reply.{Reply}
 use Rattle.engine.specs.declared.Reply.the-variants.{Length, Yes, No, Table, Graph, NoRoom, Cycle, Clash, TooLarge, NotBelow, NotAdmitted}
-use Rattle.engine.specs.Reply.{Result, refusal, checked, refusing, readBoth, resultOf, generalizing, generalized, ordering, ordered}
+use Rattle.engine.specs.Reply.{Result, Bounded, kindOf, refusal, checked, refusing, readBoth, resultOf, generalizing, generalized, ordering, ordered}
 use Rattle.engine.specs.Unification.{sameEither, combined, unifiedRows, unifying}
 use Rattle.engine.specs.Difference.{differenceRows, differed, numbered, differedRows, differing}
+use Rattle.engine.proofs.Numbers.{numberIn, number-small, kind-bounded}
 use Rattle.request.specs.declared.parse.Operation.{Operation}
 use Rattle.request.specs.declared.parse.Operation.the-variants.{Generalize, Unify, Difference, Order}
 use Rattle.request.specs.Request.{Request}
-use Rattle.request.specs.Line.{answered, answering, refusedText, replyText, sideText}
-use Rattle.request.specs.Words.{Bounded, wordsFor}
+use Rattle.request.specs.Line.{answered, answering, kindText, refusedText, replyText, sideText}
+use Rattle.request.specs.Words.{wordsFor}
 use Rattle.request.proofs.Texts.{decimal-short, refused-short, length-hexadecimal}
 
 -- A reply's length fits in the output.
@@ -144,39 +143,26 @@ answered-bounded q l e =
 
 -- Every line is short.
 
-table-small : (fault : TableFault) → table.tableNumber fault < 10000
-table-small tableFault.Size = omega arith
-table-small tableFault.Order = omega arith
-table-small tableFault.Bounds = omega arith
-
-graph-small : (fault : GraphFault) → graph.graphNumber fault < 10000
-graph-small graphFault.Malformed = omega arith
-graph-small graphFault.OutOfRange = omega arith
-graph-small graphFault.Cyclic = omega arith
-graph-small graphFault.Unreached = omega arith
-
 side-short : (which : Side) → length (sideText which) ≤ 7
 side-short First = omega arith
 side-short Second = omega arith
 
-reply-short : (reply : Reply) (out : List ℕ) → Bounded reply 4344 → length (replyText reply out) ≤ 8696
-reply-short (Length l) out h = simp (length-append, length-hexadecimal, length-take) (omega (arith, h l refl, decimal-short l (omega (arith, h l refl))))
-reply-short Yes out h = omega arith
-reply-short No out h = omega arith
-reply-short (Table fault) out h = omega (arith, refused-short (table.tableNumber fault) (table-small fault))
-reply-short (Graph fault which) out h =
+kind-short : (k : Kind) (out : List ℕ) → ((l : ℕ) → k ≡ kind.Length l → l ≤ 4344) → numberIn k < 256 → length (kindText k out) ≤ 8696
+kind-short (kind.Length l) out h small =
+    simp (length-append, length-hexadecimal, length-take) (omega (arith, h l refl, decimal-short l (omega (arith, h l refl))))
+kind-short kind.Yes out h small = omega arith
+kind-short kind.No out h small = omega arith
+kind-short (kind.Refused number) out h small = omega (arith, refused-short number (omega arith))
+kind-short (kind.RefusedGraph number which) out h small =
     omega (
       arith,
-      length-append (refusedText (graph.graphNumber fault)) (sideText which),
-      refused-short (graph.graphNumber fault) (graph-small fault),
+      length-append (refusedText number) (sideText which),
+      refused-short number (omega arith),
       side-short which,
     )
-reply-short NoRoom out h = omega (arith, refused-short 8 (omega arith))
-reply-short Cycle out h = omega (arith, refused-short 9 (omega arith))
-reply-short Clash out h = omega (arith, refused-short 10 (omega arith))
-reply-short TooLarge out h = omega (arith, refused-short 11 (omega arith))
-reply-short NotBelow out h = omega (arith, refused-short 12 (omega arith))
-reply-short NotAdmitted out h = omega (arith, refused-short 13 (omega arith))
+
+reply-short : (reply : Reply) (out : List ℕ) → Bounded reply 4344 → length (replyText reply out) ≤ 8696
+reply-short reply out h = kind-short (kindOf reply) out (kind-bounded reply h) (number-small reply refl)
 
 pub words-short : (request : Option Request) → length (wordsFor request) ≤ 8696
 words-short none = omega arith

@@ -5,34 +5,32 @@ use mathlib.Core.Option.{Option, none, some}
 use Prim.Native.Nat.{ℕ, _+_, _≤_}
 use native.Mathlib.Nat.{zero-add}
 use native.Mathlib.Omega.{arith}
-use lib.ListN.{length, drop, set, replicate, length-append}
+use lib.ListN.{length, drop, set, replicate, length-append, length-replicate}
 use lib.Seq.{sets-eq}
 use Rattle.engine.specs.declared.Side.{Side}
+use Rattle.engine.specs.declared.kinds.Kind.{Kind}
 use Rattle.engine.specs.declared.Reply.{Reply}
 use Rattle.engine.specs.Reply.{Result, resulting}
+use Rattle.request.specs.declared.Printed.{Printed}
 use Rattle.request.specs.declared.parse.Operation.{Operation}
 use Rattle.request.specs.declared.parse.Parts.{Parts}
 use Rattle.request.specs.Request.{Request, requested}
 use Rattle.request.specs.Parse.{between, requestAt}
 use Rattle.request.specs.Text.{Puts}
-use Rattle.request.specs.Line.{answered, answering, ended, lineFor, lineOf, replyText, sideText, textOf}
+use Rattle.request.specs.Line.{answered, answering, ended, kindText, lineFor, lineOf, printed, replyText, sideText, textOf}
 use Rattle.request.specs.Words.{wordsFor}
 use Rattle.request.proofs.Texts.{puts-then, puts-byte}
 use Rattle.request.proofs.Bounds.{words-short}
 
--- the text of an equal reply
-pub puts-reply : {reply r : Reply} (output : List ℕ) {at next : ℕ} {old new : List ℕ} → reply ≡ r →
-    Puts (replyText r output) at old next new → Puts (replyText reply output) at old next new
-puts-reply output {at} {next} {old} {new} e p = subst (λ (r : Reply). Puts (replyText r output) at old next new) (sym e) p
+-- the text of what an equal reply tells
+pub puts-kind : {k other : Kind} (output : List ℕ) {at next : ℕ} {old new : List ℕ} → k ≡ other →
+    Puts (kindText other output) at old next new → Puts (kindText k output) at old next new
+puts-kind output {at} {next} {old} {new} e p = subst (λ (k : Kind). Puts (kindText k output) at old next new) (sym e) p
 
 -- the text of an equal side
 pub puts-side : {which s : Side} {at next : ℕ} {old new : List ℕ} → which ≡ s →
     Puts (sideText s) at old next new → Puts (sideText which) at old next new
 puts-side {at = at} {next} {old} {new} e p = subst (λ (s : Side). Puts (sideText s) at old next new) (sym e) p
-
--- a text made of an equal number
-pub puts-number : (text : ℕ → List ℕ) {m n at next : ℕ} {old new : List ℕ} → m ≡ n → Puts (text m) at old next new → Puts (text n) at old next new
-puts-number text {at = at} {next} {old} {new} e p = subst (λ (n : ℕ). Puts (text n) at old next new) e p
 
 -- Calls.
 
@@ -68,7 +66,7 @@ unfolding textOf
 line-is none = refl
 line-is (some q) = refl
 
-pub line-put : (input : List ℕ) {end : ℕ} {old part : List ℕ} → 8697 ≤ length old → Puts (wordsFor (requested input)) 0 old end part →
+line-put : (input : List ℕ) {end : ℕ} {old part : List ℕ} → 8697 ≤ length old → Puts (wordsFor (requested input)) 0 old end part →
     (end + 1 ≡ length (lineOf input)) × (set part end 10 ≡ lineOf input ++ drop (length (lineOf input)) old)
 unfolding lineOf
 line-put input {end} {old} {part} room p =
@@ -81,4 +79,23 @@ line-put input {end} {old} {part} room p =
       q .new-is ∙ sets-eq (words ++ (10 ∷ [])) old 0 (omega arith)
           ∙ ap (λ (n : ℕ). (words ++ (10 ∷ [])) ++ drop n old) (zero-add (length (words ++ (10 ∷ []))))
           ∙ ap (λ (l : List ℕ). l ++ drop (length l) old) (sym (line-is (requested input))),
+    )
+
+abbrev held : List ℕ → ℕ → Printed
+held bytes count = record { bytes = bytes; count = count }
+
+pub line-printed : (input : List ℕ) {end : ℕ} {part : List ℕ} → Puts (wordsFor (requested input)) 0 (replicate 8697 0) end part →
+    held (set part end 10) (end + 1) ≡ printed (lineOf input)
+line-printed input p =
+    let h = line-put input (omega (arith, length-replicate {A = ℕ} 8697 0)) p in
+    ap₂ held (h .1) (h .0)
+
+-- what is printed is among the bytes
+pub count-fits : {r : Printed} (input : List ℕ) → r ≡ printed (lineOf input) → r .count ≤ length (r .bytes)
+count-fits input e =
+    omega (
+      arith,
+      ap (λ (p : Printed). p .count) e,
+      ap (λ (p : Printed). length (p .bytes)) e,
+      length-append (lineOf input) (drop (length (lineOf input)) (replicate 8697 0)),
     )

@@ -2,14 +2,16 @@
 use mathlib.Core.List.{List, [], _∷_, _++_}
 use mathlib.Core.Option.{Option, none, some}
 use Prim.Native.Nat.{ℕ}
-use lib.ListN.{take, replicate}
+use lib.ListN.{length, take, drop, replicate}
 use Rattle.engine.specs.declared.Side.{Side}
 use Rattle.engine.specs.declared.Side.the-variants.{First, Second}
 use Rattle.engine.specs.declared.Reply.{Reply}
-use Rattle.engine.specs.declared.Reply.the-variants.{Length, Yes, No, Table, Graph, NoRoom, Cycle, Clash, TooLarge, NotBelow, NotAdmitted}
-use Rattle.engine.specs.Reply.{Result, refusal, side, refusing, generalizing, ordering}
+use Rattle.engine.specs.declared.kinds.Kind.{Kind}
+use Rattle.engine.specs.declared.kinds.Kind.the-variants.{Length, Yes, No, Refused, RefusedGraph}
+use Rattle.engine.specs.Reply.{Result, kindOf, refusing, generalizing, ordering}
 use Rattle.engine.specs.Unification.{unifying}
 use Rattle.engine.specs.Difference.{differing}
+use Rattle.request.specs.declared.Printed.{Printed}
 use Rattle.request.specs.declared.parse.Operation.{Operation}
 use Rattle.request.specs.declared.parse.Operation.the-variants.{Generalize, Unify, Difference, Order}
 use Rattle.request.specs.Request.{Request, requested}
@@ -32,28 +34,17 @@ abbrev pub sideText : Side → List ℕ
 sideText First = 32 ∷ 102 ∷ 105 ∷ 114 ∷ 115 ∷ 116 ∷ []
 sideText Second = 32 ∷ 115 ∷ 101 ∷ 99 ∷ 111 ∷ 110 ∷ 100 ∷ []
 
--- "`refused` with the number, and for 4 to 7 `first` or `second`"; no text where there is no number
-abbrev pub refusalText : Option ℕ → Option Side → List ℕ
-refusalText none which = []
-refusalText (some number) none = refusedText number
-refusalText (some number) (some which) = refusedText number ++ sideText which
+-- the words of what a reply tells; the record is the output's first bytes, and a refusal "for 4 to 7 `first` or `second`"
+abbrev pub kindText : Kind → List ℕ → List ℕ
+kindText (Length l) out = okText l (take l out)
+kindText Yes out = 121 ∷ 101 ∷ 115 ∷ []
+kindText No out = 110 ∷ 111 ∷ []
+kindText (Refused number) out = refusedText number
+kindText (RefusedGraph number which) out = refusedText number ++ sideText which
 
-abbrev pub refusalOf : Reply → List ℕ
-refusalOf reply = refusalText (refusal reply) (side reply)
-
--- the words of a reply; the record is the output's first bytes
+-- the words of a reply
 abbrev pub replyText : Reply → List ℕ → List ℕ
-replyText (Length l) out = okText l (take l out)
-replyText Yes out = 121 ∷ 101 ∷ 115 ∷ []
-replyText No out = 110 ∷ 111 ∷ []
-replyText (Table fault) out = refusalOf (Table fault)
-replyText (Graph fault which) out = refusalOf (Graph fault which)
-replyText NoRoom out = refusalOf NoRoom
-replyText Cycle out = refusalOf Cycle
-replyText Clash out = refusalOf Clash
-replyText TooLarge out = refusalOf TooLarge
-replyText NotBelow out = refusalOf NotBelow
-replyText NotAdmitted out = refusalOf NotAdmitted
+replyText reply out = kindText (kindOf reply) out
 
 -- "prints one line": the words and a line end
 abbrev pub ended : List ℕ → List ℕ
@@ -78,6 +69,10 @@ answered q = answering (q .operation) (q .n) (q .table) (q .first) (q .second) (
 abbrev pub lineFor : Option Request → List ℕ
 lineFor none = ended badInput
 lineFor (some request) = textOf (answered request)
+
+-- a text as it is printed: its bytes first, zeros behind them, and how many they are
+abbrev pub printed : List ℕ → Printed
+printed text = record { bytes = text ++ drop (length text) (replicate 8697 0); count = length text }
 
 -- the line that an input is answered by
 unfoldable pub lineOf : List ℕ → List ℕ

@@ -9,16 +9,21 @@ use parse::Operation;
 use parse::Parsed;
 use parse::Parts;
 ghost use mathlib.Core.Path.{_≡_};
-ghost use mathlib.Core.List.{_++_};
 ghost use mathlib.Core.Option.{some};
 ghost use Prim.Native.Nat.{_≤_};
-ghost use lib.ListN.{length, drop};
+ghost use lib.ListN.{length};
 ghost use Rattle.engine.specs.Reply.{resulting};
 ghost use Rattle.request.specs.Request.{requested};
 ghost use Rattle.request.specs.Parse.{AllInside, requestAt};
 ghost use Rattle.request.specs.Text.{Puts};
-ghost use Rattle.request.specs.Line.{answering, lineOf};
+ghost use Rattle.request.specs.Line.{answering, lineOf, printed};
 ghost use Rattle.request.specs.Words.{wordsFor};
+
+// What is to be printed: the first `count` of the bytes. The longest line has 8,697.
+pub struct Printed {
+    pub bytes: [u8; 8697],
+    pub count: usize,
+}
 
 // What the call that is asked for answers, and leaves in the output.
 fn answer(
@@ -66,13 +71,15 @@ fn put_words(input: &[u8], out: &mut [u8]) -> usize
     }
 }
 
-// Puts the line that answers the input at the start of the output, and answers its length.
-pub fn line(input: &[u8], out: &mut [u8]) -> usize
-    requires { ⌜ 8697 ≤ length (now out) ⌝ }
-    ensures { λ r. ⌜ r ≡ length (lineOf (now (input .entry))) ⌝ }
-    ensures { λ r. ⌜ now (out .exit) ≡ lineOf (now (input .entry)) ++ drop (length (lineOf (now (input .entry)))) (now (out .entry)) ⌝ }
+// The line that answers the input.
+pub fn line(input: &[u8]) -> Printed
+    ensures { λ r. ⌜ r ≡ printed (lineOf (now (input .entry))) ⌝ }
 {
-    let end = put_words(input, out);
-    out[end] = 10;
-    end + 1
+    let mut bytes = [0u8; 8697];
+    let end = put_words(input, &mut bytes);
+    bytes[end] = 10;
+    Printed {
+        bytes,
+        count: end + 1,
+    }
 }

@@ -1,8 +1,8 @@
--- `main` keeps every bound: the line is a part of the output that it lends.
-use mathlib.Core.Path.{sym, ap}
+-- `main` keeps every bound: the line is among the bytes that it is answered.
+use mathlib.Core.Path.{sym}
 use native.Mathlib.Omega.{arith}
-use lib.ListN.{length, length-append}
 use lib.Seq.{length-take-le}
+use Rattle.request.proofs.Replies.{count-fits}
 use borrow.Author.Needs.{needs}
 use Rattle.mapcalc.proofs.main.Statement.{statement}
 use Rattle.mapcalc.proofs.main.Tie as tie
@@ -19,17 +19,14 @@ array-share-prefix-input c = search needs
 slice-aggregate-line : tie.Need-slice-aggregate-line
 slice-aggregate-line c = search needs
 
-slice-aggregate-line-2 : tie.Need-slice-aggregate-line-2
-slice-aggregate-line-2 c = search needs
-
 line-requires : tie.Need-line-requires
 line-requires c κs = search needs
 
-array-share-prefix-line : tie.Need-array-share-prefix-line
-array-share-prefix-line c = omega (arith, c .before .line2 .ensures .0, simp length-append at (ap length (c .before .line2 .ensures .1)))
+array-share-prefix-bytes : tie.Need-array-share-prefix-bytes
+array-share-prefix-bytes c = count-fits _ (c .before .line .ensures)
 
 slice-aggregate-write-all : tie.Need-slice-aggregate-write-all
-slice-aggregate-write-all c = sym (length-take-le _ _ (omega (arith, c .before .before .line2 .ensures .0, simp length-append at (ap length (c .before .before .line2 .ensures .1)))))
+slice-aggregate-write-all c = sym (length-take-le _ _ (count-fits _ (c .before .before .line .ensures)))
 
 write-all-requires : tie.Need-write-all-requires
 write-all-requires c κs = search needs
@@ -45,9 +42,8 @@ main-spec =
     read-full-requires
     array-share-prefix-input
     slice-aggregate-line
-    slice-aggregate-line-2
     line-requires
-    array-share-prefix-line
+    array-share-prefix-bytes
     slice-aggregate-write-all
     write-all-requires
     returns)

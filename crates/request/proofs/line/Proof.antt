@@ -2,25 +2,33 @@
 use native.Mathlib.Omega.{arith}
 use Rattle.request.specs.Request.{requested}
 use Rattle.request.proofs.Bounds.{words-short}
-use Rattle.request.proofs.Replies.{line-put}
+use Rattle.request.proofs.Replies.{line-printed}
 use borrow.Author.Needs.{needs}
 use Rattle.request.proofs.line.Statement.{statement}
 use Rattle.request.proofs.line.Tie as tie
 
+slice-aggregate-put-words : tie.Need-slice-aggregate-put-words
+slice-aggregate-put-words c = search needs
+
 put-words-requires : tie.Need-put-words-requires
 put-words-requires c κs = search needs
 
-slice-write-out : tie.Need-slice-write-out
-slice-write-out c = omega (arith, c .before .before .put-words .ensures .next-is, words-short (requested (c .before .before .before .before .before .before .args .input .now)))
+array-write-bytes : tie.Need-array-write-bytes
+array-write-bytes c =
+    let w = c .before in
+    omega (arith, w .put-words .ensures .next-is, words-short (requested (w .before .before .before .args .input .now)))
 
-add-result : tie.Need-add-result
-add-result c = omega (arith, c .before .before .put-words .ensures .next-is, words-short (requested (c .before .before .before .before .before .before .args .input .now)))
-
-same-length : tie.Need-same-length
-same-length c = search needs
+add-t9 : tie.Need-add-t9
+add-t9 c =
+    let w = c .before in
+    omega (arith, w .put-words .ensures .next-is, words-short (requested (w .before .before .before .args .input .now)))
 
 returns : tie.Need-returns
-returns c = line-put (c .before .before .before .before .before .before .args .input .now) (c .before .before .before .before .before .before .pre) (c .before .before .put-words .ensures)
+returns c =
+    let w = c .before in
+    line-printed (w .before .before .before .args .input .now) (w .put-words .ensures)
 
 pub line-spec : {M : Type 1} → statement M
-line-spec = tie.close (tie.spec put-words-requires slice-write-out add-result same-length returns)
+line-spec =
+    tie.close
+    (tie.spec slice-aggregate-put-words put-words-requires array-write-bytes add-t9 returns)

@@ -1,0 +1,71 @@
+-- What a reply tells tells which reply it is, and the number of a refusal is small.
+use mathlib.Core.Path.{_≡_, refl, sym, _∙_, ap, subst}
+use mathlib.Core.Bool.{true}
+use mathlib.Core.List.{List, [], _∷_}
+use Prim.Native.Nat.{ℕ, _-_, _≤_, _<_}
+use borrow.Author.Tests.{ltb-true}
+use lib.Dec.{ltb}
+use lib.ListN.{getD}
+use Rattle.lattice.specs.declared.TableFault.the-variants.{Size, Order, Bounds}
+use Rattle.record.specs.declared.GraphFault.{GraphFault}
+use Rattle.record.specs.declared.GraphFault.the-variants.{Malformed, OutOfRange, Cyclic, Unreached}
+use Rattle.engine.specs.declared.kinds.Kind.{Kind}
+use Rattle.engine.specs.declared.kinds.Kind.the-variants as kind
+use Rattle.engine.specs.declared.Reply.{Reply}
+use Rattle.engine.specs.declared.Reply.the-variants.{Length, Yes, No, Table, Graph, NoRoom, Cycle, Clash, TooLarge, NotBelow, NotAdmitted}
+use Rattle.engine.specs.Reply.{kindOf, Bounded}
+
+-- refusals by their numbers, of which 0 and 4 to 7 are not among these
+refusals : List Reply
+refusals =
+    No ∷ Table Size ∷ Table Order ∷ Table Bounds ∷ No ∷ No ∷ No ∷ No ∷ NoRoom ∷ Cycle ∷ Clash ∷ TooLarge ∷ NotBelow ∷ NotAdmitted ∷ []
+
+-- 4 to 7
+faults : List GraphFault
+faults = Malformed ∷ OutOfRange ∷ Cyclic ∷ Unreached ∷ []
+
+-- the reply that tells this
+replyIn : Kind → Reply
+replyIn (kind.Length l) = Length l
+replyIn kind.Yes = Yes
+replyIn kind.No = No
+replyIn (kind.Refused number) = getD refusals number No
+replyIn (kind.RefusedGraph number side) = Graph (getD faults (number - 4) Malformed) side
+
+-- the number of a refusal, or 0
+abbrev pub numberIn : Kind → ℕ
+numberIn (kind.Length l) = 0
+numberIn kind.Yes = 0
+numberIn kind.No = 0
+numberIn (kind.Refused number) = number
+numberIn (kind.RefusedGraph number side) = number
+
+tells : (r : Reply) → (replyIn (kindOf r) ≡ r) × (ltb (numberIn (kindOf r)) 256 ≡ true)
+unfolding replyIn refusals faults
+tells (Length l) = (refl, refl)
+tells Yes = (refl, refl)
+tells No = (refl, refl)
+tells (Table Size) = (refl, refl)
+tells (Table Order) = (refl, refl)
+tells (Table Bounds) = (refl, refl)
+tells (Graph Malformed side) = (refl, refl)
+tells (Graph OutOfRange side) = (refl, refl)
+tells (Graph Cyclic side) = (refl, refl)
+tells (Graph Unreached side) = (refl, refl)
+tells NoRoom = (refl, refl)
+tells Cycle = (refl, refl)
+tells Clash = (refl, refl)
+tells TooLarge = (refl, refl)
+tells NotBelow = (refl, refl)
+tells NotAdmitted = (refl, refl)
+
+-- different replies tell different things
+pub kind-injective : (r q : Reply) → kindOf r ≡ kindOf q → r ≡ q
+kind-injective r q e = sym (tells r .0) ∙ ap replyIn e ∙ tells q .0
+
+pub number-small : (r : Reply) {k : Kind} → kindOf r ≡ k → numberIn k < 256
+number-small r e = subst (λ (k : Kind). numberIn k < 256) e (ltb-true (numberIn (kindOf r)) 256 (tells r .1))
+
+-- the length that a reply tells
+pub kind-bounded : (r : Reply) {most : ℕ} → Bounded r most → (l : ℕ) → kindOf r ≡ kind.Length l → l ≤ most
+kind-bounded r bounded l e = bounded l (kind-injective r (Length l) e)

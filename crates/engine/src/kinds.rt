@@ -1,0 +1,59 @@
+// Replies by what they tell, with the numbers that document 01 gives to refusals ("Returned by a call").
+
+use crate::Reply;
+use crate::Side;
+use lattice::TableFault;
+use record::GraphFault;
+ghost use mathlib.Core.Path.{_≡_};
+ghost use Rattle.lattice.specs.Reply.{tableNumber};
+ghost use Rattle.record.specs.Read.{graphNumber};
+ghost use Rattle.engine.specs.Reply.{kindOf};
+
+// What a reply tells: a refusal has a number, and one of a graph tells which of the two it is.
+pub enum Kind {
+    Length(usize),
+    Yes,
+    No,
+    Refused(usize),
+    RefusedGraph(usize, Side),
+}
+
+// What a reply tells.
+pub fn kind_of(reply: Reply) -> Kind
+    ensures { λ r. ⌜ r ≡ kindOf reply ⌝ }
+{
+    match reply {
+        Reply::Length(length) => Kind::Length(length),
+        Reply::Yes => Kind::Yes,
+        Reply::No => Kind::No,
+        Reply::Table(fault) => Kind::Refused(table_number(fault)),
+        Reply::Graph(fault, side) => Kind::RefusedGraph(graph_number(fault), side),
+        Reply::NoRoom => Kind::Refused(8),
+        Reply::Cycle => Kind::Refused(9),
+        Reply::Clash => Kind::Refused(10),
+        Reply::TooLarge => Kind::Refused(11),
+        Reply::NotBelow => Kind::Refused(12),
+        Reply::NotAdmitted => Kind::Refused(13),
+    }
+}
+
+fn table_number(fault: TableFault) -> usize
+    ensures { λ r. ⌜ r ≡ tableNumber fault ⌝ }
+{
+    match fault {
+        TableFault::Size => 1,
+        TableFault::Order => 2,
+        TableFault::Bounds => 3,
+    }
+}
+
+fn graph_number(fault: GraphFault) -> usize
+    ensures { λ r. ⌜ r ≡ graphNumber fault ⌝ }
+{
+    match fault {
+        GraphFault::Malformed => 4,
+        GraphFault::OutOfRange => 5,
+        GraphFault::Cyclic => 6,
+        GraphFault::Unreached => 7,
+    }
+}
