@@ -34,7 +34,7 @@ abbrev pub sideText : Side → List ℕ
 sideText First = 32 ∷ 102 ∷ 105 ∷ 114 ∷ 115 ∷ 116 ∷ []
 sideText Second = 32 ∷ 115 ∷ 101 ∷ 99 ∷ 111 ∷ 110 ∷ 100 ∷ []
 
--- the words of what a reply tells; the record is the output's first bytes, and a refusal "for 4 to 7 `first` or `second`"
+-- the words of what a reply tells: the record is the output's first bytes, and a refused graph is named, "for 4 to 7 `first` or `second`"
 abbrev pub kindText : Kind → List ℕ → List ℕ
 kindText (Length l) out = okText l (take l out)
 kindText Yes out = 121 ∷ 101 ∷ 115 ∷ []
