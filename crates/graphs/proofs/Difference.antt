@@ -1,6 +1,6 @@
 -- The difference: it restores, and nothing more general does.
 pub mod Arrives
-pub mod Select
+pub mod Links
 pub mod Induct
 pub mod Laws
 pub mod Kept

@@ -1,16 +1,17 @@
 -- What a search along a list finds: the first value (`firstOf`), whether a test holds somewhere (`anyOf`), and where it
--- holds (`those`). The features are such a list. Each search is described by membership, so that no proof about
+-- holds (`select`). The features are such a list. Each search is described by membership, so that no proof about
 -- unification has to look at the order of a list.
-use mathlib.Core.Path.{_≡_, refl, sym, _∙_, ap}
-use mathlib.Core.Bool.{Bool, true, false, cond, _||_, true≢false}
+use mathlib.Core.Path.{_≡_, refl, sym, _∙_, ap, subst}
+use mathlib.Core.Bool.{Bool, true, false, cond, _&&_, _||_, true≢false}
 use mathlib.Core.List.{List, [], _∷_, List·Memᴰ, List·Memᴰ·head, List·Memᴰ·tail, List·Memᴰ·not-nil, List·Memᴰ·cases-cons}
-use mathlib.Core.Logic.{_⊎_, inl, inr, ⊎-elim}
+use mathlib.Core.Logic.{_↔_, _⊎_, inl, inr, ⊎-elim}
 use mathlib.Core.Option.{Option, none, some}
 use mathlib.Mathlib.Data.Option.Basic.{orElse-eq-some, orElse-eq-none}
 use Prim.Native.Nat.{suc, _≤_, _<_}
 use native.Mathlib.Omega.{arith}
 use lib.ListN.{length}
-use Rattle.graphs.specs.Unify.{firstOf, anyOf}
+use Rattle.graphs.specs.Unify.{firstOf, anyOf, holds}
+use Rattle.graphs.specs.Difference.{select}
 use Rattle.graphs.proofs.Walk.{none-some}
 
 pub true-false : {b : Bool} {C : Type 0} → b ≡ true → b ≡ false → C
@@ -23,6 +24,37 @@ not-true false h = refl
 pub true-or-false : (b : Bool) → (b ≡ true) ⊎ (b ≡ false)
 true-or-false true = inl refl
 true-or-false false = inr refl
+
+pub both-true : (a b : Bool) → (a && b) ≡ true → (a ≡ true) × (b ≡ true)
+both-true true b e = (refl, e)
+both-true false b e = true-false e refl
+
+pub true-both : (a b : Bool) → a ≡ true → b ≡ true → (a && b) ≡ true
+true-both true b d e = e
+true-both false b d e = d
+
+pub either-true : (a b : Bool) → (a || b) ≡ true → (a ≡ true) ⊎ (b ≡ true)
+either-true true b e = inl refl
+either-true false b e = inr e
+
+pub true-left : (a b : Bool) → a ≡ true → (a || b) ≡ true
+true-left true b e = refl
+true-left false b e = true-false e refl
+
+pub true-right : (a b : Bool) → b ≡ true → (a || b) ≡ true
+true-right true b e = refl
+true-right false b e = e
+
+pub neither : (a b : Bool) → (a || b) ≡ false → (a ≡ false) × (b ≡ false)
+neither true b e = true-false refl e
+neither false b e = (refl, e)
+
+pub holds-some : {X : Type 0} (test : X → Bool) (o : Option X) → holds test o ≡ true → (x : X) × (o ≡ some x) × (test x ≡ true)
+holds-some test none e = true-false e refl
+holds-some test (some x) e = (x, refl, e)
+
+pub some-holds : {X : Type 0} (test : X → Bool) (o : Option X) (x : X) → o ≡ some x → test x ≡ true → holds test o ≡ true
+some-holds test o x d e = ap (holds test) d ∙ e
 
 pub cond-some : {Y : Type 0} (b : Bool) (o : Option Y) (y : Y) → cond b o none ≡ some y → (b ≡ true) × (o ≡ some y)
 cond-some true o y e = (refl, e)
@@ -77,80 +109,89 @@ module _ {X : Type 0} (test : X → Bool) where
       go false h later (inl q) = true-false e (ap test q ∙ h)
       go false h later (inr m) = later m e
 
-  -- those for which the test holds
-  pub those : List X → List X
-  those [] = []
-  those (x ∷ xs) = cond (test x) (x ∷ those xs) (those xs)
+-- The elements that pass a test.
 
-  pub those-sound : (xs : List X) (x : X) → List·Memᴰ x (those xs) → List·Memᴰ x xs × (test x ≡ true)
-  unfolding those
-  those-sound [] x m = absurd (List·Memᴰ·not-nil m)
-  those-sound (z ∷ xs) x m = go (test z) refl m (those-sound xs x)
+module _ {X : Type 0} (test : X → Bool) where
+  pub select-listed : (xs : List X) (x : X) → List·Memᴰ x (select test xs) ↔ (List·Memᴰ x xs × (test x ≡ true))
+  unfolding select
+  select-listed [] x = (λ m. absurd (List·Memᴰ·not-nil m), λ m. m .0)
+  select-listed (z ∷ xs) x = go (test z) refl (select-listed xs x)
     where
-      later : List·Memᴰ x xs × (test x ≡ true) → List·Memᴰ x (z ∷ xs) × (test x ≡ true)
-      later r = (List·Memᴰ·tail (r .0), r .1)
+      go : (b : Bool) → test z ≡ b → List·Memᴰ x (select test xs) ↔ (List·Memᴰ x xs × (test x ≡ true)) →
+          List·Memᴰ x (cond b (z ∷ select test xs) (select test xs)) ↔ (List·Memᴰ x (z ∷ xs) × (test x ≡ true))
+      go true e later = (
+        λ m.
+            ⊎-elim (λ (q : x ≡ z). (List·Memᴰ·head q, ap test q ∙ e))
+            (λ (n : List·Memᴰ x (select test xs)). let t = later .0 n in (List·Memᴰ·tail (t .0), t .1)) (List·Memᴰ·cases-cons m),
+        λ m.
+            ⊎-elim (λ (q : x ≡ z). List·Memᴰ·head q) (λ (n : List·Memᴰ x xs). List·Memᴰ·tail (later .1 (n, m .1)))
+            (List·Memᴰ·cases-cons (m .0)),
+      )
+      go false e later = (
+        λ m. let t = later .0 m in (List·Memᴰ·tail (t .0), t .1),
+        λ m.
+            ⊎-elim (λ (q : x ≡ z). true-false (m .1) (ap test q ∙ e)) (λ (n : List·Memᴰ x xs). later .1 (n, m .1))
+            (List·Memᴰ·cases-cons (m .0)),
+      )
 
-      go : (b : Bool) → test z ≡ b → List·Memᴰ x (cond b (z ∷ those xs) (those xs)) →
-          (List·Memᴰ x (those xs) → List·Memᴰ x xs × (test x ≡ true)) → List·Memᴰ x (z ∷ xs) × (test x ≡ true)
-      go true h m below =
-          ⊎-elim (λ q. (List·Memᴰ·head q, ap test q ∙ h)) (λ m. later (below m)) (List·Memᴰ·cases-cons m)
-      go false h m below = later (below m)
-
-  pub those-finds : (xs : List X) (x : X) → List·Memᴰ x xs → test x ≡ true → List·Memᴰ x (those xs)
-  unfolding those
-  those-finds [] x m e = absurd (List·Memᴰ·not-nil m)
-  those-finds (z ∷ xs) x m e = go (test z) refl (λ m. those-finds xs x m e) (List·Memᴰ·cases-cons m)
+  pub select-length : (xs : List X) → length (select test xs) ≤ length xs
+  unfolding select
+  select-length [] = omega arith
+  select-length (x ∷ xs) = go (test x) (select-length xs)
     where
-      go : (b : Bool) → test z ≡ b → (List·Memᴰ x xs → List·Memᴰ x (those xs)) →
-          (x ≡ z) ⊎ List·Memᴰ x xs → List·Memᴰ x (cond b (z ∷ those xs) (those xs))
-      go true h later (inl q) = List·Memᴰ·head q
-      go true h later (inr m) = List·Memᴰ·tail (later m)
-      go false h later (inl q) = true-false e (ap test q ∙ h)
-      go false h later (inr m) = later m
-
-  pub those-length : (xs : List X) → length (those xs) ≤ length xs
-  unfolding those
-  those-length [] = omega arith
-  those-length (x ∷ xs) = go (test x) (those-length xs)
-    where
-      go : (b : Bool) → length (those xs) ≤ length xs → length (cond b (x ∷ those xs) (those xs)) ≤ suc (length xs)
+      go : (b : Bool) → length (select test xs) ≤ length xs →
+          length (cond b (x ∷ select test xs) (select test xs)) ≤ suc (length xs)
       go true h = omega arith
       go false h = omega arith
 
 -- a test that holds less often finds fewer
 module _ {X : Type 0} (less more : X → Bool) where
-  pub those-fewer : (xs : List X) → ((x : X) → List·Memᴰ x xs → less x ≡ true → more x ≡ true) →
-      length (those less xs) ≤ length (those more xs)
-  unfolding those
-  those-fewer [] weaker = omega arith
-  those-fewer (x ∷ xs) weaker =
-      go (less x) (more x) (weaker x (List·Memᴰ·head refl)) (those-fewer xs (λ z m. weaker z (List·Memᴰ·tail m)))
+  select-fewer : (xs : List X) → ((x : X) → List·Memᴰ x xs → less x ≡ true → more x ≡ true) →
+      length (select less xs) ≤ length (select more xs)
+  unfolding select
+  select-fewer [] weaker = omega arith
+  select-fewer (x ∷ xs) weaker =
+      go (less x) (more x) (weaker x (List·Memᴰ·head refl)) (select-fewer xs (λ z m. weaker z (List·Memᴰ·tail m)))
     where
-      go : (b c : Bool) → (b ≡ true → c ≡ true) → length (those less xs) ≤ length (those more xs) →
-          length (cond b (x ∷ those less xs) (those less xs)) ≤ length (cond c (x ∷ those more xs) (those more xs))
+      go : (b c : Bool) → (b ≡ true → c ≡ true) → length (select less xs) ≤ length (select more xs) →
+          length (cond b (x ∷ select less xs) (select less xs)) ≤ length (cond c (x ∷ select more xs) (select more xs))
       go true true w h = omega arith
       go true false w h = true-false (w refl) refl
       go false true w h = omega arith
       go false false w h = omega arith
 
-  pub those-fewer-strict : (xs : List X) → ((x : X) → List·Memᴰ x xs → less x ≡ true → more x ≡ true) →
-      (a : X) → List·Memᴰ a xs → more a ≡ true → less a ≡ false → length (those less xs) < length (those more xs)
-  unfolding those
-  those-fewer-strict [] weaker a m yes-more not-less = absurd (List·Memᴰ·not-nil m)
-  those-fewer-strict (x ∷ xs) weaker a m yes-more not-less =
-      go (less x) refl (more x) refl (weaker x (List·Memᴰ·head refl)) (those-fewer xs below)
-      (λ m. those-fewer-strict xs below a m yes-more not-less) (List·Memᴰ·cases-cons m)
+  pub select-fewer-strict : (xs : List X) → ((x : X) → List·Memᴰ x xs → less x ≡ true → more x ≡ true) →
+      (a : X) → List·Memᴰ a xs → more a ≡ true → less a ≡ false → length (select less xs) < length (select more xs)
+  unfolding select
+  select-fewer-strict [] weaker a m yes-more not-less = absurd (List·Memᴰ·not-nil m)
+  select-fewer-strict (x ∷ xs) weaker a m yes-more not-less =
+      go (less x) refl (more x) refl (weaker x (List·Memᴰ·head refl)) (select-fewer xs below)
+      (λ m. select-fewer-strict xs below a m yes-more not-less) (List·Memᴰ·cases-cons m)
     where
       below : (z : X) → List·Memᴰ z xs → less z ≡ true → more z ≡ true
       below z m = weaker z (List·Memᴰ·tail m)
 
       go : (b : Bool) → less x ≡ b → (c : Bool) → more x ≡ c → (b ≡ true → c ≡ true) →
-          length (those less xs) ≤ length (those more xs) →
-          (List·Memᴰ a xs → length (those less xs) < length (those more xs)) → (a ≡ x) ⊎ List·Memᴰ a xs →
-          length (cond b (x ∷ those less xs) (those less xs)) < length (cond c (x ∷ those more xs) (those more xs))
+          length (select less xs) ≤ length (select more xs) →
+          (List·Memᴰ a xs → length (select less xs) < length (select more xs)) → (a ≡ x) ⊎ List·Memᴰ a xs →
+          length (cond b (x ∷ select less xs) (select less xs)) < length (cond c (x ∷ select more xs) (select more xs))
       go true p true q w h s (inl e) = true-false p (ap less (sym e) ∙ not-less)
       go true p true q w h s (inr m) = let r = s m in omega arith
       go true p false q w h s d = true-false (w refl) refl
       go false p true q w h s d = omega arith
       go false p false q w h s (inl e) = true-false yes-more (ap more e ∙ q)
       go false p false q w h s (inr m) = s m
+
+-- what is decided of each element of a list is found in it, or nowhere
+pub search-list : {X : Type 0} (P : X → Type 0) (xs : List X) → ((x : X) → List·Memᴰ x xs → P x ⊎ (P x → ⊥)) →
+    ((x : X) × P x) ⊎ ((x : X) → List·Memᴰ x xs → P x → ⊥)
+search-list P [] decide = inr λ x m. absurd (List·Memᴰ·not-nil m)
+search-list {X} P (x ∷ xs) decide =
+    go (decide x (List·Memᴰ·head refl)) (search-list P xs λ y m. decide y (List·Memᴰ·tail m))
+  where
+    go : P x ⊎ (P x → ⊥) → ((x : X) × P x) ⊎ ((y : X) → List·Memᴰ y xs → P y → ⊥) →
+        ((x : X) × P x) ⊎ ((y : X) → List·Memᴰ y (x ∷ xs) → P y → ⊥)
+    go (inl p) rest = inl (x, p)
+    go (inr n) (inl t) = inl t
+    go (inr n) (inr later) =
+        inr λ y m p. ⊎-elim (λ (q : y ≡ x). n (subst P q p)) (λ (m : List·Memᴰ y xs). later y m p) (List·Memᴰ·cases-cons m)

@@ -8,7 +8,7 @@ use native.Mathlib.Omega.{arith}
 use lib.Dec.{leb, eqb}
 use borrow.Author.Tests.{leb-true, le-leb, eqb-true, eq-eqb}
 use Rattle.graphs.specs.Difference.{Link, StrictOrder, byNumber}
-use Rattle.graphs.proofs.Difference.Select.{both-true, true-both, either-true, true-left, true-right}
+use Rattle.graphs.proofs.Search.{both-true, true-both, either-true, true-left, true-right}
 
 -- l comes before m
 abbrev pub Before : Link ℕ → Link ℕ → Type 0

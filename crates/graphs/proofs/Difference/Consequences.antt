@@ -14,7 +14,7 @@ use Rattle.graphs.specs.Difference.{Link, select}
 use Rattle.graphs.proofs.Below.{map-below, below-trans, below-antisym}
 use Rattle.graphs.proofs.Finite.{features-up, acyclic-up, consistent-up}
 use Rattle.graphs.proofs.Unification.Unifier.{unification-left, unification-right, unification-greatest}
-use Rattle.graphs.proofs.Difference.Select.{select-listed, select-length}
+use Rattle.graphs.proofs.Search.{select-listed, select-length}
 use Rattle.graphs.proofs.Difference.Laws.{DifferenceLaws, withLinks}
 use Rattle.graphs.proofs.Difference.Kept.{kept-walk, kept-reached, reached-kept, below-difference}
 use Rattle.graphs.proofs.Difference.Restores.{restores-greatest}

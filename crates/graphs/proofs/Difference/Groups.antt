@@ -15,8 +15,8 @@ use Rattle.graphs.specs.Graph.{Graph, Tells}
 use Rattle.graphs.specs.Unify.{anyOf, holds}
 use Rattle.graphs.specs.Difference.{Link, select, linksFrom, sameLink, incoming, covers, bare, touch, spread}
 use Rattle.graphs.proofs.Walk.{reached-link}
-use Rattle.graphs.proofs.Search.{true-false, anyOf-true, anyOf-finds, those, those-length, those-fewer-strict}
-use Rattle.graphs.proofs.Difference.Select.{
+use Rattle.graphs.proofs.Search.{
+  true-false,
   both-true,
   true-both,
   either-true,
@@ -24,10 +24,13 @@ use Rattle.graphs.proofs.Difference.Select.{
   true-right,
   holds-some,
   some-holds,
+  anyOf-true,
+  anyOf-finds,
   select-listed,
-  linksFrom-source,
-  linksFrom-listed,
+  select-length,
+  select-fewer-strict,
 }
+use Rattle.graphs.proofs.Difference.Links.{linksFrom-source, linksFrom-listed}
 use Rattle.graphs.proofs.Unification.Beside.{Operands}
 use Rattle.graphs.proofs.Difference.Laws.{Into, Enters}
 
@@ -148,7 +151,7 @@ module _ {L A B : Type 0} {sameA : A → A → Bool} {sameB : B → B → Bool} 
 
     -- how many of the links are in the group
     pub count : List (Link A) → ℕ
-    count group = length (those (inside group) links)
+    count group = length (select (inside group) links)
 
     -- a link that is new in the next round
     fresh : List (Link A) → Link A → Bool
@@ -159,7 +162,7 @@ module _ {L A B : Type 0} {sameA : A → A → Bool} {sameB : B → B → Bool} 
     fresh-more group e =
         let (m, i, a) = anyOf-true (fresh group) links e in
         let (b, c) = both-true (joins group m) (not (inside group m)) a in
-        those-fewer-strict (inside group) (inside (grown group)) links
+        select-fewer-strict (inside group) (inside (grown group)) links
         (λ x j d. inside-listed (grown group) x .1 (grown-listed group x j (inside-listed group x .0 d)))
         m i (inside-listed (grown group) m .1 (select-listed (joins group) links m .1 (i, b))) (not-true (inside group m) c)
 
@@ -181,8 +184,8 @@ module _ {L A B : Type 0} {sameA : A → A → Bool} {sameB : B → B → Bool} 
         go : (b : Bool) → inside group m ≡ b → List·Memᴰ m group
         go true a = inside-listed group m .0 a
         go false a =
-            let x = those-fewer-strict (inside group) (λ _. true) links (λ _ _ _. refl) m j refl a in
-            let y = those-length {X = Link A} (λ _. true) links in
+            let x = select-fewer-strict (inside group) (λ _. true) links (λ _ _ _. refl) m j refl a in
+            let y = select-length {X = Link A} (λ _. true) links in
             absurd (omega arith)
 
     -- each round that changes anything adds a link, so as many rounds as links are enough

@@ -18,8 +18,8 @@ use Rattle.graphs.specs.Difference.{Link, differ, sameLink, incoming, ba
 use Rattle.graphs.proofs.Walk.{none-some, some-injective, reached-link}
 use Rattle.graphs.proofs.Difference.Induct.{short-walks}
 use Rattle.graphs.proofs.Lists.{mem-features}
-use Rattle.graphs.proofs.Search.{true-false, cond-some, anyOf-true, anyOf-finds}
-use Rattle.graphs.proofs.Difference.Select.{
+use Rattle.graphs.proofs.Search.{
+  true-false,
   both-true,
   true-both,
   either-true,
@@ -28,6 +28,9 @@ use Rattle.graphs.proofs.Difference.Select.{
   neither,
   holds-some,
   some-holds,
+  cond-some,
+  anyOf-true,
+  anyOf-finds,
   select-listed,
 }
 use Rattle.graphs.proofs.Unification.Beside.{Operands}

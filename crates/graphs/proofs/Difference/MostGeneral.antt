@@ -27,7 +27,7 @@ use Rattle.graphs.proofs.Finite.{above-any-size}
 use Rattle.graphs.proofs.Unification.Beside.{linkBeside}
 use Rattle.graphs.proofs.Difference.Arrives.{Lies, lies-path, lies-link, related-cases, link-covered}
 use Rattle.graphs.proofs.Unification.Unifier.{joined-least}
-use Rattle.graphs.proofs.Difference.Select.{search-list}
+use Rattle.graphs.proofs.Search.{search-list}
 use Rattle.graphs.proofs.Difference.Induct.{parents-first, children-first}
 use Rattle.graphs.proofs.Difference.Laws.{
   Into,

@@ -13,6 +13,7 @@ use Rattle.graphs.specs.Graph.{Tells}
 use Rattle.graphs.specs.Generalize.{both}
 use Rattle.graphs.specs.Rows.{features}
 use Rattle.graphs.specs.Unify.{firstOf, merge, apart, settle, unsettled, close}
+use Rattle.graphs.specs.Difference.{select}
 use Rattle.graphs.proofs.Walk.{some-injective, none-some}
 use Rattle.graphs.proofs.Lists.{mem-features}
 use Rattle.graphs.proofs.Search.{
@@ -23,10 +24,9 @@ use Rattle.graphs.proofs.Search.{
   listed-length,
   firstOf-some,
   firstOf-none,
-  those,
-  those-finds,
-  those-length,
-  those-fewer-strict,
+  select-listed,
+  select-length,
+  select-fewer-strict,
 }
 use Rattle.graphs.proofs.Unification.Related.{Related, roots, back, next, feat, Listing, Classes, related-constant, related-listed}
 
@@ -157,7 +157,7 @@ record Names {N : Type 0} (link : N → ℕ → Option N) (r s : N) (nodes : Lis
 
 -- the nodes that name a class
 names : {N : Type 0} → (N → N → Bool) → List N → (N → N) → List N
-names same nodes name = those (λ x. same (name x) x) nodes
+names same nodes name = select (λ x. same (name x) x) nodes
 
 module _ {N : Type 0} {same : N → N → Bool} (tells : Tells same) {link : N → ℕ → Option N} {r s : N} {nodes : List N}
     (listing : Listing link r s nodes) where
@@ -210,7 +210,7 @@ module _ {N : Type 0} {same : N → N → Bool} (tells : Tells same) {link : N �
           length (names same nodes merged) < length (names same nodes name)
       unfolding names
       merge-fewer m n d =
-          those-fewer-strict (λ z. same (merged z) z) (λ z. same (name z) z) nodes still (name x) (name-listed x m)
+          select-fewer-strict (λ z. same (merged z) z) (λ z. same (name z) z) nodes still (name x) (name-listed x m)
           (tells (name (name x)) (name x) .1 (ok .itself x m))
           (apart-false tells (merged (name x)) (name x)
           (λ e. d (sym e ∙ merge-joins tells name x y (name x) (ok .itself x m))))
@@ -247,8 +247,8 @@ module _ {N : Type 0} {same : N → N → Bool} (tells : Tells same) {link : N �
     unfolding names
     some-name =
         listed-length
-        (those-finds (λ x. same (name x) x) nodes (name r) (name-listed r (listing .first))
-        (tells (name (name r)) (name r) .1 (ok .itself r (listing .first))))
+        (select-listed (λ x. same (name x) x) nodes (name r) .1
+        (name-listed r (listing .first), tells (name (name r)) (name r) .1 (ok .itself r (listing .first))))
 
   abbrev closed : ℕ → (N → N) → N → N
   closed = close same link nodes
@@ -300,7 +300,7 @@ module _ {N : Type 0} {same : N → N → Bool} (tells : Tells same) {link : N �
         one = related-constant (closed n start) (close-keeps n start r s (merge-one tells (λ x. x) r s)) λ x y v w f c e a b.
             let (i, j) = related-listed listing c in
             settled tells link nodes (closed n start)
-            (close-settles n start ok (those-length (λ x. same (start x) x) nodes)) x y v w f i j e
+            (close-settles n start ok (select-length (λ x. same (start x) x) nodes)) x y v w f i j e
             (listing .onwards x v f i a .1) a b;
       }
     where

@@ -29,9 +29,10 @@ use Rattle.graphs.specs.Unify.{
   unified,
   unification,
 }
+use Rattle.graphs.specs.Difference.{select}
 use Rattle.graphs.proofs.Below.{below-trans}
 use Rattle.graphs.proofs.Finite.{same-any-size}
-use Rattle.graphs.proofs.Search.{true-false, not-true, anyOf-true, anyOf-finds, those, those-sound, those-finds}
+use Rattle.graphs.proofs.Search.{true-false, not-true, anyOf-true, anyOf-finds, select-listed}
 use Rattle.graphs.proofs.Unification.Unifier.{
   below-no-cycle,
   below-no-clash,
@@ -132,14 +133,14 @@ module _ {𝓛 : Labels} (lattice : Lattice 𝓛) {A B : Type 0} {sameA : A → 
   pub class-any-size : (Cycle 𝓛 g h → ⊥) → (Clash 𝓛 g h → ⊥) → AnySize 𝓛 u
   class-any-size no-cycle no-clash =
       record {
-        nodes = those named nodes;
+        nodes = select named nodes;
         listed =
             λ c. (
               λ r.
                   let (m, e) = class-reached lattice given c .0 r in
-                  those-finds named nodes c m (tells (name c) c .1 e),
+                  select-listed named nodes c .1 (m, tells (name c) c .1 e),
               λ m.
-                  let (k, e) = those-sound named nodes c m in
+                  let (k, e) = select-listed named nodes c .0 m in
                   class-reached lattice given c .1 (k, tells (name c) c .0 e),
             );
         features = class-features lattice given;
