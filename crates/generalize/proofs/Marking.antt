@@ -6,6 +6,7 @@ use native.Mathlib.Decide.{ℕ-discrete}
 use native.Mathlib.Omega.{arith}
 use lib.ListN.{length, getD, set, length-set}
 use lib.Seq.{getD-set-same, getD-set-other}
+use Rattle.layout.proofs.Numbering.{number-next}
 use Rattle.generalize.specs.Queue.{clear, Marked, Enlisted}
 
 -- The first pair alone.
@@ -55,7 +56,8 @@ module _ (marks queue : List ℕ) (pair count : ℕ) (m : Marked marks queue cou
           queue-long = length-set queue count pair ∙ m .queue-long;
           few = omega arith;
           inside = λ i h. inside-at i h (ℕ-discrete i count);
-          placed = λ i h. placed i h (ℕ-discrete i count);
+          placed =
+              number-next marks queue pair count (omega (arith, m .marks-long)) (omega (arith, m .queue-long)) (λ h. omega (arith, free)) (m .placed);
           queued = λ p h stands. queued p h stands (ℕ-discrete p pair);
         };
         least = omega arith;
@@ -77,21 +79,9 @@ module _ (marks queue : List ℕ) (pair count : ℕ) (m : Marked marks queue cou
       mark-kept : (p : ℕ) → (p ≡ pair → ⊥) → getD (set marks pair count) p 0 ≡ getD marks p 0
       mark-kept p d = getD-set-other marks pair p count 0 d
 
-      -- an earlier pair is another
-      apart : (i : ℕ) → i < count → getD queue i 0 ≡ pair → ⊥
-      apart i h e = omega (arith, m .placed i h, ap (λ (n : ℕ). getD marks n 0) e)
-
       inside-at : (i : ℕ) → i < count + 1 → Dec (i ≡ count) → getD (set queue count pair) i 0 < 65025
       inside-at i h (yes e) = omega (arith, ap (λ (n : ℕ). getD (set queue count pair) n 0) e, queue-here)
       inside-at i h (no d) = omega (arith, queue-kept i d, m .inside i (omega arith))
-
-      placed : (i : ℕ) → i < count + 1 → Dec (i ≡ count) → getD (set marks pair count) (getD (set queue count pair) i 0) 0 ≡ i
-      placed i h (yes e) =
-          ap (λ (n : ℕ). getD (set marks pair count) (getD (set queue count pair) n 0) 0) e ∙
-          ap (λ (n : ℕ). getD (set marks pair count) n 0) queue-here ∙ mark-here ∙ sym e
-      placed i h (no d) =
-          ap (λ (n : ℕ). getD (set marks pair count) n 0) (queue-kept i d) ∙
-          mark-kept (getD queue i 0) (apart i (omega arith)) ∙ m .placed i (omega arith)
 
       queued : (p : ℕ) → p < 65025 → (getD (set marks pair count) p 0 ≡ clear → ⊥) → Dec (p ≡ pair) →
           (getD (set marks pair count) p 0 < count + 1) × (getD (set queue count pair) (getD (set marks pair count) p 0) 0 ≡ p)

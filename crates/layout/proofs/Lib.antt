@@ -6,3 +6,4 @@ pub mod Reaching
 pub mod Builder
 pub mod Sums
 pub mod Order
+pub mod Numbering

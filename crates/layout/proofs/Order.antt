@@ -4,7 +4,7 @@ use mathlib.Core.List.{List}
 use Prim.Native.Nat.{ℕ, zero, suc, _+_, _-_, _≤_, _<_}
 use native.Mathlib.Decide.{decLt}
 use native.Mathlib.Omega.{arith}
-use lib.ListN.{getD}
+use lib.ListN.{length, getD}
 use Rattle.layout.specs.Layout.{size, rowFrom, linksFrom, rowEnd, featureAt, Shaped, Place, rowsEnd}
 use Rattle.layout.proofs.Spans.{features-rise}
 
@@ -20,6 +20,41 @@ module _ {ws : List ℕ} (shaped : Shaped ws) where
   rows-rise (suc n) a b e h =
       omega (arith, shaped .node a (omega arith) .begun, next-row ws a (suc a) (omega arith), rows-rise n (suc a) b (omega arith) h)
 
+  -- the places that say where the rows begin and where the last one ends, and the rows, lie inside
+  pub directory : size ws + 1 < length ws
+  directory = omega (arith, shaped .nonempty, shaped .node (size ws - 1) (omega (arith, shaped .nonempty)) .listed)
+
+  pub rows-inside : rowsEnd ws ≤ length ws
+  rows-inside =
+      omega (
+        arith,
+        next-row ws (size ws - 1) (size ws) (omega (arith, shaped .nonempty)),
+        shaped .node (size ws - 1) (omega (arith, shaped .nonempty)) .ended,
+      )
+
+  -- rows begin behind the first, and end before the last
+  pub row-low : (v : ℕ) → v ≤ size ws → rowFrom ws 0 ≤ rowFrom ws v
+  row-low v h = rows-rise v 0 v (omega arith) h
+
+  pub row-last : (v : ℕ) → v < size ws → rowEnd ws v ≤ rowsEnd ws
+  row-last v h =
+      omega (arith, next-row ws v (suc v) (omega arith), rows-rise (size ws - suc v) (suc v) (size ws) (omega arith) (omega arith))
+
+  -- the row that a place belongs to
+  row-before : (n k : ℕ) → n ≤ size ws → rowFrom ws 0 ≤ k → k < rowFrom ws n →
+      (v : ℕ) × (v < size ws) × (rowFrom ws v ≤ k) × (k < rowEnd ws v)
+  row-before zero k h low high = absurd (omega arith)
+  row-before (suc n) k h low high = go (decLt k (rowFrom ws n)) (row-before n k (omega arith) low)
+    where
+      go : Dec (k < rowFrom ws n) →
+          (k < rowFrom ws n → (v : ℕ) × (v < size ws) × (rowFrom ws v ≤ k) × (k < rowEnd ws v)) →
+          (v : ℕ) × (v < size ws) × (rowFrom ws v ≤ k) × (k < rowEnd ws v)
+      go (yes l) later = later l
+      go (no d) later = (n, omega arith, omega arith, omega (arith, next-row ws n (suc n) (omega arith)))
+
+  pub row-of : (k : ℕ) → rowFrom ws 0 ≤ k → k < rowsEnd ws → (v : ℕ) × (v < size ws) × (rowFrom ws v ≤ k) × (k < rowEnd ws v)
+  row-of k low high = row-before (size ws) k (omega arith) low high
+
   -- a link of an earlier row stands before a later row
   pub earlier-row : (a b k : ℕ) → a < b → b ≤ size ws → k < rowEnd ws a → k < rowFrom ws b
   earlier-row a b k h inside high =
@@ -27,7 +62,7 @@ module _ {ws : List ℕ} (shaped : Shaped ws) where
 
   -- a link stands behind the beginning of the rows, and before their end
   pub place-from : {v k : ℕ} → Place ws v k → rowFrom ws 0 ≤ k
-  place-from {v} p = omega (arith, p .low, p .inside, rows-rise v 0 v (omega arith) (omega (arith, p .inside)))
+  place-from {v} p = omega (arith, p .low, row-low v (omega (arith, p .inside)))
 
   pub place-before : {v k : ℕ} → Place ws v k → k < rowsEnd ws
   place-before {v} {k} p = earlier-row v (size ws) k (p .inside) (omega arith) (p .high)

@@ -5,16 +5,17 @@ use mathlib.Core.Bool.{Bool, true, false, cond}
 use mathlib.Core.List.{List, []}
 use mathlib.Core.Option.{none, some}
 use Prim.Native.Nat.{ℕ, zero, suc, _+_, _-_, _≤_, _<_}
+use native.Mathlib.Decide.{decLt}
 use native.Mathlib.Nat.{lt-irrefl}
 use native.Mathlib.Omega.{arith}
 use borrow.Author.Tests.{eq-eqb, ne-eqb, eqb-true}
 use lib.Dec.{eqb}
-use lib.ListN.{length, getD}
+use lib.ListN.{length, getD, List·getD-eq-default}
 use Rattle.graphs.specs.Rows.{Row, target}
 use Rattle.graphs.proofs.Walk.{some-injective, none-some}
 use Rattle.lattice.specs.Label.{Label, noLabel}
 use Rattle.layout.specs.Layout.{Sound, size, rowFrom, linksFrom, rowEnd, labelAt, featureAt, targetAt, linksBetween, linksAt, rowsOf, graphIn}
-use Rattle.layout.proofs.Rows.{row-at}
+use Rattle.layout.proofs.Rows.{row-at, length-rows}
 use Rattle.layout.proofs.Spans.{links-none, links-cons, features-rise}
 
 module _ (ws : List ℕ) (e : ℕ) (inside : e ≤ length ws) where
@@ -88,6 +89,18 @@ module _ {ws : List ℕ} (sound : Sound ws) where
   link-known v f w h e =
       let (k, low, high, a, b) = link-place v f w h e in
       (rw a at (sound .shaped .known v k h low high), rw b at (sound .targets v k h low high))
+
+  -- the same where it is not said that v is a node
+  pub link-inside : (v f w : ℕ) → graphIn ws .link v f ≡ some w → (f < 64) × (w < size ws)
+  unfolding target
+  link-inside v f w e = go (decLt v (size ws))
+    where
+      go : Dec (v < size ws) → (f < 64) × (w < size ws)
+      go (yes i) = link-known v f w i e
+      go (no n) =
+          none-some
+          (sym (ap (λ (r : Row Label). target (r .1) f) (List·getD-eq-default (rowsOf ws) (noLabel, []) (omega (arith, length-rows ws 0 (size ws)))))
+          ∙ e)
 
   -- there is a word for the number of nodes
   pub sized : 0 < length ws

@@ -7,7 +7,7 @@ use lib.ListN.{length, getD}
 use Rattle.graphs.specs.Rows.{Row}
 use Rattle.graphs.specs.Large.{linksIn}
 use Rattle.lattice.specs.Label.{Label}
-use Rattle.layout.specs.Layout.{Shaped, header, size, rowFrom, linksFrom, rowEnd, linksBetween, linksAt, labelAt, rowsFrom, rowsOf}
+use Rattle.layout.specs.Layout.{Shaped, header, size, rowFrom, linksFrom, rowEnd, linksBetween, linksAt, labelAt, rowsFrom, rowsOf, Recorded, rowsEnd}
 use Rattle.layout.proofs.Spans.{length-links}
 use Rattle.layout.proofs.Rows.{rows-more}
 
@@ -43,3 +43,7 @@ module _ (ws : List ℕ) where
         links-of-more k (shaped .node k (omega arith) .ended),
         shaped .node k (omega arith) .begun,
       )
+
+-- a record's rows are at most 2,303 words: 255 headers and 2,048 links
+pub words-few : {ws : List ℕ} → Recorded ws → rowsEnd ws ≤ rowFrom ws 0 + 2303
+words-few {ws} r = omega (arith, rows-end ws (r .sound .shaped) (size ws) (omega arith), r .small, r .short)

@@ -8,22 +8,24 @@ use native.Mathlib.Omega.{arith}
 use borrow.Author.Tests.{eq-eqb}
 use lib.ListN.{length, getD}
 use Rattle.graphs.specs.Large.{linksIn}
-use Rattle.layout.specs.Layout.{Recorded, scale, size, rowFrom, linksFrom, rowEnd, featureAt, targetAt, rowsFrom}
+use Rattle.layout.specs.Layout.{Recorded, scale, size, rowFrom, linksFrom, rowEnd, featureAt, targetAt, rowsFrom, rowsEnd}
 use Rattle.layout.proofs.Sums.{links-of-more}
 use Rattle.classes.specs.Merge.{Span}
 use Rattle.classes.specs.Classes.{sumTo, rowLength, At, Rows, Closed}
 use Rattle.classes.proofs.Merging.{feature-same, target-same}
-use Rattle.unify.specs.Rows.{Fillable, WordsCopied, SpansCopied, Placed, lastEnd, wordsIn}
-use Rattle.unify.proofs.Words.{moved-feature, moved-target, row-low, row-last, words-few}
+use Rattle.unify.specs.Rows.{Fillable, WordsCopied, SpansCopied, Placed, wordsIn}
+use Rattle.layout.proofs.Order.{row-low, row-last}
+use Rattle.layout.proofs.Sums.{words-few}
+use Rattle.unify.proofs.Words.{moved-feature, moved-target}
 
 -- What is copied is placed, and stays so where its words and spans are kept.
 module _ {ws : List ℕ} (r : Recorded ws) {at shift : ℕ} {p₀ p₁ : List ℕ} {next : ℕ} {s₀ e₀ s₁ e₁ : List ℕ}
-    (words : WordsCopied ws (lastEnd ws) at shift p₀ p₁ next) (spans : SpansCopied ws (size ws) at shift s₀ e₀ s₁ e₁)
+    (words : WordsCopied ws (rowsEnd ws) at shift p₀ p₁ next) (spans : SpansCopied ws (size ws) at shift s₀ e₀ s₁ e₁)
     (start end pool : List ℕ) (pool-kept : (k : ℕ) → k < next → getD pool k 0 ≡ getD p₁ k 0)
     (start-kept : (x : ℕ) → x < shift + size ws → getD start x 0 ≡ getD s₁ x 0)
     (end-kept : (x : ℕ) → x < shift + size ws → getD end x 0 ≡ getD e₁ x 0) where
   start-is : (v : ℕ) → v < size ws → getD start (shift + v) 0 + rowFrom ws 0 ≡ linksFrom ws v + at
-  start-is v h = omega (arith, start-kept (shift + v) (omega arith), spans .start-is v h, row-low r v (omega arith))
+  start-is v h = omega (arith, start-kept (shift + v) (omega arith), spans .start-is v h, row-low (r .sound .shaped) v (omega arith))
 
   end-is : (v : ℕ) → v < size ws → getD end (shift + v) 0 + rowFrom ws 0 ≡ rowEnd ws v + at
   end-is v h =
@@ -32,12 +34,12 @@ module _ {ws : List ℕ} (r : Recorded ws) {at shift : ℕ} {p₀ p₁ : List �
         arith,
         end-kept (shift + v) (omega arith),
         spans .end-is v h,
-        row-low r (v + 1) (omega arith),
+        row-low (r .sound .shaped) (v + 1) (omega arith),
         ap (λ (i : ℕ). getD ws i 0) e,
       )
 
   pub placed-before : (v : ℕ) → v < size ws → getD end (shift + v) 0 ≤ next
-  placed-before v h = omega (arith, end-is v h, row-last r v h, words .counted)
+  placed-before v h = omega (arith, end-is v h, row-last (r .sound .shaped) v h, words .counted)
 
   pub placed : Placed ws shift start end pool
   placed =
@@ -49,8 +51,8 @@ module _ {ws : List ℕ} (r : Recorded ws) {at shift : ℕ} {p₀ p₁ : List �
       word : (v i : ℕ) → v < size ws → linksFrom ws v + i < rowEnd ws v →
           getD pool (getD start (shift + v) 0 + i) 0 ≡ getD ws (linksFrom ws v + i) 0 + shift
       word v i h inside =
-          let low : rowFrom ws 0 ≤ rowFrom ws v = row-low r v (omega arith) in
-          let high : linksFrom ws v + i < lastEnd ws = omega (arith, row-last r v h) in
+          let low : rowFrom ws 0 ≤ rowFrom ws v = row-low (r .sound .shaped) v (omega arith) in
+          let high : linksFrom ws v + i < rowsEnd ws = omega (arith, row-last (r .sound .shaped) v h) in
           let j : rowFrom ws 0 + ((linksFrom ws v + i) - rowFrom ws 0) ≡ linksFrom ws v + i = omega arith in
           let k : getD start (shift + v) 0 + i ≡ at + ((linksFrom ws v + i) - rowFrom ws 0) = omega (arith, start-is v h) in
           pool-kept (getD start (shift + v) 0 + i) (omega (arith, start-is v h, words .counted)) ∙
@@ -201,7 +203,7 @@ pub record Laid (a b start end pool : List ℕ) (used : ℕ) : Type 0 where
   pub few : used ≤ 4606
 
 pub lay : {a b : List ℕ} → Recorded a → Recorded b → {p₀ p₁ pool s₀ e₀ s₁ e₁ start end : List ℕ} {at used : ℕ} →
-    WordsCopied a (lastEnd a) 0 0 p₀ p₁ at → WordsCopied b (lastEnd b) at (size a) p₁ pool used →
+    WordsCopied a (rowsEnd a) 0 0 p₀ p₁ at → WordsCopied b (rowsEnd b) at (size a) p₁ pool used →
     SpansCopied a (size a) 0 0 s₀ e₀ s₁ e₁ → SpansCopied b (size b) at (size a) s₁ e₁ start end →
     length start ≡ 510 → length end ≡ 510 → Laid a b start end pool used
 lay {a} {b} ra rb {p₀} {p₁} {pool} {s₀} {e₀} {s₁} {e₁} {start} {end} {at} {used} wa wb sa sb start-long end-long =
@@ -210,10 +212,10 @@ lay {a} {b} ra rb {p₀} {p₁} {pool} {s₀} {e₀} {s₁} {e₁} {start} {end}
       second = second;
       rows =
           lay-rows ra rb first second start-long end-long
-          (λ v h. omega (arith, placed-before ra wa sa start end pool pool-kept start-kept end-kept v h, wb .counted, row-low rb (size b) (omega arith)))
+          (λ v h. omega (arith, placed-before ra wa sa start end pool pool-kept start-kept end-kept v h, wb .counted, row-low (rb .sound .shaped) (size b) (omega arith)))
           (λ v h. placed-before rb wb sb start end pool (λ k h. refl) (λ k h. refl) (λ k h. refl) v h);
       short = lay-short ra rb first second;
-      used-is = omega (arith, wa .counted, wb .counted, row-low ra (size a) (omega arith), row-low rb (size b) (omega arith));
+      used-is = omega (arith, wa .counted, wb .counted, row-low (ra .sound .shaped) (size a) (omega arith), row-low (rb .sound .shaped) (size b) (omega arith));
       few = omega (arith, wa .counted, wb .counted, words-few ra, words-few rb);
     }
   where

@@ -9,38 +9,25 @@ use native.Mathlib.Decide.{decLt}
 use native.Mathlib.Omega.{arith}
 use lib.Dec.{eqb}
 use lib.ListN.{getD}
-use Rattle.graphs.specs.Graph.{follow, walk, Reached}
 use Rattle.graphs.specs.Rows.{from}
-use Rattle.graphs.proofs.Walk.{some-injective, snoc-induction, follow-last}
 use Rattle.graphs.proofs.Lists.{from-member, from-range, tells-eqb}
 use Rattle.graphs.proofs.Unification.Beside.{linkBeside, ReachedBeside, Lists, Operands}
 use Rattle.layout.specs.Layout.{size, linksFrom, featureAt, targetAt, graphIn}
 use Rattle.layout.proofs.Places.{link-at, link-place, link-known}
+use Rattle.layout.proofs.Reaching.{reached-inside}
 use Rattle.classes.specs.Classes.{At}
 use Rattle.unify.specs.Rows.{Operand, Placed}
 use Rattle.unify.proofs.Laying.{origin-in, origin-feature, origin-target, placed-link}
 
 module _ {n : ℕ} {g : List ℕ} (h : Operand n g) where
-  pub reached-inside : (v : ℕ) → Reached (graphIn g) v → v < size g
-  unfolding follow
-  reached-inside v (p, e) = go p v e
-    where
-      go : (p : List ℕ) (v : ℕ) → walk (graphIn g) p ≡ some v → v < size g
-      go =
-          snoc-induction (λ p. (v : ℕ) → walk (graphIn g) p ≡ some v → v < size g)
-          (λ v e. omega (arith, some-injective e, h .recorded .sound .shaped .nonempty))
-          (λ p f later v e.
-          let (u, a, b) = follow-last (graphIn g .link) (some 0) p f v e in
-          link-known (h .recorded .sound) u f v (later u a) b .1)
-
   operand-lists : Lists (graphIn g) (from 0 (size g))
   operand-lists =
       record {
         listed = λ v. (
-          λ r. from-member 0 (size g) v (omega arith) (omega (arith, reached-inside v r)),
+          λ r. from-member 0 (size g) v (omega arith) (omega (arith, reached-inside (h .recorded .sound) v r)),
           λ m. h .reached v (omega (arith, from-range 0 (size g) v m)),
         );
-        features = λ v w f r e. link-known (h .recorded .sound) v f w (reached-inside v r) e .0;
+        features = λ v w f r e. link-known (h .recorded .sound) v f w (reached-inside (h .recorded .sound) v r) e .0;
       }
 
   -- a link of the graph stands at a place of the pool, and a place of the pool is a link of the graph
@@ -89,8 +76,8 @@ module _ {n : ℕ} {a b : List ℕ} (left : Operand n a) (right : Operand n b) w
   inside-reached (inr v) i = right .reached v i
 
   pub reached-in : (x : ℕ ⊎ ℕ) → ReachedBeside (graphIn a) (graphIn b) x → Inside x
-  reached-in (inl v) r = reached-inside left v r
-  reached-in (inr v) r = reached-inside right v r
+  reached-in (inl v) r = reached-inside (left .recorded .sound) v r
+  reached-in (inr v) r = reached-inside (right .recorded .sound) v r
 
   pub number-in : (x : ℕ ⊎ ℕ) → Inside x → number (size a) x < size a + size b
   number-in (inl v) i = omega arith

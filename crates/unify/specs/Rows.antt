@@ -6,7 +6,7 @@ use Prim.Native.Nat.{ℕ, _+_, _-_, _*_, _/_, _%_, _≤_, _<_}
 use lib.Dec.{eqb}
 use lib.ListN.{length, getD}
 use Rattle.graphs.specs.Graph.{Reached}
-use Rattle.layout.specs.Layout.{Recorded, header, scale, linkWord, size, rowFrom, linksFrom, rowEnd, labelAt, targetAt, graphIn}
+use Rattle.layout.specs.Layout.{Recorded, header, scale, linkWord, size, rowFrom, linksFrom, rowEnd, rowsEnd, labelAt, targetAt, graphIn}
 use Rattle.classes.specs.Classes.{At, rowLength, sumTo, Closed}
 use Rattle.unify.specs.Lowered.{loweredBoth}
 
@@ -16,13 +16,9 @@ pub record Operand (n : ℕ) (ws : List ℕ) : Type 0 where
   pub labelled : (v : ℕ) → v < size ws → labelAt ws v < n
   pub reached : (v : ℕ) → v < size ws → Reached (graphIn ws) v
 
--- where the rows of a graph end
-abbrev pub lastEnd : List ℕ → ℕ
-lastEnd ws = getD ws (size ws + 1) 0
-
--- the number of words of its rows
+-- the number of words of a graph's rows
 abbrev pub wordsIn : List ℕ → ℕ
-wordsIn ws = lastEnd ws - rowFrom ws 0
+wordsIn ws = rowsEnd ws - rowFrom ws 0
 
 -- the places that merging two graphs may take: their words, and up to 64 for each merge, of which there are fewer than nodes
 abbrev pub placesFor : List ℕ → List ℕ → ℕ

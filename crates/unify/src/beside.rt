@@ -3,8 +3,8 @@
 ghost use Prim.Native.Nat.{_+_, _≤_};
 ghost use lib.ListN.{length};
 ghost use mathlib.Core.Path.{_≡_};
-ghost use Rattle.layout.specs.Layout.{Recorded, size};
-ghost use Rattle.unify.specs.Rows.{SpansCopied, WordsCopied, lastEnd, wordsIn};
+ghost use Rattle.layout.specs.Layout.{Recorded, size, rowsEnd};
+ghost use Rattle.unify.specs.Rows.{SpansCopied, WordsCopied, wordsIn};
 
 // The number of words of a graph's rows.
 pub fn word_count(graph: &[u16]) -> usize
@@ -20,7 +20,7 @@ pub fn word_count(graph: &[u16]) -> usize
 pub fn copy_words<'a>(graph: &'a [u16], at: usize, shift: usize, pool: &mut [u16]) -> usize
     requires { ⌜ Recorded (now graph) ⌝ }
     requires { ⌜ (at ≤ 2303) × (shift ≤ 255) × (at + wordsIn (now graph) ≤ length (now pool)) ⌝ }
-    ensures { λ r. ⌜ WordsCopied (now (graph .entry)) (lastEnd (now (graph .entry))) at shift (now (pool .entry)) (now (pool .exit)) r ⌝ }
+    ensures { λ r. ⌜ WordsCopied (now (graph .entry)) (rowsEnd (now (graph .entry))) at shift (now (pool .entry)) (now (pool .exit)) r ⌝ }
 {
     let nodes = graph[0] as usize;
     let end = graph[nodes + 1] as usize;

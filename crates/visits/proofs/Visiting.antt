@@ -15,6 +15,7 @@ use lib.Seq.{slice, slice-cons, slice-empty, length-take-le, take-suc-set, take-
 use Rattle.graphs.specs.Number.{member}
 use Rattle.graphs.proofs.Lists.{reverse-snoc}
 use Rattle.layout.specs.Layout.{scale, size, linksFrom, rowEnd, targetAt, Sound}
+use Rattle.layout.proofs.Numbering.{number-next}
 use Rattle.visits.specs.Walks.{eachTarget, targetsAt, visitTargets, Numbers}
 use Rattle.visits.specs.Visiting.{seenOf, numberAmong, Marks, Ready, below, Finds}
 
@@ -60,7 +61,7 @@ mark ws numbers visited v given few m inside fresh room =
       visited-long = length-set visited given v ∙ m .visited-long;
       few = omega arith;
       numbered = λ w h. at w h (eqb w v) refl ∙ sym (ap (numberAmong w) (seen-more visited v given (omega (arith, m .visited-long))));
-      placed = λ i h. stands i h (ℕ-discrete i given);
+      placed = number-next numbers visited v given long wide (λ h. omega (arith, fresh)) (m .placed);
     }
   where
     long : v < length numbers
@@ -75,18 +76,6 @@ mark ws numbers visited v given few m inside fresh room =
         ap (λ (u : ℕ). getD (set numbers v given) u 0) (eqb-true w v e) ∙ getD-set-same numbers v given 0 long ∙
         sym (length-seen visited given (omega (arith, wide)))
     at w h false e = getD-set-other numbers v w given 0 (eqb-false w v e) ∙ m .numbered w h
-
-    stands : (i : ℕ) → i < given + 1 → Dec (i ≡ given) → getD (set numbers v given) (getD (set visited given v) i 0) 0 ≡ i
-    stands i h (yes e) =
-        ap (λ (j : ℕ). getD (set numbers v given) (getD (set visited given v) j 0) 0) e ∙
-        ap (λ (u : ℕ). getD (set numbers v given) u 0) (getD-set-same visited given v 0 wide) ∙
-        getD-set-same numbers v given 0 long ∙ sym e
-    stands i h (no d) =
-        ap (λ (u : ℕ). getD (set numbers v given) u 0) (getD-set-other visited given i v 0 d) ∙
-        getD-set-other numbers v (getD visited i 0) given 0 other ∙ m .placed i (omega arith)
-      where
-        other : getD visited i 0 ≡ v → ⊥
-        other e = omega (arith, sym (m .placed i (omega arith)) ∙ ap (λ (u : ℕ). getD numbers u 0) e ∙ fresh)
 
 -- A visit of a node, by whether it was seen, and by the room and the depth that are left.
 

@@ -2,7 +2,9 @@
 use Prim.Native.Nat.{ℕ}
 use native.Mathlib.Omega.{arith}
 use lib.ListN.{length-replicate}
-use Rattle.unify.proofs.Words.{directory, words-few, words-are}
+use Rattle.layout.proofs.Order.{directory}
+use Rattle.layout.proofs.Sums.{words-few}
+use Rattle.unify.proofs.Words.{words-are}
 use borrow.Author.Needs.{needs}
 use Rattle.unify.proofs.merge.Statement.{statement}
 use Rattle.unify.proofs.merge.Tie as tie
@@ -17,13 +19,13 @@ add-words : tie.Need-add-words
 add-words c = omega (arith, c .before .word-count .ensures, c .word-count2 .ensures, words-few (c .before .before .before .before .pre .1 .1 .0 .recorded), words-few (c .before .before .before .before .pre .1 .1 .1 .0 .recorded), words-are (c .before .before .before .before .pre .1 .1 .0 .recorded), words-are (c .before .before .before .before .pre .1 .1 .1 .0 .recorded))
 
 shared-slice-read-nodes : tie.Need-shared-slice-read-nodes
-shared-slice-read-nodes c = omega (arith, directory (c .before .before .before .before .before .pre .1 .1 .0 .recorded))
+shared-slice-read-nodes c = omega (arith, directory (c .before .before .before .before .before .pre .1 .1 .0 .recorded .sound .shaped))
 
 cast-nodes : tie.Need-cast-nodes
 cast-nodes c = omega (arith, c .before .before .before .before .before .pre .1 .1 .0 .recorded .small)
 
 shared-slice-read-nodes-2 : tie.Need-shared-slice-read-nodes-2
-shared-slice-read-nodes-2 c = omega (arith, directory (c .before .before .before .before .before .before .pre .1 .1 .1 .0 .recorded))
+shared-slice-read-nodes-2 c = omega (arith, directory (c .before .before .before .before .before .before .pre .1 .1 .1 .0 .recorded .sound .shaped))
 
 cast-nodes-2 : tie.Need-cast-nodes-2
 cast-nodes-2 c = omega (arith, c .before .before .before .before .before .before .pre .1 .1 .1 .0 .recorded .small)

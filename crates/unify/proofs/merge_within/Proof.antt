@@ -3,19 +3,21 @@ use mathlib.Core.Path.{_∙_}
 use Prim.Native.Nat.{ℕ}
 use native.Mathlib.Omega.{arith}
 use lib.ListN.{length-replicate}
-use Rattle.unify.proofs.Words.{directory, words-few, words-are}
+use Rattle.layout.proofs.Order.{directory}
+use Rattle.layout.proofs.Sums.{words-few}
+use Rattle.unify.proofs.Words.{words-are}
 use Rattle.unify.proofs.Laying.{lay, closed-fillable}
 use Rattle.unify.proofs.merge_within.Statement.{statement}
 use Rattle.unify.proofs.merge_within.Tie as tie
 
 shared-slice-read-second : tie.Need-shared-slice-read-second
-shared-slice-read-second c = omega (arith, directory (c .before .before .before .before .pre .1 .1 .0 .recorded))
+shared-slice-read-second c = omega (arith, directory (c .before .before .before .before .pre .1 .1 .0 .recorded .sound .shaped))
 
 cast-second : tie.Need-cast-second
 cast-second c = omega (arith, c .before .before .before .before .pre .1 .1 .0 .recorded .small)
 
 shared-slice-read-nodes : tie.Need-shared-slice-read-nodes
-shared-slice-read-nodes c = omega (arith, directory (c .before .before .before .before .before .pre .1 .1 .1 .0 .recorded))
+shared-slice-read-nodes c = omega (arith, directory (c .before .before .before .before .before .pre .1 .1 .1 .0 .recorded .sound .shaped))
 
 cast-nodes : tie.Need-cast-nodes
 cast-nodes c = omega (arith, c .before .before .before .before .before .pre .1 .1 .1 .0 .recorded .small)

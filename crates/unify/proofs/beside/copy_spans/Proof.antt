@@ -3,7 +3,8 @@ use borrow.Author.Needs.{needs}
 use Prim.Native.Nat.{_+_, _-_, _≤_}
 use native.Mathlib.Omega.{arith}
 use Rattle.unify.specs.Rows.{SpansCopied}
-use Rattle.unify.proofs.Words.{directory, row-low, row-near, row-near-end}
+use Rattle.layout.proofs.Order.{directory, row-low}
+use Rattle.unify.proofs.Words.{row-near, row-near-end}
 use Rattle.unify.proofs.Copying.{spans-start, spans-step, spans-done}
 use Rattle.unify.proofs.beside.copy_spans.Statement.{statement}
 use Rattle.unify.proofs.beside.copy_spans.Tie as tie
@@ -16,13 +17,13 @@ abbrev μ-loop : tie.MeasureT-loop
 μ-loop graph at shift start₀ end₀ nodes first v₀ start end v = nodes - v
 
 shared-slice-read-nodes : tie.Need-shared-slice-read-nodes Inv-loop μ-loop
-shared-slice-read-nodes c = omega (arith, directory (c .before .pre .0))
+shared-slice-read-nodes c = omega (arith, directory (c .before .pre .0 .sound .shaped))
 
 cast-nodes : tie.Need-cast-nodes Inv-loop μ-loop
 cast-nodes c = omega (arith, c .before .pre .0 .small)
 
 shared-slice-read-first : tie.Need-shared-slice-read-first Inv-loop μ-loop
-shared-slice-read-first c = omega (arith, directory (c .before .before .pre .0))
+shared-slice-read-first c = omega (arith, directory (c .before .before .pre .0 .sound .shaped))
 
 cast-first : tie.Need-cast-first Inv-loop μ-loop
 cast-first c = omega (arith, c .shared-slice-known2 .given 1)
@@ -37,13 +38,13 @@ mul-row : tie.Need-mul-row Inv-loop μ-loop
 mul-row c = omega (arith, c .loop-test .taken, c .before .before .before .before .pre .0 .small)
 
 shared-slice-read-row : tie.Need-shared-slice-read-row Inv-loop μ-loop
-shared-slice-read-row c = omega (arith, directory (c .before .before .before .before .before .pre .0), c .before .loop-test .taken)
+shared-slice-read-row c = omega (arith, directory (c .before .before .before .before .before .pre .0 .sound .shaped), c .before .loop-test .taken)
 
 cast-row : tie.Need-cast-row Inv-loop μ-loop
 cast-row c = omega (arith, c .shared-slice-known3 .given (c .before .before .loop .v + 1))
 
 sub-row : tie.Need-sub-row Inv-loop μ-loop
-sub-row c = row-low (c .before .before .before .before .before .pre .0) (c .before .before .loop .v) (omega (arith, c .before .loop-test .taken))
+sub-row c = row-low (c .before .before .before .before .before .pre .0 .sound .shaped) (c .before .before .loop .v) (omega (arith, c .before .loop-test .taken))
 
 add-row-2 : tie.Need-add-row-2 Inv-loop μ-loop
 add-row-2 c = omega (arith, row-near (c .before .before .before .before .before .pre .0) (c .before .before .loop .v) (c .before .loop-test .taken), c .before .before .before .before .before .pre .1 .0)
@@ -55,7 +56,7 @@ mul-next : tie.Need-mul-next Inv-loop μ-loop
 mul-next c = omega (arith, c .before .loop-test .taken, c .before .before .before .before .before .pre .0 .small)
 
 shared-slice-read-next : tie.Need-shared-slice-read-next Inv-loop μ-loop
-shared-slice-read-next c = omega (arith, directory (c .before .before .before .before .before .before .pre .0), c .before .before .loop-test .taken)
+shared-slice-read-next c = omega (arith, directory (c .before .before .before .before .before .before .pre .0 .sound .shaped), c .before .before .loop-test .taken)
 
 cast-next : tie.Need-cast-next Inv-loop μ-loop
 cast-next c = omega (arith, c .shared-slice-known4 .given (c .before .before .before .loop .v + 2))

@@ -4,7 +4,9 @@ use Prim.Native.Nat.{_+_, _-_, _≤_, _<_}
 use native.Mathlib.Omega.{arith}
 use Rattle.layout.specs.Layout.{size, rowFrom}
 use Rattle.unify.specs.Rows.{WordsCopied}
-use Rattle.unify.proofs.Words.{directory, last-inside, row-low, word-small, words-few}
+use Rattle.layout.proofs.Order.{directory, rows-inside, row-low}
+use Rattle.layout.proofs.Sums.{words-few}
+use Rattle.unify.proofs.Words.{word-small}
 use Rattle.unify.proofs.Copying.{words-start, words-step, words-done}
 use Rattle.unify.proofs.beside.copy_words.Statement.{statement}
 use Rattle.unify.proofs.beside.copy_words.Tie as tie
@@ -17,7 +19,7 @@ abbrev μ-loop : tie.MeasureT-loop
 μ-loop graph at shift pool₀ nodes end moved k₀ next₀ pool k next = end - k
 
 shared-slice-read-nodes : tie.Need-shared-slice-read-nodes Inv-loop μ-loop
-shared-slice-read-nodes c = omega (arith, directory (c .before .pre .0))
+shared-slice-read-nodes c = omega (arith, directory (c .before .pre .0 .sound .shaped))
 
 cast-nodes : tie.Need-cast-nodes Inv-loop μ-loop
 cast-nodes c = omega (arith, c .before .pre .0 .small)
@@ -29,7 +31,7 @@ mul-end : tie.Need-mul-end Inv-loop μ-loop
 mul-end c = search needs
 
 shared-slice-read-end : tie.Need-shared-slice-read-end Inv-loop μ-loop
-shared-slice-read-end c = omega (arith, directory (c .before .before .pre .0))
+shared-slice-read-end c = omega (arith, directory (c .before .before .pre .0 .sound .shaped))
 
 cast-end : tie.Need-cast-end Inv-loop μ-loop
 cast-end c = omega (arith, c .shared-slice-known2 .given (size (c .before .before .args .graph .now) + 1))
@@ -38,19 +40,19 @@ cast-moved : tie.Need-cast-moved Inv-loop μ-loop
 cast-moved c = search needs
 
 shared-slice-read-k : tie.Need-shared-slice-read-k Inv-loop μ-loop
-shared-slice-read-k c = omega (arith, directory (c .before .before .before .pre .0))
+shared-slice-read-k c = omega (arith, directory (c .before .before .before .pre .0 .sound .shaped))
 
 cast-k : tie.Need-cast-k Inv-loop μ-loop
 cast-k c = omega (arith, c .shared-slice-known3 .given 1)
 
 loop-holds : tie.Need-loop-holds Inv-loop μ-loop
-loop-holds c = (words-start _ _ _ _, omega arith, row-low (c .before .before .before .pre .0) _ (omega arith), omega (arith, c .before .shared-slice-known2 .given (size (c .before .before .before .args .graph .now) + 1)))
+loop-holds c = (words-start _ _ _ _, omega arith, row-low (c .before .before .before .pre .0 .sound .shaped) _ (omega arith), omega (arith, c .before .shared-slice-known2 .given (size (c .before .before .before .args .graph .now) + 1)))
 
 mul-pool : tie.Need-mul-pool Inv-loop μ-loop
 mul-pool c = omega (arith, c .loop-test .taken, c .before .loop .inv .3)
 
 shared-slice-read-pool : tie.Need-shared-slice-read-pool Inv-loop μ-loop
-shared-slice-read-pool c = omega (arith, last-inside (c .before .before .before .before .before .before .pre .0), c .before .loop-test .taken)
+shared-slice-read-pool c = omega (arith, rows-inside (c .before .before .before .before .before .before .pre .0 .sound .shaped), c .before .loop-test .taken)
 
 add-pool : tie.Need-add-pool Inv-loop μ-loop
 add-pool c = omega (arith, word-small (c .before .before .before .before .before .before .pre .0) (c .before .before .loop .k) (c .before .before .loop .inv .1) (c .before .loop-test .taken), c .before .before .before .before .before .before .pre .1 .1)

@@ -5,7 +5,7 @@ use native.Mathlib.Omega.{arith}
 use lib.ListN.{length-replicate, getD-replicate}
 use Rattle.layout.specs.Layout.{size}
 use Rattle.unify.specs.Lowered.{lowered}
-use Rattle.unify.proofs.Words.{directory}
+use Rattle.layout.proofs.Order.{directory}
 use borrow.Author.Needs.{needs}
 use Rattle.unify.proofs.labels.class_labels.Statement.{statement}
 use Rattle.unify.proofs.labels.class_labels.Tie as tie
@@ -17,7 +17,7 @@ cast-labels : tie.Need-cast-labels
 cast-labels c = search needs
 
 shared-slice-read-shift : tie.Need-shared-slice-read-shift
-shared-slice-read-shift c = omega (arith, directory (c .before .before .before .pre .1 .1 .0 .recorded))
+shared-slice-read-shift c = omega (arith, directory (c .before .before .before .pre .1 .1 .0 .recorded .sound .shaped))
 
 cast-shift : tie.Need-cast-shift
 cast-shift c = omega (arith, c .before .before .before .pre .1 .1 .0 .recorded .small)

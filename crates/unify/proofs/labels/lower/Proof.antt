@@ -1,7 +1,7 @@
 -- `lower` meets its contract: the nodes from v on have lowered the labels of their classes.
 use Prim.Native.Nat.{_+_, _-_}
 use native.Mathlib.Omega.{arith}
-use Rattle.unify.proofs.Words.{directory}
+use Rattle.layout.proofs.Order.{directory}
 use Rattle.unify.proofs.Lowering.{Lowering, lower-start, lower-step, lower-done}
 use Rattle.unify.proofs.labels.lower.Statement.{statement}
 use Rattle.unify.proofs.labels.lower.Tie as tie
@@ -14,7 +14,7 @@ abbrev μ-loop : tie.MeasureT-loop
 μ-loop meets graph class shift labels₀ v₀ labels v = v
 
 shared-slice-read-v : tie.Need-shared-slice-read-v Inv-loop μ-loop
-shared-slice-read-v c = omega (arith, directory (c .before .pre .0))
+shared-slice-read-v c = omega (arith, directory (c .before .pre .0 .sound .shaped))
 
 cast-v : tie.Need-cast-v Inv-loop μ-loop
 cast-v c = omega (arith, c .before .pre .0 .small)
@@ -44,7 +44,7 @@ mul-row : tie.Need-mul-row Inv-loop μ-loop
 mul-row c = omega (arith, c .before .before .loop .inv .most, c .before .before .before .before .pre .0 .small)
 
 shared-slice-read-row : tie.Need-shared-slice-read-row Inv-loop μ-loop
-shared-slice-read-row c = omega (arith, directory (c .before .before .before .before .before .pre .0), c .before .before .before .loop .inv .most)
+shared-slice-read-row c = omega (arith, directory (c .before .before .before .before .before .pre .0 .sound .shaped), c .before .before .before .loop .inv .most)
 
 cast-row : tie.Need-cast-row Inv-loop μ-loop
 cast-row c = omega (arith, c .shared-slice-known2 .given ((c .before .before .before .loop .v - 1) + 1))
