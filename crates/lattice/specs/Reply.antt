@@ -8,7 +8,7 @@ use Rattle.lattice.specs.declared.TableFault.{TableFault}
 use Rattle.lattice.specs.declared.TableFault.the-variants.{Size, Order, Bounds}
 use Rattle.lattice.specs.declared.Opened.{Opened}
 use Rattle.lattice.specs.declared.Opened.the-variants.{Accepted, Refused}
-use Rattle.lattice.specs.Table.{sized, ordered, bounded, meet, join, filled}
+use Rattle.lattice.specs.Table.{sized, ordered, bounded, filled}
 
 abbrev pub tableNumber : TableFault → ℕ
 tableNumber Size = 1
@@ -19,14 +19,8 @@ tableNumber Bounds = 3
 unfoldable pub opened : ℕ → List ℕ → Opened
 opened n t = cond (sized n t) (cond (ordered n t) (cond (bounded n t) Accepted (Refused Bounds)) (Refused Order)) (Refused Size)
 
--- what opening ensures where one table is lent: the answer, and that the table holds the bounds of one side ("Meets and joins
+-- what opening ensures where a table is lent: the answer, and that the table holds the bounds of one side ("Meets and joins
 -- stand in two tables")
 pub record Opening (n : ℕ) (t : List ℕ) (bound : ℕ → ℕ → Option ℕ) (answer : Opened) (rows₀ rows : List (List ℕ)) : Type 0 where
   pub answers : answer ≡ opened n t
   pub holds : rows ≡ filled n t bound rows₀
-
--- the same where both tables are lent
-pub record OpeningBoth (n : ℕ) (t : List ℕ) (answer : Opened) (meets₀ meets joins₀ joins : List (List ℕ)) : Type 0 where
-  pub answers : answer ≡ opened n t
-  pub meets-hold : meets ≡ filled n t (meet n t) meets₀
-  pub joins-hold : joins ≡ filled n t (join n t) joins₀

@@ -4,7 +4,7 @@
 ghost use mathlib.Core.Path.{_≡_};
 ghost use mathlib.Core.Bool.{_&&_};
 ghost use Rattle.lattice.specs.Table.{accepted, admits, meet, join};
-ghost use Rattle.lattice.specs.Reply.{opened, Opening, OpeningBoth};
+ghost use Rattle.lattice.specs.Reply.{opened, Opening};
 
 mod bounds;
 pub mod differences;
@@ -73,19 +73,6 @@ pub fn open_joins(n: usize, table: &[u8], joins: &mut [[u8; 64]; 64]) -> Opened
         return Opened::Refused(TableFault::Bounds);
     }
     Opened::Accepted
-}
-
-// The same with both tables.
-pub fn open_table(
-    n: usize,
-    table: &[u8],
-    meets: &mut [[u8; 64]; 64],
-    joins: &mut [[u8; 64]; 64],
-) -> Opened
-    ensures { λ r. ⌜ OpeningBoth n (now (table .entry)) r (now (meets .entry)) (now (meets .exit)) (now (joins .entry)) (now (joins .exit)) ⌝ }
-{
-    open_meets(n, table, meets);
-    open_joins(n, table, joins)
 }
 
 // Whether the table is accepted and admits differences.
