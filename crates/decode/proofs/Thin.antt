@@ -112,8 +112,8 @@ module _ {M : Type 1} (𝓤 : URA M) (R : RattleType) (found : List ℕ → ℕ 
   }
 
 module _ {M : Type 1} (𝓤 : URA M) (H : Heap 𝓤) (A : Atoms 𝓤) (R : RattleType) (found : List ℕ → ℕ → R .Denot) where
-  abbrev pub Held : Contract 𝓤
-  Held = tripleOf 𝓤 H A (held R .signature) (closing 𝓤 H A (held R) (held-clauses 𝓤 R found))
+  abbrev pub OnReader : Contract 𝓤
+  OnReader = tripleOf 𝓤 H A (held R .signature) (closing 𝓤 H A (held R) (held-clauses 𝓤 R found))
 
   abbrev pub Apart : Contract 𝓤
   Apart = tripleOf 𝓤 H A (apart R .signature) (closing 𝓤 H A (apart R) (apart-clauses 𝓤 R found))
@@ -247,15 +247,15 @@ module _ {M : Type 1} (𝓤 : URA M) (H : Heap 𝓤) (A : Atoms 𝓤) (W : Given
   OwnS = ShrSlice (named 0) κ u8 .own s (sv ∷ [])
 
   -- what the callee is passed
-  abbrev to′ : Held 𝓤 H A R found .Ghost
+  abbrev to′ : OnReader 𝓤 H A R found .Ghost
   to′ = (((κ, tt), (q, tt), tt, (made, tt), (T′.lowered made ∷ [], tt)), tt)
 
-  asked′ : ent 𝓤 (onEntry 𝓤 H A (held R .signature) (κ, tt) (q, tt) (made, tt) (T′.lowered made ∷ [], tt)) (Held 𝓤 H A R found .pre to′)
+  asked′ : ent 𝓤 (onEntry 𝓤 H A (held R .signature) (κ, tt) (q, tt) (made, tt) (T′.lowered made ∷ [], tt)) (OnReader 𝓤 H A R found .pre to′)
   asked′ = qed W ((‵ (flft κ q) ⊛ ‵ ftrue) ∷ ‵ (owns (B (κ, tt) ∷ []) (made, tt) (T′.lowered made ∷ [], tt)) ∷ []) ∵ join ! $ frame ! $
       done !
 
   -- what the slice owns gives what the callee asks, and is kept
-  shut : ent 𝓤 (onEntry 𝓤 H A (apart R .signature) (κ, tt) (q, tt) (s, (n, tt)) at) (sep 𝓤 (Held 𝓤 H A R found .pre to′) (sem 𝓤 H A OwnS))
+  shut : ent 𝓤 (onEntry 𝓤 H A (apart R .signature) (κ, tt) (q, tt) (s, (n, tt)) at) (sep 𝓤 (OnReader 𝓤 H A R found .pre to′) (sem 𝓤 H A OwnS))
   shut =
       qed W ((‵ (flft κ q) ⊛ ‵ ftrue) ∷ ‵ (owns (ShrSlice (named 0) κ u8 ∷ usize ∷ []) (s, (n, tt)) at) ∷ []) ∵
       move ! (1 ∷ []) $ fsplit ! $ move ! (1 ∷ []) $ drop ! $
@@ -263,7 +263,7 @@ module _ {M : Type 1} (𝓤 : URA M) (H : Heap 𝓤) (A : Atoms 𝓤) (W : Given
       -- [what the slice owns; the same; the token]
       nothing ! $ owned ! usize (Is usize) (uint-makes 𝓤 H A W w64) n _ (refl, ok) $ fjoin ! $ move ! (1 ∷ 0 ∷ []) $ fjoin ! $
       use1 W (‵ (B (κ, tt) .own made (T′.lowered made ∷ []))) (own-shut 𝓤 H A W (T.the-type α) (T′.the-laws α) (s, (n, tt))) $
-      nothing ! $ move ! (1 ∷ 0 ∷ []) $ fjoin ! $ move ! (2 ∷ 0 ∷ []) $ use2 W (raw (Held 𝓤 H A R found .pre to′)) asked′ $ frame ! $ done !
+      nothing ! $ move ! (1 ∷ 0 ∷ []) $ fjoin ! $ move ! (2 ∷ 0 ∷ []) $ use2 W (raw (OnReader 𝓤 H A R found .pre to′)) asked′ $ frame ! $ done !
 
   said′ : (r : R .Denot) → ent 𝓤 (ensured 𝓤 H A (held R) (held-clauses 𝓤 R found) (κ, tt) (made, tt) tt r) (fact 𝓤 (r ≡ result))
   said′ r = exE 𝓤 _ (λ ws. snd∗ 𝓤 (sem 𝓤 H A (lasts (held R) (κ, tt) (made, tt) ws)) (fact 𝓤 (r ≡ result)))
@@ -278,7 +278,7 @@ module _ {M : Type 1} (𝓤 : URA M) (H : Heap 𝓤) (A : Atoms 𝓤) (W : Given
       move ! (2 ∷ 0 ∷ []) $ fjoin ! $ frame ! $ done !
 
   module _ (callee : Name) (C : Calls 𝓤 H) (Λ : Loops 𝓤 H) (fm : FmC 𝓤 H (W .laws) C) (known : Triple 𝓤 (C callee)
-      (Held 𝓤 H A R found)) where
+      (OnReader 𝓤 H A R found)) where
     walk-makes : Is (ShrSlice (named 0) κ u8) s (sv ∷ []) →
         ent 𝓤 (onEntry 𝓤 H A (apart R .signature) (κ, tt) (q, tt) (s, (n, tt)) at) (WpFn 𝓤 H C Λ (makes τ callee)
         (sv ∷ vint w64 n ∷ []) Post′)
@@ -291,8 +291,8 @@ module _ {M : Type 1} (𝓤 : URA M) (H : Heap 𝓤) (A : Atoms 𝓤) (W : Given
         assigns ! (agg ! (and-then ! (load ! (from ! (stop !)) (look ! 4 refl)) (and-then ! (load ! (from ! (stop !)) (look ! 2 refl))
         (no-more !)))) (from ! (stop !))
         (init ! 0 refl (tt, (shr-slice-lawful 𝓤 H A W (named 0) κ u8 .typed s (sv ∷ []) p .0 .1, (record { fits = ok }, tt)))) $
-        move ! (8 ∷ []) $ use1 W (raw (Held 𝓤 H A R found .pre to′) ⊛ ‵ OwnS) shut $ split ! $
-        calls-at ! fm (Held 𝓤 H A R found) known to′ (and-then ! (load ! (from ! (stop !)) (look ! 2 refl)) (no-more !)) (λ u.
+        move ! (8 ∷ []) $ use1 W (raw (OnReader 𝓤 H A R found .pre to′) ⊛ ‵ OwnS) shut $ split ! $
+        calls-at ! fm (OnReader 𝓤 H A R found) known to′ (and-then ! (load ! (from ! (stop !)) (look ! 2 refl)) (no-more !)) (λ u.
         use1 W (later (some (λ (r : R .Denot). ((‵ (flft κ q) ⊛ ‵ ftrue) ⊛ ‵ (R .own r (u ∷ []))) ⊛ raw (ensured 𝓤 H A (held R)
         (held-clauses 𝓤 R found) (κ, tt) (made, tt) tt r)))) (id⊢ 𝓤 _) $ await ! tt $ pick ! (λ r.
         split ! $ move ! (1 ∷ []) $ use1 W (raw (fact 𝓤 (r ≡ result))) (said′ r) $ heard ! (r ≡ result) (λ e. split ! $ move ! (1 ∷ []) $
@@ -307,7 +307,7 @@ module _ {M : Type 1} (𝓤 : URA M) (H : Heap 𝓤) (A : Atoms 𝓤) (W : Given
 
 module _ {M : Type 1} (𝓤 : URA M) (H : Heap 𝓤) (A : Atoms 𝓤) (W : Given 𝓤 H A) (R : RattleType) (τ : Ty) (found : List ℕ → ℕ → R .Denot)
     (typed : (r : R .Denot) (u : Val) → Is R r (u ∷ []) → Holds (hasTy τ u) × WT u) (callee : Name) (𝓣 : Tables 𝓤 H) where
-  pub takes-meets : Triple 𝓤 (𝓣 .C callee) (Apart 𝓤 H A R found) → Triple 𝓤 (WpFn 𝓤 H (𝓣 .C) (𝓣 .Λ) (takes τ callee)) (Held 𝓤 H A R found)
+  pub takes-meets : Triple 𝓤 (𝓣 .C callee) (Apart 𝓤 H A R found) → Triple 𝓤 (WpFn 𝓤 H (𝓣 .C) (𝓣 .Λ) (takes τ callee)) (OnReader 𝓤 H A R found)
   takes-meets known =
       walk-meets 𝓤 H A (held R) (held-stayed R) W (goes-none 𝓤 H A W 1 B yes (λ κs x f. refl), tt) (held-clauses 𝓤 R found)
       (WpFn 𝓤 H (𝓣 .C) (𝓣 .Λ) (takes τ callee)) (WpFn-mono 𝓤 H (W .laws) 𝓣 (takes τ callee))
@@ -318,7 +318,7 @@ module _ {M : Type 1} (𝓤 : URA M) (H : Heap 𝓤) (A : Atoms 𝓤) (W : Given
       (fmOf 𝓤 H (W .laws) 𝓣) known
       (LL.lawful (T.the-type (namedLft 1 0 tt κs)) (T′.the-laws (namedLft 1 0 tt κs)) 𝓤 H A W .typed (a .0) _ (are .0) .0))))
 
-  pub makes-meets : Triple 𝓤 (𝓣 .C callee) (Held 𝓤 H A R found) → Triple 𝓤 (WpFn 𝓤 H (𝓣 .C) (𝓣 .Λ) (makes τ callee)) (Apart 𝓤 H A R found)
+  pub makes-meets : Triple 𝓤 (𝓣 .C callee) (OnReader 𝓤 H A R found) → Triple 𝓤 (WpFn 𝓤 H (𝓣 .C) (𝓣 .Λ) (makes τ callee)) (Apart 𝓤 H A R found)
   makes-meets known =
       walk-meets 𝓤 H A (apart R) (apart-stayed R) W
       (goes-none-slice 𝓤 H A W 1 (0 ∷ []) tt (plain (λ _. u8)) yes, (goes-none 𝓤 H A W 1 (λ _. usize) yes (λ κs x f. refl), tt))

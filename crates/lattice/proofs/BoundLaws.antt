@@ -126,10 +126,10 @@ module _ (n : ℕ) (rel : ℕ → ℕ → Bool) (laws : Side n rel) (end : ℕ) 
       )
 
   -- a type that has a and b on its side, and is on the side of those before k that have
-  common : (a b : ℕ) → a < n → b < n → (k : ℕ) → k ≤ n
+  shared-bound : (a b : ℕ) → a < n → b < n → (k : ℕ) → k ≤ n
       → (c : ℕ) × (c < n) × (rel c a ≡ true) × (rel c b ≡ true) × ((d : ℕ) → d < k → rel d a ≡ true → rel d b ≡ true → rel d c ≡ true)
-  common a b la lb zero l = (end, type, all a la, all b lb, λ d r. absurd (not-suc-le-zero r))
-  common a b la lb (suc k) l = go (common a b la lb k (omega arith)) (rel k a && rel k b) refl where
+  shared-bound a b la lb zero l = (end, type, all a la, all b lb, λ d r. absurd (not-suc-le-zero r))
+  shared-bound a b la lb (suc k) l = go (shared-bound a b la lb k (omega arith)) (rel k a && rel k b) refl where
     go : (c : ℕ) × (c < n) × (rel c a ≡ true) × (rel c b ≡ true) × ((d : ℕ) → d < k → rel d a ≡ true → rel d b ≡ true → rel d c ≡ true)
         → (s : Bool) → (rel k a && rel k b) ≡ s
         → (c : ℕ) × (c < n) × (rel c a ≡ true) × (rel c b ≡ true)
@@ -158,7 +158,7 @@ module _ (n : ℕ) (rel : ℕ → ℕ → Bool) (laws : Side n rel) (end : ℕ) 
 
   other-found : (a b : ℕ) → a < n → b < n → found (last n (isBound n (λ i j. rel j i) a b)) ≡ true
   other-found a b la lb =
-      let (c, lc, ca, cb, under) = common a b la lb n (omega arith) in
+      let (c, lc, ca, cb, under) = shared-bound a b la lb n (omega arith) in
       last-found (isBound n (λ i j. rel j i) a b) n c lc
       (and-both (rel c a && rel c b) _ (and-both (rel c a) (rel c b) ca cb)
       (every-all _ n λ d l.

@@ -9,7 +9,7 @@ use native.Mathlib.Omega.{arith}
 use lib.ListN.{length, getD, List·getD-eq-default}
 use lib.Dec.{leb, eqb}
 use borrow.Author.Tests.{eq-eqb, eqb-true, le-leb, leb-true}
-use Rattle.lattice.specs.Table.{every, implies, below, ordered, within, reflexive, antisymmetric, transitive, least, greatest}
+use Rattle.lattice.specs.Table.{every, implies, below, ordered, confined, reflexive, antisymmetric, transitive, least, greatest}
 use Rattle.lattice.specs.Words.{word, related, Words, bit, turned, partOf, pairOrdered, rowOrdered, Sided}
 use Rattle.lattice.proofs.Every.{and-left, and-right, and-both, implies-at, implies-from, every-at, every-all, same-test, true-not-false, below-or-not}
 use Rattle.lattice.proofs.WordLaws.{word-same, word-cut, bits-part-of, part-of-bits, short-bits, bits-short}
@@ -26,41 +26,41 @@ pub record Ordered (n : ℕ) (t : List ℕ) : Type 0 where
 
 module _ (n : ℕ) (t : List ℕ) where
   pub ordered-facts : ordered n t ≡ true → Ordered n t
-  unfolding ordered within reflexive antisymmetric transitive least greatest
+  unfolding ordered confined reflexive antisymmetric transitive least greatest
   ordered-facts h =
-      let h₄ : within n t && reflexive n t && antisymmetric n t && transitive n t && least n t ≡ true = and-left _ (greatest n t) h in
-      let h₃ : within n t && reflexive n t && antisymmetric n t && transitive n t ≡ true = and-left _ (least n t) h₄ in
-      let h₂ : within n t && reflexive n t && antisymmetric n t ≡ true = and-left _ (transitive n t) h₃ in
-      let h₁ : within n t && reflexive n t ≡ true = and-left _ (antisymmetric n t) h₂ in
+      let h₄ : confined n t && reflexive n t && antisymmetric n t && transitive n t && least n t ≡ true = and-left _ (greatest n t) h in
+      let h₃ : confined n t && reflexive n t && antisymmetric n t && transitive n t ≡ true = and-left _ (least n t) h₄ in
+      let h₂ : confined n t && reflexive n t && antisymmetric n t ≡ true = and-left _ (transitive n t) h₃ in
+      let h₁ : confined n t && reflexive n t ≡ true = and-left _ (antisymmetric n t) h₂ in
       record {
         inside = λ i j l s e.
             leb-true (suc j) n
-            (implies-at (below t j i) (leb (suc j) n) (every-at _ 64 j (every-at _ n i (and-left (within n t) (reflexive n t) h₁) l) s) e);
-        self = λ i l. every-at _ n i (and-right (within n t) (reflexive n t) h₁) l;
+            (implies-at (below t j i) (leb (suc j) n) (every-at _ 64 j (every-at _ n i (and-left (confined n t) (reflexive n t) h₁) l) s) e);
+        self = λ i l. every-at _ n i (and-right (confined n t) (reflexive n t) h₁) l;
         anti = λ i j l s e f.
             eqb-true i j
             (implies-at (below t i j && below t j i) (eqb i j)
-            (every-at _ n j (every-at _ n i (and-right (within n t && reflexive n t) (antisymmetric n t) h₂) l) s)
+            (every-at _ n j (every-at _ n i (and-right (confined n t && reflexive n t) (antisymmetric n t) h₂) l) s)
             (and-both (below t i j) (below t j i) e f));
         chain = λ i j k l s r e f.
             implies-at (below t i j && below t j k) (below t i k)
             (every-at _ n k
             (every-at _ n j
-            (every-at _ n i (and-right (within n t && reflexive n t && antisymmetric n t) (transitive n t) h₃) l)
+            (every-at _ n i (and-right (confined n t && reflexive n t && antisymmetric n t) (transitive n t) h₃) l)
             s)
             r)
             (and-both (below t i j) (below t j k) e f);
         bottom = λ i l.
-            every-at _ n i (and-right (within n t && reflexive n t && antisymmetric n t && transitive n t) (least n t) h₄) l;
+            every-at _ n i (and-right (confined n t && reflexive n t && antisymmetric n t && transitive n t) (least n t) h₄) l;
         top = λ i l.
             every-at _ n i
-            (and-right (within n t && reflexive n t && antisymmetric n t && transitive n t && least n t) (greatest n t) h) l;
+            (and-right (confined n t && reflexive n t && antisymmetric n t && transitive n t && least n t) (greatest n t) h) l;
       }
 
   pub facts-ordered : Ordered n t → ordered n t ≡ true
-  unfolding ordered within reflexive antisymmetric transitive least greatest
+  unfolding ordered confined reflexive antisymmetric transitive least greatest
   facts-ordered o =
-      let w : within n t ≡ true =
+      let w : confined n t ≡ true =
       every-all _ n λ i l.
       every-all _ 64 λ j s. implies-from (below t j i) (leb (suc j) n) λ e. le-leb (suc j) n (o .inside i j l s e) in
       let r : reflexive n t ≡ true = every-all _ n (o .self) in

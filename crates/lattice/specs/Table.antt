@@ -44,8 +44,8 @@ sized n t = leb 2 n && leb n 64 && eqb (length t) (8 * n)
 
 module _ (n : ℕ) (t : List ℕ) where
   -- no bit at n or above
-  unfoldable pub within : Bool
-  within = every n λ i. every 64 λ j. implies (below t j i) (leb (suc j) n)
+  unfoldable pub confined : Bool
+  confined = every n λ i. every 64 λ j. implies (below t j i) (leb (suc j) n)
 
   -- "The rows must be an order"
   unfoldable pub reflexive : Bool
@@ -67,7 +67,7 @@ module _ (n : ℕ) (t : List ℕ) where
 
   -- the tests of refusal 2
   unfoldable pub ordered : Bool
-  ordered = within && reflexive && antisymmetric && transitive && least && greatest
+  ordered = confined && reflexive && antisymmetric && transitive && least && greatest
 
   -- c is below a and below b, and every such type is below c: the greatest lower bound
   unfoldable pub isMeet : ℕ → ℕ → ℕ → Bool

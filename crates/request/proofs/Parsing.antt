@@ -14,8 +14,8 @@ use Rattle.request.specs.declared.parse.Operation.the-variants.{Generali
 use Rattle.request.specs.declared.parse.Part.{Part}
 use Rattle.request.specs.declared.parse.Parsed.{Parsed}
 use Rattle.request.specs.declared.parse.Parsed.the-variants.{Asked, Bad}
-use Rattle.request.specs.declared.parse.Taken.{Taken}
-use Rattle.request.specs.declared.parse.Taken.the-variants as taken
+use Rattle.request.specs.declared.parse.Located.{Located}
+use Rattle.request.specs.declared.parse.Located.the-variants as located
 use Rattle.request.specs.Request.{Request, operationOf, takeBytes, takeRecord, atEnd, askedOf, requested}
 use Rattle.request.specs.Parse.{AllInside, Inside, Parses, Takes, between, recordAt}
 use Rattle.request.proofs.Texts.{word-more}
@@ -48,7 +48,7 @@ record-none [] h = refl
 record-none (low ∷ []) h = refl
 record-none (low ∷ high ∷ rest) h = absurd (omega arith)
 
-pub takes-none : {read : Option (List ℕ × List ℕ)} {input : List ℕ} → read ≡ none → Takes read input taken.Bad
+pub takes-none : {read : Option (List ℕ × List ℕ)} {input : List ℕ} → read ≡ none → Takes read input located.Bad
 takes-none e = record { read-is = e; inside = λ part d. let z : _≡_ {A = ℕ} 0 1 = cc in absurd (omega arith) }
 
 module _ (input : List ℕ) (at : ℕ) where
@@ -74,7 +74,7 @@ module _ (input : List ℕ) (at : ℕ) where
     record-cut h early = record-bytes h ∙ bytes-short size (drop (at + 2) input) (simp length-drop (omega arith))
 
     pub record-there : size ≤ 8192 → size ≤ length input - (at + 2) →
-        Takes (takeRecord (drop at input)) input (taken.At (record { start = at + 2; end = at + 2 + size }))
+        Takes (takeRecord (drop at input)) input (located.At (record { start = at + 2; end = at + 2 + size }))
     record-there h enough = record {
       read-is = record-bytes h ∙ part-there input (at + 2) size (omega arith);
       inside = λ part e.
@@ -128,14 +128,14 @@ module _ (operation : Operation) (input : List ℕ) (some-bytes : 2 ≤ length i
         asked-table
         ∙ ap (λ o. bind o (afterTable operation (getD input 1 0))) (part-there input 2 (8 * getD input 1 0) enough)
 
-    module _ {read : Taken} (takes : Takes (takeRecord (drop (tableOf input .end) input)) input read) where
-      pub first-bad : read ≡ taken.Bad → askedOf operation (drop 1 input) ≡ none
+    module _ {read : Located} (takes : Takes (takeRecord (drop (tableOf input .end) input)) input read) where
+      pub first-bad : read ≡ located.Bad → askedOf operation (drop 1 input) ≡ none
       unfolding bind
       first-bad e =
           asked-first
           ∙ ap (λ o. bind o (afterFirst operation (getD input 1 0) (between input (tableOf input)))) (takes .read-is ∙ ap (recordAt input) e)
 
-      module _ (first : Part) (first-is : read ≡ taken.At first) {next : Taken} (more : Takes (takeRecord (drop (first .end) input)) input next) where
+      module _ (first : Part) (first-is : read ≡ located.At first) {next : Located} (more : Takes (takeRecord (drop (first .end) input)) input next) where
         asked-second : askedOf operation (drop 1 input) ≡
             bind (recordAt input next) (afterSecond operation (getD input 1 0) (between input (tableOf input)) (between input first))
         unfolding bind
@@ -144,13 +144,13 @@ module _ (operation : Operation) (input : List ℕ) (some-bytes : 2 ≤ length i
             ∙ ap (λ o. bind o (afterFirst operation (getD input 1 0) (between input (tableOf input)))) (takes .read-is ∙ ap (recordAt input) first-is)
             ∙ ap (λ o. bind o (afterSecond operation (getD input 1 0) (between input (tableOf input)) (between input first))) (more .read-is)
 
-        pub second-bad : next ≡ taken.Bad → askedOf operation (drop 1 input) ≡ none
+        pub second-bad : next ≡ located.Bad → askedOf operation (drop 1 input) ≡ none
         unfolding bind
         second-bad e =
             asked-second
             ∙ ap (λ o. bind (recordAt input o) (afterSecond operation (getD input 1 0) (between input (tableOf input)) (between input first))) e
 
-        module _ (second : Part) (second-is : next ≡ taken.At second) where
+        module _ (second : Part) (second-is : next ≡ located.At second) where
           asked-end : askedOf operation (drop 1 input) ≡
               afterSecond operation (getD input 1 0) (between input (tableOf input)) (between input first) (between input second, drop (second .end) input)
           unfolding bind

@@ -9,8 +9,8 @@ use Rattle.request.specs.declared.parse.Part.{Part}
 use Rattle.request.specs.declared.parse.Parts.{Parts}
 use Rattle.request.specs.declared.parse.Parsed.{Parsed}
 use Rattle.request.specs.declared.parse.Parsed.the-variants.{Asked, Bad}
-use Rattle.request.specs.declared.parse.Taken.{Taken}
-use Rattle.request.specs.declared.parse.Taken.the-variants as taken
+use Rattle.request.specs.declared.parse.Located.{Located}
+use Rattle.request.specs.declared.parse.Located.the-variants as located
 use Rattle.request.specs.Request.{Request}
 
 -- the bytes of a part
@@ -23,13 +23,13 @@ pub record Inside (input : List ℕ) (part : Part) : Type 0 where
   pub inside : part .end ≤ length input
 
 -- a record of the input, and the bytes behind it
-abbrev pub recordAt : List ℕ → Taken → Option (List ℕ × List ℕ)
-recordAt input taken.Bad = none
-recordAt input (taken.At part) = some (between input part, drop (part .end) input)
+abbrev pub recordAt : List ℕ → Located → Option (List ℕ × List ℕ)
+recordAt input located.Bad = none
+recordAt input (located.At part) = some (between input part, drop (part .end) input)
 
-pub record Takes (read : Option (List ℕ × List ℕ)) (input : List ℕ) (answer : Taken) : Type 0 where
+pub record Takes (read : Option (List ℕ × List ℕ)) (input : List ℕ) (answer : Located) : Type 0 where
   pub read-is : read ≡ recordAt input answer
-  pub inside : (part : Part) → answer ≡ taken.At part → Inside input part
+  pub inside : (part : Part) → answer ≡ located.At part → Inside input part
 
 -- the request whose parts stand in the input
 abbrev pub requestAt : List ℕ → Operation → Parts → Request

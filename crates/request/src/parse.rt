@@ -35,31 +35,31 @@ pub enum Parsed {
 }
 
 // A record of the input.
-pub enum Taken {
+pub enum Located {
     Bad,
     At(Part),
 }
 
 // The record at a place, after its length of 2 bytes.
-fn record_at(input: &[u8], at: usize) -> Taken
+fn record_at(input: &[u8], at: usize) -> Located
     requires { ⌜ at ≤ length (now input) ⌝ }
     ensures { λ r. ⌜ Takes (takeRecord (drop at (now (input .entry)))) (now (input .entry)) r ⌝ }
 {
     if input.len() - at < 2 {
-        return Taken::Bad;
+        return Located::Bad;
     }
     let low = input[at] as usize;
     let high = input[at + 1] as usize;
     let length = low + 256 * high;
     if 8192 < length {
-        return Taken::Bad;
+        return Located::Bad;
     }
     let start = at + 2;
     if input.len() - start < length {
-        return Taken::Bad;
+        return Located::Bad;
     }
     let end = start + length;
-    Taken::At(Part { start, end })
+    Located::At(Part { start, end })
 }
 
 // What follows the operation byte.
@@ -76,11 +76,11 @@ fn parse_after(operation: Operation, input: &[u8]) -> Parsed
         return Parsed::Bad;
     }
     let read = record_at(input, table.end);
-    let Taken::At(first) = read else {
+    let Located::At(first) = read else {
         return Parsed::Bad;
     };
     let next = record_at(input, first.end);
-    let Taken::At(second) = next else {
+    let Located::At(second) = next else {
         return Parsed::Bad;
     };
     if second.end != input.len() {

@@ -62,12 +62,12 @@ module _ {𝓛 : Labels} {A B : Type 0} {sameA : A → A → Bool} {sameB : B �
   itself v = keptItself sameA sameB s ss g gs over earlier isTop v
 
   -- kept, looked for k links deep
-  abbrev within : ℕ → A → Bool
-  within k v = keeps sameA sameB s ss g gs over earlier isTop k v
+  abbrev keptWithin : ℕ → A → Bool
+  keptWithin k v = keeps sameA sameB s ss g gs over earlier isTop k v
 
   -- the link by f leads to a kept node, looked for k links deep, and is a leader
   abbrev onward : ℕ → A → ℕ → Bool
-  onward k v f = holds (λ w. isFirst w (v, f) && within k w) (s .link v f)
+  onward k v f = holds (λ w. isFirst w (v, f) && keptWithin k w) (s .link v f)
 
   leads : (v : A) (l : Link A) → (isFirst v l ≡ true) ↔ (first v l ≡ l)
   leads v l = same-link operands over (first v l) l
@@ -107,34 +107,34 @@ module _ {𝓛 : Labels} {A B : Type 0} {sameA : A → A → Bool} {sameB : B �
 
   -- Kept nodes below.
 
-  itself-within : (k : ℕ) (v : A) → itself v ≡ true → within k v ≡ true
+  itself-within : (k : ℕ) (v : A) → itself v ≡ true → keptWithin k v ≡ true
   unfolding keeps
   itself-within zero v e = e
   itself-within (suc k) v e =
       true-left (itself v) (anyOf features (onward k v)) e
 
-  below-within : (k : ℕ) (v w : A) (f : ℕ) → Leader s first w (v, f) → within k w ≡ true → within (suc k) v ≡ true
+  below-within : (k : ℕ) (v w : A) (f : ℕ) → Leader s first w (v, f) → keptWithin k w ≡ true → keptWithin (suc k) v ≡ true
   unfolding keeps
   below-within k v w f ((r, l), q) e =
       true-right (itself v) (anyOf features (onward k v))
       (anyOf-finds (onward k v) features f
       (mem-features f (operands .lists-left .features v w f r l))
-      (some-holds (λ w. isFirst w (v, f) && within k w) (s .link v f) w l
-      (true-both (isFirst w (v, f)) (within k w) (leads w (v, f) .1 q) e)))
+      (some-holds (λ w. isFirst w (v, f) && keptWithin k w) (s .link v f) w l
+      (true-both (isFirst w (v, f)) (keptWithin k w) (leads w (v, f) .1 q) e)))
 
-  within-cases : (k : ℕ) (v : A) → Reached s v → within (suc k) v ≡ true →
-      (itself v ≡ true) ⊎ ((f : ℕ) × (w : A) × Leader s first w (v, f) × (within k w ≡ true))
+  within-cases : (k : ℕ) (v : A) → Reached s v → keptWithin (suc k) v ≡ true →
+      (itself v ≡ true) ⊎ ((f : ℕ) × (w : A) × Leader s first w (v, f) × (keptWithin k w ≡ true))
   unfolding keeps
   within-cases k v r e =
       ⊎-elim (λ (a : itself v ≡ true). inl a) below
       (either-true (itself v) (anyOf features (onward k v)) e)
     where
       below : (anyOf features (onward k v)) ≡ true →
-          (itself v ≡ true) ⊎ ((f : ℕ) × (w : A) × Leader s first w (v, f) × (within k w ≡ true))
+          (itself v ≡ true) ⊎ ((f : ℕ) × (w : A) × Leader s first w (v, f) × (keptWithin k w ≡ true))
       below e =
           let (f, _, a) = anyOf-true (onward k v) features e in
-          let (w, b, c) = holds-some (λ w. isFirst w (v, f) && within k w) (s .link v f) a in
-          let (d, h) = both-true (isFirst w (v, f)) (within k w) c in
+          let (w, b, c) = holds-some (λ w. isFirst w (v, f) && keptWithin k w) (s .link v f) a in
+          let (d, h) = both-true (isFirst w (v, f)) (keptWithin k w) c in
           inr (f, w, ((r, b), leads w (v, f) .0 d), h)
 
   -- no walk from v has more than k links
@@ -142,13 +142,13 @@ module _ {𝓛 : Labels} {A B : Type 0} {sameA : A → A → Bool} {sameB : B �
   Deep v k = (p : List ℕ) (w : A) → follow (s .link) (some v) p ≡ some w → length p ≤ k
 
   -- looking as deep as walks go is enough
-  within-enough : (j k : ℕ) (v : A) → Reached s v → Deep v k → within j v ≡ true → within k v ≡ true
+  within-enough : (j k : ℕ) (v : A) → Reached s v → Deep v k → keptWithin j v ≡ true → keptWithin k v ≡ true
   unfolding keeps follow
   within-enough zero k v r deep e = itself-within k v e
   within-enough (suc j) k v r deep e = go k deep (within-cases j v r e) (within-enough j)
     where
-      go : (k : ℕ) → Deep v k → (itself v ≡ true) ⊎ ((f : ℕ) × (w : A) × Leader s first w (v, f) × (within j w ≡ true)) →
-          ((k : ℕ) (w : A) → Reached s w → Deep w k → within j w ≡ true → within k w ≡ true) → within k v ≡ true
+      go : (k : ℕ) → Deep v k → (itself v ≡ true) ⊎ ((f : ℕ) × (w : A) × Leader s first w (v, f) × (keptWithin j w ≡ true)) →
+          ((k : ℕ) (w : A) → Reached s w → Deep w k → keptWithin j w ≡ true → keptWithin k w ≡ true) → keptWithin k v ≡ true
       go k deep (inl a) later = itself-within k v a
       go zero deep (inr (f, w, a, b)) later = let h = deep (f ∷ []) w (a .0 .1) in absurd (omega arith)
       go (suc k) deep (inr (f, w, a, b)) later =
@@ -160,7 +160,7 @@ module _ {𝓛 : Labels} {A B : Type 0} {sameA : A → A → Bool} {sameB : B �
   -- The nodes kept.
 
   abbrev pub keep : A → Bool
-  keep v = within (length ss) v
+  keep v = keptWithin (length ss) v
 
   reached-deep : (v : A) → Reached s v → (p : List ℕ) (w : A) → follow (s .link) (some v) p ≡ some w → length p < length ss
   reached-deep v r p w e = short-walks s ss (λ x. operands .lists-left .listed x .0) (sound .acyclic) v p w r e
@@ -170,8 +170,8 @@ module _ {𝓛 : Labels} {A B : Type 0} {sameA : A → A → Bool} {sameB : B �
   unfolding follow
   keep-below v w f a e = go (length ss) (reached-deep v (a .0 .0)) e
     where
-      go : (n : ℕ) → ((p : List ℕ) (x : A) → follow (s .link) (some v) p ≡ some x → length p < n) → within n w ≡ true →
-          within n v ≡ true
+      go : (n : ℕ) → ((p : List ℕ) (x : A) → follow (s .link) (some v) p ≡ some x → length p < n) → keptWithin n w ≡ true →
+          keptWithin n v ≡ true
       go zero deep e = let h = deep [] v refl in absurd (omega arith)
       go (suc k) deep e = below-within k v w f a (within-enough (suc k) k w (reached-link s f (a .0 .0) (a .0 .1)) after e)
         where
@@ -184,12 +184,12 @@ module _ {𝓛 : Labels} {A B : Type 0} {sameA : A → A → Bool} {sameB : B �
   keep-cases v r e = go (length ss) (λ w q. reached-deep w q) e
     where
       go : (n : ℕ) → ((w : A) → Reached s w → (p : List ℕ) (x : A) → follow (s .link) (some w) p ≡ some x → length p < n) →
-          within n v ≡ true → (itself v ≡ true) ⊎ ((f : ℕ) × (w : A) × Leader s first w (v, f) × (within n w ≡ true))
+          keptWithin n v ≡ true → (itself v ≡ true) ⊎ ((f : ℕ) × (w : A) × Leader s first w (v, f) × (keptWithin n w ≡ true))
       go zero deep e = inl e
       go (suc k) deep e = ⊎-elim (λ (a : itself v ≡ true). inl a) below (within-cases k v r e)
         where
-          below : (f : ℕ) × (w : A) × Leader s first w (v, f) × (within k w ≡ true) →
-              (itself v ≡ true) ⊎ ((f : ℕ) × (w : A) × Leader s first w (v, f) × (within (suc k) w ≡ true))
+          below : (f : ℕ) × (w : A) × Leader s first w (v, f) × (keptWithin k w ≡ true) →
+              (itself v ≡ true) ⊎ ((f : ℕ) × (w : A) × Leader s first w (v, f) × (keptWithin (suc k) w ≡ true))
           below (f, w, a, b) =
               let q = reached-link s f r (a .0 .1) in
               inr (f, w, a, within-enough k (suc k) w q (λ p x d. let h = deep w q p x d in omega arith) b)

@@ -5,7 +5,7 @@ use denote.Triple.Table.{entered, cited}
 use Rattle.decode.specs.Reader.{mapStep}
 use Rattle.decode.proofs.reader.MapStep as S
 use Rattle.decode.proofs.reader.MapStep.Laws as S′
-use Rattle.decode.proofs.Thin.{Held, Apart, makes-meets}
+use Rattle.decode.proofs.Thin.{OnReader, Apart, makes-meets}
 use Rattle.decode.proofs.reader.map.Symbol as callee
 use Rattle.decode.proofs.reader.map.Met as callee-thm
 use Rattle.decode.proofs.reader.map_from.Key as key
@@ -20,5 +20,5 @@ map-from-spec 𝓤 H 𝓜 𝓖 𝓡 =
     (makes-meets 𝓤 H (𝓖 .A) (givenOf 𝓤 H 𝓜 𝓖) S.the-row S′.mir mapStep
     (λ r u is. EL.lawful S.the-type S′.the-laws 𝓤 H (𝓖 .A) (givenOf 𝓤 H 𝓜 𝓖) tt .typed r _ is .0)
     callee.name (tablesOf 𝓤 H 𝓜 (tables 𝓤 H 𝓜 𝓡 code.env))
-    (cited 𝓤 H (Held 𝓤 H (𝓖 .A) S.the-row mapStep) 𝓜 𝓡 code.env callee.name callee.routine code.calls-decode·reader·map
+    (cited 𝓤 H (OnReader 𝓤 H (𝓖 .A) S.the-row mapStep) 𝓜 𝓡 code.env callee.name callee.routine code.calls-decode·reader·map
     (callee-thm.met 𝓤 H 𝓜 𝓖 𝓡)))
