@@ -63,7 +63,7 @@ pub fn rewrite(n: usize, table: &[u8], bytes: &[u8], out: &mut [u8]) -> Reply
 fn rewrite_over(n: usize, bytes: &[u8], out: &mut [u8]) -> Reply
     ensures { λ r. ⌜ resulting r (now (out .exit)) ≡ rewritten (reading n (now (bytes .entry))) (now (out .entry)) ⌝ }
 {
-    let mut graph = [0u16; 2560];
+    let mut graph = [layout::BLANK; 2560];
     let verdict = record::reading::read(n, bytes, &mut graph);
     match verdict {
         Verdict::Refused(fault) => Reply::Graph(fault, Side::First),
@@ -98,8 +98,8 @@ fn order_over(n: usize, table: &[u8], first: &[u8], second: &[u8]) -> Reply
     requires { ⌜ n ≤ 64 ⌝ }
     ensures { λ r. ⌜ r ≡ readBoth (λ q. q) (reading n (now (first .entry))) (reading n (now (second .entry))) (ordered n (now (table .entry))) ⌝ }
 {
-    let mut s = [0u16; 2560];
-    let mut g = [0u16; 2560];
+    let mut s = [layout::BLANK; 2560];
+    let mut g = [layout::BLANK; 2560];
     let verdict = both::read_both(n, first, second, &mut s, &mut g);
     match verdict {
         PairVerdict::Refused(fault, side) => Reply::Graph(fault, side),
@@ -137,8 +137,8 @@ fn generalize_over(
     requires { ⌜ n ≤ 64 ⌝ }
     ensures { λ r. ⌜ resulting r (now (out .exit)) ≡ joining n (now (joins .entry)) (now (first .entry)) (now (second .entry)) (now (out .entry)) ⌝ }
 {
-    let mut a = [0u16; 2560];
-    let mut b = [0u16; 2560];
+    let mut a = [layout::BLANK; 2560];
+    let mut b = [layout::BLANK; 2560];
     let verdict = both::read_both(n, first, second, &mut a, &mut b);
     match verdict {
         PairVerdict::Refused(fault, side) => Reply::Graph(fault, side),
@@ -170,8 +170,8 @@ fn unify_over(
     requires { ⌜ MeetsBelow n (now meets) ⌝ }
     ensures { λ r. ⌜ resulting r (now (out .exit)) ≡ meeting n (now (meets .entry)) (now (first .entry)) (now (second .entry)) (now (out .entry)) ⌝ }
 {
-    let mut a = [0u16; 2560];
-    let mut b = [0u16; 2560];
+    let mut a = [layout::BLANK; 2560];
+    let mut b = [layout::BLANK; 2560];
     let verdict = both::read_both(n, first, second, &mut a, &mut b);
     match verdict {
         PairVerdict::Refused(fault, side) => Reply::Graph(fault, side),

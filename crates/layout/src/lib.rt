@@ -14,6 +14,9 @@ pub const SCALE: u16 = 1024;
 // The most words of a record's graph: the number of nodes, 256 places, 255 headers, 2,048 links.
 pub const LONGEST: usize = 2560;
 
+// A word that is not written yet: a link's word with a target that no graph has.
+pub const BLANK: u16 = 1023;
+
 // The word of a link.
 pub fn link(feature: u16, target: u16) -> u16
     requires { ⌜ (feature < 64) × (target < 1024) ⌝ }
