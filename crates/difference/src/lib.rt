@@ -31,7 +31,7 @@ pub fn difference<'a>(
     wanted::wanted_types(n, table, meets, g, s, map, &mut types);
     let mut keep = [0u8; 255];
     keep::kept_nodes(n, table, s, &marks, &types, &mut keep);
-    let mut words = [0u16; 2560];
+    let mut words = [layout::BLANK; 2560];
     rows::kept_links(s, &marks, &keep, &types, &mut words);
     encode::canonical::write(&words, out)
 }

@@ -27,8 +27,8 @@ pub fn difference_over<'a>(
     ensures { λ r. ⌜ r ≡ parting n (now (table .entry)) (now (first .entry)) (now (second .entry)) (now (out .entry)) .reply ⌝ }
     ensures { λ r. ⌜ now (out .exit) ≡ parting n (now (table .entry)) (now (first .entry)) (now (second .entry)) (now (out .entry)) .output ⌝ }
 {
-    let mut g = [0u16; 2560];
-    let mut given = [0u16; 2560];
+    let mut g = [layout::BLANK; 2560];
+    let mut given = [layout::BLANK; 2560];
     let verdict = crate::both::read_both(n, first, second, &mut g, &mut given);
     match verdict {
         PairVerdict::Refused(fault, side) => Reply::Graph(fault, side),
@@ -37,7 +37,7 @@ pub fn difference_over<'a>(
                 return Reply::NotAdmitted;
             }
             // an accepted graph can be written: the words alone are wanted
-            let mut s = [0u16; 2560];
+            let mut s = [layout::BLANK; 2560];
             encode::numbered::renumber(&given, &mut s);
             difference_below(n, table, meets, &g, &s, out)
         }
