@@ -54,7 +54,7 @@ use Rattle.lattice.specs.Table.{
   last,
   below,
   sized,
-  within,
+  confined,
   reflexive,
   antisymmetric,
   transitive,
@@ -85,7 +85,7 @@ all-hold : AllHold cases
 unfolding
     bind orElse
     generalizing generalized unifying unifiedRows differing differedRows differed differenceRows wanted over firstAt
-    opened sized ordered within reflexive antisymmetric transitive least greatest bounded meet isMeet join isJoin every last below
+    opened sized ordered confined reflexive antisymmetric transitive least greatest bounded meet isMeet join isJoin every last below
     meetBelow isResidual residual admits
     reading decoded takeRows takeRow takeLinks bitOf inRange allOf cyclic anyOf deep reachesAll
     canonical visit each member target from linkCount outDegree rowOf linksOf indexOf
@@ -113,7 +113,7 @@ all-hold =
     and none-left
 
 three-middles-opened : opened (threeMiddles .count) (threeMiddles .table) ≡ Accepted
-unfolding opened sized ordered within reflexive antisymmetric transitive least greatest bounded meet isMeet join isJoin every last below
+unfolding opened sized ordered confined reflexive antisymmetric transitive least greatest bounded meet isMeet join isJoin every last below
 three-middles-opened = refl
 
 three-middles-admits : admits (threeMiddles .count) (threeMiddles .table) ≡ false
@@ -140,5 +140,5 @@ small-set = record { all-hold = all-hold; no-difference = no-difference }
 
 -- 13. "Types 1, 2 both under 3 and 4, which are unordered, and 5 top: 3."
 pub two-over-two-opened : opened (twoOverTwo .count) (twoOverTwo .table) ≡ Refused Bounds
-unfolding opened sized ordered within reflexive antisymmetric transitive least greatest bounded meet isMeet join isJoin every last below
+unfolding opened sized ordered confined reflexive antisymmetric transitive least greatest bounded meet isMeet join isJoin every last below
 two-over-two-opened = refl
