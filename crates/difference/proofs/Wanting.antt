@@ -1,7 +1,8 @@
--- Wanted types: meeting the types of g's nodes from the last to the first, and one residual for each node of s.
+-- Wanted types: meeting the types of g's nodes from the last to the first, and one search for each node of s.
 use mathlib.Core.Path.{_≡_, refl, sym, _∙_, ap, ap₂}
 use mathlib.Core.Bool.{Bool, true, false, cond}
 use mathlib.Core.List.{List, [], _∷_, List·Memᴰ, List·Memᴰ·head, List·Memᴰ·tail}
+use mathlib.Core.Option.{Option, none, some}
 use Prim.Native.Nat.{ℕ, suc, _+_, _-_, _≤_, _<_}
 use native.Mathlib.Decide.{ℕ-discrete}
 use native.Mathlib.Omega.{arith}
@@ -12,11 +13,12 @@ use lib.Seq.{getD-set-same, getD-set-other}
 use Rattle.graphs.specs.Label.{Labels}
 use Rattle.graphs.specs.Rows.{from}
 use Rattle.graphs.specs.Difference.{meetWhere}
-use Rattle.lattice.specs.Table.{accepted, admits, cell, meet, residual}
-use Rattle.lattice.proofs.Laws.{accepted-size, meet-exists, residual-exists}
+use Rattle.lattice.specs.Table.{accepted, found, cell, meet, wanted}
+use Rattle.lattice.proofs.Every.{every-all, every-fails}
+use Rattle.lattice.proofs.Laws.{accepted-size, meet-exists, wanted-type}
 use Rattle.layout.specs.Layout.{size, rowFrom, labelAt, Node, Shaped}
 use Rattle.difference.specs.Asked.{Asked}
-use Rattle.difference.specs.Wanted.{MeetsHeld, Typed, Types, Met, Wants, metFrom}
+use Rattle.difference.specs.Wanted.{MeetsHeld, Typed, Types, Met, wantedAt, Wants, WantsAll, metFrom}
 
 -- The loop that fills with one value.
 pub record Filling (value k : ℕ) (types : List ℕ) : Type 0 where
@@ -162,95 +164,100 @@ module _ (n : ℕ) (t : List ℕ) (ok : accepted n t ≡ true) where
       let e : cell (meet n t a b) ≡ r .0 = ap cell (r .1 .is) in
       omega (arith, held a b l s, r .1 .type)
 
-  residual-low : admits n t ≡ true → (p q : ℕ) → p < n → q < n → cell (residual n t p q) < n
-  residual-low differ p q l s =
-      let r = residual-exists n t ok differ p q l s in
-      let e : cell (residual n t p q) ≡ r .0 = ap cell (r .1 .is) in
-      omega (arith, r .1 .type)
-
 -- the wanted types of the nodes before k
 pub record Wanting (n : ℕ) (t s g map met : List ℕ) (k : ℕ) (types : List ℕ) : Type 0 where
-  pub ok : accepted n t ≡ true
-  pub differs : admits n t ≡ true
   pub few : n ≤ 64
   pub shaped : Shaped s
   pub small : size s ≤ 255
   pub typed : (v : ℕ) → v < size s → labelAt s v < n
   pub met-known : Types n (size s) met
   pub met-each : Met n t (size s) g map 0 (size g) met
+  pub left : k ≤ size s
   pub wants : Wants n t s g map k types
 
+-- what the search for a wanted type answers, as the type or none
+module _ (n : ℕ) (t : List ℕ) (p q r : ℕ) (e : r ≡ cell (wanted n t p q)) where
+  cell-some : r < 64 → wanted n t p q ≡ some r
+  cell-some h = go (wanted n t p q) refl
+    where
+      go : (o : Option ℕ) → wanted n t p q ≡ o → wanted n t p q ≡ some r
+      go none d = let z : r ≡ 64 = e ∙ ap cell d in absurd (omega arith)
+      go (some c) d = d ∙ ap some (sym (e ∙ ap cell d))
+
+  cell-none : n ≤ 64 → 64 ≤ r → found (wanted n t p q) ≡ false
+  cell-none few h = go (wanted n t p q) refl
+    where
+      go : (o : Option ℕ) → wanted n t p q ≡ o → found o ≡ false
+      go none d = refl
+      go (some c) d = let z : r ≡ c = e ∙ ap cell d in absurd (omega (arith, wanted-type n t p q c d))
+
 module _ {n : ℕ} {t s g map met : List ℕ} where
-  pub wants-start : {meets : List (List ℕ)} {types : List ℕ} → Asked n t meets g s map → length types ≡ 255 → Types n (size s) met →
+  pub wants-start : {types : List ℕ} → Asked n t g s map → length types ≡ 255 → Types n (size s) met →
       Met n t (size s) g map 0 (size g) met → Wanting n t s g map met 0 types
   wants-start asked long known each =
       record {
-        ok = asked .ok;
-        differs = asked .differs;
         few = accepted-size n t (asked .ok) .1;
         shaped = asked .lower .sound .shaped;
         small = asked .lower .small;
         typed = asked .lower-typed;
         met-known = known;
         met-each = each;
-        wants =
-            record {
-              types-known = record { long = long; known = λ v h. absurd (omega arith) };
-              each = λ v h. absurd (omega arith);
-            };
+        left = omega arith;
+        wants = record { long = long; each = λ v h. absurd (omega arith) };
       }
 
-  pub wants-next : {k r : ℕ} {types : List ℕ} → Wanting n t s g map met k types → k < size s →
-      r ≡ cell (residual n t (labelAt s k) (getD met k 0)) → Wanting n t s g map met (k + 1) (set types k r)
-  wants-next {k} {r} {types} w h e =
+  module _ {k r : ℕ} {types : List ℕ} (w : Wanting n t s g map met k types) (h : k < size s)
+      (e : r ≡ cell (wanted n t (labelAt s k) (getD met k 0))) where
+    at-node : wanted n t (labelAt s k) (getD met k 0) ≡ wantedAt n t s g map k
+    at-node = ap (wanted n t (labelAt s k)) (w .met-each k h)
+
+    pub wants-next : r < 64 → Wanting n t s g map met (k + 1) (set types k r)
+    wants-next low =
+        record {
+          few = w .few;
+          shaped = w .shaped;
+          small = w .small;
+          typed = w .typed;
+          met-known = w .met-known;
+          met-each = w .met-each;
+          left = omega arith;
+          wants = record { long = length-set types k r ∙ w .wants .long; each = λ v l. each v l (ℕ-discrete v k) };
+        }
+      where
+        here : getD (set types k r) k 0 ≡ r
+        here = getD-set-same types k r 0 (omega (arith, w .wants .long, w .small))
+
+        each : (v : ℕ) → v < k + 1 → Dec (v ≡ k) → wantedAt n t s g map v ≡ some (getD (set types k r) v 0)
+        each v l (yes d) =
+            ap (wantedAt n t s g map) d ∙ sym at-node ∙ cell-some n t (labelAt s k) (getD met k 0) r e low ∙
+            ap some (sym (ap (λ (i : ℕ). getD (set types k r) i 0) d ∙ here))
+        each v l (no d) = w .wants .each v (omega arith) ∙ ap some (sym (getD-set-other types k v r 0 d))
+
+    -- node k has none
+    pub wants-none : 64 ≤ r → (types′ : List ℕ) → WantsAll n t s g map false types′
+    wants-none high types′ =
+        record {
+          answers =
+              sym
+              (every-fails (λ v. found (wantedAt n t s g map v)) (size s) k h
+              (ap found (sym at-node) ∙ cell-none n t (labelAt s k) (getD met k 0) r e (w .few) high));
+          wants = λ q. let z : _≡_ {A = ℕ} 0 1 = cc in absurd (omega arith);
+        }
+
+  pub wants-done : {k : ℕ} {types : List ℕ} → Wanting n t s g map met k types → size s ≤ k → WantsAll n t s g map true types
+  wants-done {k} {types} w h =
       record {
-        ok = w .ok;
-        differs = w .differs;
-        few = w .few;
-        shaped = w .shaped;
-        small = w .small;
-        typed = w .typed;
-        met-known = w .met-known;
-        met-each = w .met-each;
-        wants =
-            record {
-              types-known =
-                  record {
-                    long = length-set types k r ∙ w .wants .types-known .long;
-                    known = λ v l. known v l (ℕ-discrete v k);
-                  };
-              each = λ v l. each v l (ℕ-discrete v k);
-            };
+        answers = sym (every-all (λ v. found (wantedAt n t s g map v)) (size s) λ v l. ap found (w .wants .each v (omega arith)));
+        wants = λ q. record { long = w .wants .long; each = λ v l. w .wants .each v (omega arith) };
       }
-    where
-      here : getD (set types k r) k 0 ≡ r
-      here = getD-set-same types k r 0 (omega (arith, w .wants .types-known .long, w .small))
 
-      each : (v : ℕ) → v < k + 1 → Dec (v ≡ k) →
-          getD (set types k r) v 0 ≡ cell (residual n t (labelAt s v) (metFrom n t g map 0 (size g) v))
-      each v l (yes d) =
-          ap (λ (i : ℕ). getD (set types k r) i 0) d ∙ here ∙ e ∙
-          ap (λ (q : ℕ). cell (residual n t (labelAt s k) q)) (w .met-each k h) ∙
-          ap (λ (i : ℕ). cell (residual n t (labelAt s i) (metFrom n t g map 0 (size g) i))) (sym d)
-      each v l (no d) = getD-set-other types k v r 0 d ∙ w .wants .each v (omega arith)
-
-      known : (v : ℕ) → v < k + 1 → Dec (v ≡ k) → getD (set types k r) v 0 < n
-      known v l (yes d) =
-          omega (
-            arith,
-            ap (λ (i : ℕ). getD (set types k r) i 0) d,
-            here,
-            e,
-            residual-low n t (w .ok) (w .differs) (labelAt s k) (getD met k 0) (w .typed k h) (w .met-known .known k h),
-          )
-      known v l (no d) = omega (arith, getD-set-other types k v r 0 d, w .wants .types-known .known v (omega arith))
-
-  pub wants-done : {k : ℕ} {types : List ℕ} → Wanting n t s g map met k types → size s ≤ k → Wants n t s g map (size s) types
-  wants-done w h =
-      record {
-        types-known = record { long = w .wants .types-known .long; known = λ v l. w .wants .types-known .known v (omega arith) };
-        each = λ v l. w .wants .each v (omega arith);
-      }
+-- wanted types are types
+pub wants-types : {n : ℕ} {t s g map types : List ℕ} → Wants n t s g map (size s) types → Types n (size s) types
+wants-types {n} {t} {s} {g} {map} {types} w =
+    record {
+      long = w .long;
+      known = λ v h. wanted-type n t (labelAt s v) (metFrom n t g map 0 (size g) v) (getD types v 0) (w .each v h);
+    }
 
 -- what is met depends on the labels listed alone
 pub meetWhere-same : (𝓛 : Labels) {B : Type 0} (test : B → Bool) (label label′ : B → 𝓛 .L) (ys : List B) →

@@ -1,13 +1,15 @@
 -- Wanted types, in arrays beside the graphs.
 use mathlib.Core.Path.{_≡_}
+use mathlib.Core.Bool.{Bool, true}
 use mathlib.Core.List.{List, []}
+use mathlib.Core.Option.{Option, some}
 use Prim.Native.Nat.{ℕ, _≤_, _<_}
 use lib.Dec.{eqb}
 use lib.ListN.{length, getD}
 use Rattle.graphs.specs.Rows.{from}
 use Rattle.graphs.specs.Difference.{meetWhere}
 use Rattle.lattice.specs.Label.{Label}
-use Rattle.lattice.specs.Table.{cell, meet, residual}
+use Rattle.lattice.specs.Table.{every, found, cell, meet, wanted}
 use Rattle.lattice.specs.Labels.{typeLabels}
 use Rattle.layout.specs.Layout.{size, labelAt, Sound}
 
@@ -39,7 +41,16 @@ pub record Types (n nodes : ℕ) (types : List ℕ) : Type 0 where
 abbrev pub Met : ℕ → List ℕ → ℕ → List ℕ → List ℕ → ℕ → ℕ → List ℕ → Type 0
 Met n t nodes g map y count met = (v : ℕ) → v < nodes → getD met v 0 ≡ metFrom n t g map y count v
 
+-- the wanted type of the node v of s
+abbrev pub wantedAt : ℕ → List ℕ → List ℕ → List ℕ → List ℕ → ℕ → Option ℕ
+wantedAt n t s g map v = wanted n t (labelAt s v) (metFrom n t g map 0 (size g) v)
+
 -- the wanted types of the first k nodes of s
 pub record Wants (n : ℕ) (t s g map : List ℕ) (k : ℕ) (types : List ℕ) : Type 0 where
-  pub types-known : Types n k types
-  pub each : (v : ℕ) → v < k → getD types v 0 ≡ cell (residual n t (labelAt s v) (metFrom n t g map 0 (size g) v))
+  pub long : length types ≡ 255
+  pub each : (v : ℕ) → v < k → wantedAt n t s g map v ≡ some (getD types v 0)
+
+-- whether every node of s has a wanted type, and where so, their wanted types
+pub record WantsAll (n : ℕ) (t s g map : List ℕ) (answer : Bool) (types : List ℕ) : Type 0 where
+  pub answers : answer ≡ every (size s) λ v. found (wantedAt n t s g map v)
+  pub wants : answer ≡ true → Wants n t s g map (size s) types

@@ -1,4 +1,4 @@
-// The wanted types: of each node of s the greatest type whose meet with the meet of all g types over the node is below its own.
+// The wanted types: of each node of s the greatest type whose meet with the meet of all g types over the node is its own.
 
 ghost use mathlib.Core.Path.{_≡_};
 ghost use mathlib.Core.List.{List};
@@ -6,7 +6,7 @@ ghost use Prim.Native.Nat.{ℕ, _≤_, _<_};
 ghost use lib.ListN.{length, getD};
 ghost use Rattle.layout.specs.Layout.{size};
 ghost use Rattle.difference.specs.Asked.{Asked};
-ghost use Rattle.difference.specs.Wanted.{MeetsHeld, Met, Typed, Types, Wants};
+ghost use Rattle.difference.specs.Wanted.{MeetsHeld, Met, Typed, Types, WantsAll};
 
 // Fills the first `nodes` types with one.
 fn clear(value: u8, nodes: usize, types: &mut [u8; 255])
@@ -46,7 +46,7 @@ pub fn meet_over<'a>(
     }
 }
 
-// The wanted type of each node of s.
+// The wanted type of each node of s; whether every node, the root too, has one.
 pub fn wanted_types<'a>(
     n: usize,
     table: &'a [u8],
@@ -55,9 +55,9 @@ pub fn wanted_types<'a>(
     s: &'a [u16],
     map: &'a [u16; 255],
     types: &mut [u8; 255],
-)
-    requires { ⌜ Asked n (now table) (now meets) (now g) (now s) (now map) × (length (now types) ≡ 255) ⌝ }
-    ensures { λ _. ⌜ Wants n (now (table .entry)) (now (s .entry)) (now (g .entry)) (now (map .entry)) (size (now (s .entry))) (now (types .exit)) ⌝ }
+) -> bool
+    requires { ⌜ Asked n (now table) (now g) (now s) (now map) × MeetsHeld n (now table) (now meets) × (length (now types) ≡ 255) ⌝ }
+    ensures { λ r. ⌜ WantsAll n (now (table .entry)) (now (s .entry)) (now (g .entry)) (now (map .entry)) r (now (types .exit)) ⌝ }
 {
     let nodes = s[0] as usize;
     let mut met = [0u8; 255];
@@ -68,7 +68,12 @@ pub fn wanted_types<'a>(
         let row = s[v + 1] as usize;
         let p = s[row] as usize;
         let q = met[v] as usize;
-        types[v] = lattice::differences::residual(n, &down, p, q);
+        let c = lattice::wanted::wanted(n, &down, p, q);
+        if 64 <= c {
+            return false;
+        }
+        types[v] = c;
         v += 1;
     }
+    true
 }

@@ -23,10 +23,9 @@ pub record Loaded (n : ℕ) (ws : List ℕ) : Type 0 where
   pub small : size ws ≤ 255
   pub typed : (v : ℕ) → v < size ws → labelAt ws v < n
 
--- two graphs over an accepted table that admits differences
+-- two graphs over an accepted table, with its meets
 pub record Comparable (n : ℕ) (t : List ℕ) (meets : List (List ℕ)) (g s : List ℕ) : Type 0 where
   pub accepts : types.accepted n t ≡ true
-  pub admits : types.admits n t ≡ true
   pub met : MeetsHeld n t meets
   pub general : Loaded n g
   pub specific : Loaded n s

@@ -15,7 +15,7 @@ same-length : tie.Need-same-length
 same-length c = search needs
 
 returns : tie.Need-returns
-returns c = codes (c .code .ensures) (results (c .before .before .before .difference .ensures))
+returns c = codes (c .code .ensures) (c .before .before .before .difference .ensures)
 
 pub record-difference-spec : {M : Type 1} → statement M
 record-difference-spec = tie.close (tie.spec difference-requires code-requires same-length returns)
