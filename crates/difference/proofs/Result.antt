@@ -38,8 +38,8 @@ use Rattle.visits.specs.Walks.{Reaches, one, more}
 use Rattle.groups.specs.Cover.{Lying}
 use Rattle.groups.specs.Marks.{Marked}
 use Rattle.groups.proofs.Leading.{At, at-one, one-at, at-link, link-stands, Says, follows-it, leads-covered, leads-bare, mark-says}
-use Rattle.difference.specs.Promise.{wantedType, differenceOf, allWanted}
-use Rattle.difference.specs.Wanted.{MeetsHeld, Typed, wantedAt, Wants, WantsAll, metFrom}
+use Rattle.difference.specs.Promise.{wantedAlong, differenceAlong, allWantedAlong}
+use Rattle.difference.specs.Wanted.{MeetsHeld, TypesOver, wantedAt, Wants, WantsAll, metFrom}
 use Rattle.difference.specs.Keeping.{Leads, several, alone, Stays, Why, isRoot, caused, untop, onward, Keeps, Ready}
 use Rattle.difference.specs.Thinning.{Kept}
 use Rattle.difference.specs.Asked.{Asked}
@@ -114,7 +114,7 @@ module _ {n : ℕ} {t gw sw map : List ℕ} (asked : Asked n t gw sw map) where
       reached-inside s-sound (over y) (r .0, walk-map (asked .lies) (r .0) y (r .1))
 
   -- what meeting the types of g asks
-  pub asked-typed : {meets : List (List ℕ)} → MeetsHeld n t meets → Typed n meets (size sw) gw map
+  pub asked-typed : {meets : List (List ℕ)} → MeetsHeld n t meets → TypesOver n meets (size sw) gw map
   asked-typed {meets} held =
       let size = accepted-size n t (asked .ok) in
       record {
@@ -167,8 +167,8 @@ module _ {n : ℕ} {t gw sw map : List ℕ} (asked : Asked n t gw sw map) where
 
   -- whether every node has a wanted type, as it is defined, with the length of the list of rows for the number of nodes
   pub answers-wanted : {answer : Bool} {types : List ℕ} → WantsAll n t sw gw map answer types →
-      answer ≡ allWanted n t (rowsOf sw) (rowsOf gw) map
-  unfolding allWanted wantedType
+      answer ≡ allWantedAlong n t (rowsOf sw) (rowsOf gw) (λ y. getD map y 0)
+  unfolding allWantedAlong wantedAlong
   answers-wanted all =
       all .answers ∙
       every-same (λ v. found (wantedAt n t sw gw map v))
@@ -404,15 +404,15 @@ module _ {n : ℕ} {t gw sw map : List ℕ} (asked : Asked n t gw sw map) where
           }
 
       -- as it is defined, with the lengths of the lists of rows for the numbers of nodes
-      named : differenceOf n t (rowsOf sw) (rowsOf gw) map ≡ made
-      unfolding differenceOf wantedType
+      named : differenceAlong n t (rowsOf sw) (rowsOf gw) (λ y. getD map y 0) ≡ made
+      unfolding differenceAlong wantedAlong
       named =
           ap₂ (λ (a b : ℕ). difference (typeLabels n t) eqb eqb byNumber s (from 0 a) g (from 0 b) over
           (λ v. cell (wanted n t (s .label v) (meetOver (typeLabels n t) eqb g (from 0 b) over v))))
           (length-rows sw 0 (size sw)) (length-rows gw 0 (size gw))
 
       -- The rows are those of the difference.
-      pub result-canonical : canonical eqb (differenceOf n t (rowsOf sw) (rowsOf gw) map) ≡ canonical eqb result
+      pub result-canonical : canonical eqb (differenceAlong n t (rowsOf sw) (rowsOf gw) (λ y. getD map y 0)) ≡ canonical eqb result
       result-canonical =
           ap (canonical eqb) named ∙
           bisimilar-canonical eqb eqb tells-eqb tells-eqb (λ x y. Reached s x × (x ≡ y)) made result made-alike

@@ -18,7 +18,7 @@ use Rattle.lattice.proofs.Every.{every-all, every-fails}
 use Rattle.lattice.proofs.Laws.{accepted-size, meet-exists, wanted-type}
 use Rattle.layout.specs.Layout.{size, rowFrom, labelAt, Node, Shaped}
 use Rattle.difference.specs.Asked.{Asked}
-use Rattle.difference.specs.Wanted.{MeetsHeld, Typed, Types, Met, wantedAt, Wants, WantsAll, metFrom}
+use Rattle.difference.specs.Wanted.{MeetsHeld, TypesOver, Types, Met, wantedAt, Wants, WantsAll, metFrom}
 
 -- The loop that fills with one value.
 pub record Filling (value k : ℕ) (types : List ℕ) : Type 0 where
@@ -41,7 +41,7 @@ met-cons n t g map y c v = refl
 
 -- What is met over the nodes from y on: types, and by each table that has the meets the right ones.
 pub record Meeting (n : ℕ) (meets : List (List ℕ)) (nodes : ℕ) (g map : List ℕ) (y : ℕ) (met : List ℕ) : Type 0 where
-  pub typed : Typed n meets nodes g map
+  pub typed : TypesOver n meets nodes g map
   pub left : y ≤ size g
   pub types : Types n nodes met
   pub each : (t : List ℕ) → MeetsHeld n t meets → Met n t nodes g map y (size g - y) met
@@ -57,7 +57,7 @@ pub record Turn (n : ℕ) (g map met : List ℕ) (y : ℕ) : Type 0 where
   pub met-known : getD met (getD map y 0) 0 < n
 
 module _ {n : ℕ} {meets : List (List ℕ)} {nodes : ℕ} {g map : List ℕ} where
-  pub met-start : {met : List ℕ} → Typed n meets nodes g map → length met ≡ 255 → ((v : ℕ) → v < nodes → getD met v 0 ≡ n - 1) →
+  pub met-start : {met : List ℕ} → TypesOver n meets nodes g map → length met ≡ 255 → ((v : ℕ) → v < nodes → getD met v 0 ≡ n - 1) →
       Meeting n meets nodes g map (size g) met
   unfolding metFrom meetWhere from
   met-start {met} typed long top =

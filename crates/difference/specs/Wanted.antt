@@ -22,7 +22,7 @@ unfoldable pub metFrom : ℕ → List ℕ → List ℕ → List ℕ → ℕ → 
 metFrom n t g map y count v = meetWhere (typeLabels n t) (λ y. eqb (getD map y 0) v) (λ y. labelAt g y) (from y count)
 
 -- Meets of n types, the types of g's nodes, and a map of these to `nodes` nodes.
-pub record Typed (n : ℕ) (meets : List (List ℕ)) (nodes : ℕ) (g map : List ℕ) : Type 0 where
+pub record TypesOver (n : ℕ) (meets : List (List ℕ)) (nodes : ℕ) (g map : List ℕ) : Type 0 where
   pub two : 2 ≤ n
   pub few : n ≤ 64
   pub closed : (i j : ℕ) → i < n → j < n → getD (getD meets i []) j 0 < n

@@ -6,7 +6,7 @@ ghost use Prim.Native.Nat.{ℕ, _≤_, _<_};
 ghost use lib.ListN.{length, getD};
 ghost use Rattle.layout.specs.Layout.{size};
 ghost use Rattle.difference.specs.Asked.{Asked};
-ghost use Rattle.difference.specs.Wanted.{MeetsHeld, Met, Typed, Types, WantsAll};
+ghost use Rattle.difference.specs.Wanted.{MeetsHeld, Met, TypesOver, Types, WantsAll};
 
 // Fills the first `nodes` types with one.
 fn clear(value: u8, nodes: usize, types: &mut [u8; 255])
@@ -30,7 +30,7 @@ pub fn meet_over<'a>(
     map: &'a [u16; 255],
     met: &mut [u8; 255],
 )
-    requires { ⌜ Typed n (now meets) nodes (now g) (now map) × (length (now met) ≡ 255) ⌝ }
+    requires { ⌜ TypesOver n (now meets) nodes (now g) (now map) × (length (now met) ≡ 255) ⌝ }
     ensures { λ _. ⌜ Types n nodes (now (met .exit)) ⌝ }
     ensures { λ _. ⌜ ((t : List ℕ) → MeetsHeld n t (now (meets .entry)) → Met n t nodes (now (g .entry)) (now (map .entry)) 0 (size (now (g .entry))) (now (met .exit))) ⌝ }
 {

@@ -35,7 +35,7 @@ use Rattle.record.proofs.Rewritten.{form-rules, rules-read}
 use Rattle.subsume.specs.declared.Order.{Order}
 use Rattle.subsume.specs.declared.Order.the-variants as order
 use Rattle.subsume.specs.Promise.{Orders}
-use Rattle.difference.specs.Promise.{wantedType as wantedAlong, allWanted as allAlong, differenceOf}
+use Rattle.difference.specs.Promise.{wantedAlong, allWantedAlong, differenceAlong}
 use Rattle.difference.specs.Asked.{Asked}
 use Rattle.engine.specs.declared.Side.{Side}
 use Rattle.engine.specs.declared.PairVerdict.{PairVerdict}
@@ -106,25 +106,25 @@ module _ (n : ℕ) (t : List ℕ) (s g : List (Row Label)) (map : List ℕ) (gen
   lies y h = sym (over-only n t g s general (map-below along) (λ y. getD map y 0) along y h)
 
   -- the wanted types along it are the wanted types
-  wanted-along : (v : ℕ) → wantedAlong n t s g map v ≡ wantedType n t s g v
-  unfolding wantedAlong wantedType
+  wanted-along : (v : ℕ) → wantedAlong n t s g (λ y. getD map y 0) v ≡ wantedType n t s g v
+  unfolding wantedAlong
   wanted-along v =
       ap (types.wanted n t (graphOfRows s .label v))
       (meetOver-agree (typeLabels n t) eqb (graphOfRows g) (from 0 (length g)) (λ y. getD map y 0) (over s g)
       (λ y m. lies y (omega (arith, from-range 0 (length g) y m))) v)
 
-  all-along : allAlong n t s g map ≡ allWanted n t s g
-  unfolding allAlong allWanted
+  all-along : allWantedAlong n t s g (λ y. getD map y 0) ≡ allWanted n t s g
+  unfolding allWantedAlong
   all-along =
-      every-same (λ v. types.found (wantedAlong n t s g map v)) (λ v. types.found (wantedType n t s g v)) (length s)
+      every-same (λ v. types.found (wantedAlong n t s g (λ y. getD map y 0) v)) (λ v. types.found (wantedType n t s g v)) (length s)
       (λ v _. ap types.found (wanted-along v))
 
   -- and the difference along it is the difference
-  difference-along : differenceOf n t s g map ≡ differenceRows n t g s
-  unfolding differenceOf differenceRows
+  difference-along : differenceAlong n t s g (λ y. getD map y 0) ≡ differenceRows n t g s
+  unfolding differenceAlong
   difference-along =
       difference-agree (typeLabels n t) eqb eqb byNumber (graphOfRows s) (from 0 (length s)) (graphOfRows g) (from 0 (length g))
-      (λ y. getD map y 0) (over s g) (λ v. types.cell (wantedAlong n t s g map v)) (λ v. types.cell (wantedType n t s g v))
+      (λ y. getD map y 0) (over s g) (λ v. types.cell (wantedAlong n t s g (λ y. getD map y 0) v)) (λ v. types.cell (wantedType n t s g v))
       (λ y m. lies y (omega (arith, from-range 0 (length g) y m))) (λ v. ap types.cell (wanted-along v))
 
 -- what the difference asks
@@ -171,7 +171,7 @@ module _ (n : ℕ) (t out : List ℕ) {a : List ℕ} (g s : List ℕ) (given : A
     lies-below : below ≡ true
     lies-below = order-test n t (rowsOf s) (rowsOf g) (accepts-rules given) .1 (map-below (orders .yes-stands e))
 
-    chosen-all : (b : Bool) → b ≡ allAlong n t (rowsOf s) (rowsOf g) map →
+    chosen-all : (b : Bool) → b ≡ allWantedAlong n t (rowsOf s) (rowsOf g) (λ y. getD map y 0) →
         chosen true b ≡ differed n t out (rowsOf g) (rowsOf s)
     unfolding differed
     chosen-all b all =
@@ -179,12 +179,12 @@ module _ (n : ℕ) (t out : List ℕ) {a : List ℕ} (g s : List ℕ) (given : A
         ap (λ (x : Bool). chosen x (allWanted n t (rowsOf s) (rowsOf g))) (sym lies-below)
 
     -- 13
-    pub differed-unwanted : false ≡ allAlong n t (rowsOf s) (rowsOf g) map →
+    pub differed-unwanted : false ≡ allWantedAlong n t (rowsOf s) (rowsOf g) (λ y. getD map y 0) →
         resulting NoWantedType out ≡ differed n t out (rowsOf g) (rowsOf s)
     differed-unwanted = chosen-all false
 
-    pub differed-as : true ≡ allAlong n t (rowsOf s) (rowsOf g) map → {w : Written} {r : Reply} {new : List ℕ} →
-        yielding w new ≡ writtenOut (canonical eqb (differenceOf n t (rowsOf s) (rowsOf g) map)) out →
+    pub differed-as : true ≡ allWantedAlong n t (rowsOf s) (rowsOf g) (λ y. getD map y 0) → {w : Written} {r : Reply} {new : List ℕ} →
+        yielding w new ≡ writtenOut (canonical eqb (differenceAlong n t (rowsOf s) (rowsOf g) (λ y. getD map y 0))) out →
         r ≡ replyOf w → resulting r new ≡ differed n t out (rowsOf g) (rowsOf s)
     differed-as all {new = new} answers said =
         ap (λ (x : Reply). resulting x new) said ∙ ap resultOf answers ∙

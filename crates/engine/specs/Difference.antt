@@ -6,16 +6,15 @@ use Prim.Native.Nat.{ℕ}
 use lib.Dec.{eqb}
 use lib.ListN.{length}
 use Rattle.graphs.specs.Graph.{Graph}
-use Rattle.graphs.specs.Rows.{Row, from}
+use Rattle.graphs.specs.Rows.{Row}
 use Rattle.graphs.specs.Number.{Canonical, manyNodes, manyLinks, written, canonical}
 use Rattle.graphs.specs.Order.{meetings, subsumes}
-use Rattle.graphs.specs.Difference.{byNumber, meetOver, difference}
 use Rattle.lattice.specs.Label.{Label}
-use Rattle.lattice.specs.Table.{every, found, cell, wanted}
 use Rattle.lattice.specs.Reply.{opened}
 use Rattle.lattice.specs.Labels.{typeLabels}
 use Rattle.encode.specs.Encode.{writtenOut}
 use Rattle.record.specs.Read.{graphOfRows, reading}
+use Rattle.difference.specs.Promise.{wantedAlong, allWantedAlong, differenceAlong}
 use Rattle.engine.specs.declared.Reply.the-variants.{NotBelow, NoWantedType}
 use Rattle.engine.specs.Reply.{Result, resultOf, refusing, checked, readBoth}
 
@@ -28,21 +27,17 @@ firstAt y (x ∷ xs) = cond (eqb (x .1) y) (x .0) (firstAt y xs)
 unfoldable pub over : List (Row Label) → List (Row Label) → ℕ → ℕ
 over s g y = firstAt y (meetings (graphOfRows s) (graphOfRows g) (length g))
 
--- "The wanted type is the greatest type whose meet with the meet of all g types over this node (top if none) equals the type in s"; none
--- where "none is the greatest"
-unfoldable pub wantedType : ℕ → List ℕ → List (Row Label) → List (Row Label) → ℕ → Option ℕ
-wantedType n t s g v =
-    wanted n t (graphOfRows s .label v) (meetOver (typeLabels n t) eqb (graphOfRows g) (from 0 (length g)) (over s g) v)
+-- the wanted type of the node v of s, where it has one
+abbrev pub wantedType : ℕ → List ℕ → List (Row Label) → List (Row Label) → ℕ → Option ℕ
+wantedType n t s g v = wantedAlong n t s g (over s g) v
 
--- every node of s, kept or not, has a wanted type
-unfoldable pub allWanted : ℕ → List ℕ → List (Row Label) → List (Row Label) → Bool
-allWanted n t s g = every (length s) λ v. found (wantedType n t s g v)
+-- every node of s has a wanted type
+abbrev pub allWanted : ℕ → List ℕ → List (Row Label) → List (Row Label) → Bool
+allWanted n t s g = allWantedAlong n t s g (over s g)
 
 -- the difference of g and s, for s below g where every node of s has a wanted type
-unfoldable pub differenceRows : ℕ → List ℕ → List (Row Label) → List (Row Label) → Graph Label ℕ
-differenceRows n t g s =
-    difference (typeLabels n t) eqb eqb byNumber (graphOfRows s) (from 0 (length s)) (graphOfRows g) (from 0 (length g))
-    (over s g) (λ v. cell (wantedType n t s g v))
+abbrev pub differenceRows : ℕ → List ℕ → List (Row Label) → List (Row Label) → Graph Label ℕ
+differenceRows n t g s = differenceAlong n t s g (over s g)
 
 -- 12, then 13, else the difference in written form
 unfoldable pub differed : ℕ → List ℕ → List ℕ → List (Row Label) → List (Row Label) → Result

@@ -84,6 +84,7 @@ use Rattle.record.specs.Read.{inRange, cyclic, reachesAll, reading, accepted, g
 use Rattle.record.proofs.Accepted.{accepted-rules}
 use Rattle.record.proofs.Theorems.{accepted-of-any-size}
 use Rattle.generalize.specs.Pairs.{samePair}
+use Rattle.difference.specs.Promise.{wantedAlong, allWantedAlong, differenceAlong}
 use Rattle.engine.specs.Reply.{generalized, generalizing}
 use Rattle.engine.specs.Unification.{unifiedRows, unifying}
 use Rattle.engine.specs.Difference.{firstAt, over, wantedType, allWanted, differenceRows, differed, differedRows, differing}
@@ -95,7 +96,7 @@ use Rattle.small_set.specs.Cases.{threeMiddles, twoOverTwo, NeverUnwante
 all-hold : AllHold cases
 unfolding
     bind orElse
-    generalizing generalized unifying unifiedRows differing differedRows differed allWanted differenceRows wantedType over firstAt
+    generalizing generalized unifying unifiedRows differing differedRows differed allWantedAlong differenceAlong wantedAlong over firstAt
     opened sized ordered confined reflexive antisymmetric transitive least greatest bounded meet isMeet join isJoin every last below
     restores isWanted wanted
     reading decoded takeRows takeRow takeLinks bitOf inRange allOf cyclic anyOf deep reachesAll
@@ -140,7 +141,7 @@ three-middles-wanted = refl
 no-unwanted : (n : ℕ) (t first second out : List ℕ) (g s : List (Row Label)) → opened n t ≡ Accepted →
     every n (λ p. every n λ q. implies (not (eqb p 0) && below t p q) (found (wanted n t p q))) ≡ true →
     reading n first ≡ accepted g → reading n second ≡ accepted s → differing n t first second out .reply ≡ NoWantedType → ⊥
-unfolding wantedType
+unfolding wantedAlong
 no-unwanted n t first second out g s opens all e f told =
     let ok = opened-accepted n t (opened n t) refl opens in
     let general = accepted-rules n first g e in

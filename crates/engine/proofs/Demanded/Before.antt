@@ -25,6 +25,7 @@ use Rattle.record.specs.Read.{Reading, refused, accepted, graphOfRows, reading}
 use Rattle.record.proofs.Accepted.{Rules, accepted-rules, rules-of-any-size, rules-fit}
 use Rattle.record.proofs.Theorems.{written-reads}
 use Rattle.graphs.proofs.Lists.{tells-eqb}
+use Rattle.difference.specs.Promise.{wantedAlong, allWantedAlong, differenceAlong}
 use Rattle.engine.specs.declared.Reply.{Reply}
 use Rattle.engine.specs.declared.Reply.the-variants.{NotBelow, NoWantedType}
 use Rattle.engine.specs.Reply.{Result, refusal, resultOf, refusing, checked, readBoth}
@@ -44,13 +45,13 @@ module _ (n : ℕ) (t : List ℕ) (ok : table.accepted n t ≡ true) (differ : t
 
     -- the wanted type of each node is the residual
     wanted-is : (v : ℕ) → wantedType n t s g v ≡ table.residual n t (graphOfRows s .label v) (meetAt v)
-    unfolding wantedType
+    unfolding wantedAlong
     wanted-is v =
         wanted-residual n t ok differ (graphOfRows s .label v) (meetAt v) (label-known (zero-type n t ok) specific v)
         (meet-type n t ok g s general specific below v) (label-below n t ok g s general specific below v)
 
     admits-wanted : allWanted n t s g ≡ true
-    unfolding allWanted
+    unfolding allWantedAlong
     admits-wanted =
         every-all (λ v. table.found (wantedType n t s g v)) (length s) λ v _.
         ap table.found
@@ -59,7 +60,7 @@ module _ (n : ℕ) (t : List ℕ) (ok : table.accepted n t ≡ true) (differ : t
         (meet-type n t ok g s general specific below v) .1 .is)
 
     residual-rows : differenceRows n t g s ≡ residualRows n t g s
-    unfolding differenceRows residualRows
+    unfolding differenceAlong residualRows
     residual-rows =
         ap
         (λ (w : ℕ → ℕ). difference (typeLabels n t) eqb eqb byNumber (graphOfRows s) (from 0 (length s)) (graphOfRows g) (from 0 (length g))

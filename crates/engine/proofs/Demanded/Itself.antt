@@ -4,7 +4,7 @@ use mathlib.Core.Path.{_≡_, refl, sym, _∙_, ap, subst}
 use mathlib.Core.Bool.{true}
 use mathlib.Core.List.{List, [], _∷_, List·Memᴰ, List·Memᴰ·head, List·Memᴰ·not-nil, List·Memᴰ·cases-cons}
 use mathlib.Core.Logic.{_↔_, inl, inr, ⊎-elim}
-use mathlib.Core.Option.{some, none}
+use mathlib.Core.Option.{some, none, bind}
 use Prim.Native.Nat.{ℕ, _-_, _<_}
 use native.Mathlib.Omega.{arith}
 use borrow.Author.Tests.{ne-eqb}
@@ -52,7 +52,7 @@ lone-path c (f ∷ p) v e = none-some (sym (follow-none (lone c .link) p) ∙ e)
 
 -- its record, and its bytes
 lone-form : (c : Label) → canonical eqb (lone c) ≡ written ((c, []) ∷ [])
-unfolding canonical visit each member indexOf outDegree linkCount rowOf linksOf target from
+unfolding canonical visit each member indexOf outDegree linkCount rowOf linksOf target from bind
 lone-form c = refl
 
 lone-encoded : (n : ℕ) → encoded ((n - 1, []) ∷ []) ≡ loneTop n

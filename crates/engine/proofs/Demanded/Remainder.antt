@@ -34,6 +34,7 @@ use Rattle.lattice.proofs.AnySize.{
 use Rattle.record.specs.Read.{graphOfRows}
 use Rattle.record.proofs.Nodes.{few-nodes, few-links}
 use Rattle.record.proofs.Accepted.{Rules, rules-linked}
+use Rattle.difference.specs.Promise.{wantedAlong, differenceAlong}
 use Rattle.engine.specs.Difference.{over, wantedType, allWanted, differenceRows}
 use Rattle.engine.specs.Demand.{Large, Restores}
 use Rattle.engine.proofs.Over.{over-map}
@@ -82,7 +83,7 @@ module _ (n : ℕ) (t : List ℕ) (ok : table.accepted n t ≡ true) (g s : List
 
     -- the wanted types, as labels
     wanted-low : (v : ℕ) → table.cell (wantedType n t s g v) < n
-    unfolding wantedType
+    unfolding wantedAlong
     wanted-low v =
         let (c, e) = found v in
         subst (λ (x : ℕ). x < n) (sym (ap table.cell e))
@@ -93,7 +94,7 @@ module _ (n : ℕ) (t : List ℕ) (ok : table.accepted n t ≡ true) (g s : List
 
     wanted-label : (v : ℕ) →
         IsWanted (lawful n t ok) (labelOver n t ok g s general specific below v) (lift n t ok (graphOfRows s) .label v) (wantedLabel v)
-    unfolding wantedType
+    unfolding wantedAlong
     wanted-label v =
         let (c, e) = found v in
         lawful-wanted n t ok (labelOver n t ok g s general specific below v) (lift n t ok (graphOfRows s) .label v) (wantedLabel v)
@@ -107,7 +108,7 @@ module _ (n : ℕ) (t : List ℕ) (ok : table.accepted n t ≡ true) (g s : List
         (λ v. wantedLabel v .0)
 
     rows-difference : differenceRows n t g s ≡ byTypes
-    unfolding differenceRows
+    unfolding differenceAlong
     rows-difference = refl
 
     setting : Setting (lawful n t ok) eqb eqb byNumber (lift n t ok (graphOfRows s)) (from 0 (length s)) (lift n t ok (graphOfRows g))

@@ -30,6 +30,7 @@ use Rattle.lattice.proofs.Lawful.{TypeBelow, typed-number, lawful, lawful-latti
 use Rattle.lattice.proofs.Transfer.{lift, map-lift, meetOver-number}
 use Rattle.record.specs.Read.{graphOfRows}
 use Rattle.record.proofs.Accepted.{Rules, rules-of-any-size, rules-nodes}
+use Rattle.difference.specs.Promise.{wantedAlong, allWantedAlong}
 use Rattle.engine.specs.Difference.{over, wantedType, allWanted}
 use Rattle.engine.proofs.Tables.{label-known}
 use Rattle.engine.proofs.Over.{over-map}
@@ -163,7 +164,7 @@ module _ (n : ℕ) (t : List ℕ) (ok : table.accepted n t ≡ true) (g s : List
 
   -- The wanted type that is computed is the wanted type of the node.
   pub wanted-exact : (v c : ℕ) → (wantedType n t s g v ≡ some c) ↔ WantedAt n t (graphOfRows s) (graphOfRows g) v c
-  unfolding wantedType
+  unfolding wantedAlong
   wanted-exact v c = (
     λ e.
         let w = wanted-sound n t ok (graphOfRows s .label v) (meetAt v) c (meet-type v) e in
@@ -179,7 +180,7 @@ module _ (n : ℕ) (t : List ℕ) (ok : table.accepted n t ≡ true) (g s : List
 
   -- Some node has none exactly where the test of all nodes fails.
   pub unwanted-exact : (allWanted n t s g ≡ false) ↔ SomeUnwanted n t (graphOfRows s) (graphOfRows g)
-  unfolding allWanted
+  unfolding allWantedAlong
   unwanted-exact = (
     λ e.
         let (v, l, missed) = every-missed (λ v. table.found (wantedType n t s g v)) (length s) e in
@@ -200,7 +201,7 @@ module _ (n : ℕ) (t : List ℕ) (ok : table.accepted n t ≡ true) (g s : List
 
   -- past the nodes of s there is no type, nothing of g lies over, and type 0 is found
   wanted-past : (v : ℕ) → length s ≤ v → wantedType n t s g v ≡ some 0
-  unfolding wantedType meetOver
+  unfolding wantedAlong meetOver
   wanted-past v past =
       let label : graphOfRows s .label v ≡ 0 = ap (λ (r : Row Label). r .0) (List·getD-eq-default s (0, []) past) in
       let top : meetAt v ≡ n - 1 =
@@ -212,7 +213,7 @@ module _ (n : ℕ) (t : List ℕ) (ok : table.accepted n t ≡ true) (g s : List
 
   -- where every node has a wanted type
   pub wanted-found : allWanted n t s g ≡ true → (v : ℕ) → (c : ℕ) × (wantedType n t s g v ≡ some c)
-  unfolding allWanted
+  unfolding allWantedAlong
   wanted-found all v = go (decLt v (length s))
     where
       go : Dec (v < length s) → (c : ℕ) × (wantedType n t s g v ≡ some c)
