@@ -32,7 +32,7 @@ use Rattle.engine.specs.declared.Reply.{Reply}
 use Rattle.engine.specs.declared.Reply.the-variants.{Length, Yes, No, Table, Graph, NoRoom, Cycle, Clash, TooLarge, NotBelow, NoWantedType}
 use Rattle.engine.specs.Reply.{Result, Bounded, kindOf, refusal, checked, refusing, readBoth, resultOf, generalizing, generalized, ordering, ordered}
 use Rattle.engine.specs.Unification.{sameEither, combined, unifiedRows, unifying}
-use Rattle.engine.specs.Difference.{differenceRows, differed, numbered, differedRows, differing}
+use Rattle.engine.specs.Difference.{allWanted, differenceRows, differed, numbered, differedRows, differing}
 use Rattle.engine.proofs.Numbers.{numberIn, number-small, kind-bounded}
 use Rattle.request.specs.declared.parse.Operation.{Operation}
 use Rattle.request.specs.declared.parse.Operation.the-variants.{Generalize, Unify, Difference, Order}

@@ -1,6 +1,5 @@
 -- The exported call answers the code of what the engine replies, and leaves the output that the engine leaves.
 use borrow.Author.Needs.{needs}
-use Rattle.engine.proofs.Replies.{results}
 use Rattle.record_engine.proofs.Codes.{codes}
 use Rattle.record_engine.proofs.record_difference.Statement.{statement}
 use Rattle.record_engine.proofs.record_difference.Tie as tie
