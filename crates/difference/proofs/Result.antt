@@ -39,11 +39,11 @@ use Rattle.groups.specs.Cover.{Lying}
 use Rattle.groups.specs.Marks.{Marked}
 use Rattle.groups.proofs.Leading.{At, at-one, one-at, at-link, link-stands, Says, follows-it, leads-covered, leads-bare, mark-says}
 use Rattle.difference.specs.Promise.{wantedAlong, differenceAlong, allWantedAlong}
-use Rattle.difference.specs.Wanted.{MeetsHeld, TypesOver, wantedAt, Wants, WantsAll, metFrom}
+use Rattle.difference.specs.Wanted.{TypesOver, wantedAt, Wants, WantsAll, metFrom}
 use Rattle.difference.specs.Keeping.{Leads, several, alone, Stays, Why, isRoot, caused, untop, onward, Keeps, Ready}
 use Rattle.difference.specs.Thinning.{Kept}
 use Rattle.difference.specs.Asked.{Asked}
-use Rattle.difference.proofs.Wanting.{meets-closed, wants-types, meetWhere-same}
+use Rattle.difference.proofs.Wanting.{wants-types, meetWhere-same}
 use Rattle.difference.proofs.Thinning.{rows-sound, copied-feature, copied-target}
 
 -- Links lead along a path.
@@ -114,13 +114,12 @@ module _ {n : ℕ} {t gw sw map : List ℕ} (asked : Asked n t gw sw map) where
       reached-inside s-sound (over y) (r .0, walk-map (asked .lies) (r .0) y (r .1))
 
   -- what meeting the types of g asks
-  pub asked-typed : {meets : List (List ℕ)} → MeetsHeld n t meets → TypesOver n meets (size sw) gw map
-  asked-typed {meets} held =
+  pub asked-typed : TypesOver n (size sw) gw map
+  asked-typed =
       let size = accepted-size n t (asked .ok) in
       record {
         two = size .0;
         few = size .1;
-        closed = meets-closed n t (asked .ok) meets held;
         small = asked .lower .small;
         sound = g-sound;
         upper-small = asked .upper .small;

@@ -3,11 +3,10 @@
 use mathlib.Core.Path.{_≡_, refl, sym, _∙_, ap, subst}
 use mathlib.Core.Bool.{Bool, true, false, cond}
 use mathlib.Core.List.{List, [], List·Memᴰ}
-use Prim.Native.Nat.{ℕ, _≤_, _<_}
+use Prim.Native.Nat.{ℕ, _<_}
 use native.Mathlib.Omega.{arith}
 use lib.Dec.{eqb}
 use lib.ListN.{length, getD}
-use Rattle.graphs.specs.Graph.{AnySize, Reached}
 use Rattle.graphs.specs.Map.{NodeMap}
 use Rattle.graphs.specs.Rows.{Row, from}
 use Rattle.graphs.specs.Number.{canonical}
@@ -128,9 +127,9 @@ module _ (n : ℕ) (t : List ℕ) (s g : List (Row Label)) (map : List ℕ) (gen
       (λ y m. lies y (omega (arith, from-range 0 (length g) y m))) (λ v. ap types.cell (wanted-along v))
 
 -- what the difference asks
-pub ready-below : (n : ℕ) (t : List ℕ) (meets : List (List ℕ)) (g s : List ℕ) {answer : Order} {map : List ℕ} →
-    Comparable n t meets g s → Orders n t (rowsOf s) (rowsOf g) answer map → answer ≡ order.Below → Asked n t g s map
-ready-below n t meets g s given orders below =
+pub ready-below : (n : ℕ) (t g s : List ℕ) {answer : Order} {map : List ℕ} → Comparable n t g s →
+    Orders n t (rowsOf s) (rowsOf g) answer map → answer ≡ order.Below → Asked n t g s map
+ready-below n t g s given orders below =
     let few = accepted-size n t (given .accepts) .1 in
     let one = loaded-accepts (given .general) in
     let other = loaded-accepts (given .specific) in

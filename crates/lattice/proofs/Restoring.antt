@@ -10,8 +10,8 @@ use lib.ListN.{getD}
 use lib.Dec.{eqb}
 use lib.Bits.{bitAnd, bitOr, and-comm, and-self}
 use borrow.Author.Tests.{eq-eqb, ne-eqb, eqb-true, not-true}
-use Rattle.lattice.specs.Table.{every, implies, below, accepted, restores, isWanted, wanted, cell}
-use Rattle.lattice.specs.Words.{word, related, Words, bit, without, partOf, wordRestores, Restoring, holder, Sided, Inside}
+use Rattle.lattice.specs.Table.{every, implies, below, accepted, restores, isWanted, wanted, cell, meet}
+use Rattle.lattice.specs.Words.{word, related, Words, bit, without, partOf, wordRestores, Restoring, WantedOver, holder, Sided, Inside}
 use Rattle.lattice.proofs.Every.{
   and-left,
   and-right,
@@ -20,7 +20,6 @@ use Rattle.lattice.proofs.Every.{
   implies-from,
   every-at,
   every-all,
-  every-none,
   same-test,
   true-not-false,
   not-false-true,
@@ -47,28 +46,27 @@ use Rattle.lattice.proofs.Laws.{
 
 -- The loop that unites the words of the types before k.
 
-pub restoring-none : (ws : List ℕ) (p q : ℕ) → Restoring 0 ws p q 0
+pub restoring-none : (ws : List ℕ) (lower over : ℕ) → Restoring 0 ws lower over 0
 unfolding every
-restoring-none ws p q m = part-from 0 m λ j e. absurd (true-not-false (bit 0 j) e (no-bit j))
+restoring-none ws lower over m = part-from 0 m λ j e. absurd (true-not-false (bit 0 j) e (no-bit j))
 
-module _ (ws : List ℕ) (p q k u : ℕ) (r : Restoring k ws p q u) where
-  pub restoring-more : bitAnd (getD ws k 0) (getD ws q 0) ≡ getD ws p 0 → Restoring (k + 1) ws p q (bitOr u (getD ws k 0))
+module _ (ws : List ℕ) (lower over k u : ℕ) (r : Restoring k ws lower over u) where
+  pub restoring-more : bitAnd (getD ws k 0) over ≡ lower → Restoring (k + 1) ws lower over (bitOr u (getD ws k 0))
   unfolding every
-  restoring-more e m =
-      or-part u (getD ws k 0) m ∙
-      rw (add-one, r m, eq-eqb (bitAnd (getD ws k 0) (getD ws q 0)) (getD ws p 0) e)
+  restoring-more e m = or-part u (getD ws k 0) m ∙ rw (add-one, r m, eq-eqb (bitAnd (getD ws k 0) over) lower e)
 
-  pub restoring-kept : (bitAnd (getD ws k 0) (getD ws q 0) ≡ getD ws p 0 → ⊥) → Restoring (k + 1) ws p q u
+  pub restoring-kept : (bitAnd (getD ws k 0) over ≡ lower → ⊥) → Restoring (k + 1) ws lower over u
   unfolding every
   restoring-kept e m =
-      rw (add-one, r m, ne-eqb (bitAnd (getD ws k 0) (getD ws q 0)) (getD ws p 0) e) (go (every k λ c. implies (wordRestores ws p q c) (partOf (getD ws c 0) m)))
+      rw (add-one, r m, ne-eqb (bitAnd (getD ws k 0) over) lower e)
+      (go (every k λ c. implies (wordRestores ws lower over c) (partOf (getD ws c 0) m)))
     where
       go : (b : Bool) → b ≡ (b && true)
       go true = refl
       go false = refl
 
-  pub restoring-done : (n : ℕ) → k ≤ n → n ≤ k → Restoring n ws p q u
-  restoring-done n l s = let e : k ≡ n = omega arith in subst (λ (i : ℕ). Restoring i ws p q u) e r
+  pub restoring-done : (n : ℕ) → k ≤ n → n ≤ k → Restoring n ws lower over u
+  restoring-done n l s = let e : k ≡ n = omega arith in subst (λ (i : ℕ). Restoring i ws lower over u) e r
 
 -- a word is part of itself, and words that are parts of each other are one
 part-self : (a : ℕ) → partOf a a ≡ true
@@ -96,44 +94,52 @@ module _ (n : ℕ) (t ws : List ℕ) (ok : accepted n t ≡ true) (words : Words
   part-below d c l s e =
       sym (row-bit n t ws few words c d s (omega (arith, few))) ∙ part-bit (getD ws d 0) (getD ws c 0) e d (laws .own d l)
 
-  -- the test on words decides whether the meet of d and q is p
-  restores-test : (p q d : ℕ) → p < n → q < n → d < n → wordRestores ws p q d ≡ restores n t p q d
-  restores-test p q d lp lq ld =
-      let r : (m : ℕ) × Meet n t d q m = meet-exists n t ok d q ld lq in
-      let m : Meet n t d q (r .0) = r .1 in
-      let common : bitAnd (getD ws d 0) (getD ws q 0) ≡ getD ws (r .0) 0 =
-      rw (words d ld, words q lq, words (r .0) (m .type))
+  -- types of one word are one
+  one-word : (a b : ℕ) → a < n → b < n → getD ws a 0 ≡ getD ws b 0 → a ≡ b
+  one-word a b l s e =
+      laws .anti a b l s (ap (λ (w : ℕ). bit w b) e ∙ laws .own b s) (ap (λ (w : ℕ). bit w a) (sym e) ∙ laws .own a l)
+
+  -- the common part of two words is the word of the meet
+  common-word : (d q m : ℕ) → d < n → q < n → Meet n t d q m → bitAnd (getD ws d 0) (getD ws q 0) ≡ getD ws m 0
+  common-word d q m ld lq is =
+      rw (words d ld, words q lq, words m (is .type))
       (word-and 64 (related t false d) (related t false q) ∙
-      word-same 64 (λ j. below t j d && below t j q) (related t false (r .0)) λ j l.
-      same-test (below t j d && below t j q) (below t j (r .0))
+      word-same 64 (λ j. below t j d && below t j q) (related t false m) λ j l.
+      same-test (below t j d && below t j q) (below t j m)
       (λ e.
       let f : below t j d ≡ true = and-left (below t j d) (below t j q) e in
-      m .greatest j (accepted-facts n t ok .inside d j ld l f) f (and-right (below t j d) (below t j q) e))
+      is .greatest j (accepted-facts n t ok .inside d j ld l f) f (and-right (below t j d) (below t j q) e))
       (λ e.
-      let i : j < n = accepted-facts n t ok .inside (r .0) j (m .type) l e in
-      and-both (below t j d) (below t j q) (below-transitive n t ok j (r .0) d i (m .type) ld e (m .left))
-      (below-transitive n t ok j (r .0) q i (m .type) lq e (m .right)))) in
-      same-test (wordRestores ws p q d) (eqb (r .0) p)
-      (λ e.
-      let same : getD ws (r .0) 0 ≡ getD ws p 0 = sym common ∙ eqb-true _ _ e in
-      eq-eqb (r .0) p
-      (laws .anti (r .0) p (m .type) lp
-      (ap (λ (w : ℕ). bit w p) same ∙ laws .own p lp)
-      (ap (λ (w : ℕ). bit w (r .0)) (sym same) ∙ laws .own (r .0) (m .type))))
-      (λ e. eq-eqb _ _ (common ∙ ap (λ (i : ℕ). getD ws i 0) (eqb-true (r .0) p e))) ∙
-      sym (meet-restores n t p q d (r .0) (m .is))
+      let i : j < n = accepted-facts n t ok .inside m j (is .type) l e in
+      and-both (below t j d) (below t j q) (below-transitive n t ok j m d i (is .type) ld e (is .left))
+      (below-transitive n t ok j m q i (is .type) lq e (is .right))))
 
-  module _ (p q u : ℕ) (lp : p < n) (lq : q < n) (all : Restoring n ws p q u) where
+  pub meet-word : (d q : ℕ) → d < n → q < n → bitAnd (getD ws d 0) (getD ws q 0) ≡ getD ws (cell (meet n t d q)) 0
+  meet-word d q ld lq =
+      let r : (m : ℕ) × Meet n t d q m = meet-exists n t ok d q ld lq in
+      common-word d q (r .0) ld lq (r .1) ∙ ap (λ (i : ℕ). getD ws i 0) (sym (ap cell (r .1 .is)))
+
+  -- the test on words decides whether the meet of d and q is p
+  restores-test : (p q d : ℕ) → p < n → q < n → d < n → wordRestores ws (getD ws p 0) (getD ws q 0) d ≡ restores n t p q d
+  restores-test p q d lp lq ld =
+      let r : (m : ℕ) × Meet n t d q m = meet-exists n t ok d q ld lq in
+      let common : bitAnd (getD ws d 0) (getD ws q 0) ≡ getD ws (r .0) 0 = common-word d q (r .0) ld lq (r .1) in
+      same-test (wordRestores ws (getD ws p 0) (getD ws q 0) d) (eqb (r .0) p)
+      (λ e. eq-eqb (r .0) p (one-word (r .0) p (r .1 .type) lp (sym common ∙ eqb-true _ _ e)))
+      (λ e. eq-eqb _ _ (common ∙ ap (λ (i : ℕ). getD ws i 0) (eqb-true (r .0) p e))) ∙
+      sym (meet-restores n t p q d (r .0) (r .1 .is))
+
+  module _ (p q u : ℕ) (lp : p < n) (lq : q < n) (all : Restoring n ws (getD ws p 0) (getD ws q 0) u) where
     -- the union is part of a word where the word of each type that restores is
     all-part : (m : ℕ) → ((d : ℕ) → d < n → restores n t p q d ≡ true → partOf (getD ws d 0) m ≡ true) → partOf u m ≡ true
     all-part m each =
         all m ∙
         every-all _ n λ d l.
-        implies-from (wordRestores ws p q d) (partOf (getD ws d 0) m) λ e. each d l (sym (restores-test p q d lp lq l) ∙ e)
+        implies-from (wordRestores ws (getD ws p 0) (getD ws q 0) d) (partOf (getD ws d 0) m) λ e. each d l (sym (restores-test p q d lp lq l) ∙ e)
 
     part-all : (m d : ℕ) → partOf u m ≡ true → d < n → restores n t p q d ≡ true → partOf (getD ws d 0) m ≡ true
     part-all m d e l f =
-        implies-at (wordRestores ws p q d) (partOf (getD ws d 0) m) (every-at _ n d (sym (all m) ∙ e) l)
+        implies-at (wordRestores ws (getD ws p 0) (getD ws q 0) d) (partOf (getD ws d 0) m) (every-at _ n d (sym (all m) ∙ e) l)
         (restores-test p q d lp lq l ∙ f)
 
     all-inside : Inside n u
@@ -189,13 +195,18 @@ module _ (n : ℕ) (t ws : List ℕ) (ok : accepted n t ≡ true) (words : Words
     unfolding holder wanted
     wanted-found = last-same _ _ n wanted-test
 
-    -- what the search answers for the union
-    pub wanted-cell : (r : ℕ) → ((m : ℕ) → m ≤ 64 → Sided m ws → Inside m u → r ≡ cell (holder m ws u)) → r ≡ cell (wanted n t p q)
-    wanted-cell r answer = answer n few laws all-inside ∙ ap cell wanted-found
+  -- what the search answers for the union
+  pub wanted-cell : (p over u r : ℕ) → p < n → Restoring n ws (getD ws p 0) over u →
+      ((m : ℕ) → m ≤ 64 → Sided m ws → Inside m u → r ≡ cell (holder m ws u)) → WantedOver n t ws p over r
+  wanted-cell p over u r lp all answer q lq e =
+      let all′ : Restoring n ws (getD ws p 0) (getD ws q 0) u = subst (λ (w : ℕ). Restoring n ws (getD ws p 0) w u) e all in
+      answer n few laws (all-inside p q u lp lq all′) ∙ ap cell (wanted-found p q u lp lq all′)
 
--- the answers without a search: q is p, or the greatest type
-pub same-cell : (n : ℕ) (t : List ℕ) → accepted n t ≡ true → (p q : ℕ) → p < n → q ≡ p → n - 1 ≡ cell (wanted n t p q)
-same-cell n t ok p q l e = sym (ap (λ (i : ℕ). cell (wanted n t p i)) e ∙ ap cell (wanted-of-same n t ok p l))
+  -- the answers without a search: q is p, or the greatest type
+  pub same-cell : (p over : ℕ) → p < n → over ≡ getD ws p 0 → WantedOver n t ws p over (n - 1)
+  same-cell p over lp e q lq f =
+      sym (ap (λ (i : ℕ). cell (wanted n t p i)) (one-word q p lq lp (sym f ∙ e)) ∙ ap cell (wanted-of-same n t ok p lp))
 
-pub top-cell : (n : ℕ) (t : List ℕ) → accepted n t ≡ true → (p q : ℕ) → p < n → q ≡ n - 1 → p ≡ cell (wanted n t p q)
-top-cell n t ok p q l e = sym (ap (λ (i : ℕ). cell (wanted n t p i)) e ∙ ap cell (wanted-by-top n t ok p l))
+  pub top-cell : (p over : ℕ) → p < n → over ≡ getD ws (n - 1) 0 → WantedOver n t ws p over p
+  top-cell p over lp e q lq f =
+      sym (ap (λ (i : ℕ). cell (wanted n t p i)) (one-word q (n - 1) lq (top-type n t ok) (sym f ∙ e)) ∙ ap cell (wanted-by-top n t ok p lp))

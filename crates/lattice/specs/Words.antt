@@ -8,7 +8,7 @@ use mathlib.Core.Option.{Option}
 use lib.ListN.{length, getD}
 use lib.Dec.{leb, eqb}
 use lib.Bits.{bitAnd, bitXor}
-use Rattle.lattice.specs.Table.{every, last, implies, below, found, cell}
+use Rattle.lattice.specs.Table.{every, last, implies, below, found, cell, wanted}
 
 -- a bit as a number
 abbrev pub digit : Bool → ℕ
@@ -68,13 +68,17 @@ pub record Sided (n : ℕ) (ws : List ℕ) : Type 0 where
 abbrev pub Inside : ℕ → ℕ → Type 0
 Inside n w = (j : ℕ) → j < 64 → bit w j ≡ true → j < n
 
--- the types below both c and q are those below p
+-- the common part of the word of c and `over` is `lower`
 abbrev pub wordRestores : List ℕ → ℕ → ℕ → ℕ → Bool
-wordRestores ws p q c = eqb (bitAnd (getD ws c 0) (getD ws q 0)) (getD ws p 0)
+wordRestores ws lower over c = eqb (bitAnd (getD ws c 0) over) lower
 
--- u is the union of the words of the first k types that restore p over q: it is part of a word where each of them is
+-- u is the union of the words of the first k types that restore `lower` over `over`: it is part of a word where each of them is
 abbrev pub Restoring : ℕ → List ℕ → ℕ → ℕ → ℕ → Type 0
-Restoring k ws p q u = (m : ℕ) → partOf u m ≡ every k λ c. implies (wordRestores ws p q c) (partOf (getD ws c 0) m)
+Restoring k ws lower over u = (m : ℕ) → partOf u m ≡ every k λ c. implies (wordRestores ws lower over c) (partOf (getD ws c 0) m)
+
+-- r is the wanted type of p over the type whose word is `over`, 64 where there is none
+abbrev pub WantedOver : ℕ → List ℕ → List ℕ → ℕ → ℕ → ℕ → Type 0
+WantedOver n t ws p over r = (q : ℕ) → q < n → over ≡ getD ws q 0 → r ≡ cell (wanted n t p q)
 
 module _ (n : ℕ) (ws : List ℕ) where
   -- the last type whose word is w

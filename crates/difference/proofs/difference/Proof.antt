@@ -16,42 +16,38 @@ use Rattle.difference.proofs.difference.Tie as tie
 
 mark-links-requires : tie.Need-mark-links-requires
 mark-links-requires c κs =
-    (lying-words (c .before .before .before .before .before .pre .0), length-replicate {A = ℕ} 2560 0)
+    (lying-words (c .before .before .before .before .before .pre .0 .0), length-replicate {A = ℕ} 2560 0)
 
 kept-nodes-requires : tie.Need-kept-nodes-requires
 kept-nodes-requires c κs =
     let start = c .before .before .before .before .before .before .before .before in
-    let size = accepted-size (start .args .n) (start .args .table .now) (start .pre .0 .ok) in (
-      (size .0, size .1, wants-types (start .pre .1)),
+    let size = accepted-size (start .args .n) (start .args .table .now) (start .pre .0 .0 .ok) in (
+      (size .0, size .1, wants-types (start .pre .0 .1)),
       (
         (
-          ready-words (start .pre .0) (c .before .before .mark-links .ensures .stands .long) (length-replicate {A = ℕ} 255 0),
+          ready-words (start .pre .0 .0) (c .before .before .mark-links .ensures .stands .long) (length-replicate {A = ℕ} 255 0),
           λ v h. getD-replicate {A = ℕ} 255 v 0 0 h,
         ),
-        acyclic-lower (start .pre .0),
+        acyclic-lower (start .pre .0 .0),
       ),
     )
 
 kept-links-requires : tie.Need-kept-links-requires
 kept-links-requires c κs =
     let start = c .before .before .before .before .before .before .before .before .before .before .before .before in
-    let size = accepted-size (start .args .n) (start .args .table .now) (start .pre .0 .ok) in
-    let types = wants-types (start .pre .1) in (
-      ready-words (start .pre .0) (c .before .before .before .before .before .before .mark-links .ensures .stands .long) (c .before .before .before .kept-nodes .ensures .long),
-      ((types .long, λ v h. omega (arith, types .known v h, size .1)), length-replicate {A = ℕ} 2560 0),
+    let size = accepted-size (start .args .n) (start .args .table .now) (start .pre .0 .0 .ok) in
+    let types = wants-types (start .pre .0 .1) in (
+      ready-words (start .pre .0 .0) (c .before .before .before .before .before .before .mark-links .ensures .stands .long) (c .before .before .before .kept-nodes .ensures .long),
+      ((types .long, λ v h. omega (arith, types .known v h, size .1)), start .pre .1),
     )
-
-slice-aggregate-write : tie.Need-slice-aggregate-write
-slice-aggregate-write c =
-    search needs
 
 write-requires : tie.Need-write-requires
 write-requires c κs =
-    let start = c .before .before .before .before .before .before .before .before .before .before .before .before .before .before .before in
-    let size = accepted-size (start .args .n) (start .args .table .now) (start .pre .0 .ok) in
-    let types = wants-types (start .pre .1) in
-    rows-sound (ready-words (start .pre .0) (c .before .before .before .before .before .before .before .before .before .mark-links .ensures .stands .long) (c .before .before .before .before .before .before .kept-nodes .ensures .long))
-    (λ v h. omega (arith, types .known v h, size .1)) (c .before .before .kept-links .ensures)
+    let start = c .before .before .before .before .before .before .before .before .before .before .before .before .before .before .before .before in
+    let size = accepted-size (start .args .n) (start .args .table .now) (start .pre .0 .0 .ok) in
+    let types = wants-types (start .pre .0 .1) in
+    rows-sound (ready-words (start .pre .0 .0) (c .before .before .before .before .before .before .before .before .before .before .mark-links .ensures .stands .long) (c .before .before .before .before .before .before .before .kept-nodes .ensures .long))
+    (λ v h. omega (arith, types .known v h, size .1)) (c .before .before .before .kept-links .ensures)
 
 same-length : tie.Need-same-length
 same-length c =
@@ -59,13 +55,13 @@ same-length c =
 
 returns : tie.Need-returns
 returns c =
-    let start = c .before .before .before .before .before .before .before .before .before .before .before .before .before .before .before .before .before .before in
-    let size = accepted-size (start .args .n) (start .args .table .now) (start .pre .0 .ok) in
-    let marked = c .before .before .before .before .before .before .before .before .before .before .before .before .mark-links .ensures in
-    let kept = c .before .before .before .before .before .before .before .before .before .kept-nodes .ensures in
+    let start = c .before .before .before .before .before .before .before .before .before .before .before .before .before .before .before .before .before .before .before in
+    let size = accepted-size (start .args .n) (start .args .table .now) (start .pre .0 .0 .ok) in
+    let marked = c .before .before .before .before .before .before .before .before .before .before .before .before .before .mark-links .ensures in
+    let kept = c .before .before .before .before .before .before .before .before .before .before .kept-nodes .ensures in
     let same =
-    result-canonical (start .pre .0) marked (start .pre .1) kept (ready-words (start .pre .0) (marked .stands .long) (kept .long)) (size .1)
-    (c .before .before .before .before .before .kept-links .ensures) in
+    result-canonical (start .pre .0 .0) marked (start .pre .0 .1) kept (ready-words (start .pre .0 .0) (marked .stands .long) (kept .long)) (size .1)
+    (c .before .before .before .before .before .before .kept-links .ensures) in
     c .before .before .write .ensures ∙ ap (λ (k : Canonical Label). writtenOut k (start .args .out .now)) (sym same)
 
 pub difference-spec : {M : Type 1} → statement M
@@ -75,7 +71,6 @@ difference-spec =
     mark-links-requires
     kept-nodes-requires
     kept-links-requires
-    slice-aggregate-write
     write-requires
     same-length
     returns)

@@ -5,12 +5,12 @@ use mathlib.Core.Bool.{true}
 use mathlib.Core.List.{List, [], _∷_, List·Memᴰ, List·Memᴰ·head, List·Memᴰ·not-nil, List·Memᴰ·cases-cons}
 use mathlib.Core.Logic.{_↔_, inl, inr, ⊎-elim}
 use mathlib.Core.Option.{some, none, bind}
-use Prim.Native.Nat.{ℕ, _-_, _<_}
+use Prim.Native.Nat.{ℕ, _-_}
 use native.Mathlib.Omega.{arith}
 use borrow.Author.Tests.{ne-eqb}
 use lib.Dec.{eqb}
 use lib.ListN.{length}
-use Rattle.graphs.specs.Graph.{Graph, walk, follow, Reached, Below, SameMeaning, AnySize}
+use Rattle.graphs.specs.Graph.{Graph, walk, follow, Reached, Below, SameMeaning}
 use Rattle.graphs.specs.Rows.{Row, from, linksOf, target}
 use Rattle.graphs.specs.Number.{canonical, written, visit, each, member, indexOf, outDegree, linkCount, rowOf}
 use Rattle.graphs.specs.Order.{subsumes}

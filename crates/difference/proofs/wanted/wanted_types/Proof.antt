@@ -1,11 +1,7 @@
 -- `wanted_types` meets its contract. The loop's invariant: the nodes before v have their wanted types.
 use Prim.Native.Nat.{ℕ, _+_, _-_}
-use mathlib.Core.Path.{_≡_}
-use mathlib.Core.Bool.{true, false}
 use native.Mathlib.Omega.{arith}
 use lib.ListN.{length-replicate}
-use Rattle.lattice.specs.Table.{accepted}
-use Rattle.lattice.specs.Words.{Words}
 use Rattle.lattice.proofs.Laws.{accepted-size}
 use Rattle.difference.proofs.Wanting.{Wanting, wants-start, wants-next, wants-none, wants-done}
 use Rattle.difference.proofs.Result.{asked-typed}
@@ -16,11 +12,10 @@ use Rattle.lattice.proofs.wanted.wanted.Reads as wanted-reads
 use Rattle.lattice.proofs.words.read_words.Reads as read-words-reads
 
 abbrev Inv-loop : tie.InvT-loop
-Inv-loop n table meets g s map types₀ nodes met down v₀ types v =
-    Wanting n table s g map met v types × (accepted n table ≡ true) × Words n table false down
+Inv-loop n table g s map types₀ nodes down over v₀ types v = Wanting n table down s g map over v types
 
 abbrev μ-loop : tie.MeasureT-loop
-μ-loop n table meets g s map types₀ nodes met down v₀ types v = nodes - v
+μ-loop n table g s map types₀ nodes down over v₀ types v = nodes - v
 
 shared-slice-read-nodes : tie.Need-shared-slice-read-nodes Inv-loop μ-loop
 shared-slice-read-nodes c =
@@ -30,33 +25,33 @@ cast-nodes : tie.Need-cast-nodes Inv-loop μ-loop
 cast-nodes c =
     omega (arith, c .before .before .before .before .pre .0 .lower .small)
 
-meet-over-requires : tie.Need-meet-over-requires Inv-loop μ-loop
-meet-over-requires c κs =
-    let asked = c .before .before .before .before .before .pre in
-    (asked-typed (asked .0) (asked .1), length-replicate {A = ℕ} 255 0)
-
 read-words-requires : tie.Need-read-words-requires Inv-loop μ-loop
 read-words-requires c κs =
-    let start = c .before .before .before .before .before .before in
+    let start = c .before .before .before .before in
     accepted-size (start .args .n) (start .args .table .now) (start .pre .0 .ok) .1
+
+meet-over-requires : tie.Need-meet-over-requires Inv-loop μ-loop
+meet-over-requires c κs =
+    (asked-typed (c .before .before .before .before .before .before .before .pre .0), length-replicate {A = ℕ} 255 0)
 
 loop-holds : tie.Need-loop-holds Inv-loop μ-loop
 loop-holds c =
-    let asked = c .before .before .before .before .before .before .before .pre in
-    (wants-start (asked .0) (asked .2) (c .before .meet-over .ensures .0) (c .before .meet-over .ensures .1 _ (asked .1)), asked .0 .ok, c .read-words .ensures)
+    let asked = c .before .before .before .before .before .before .before .before .pre in
+    let words = c .before .before .before .read-words .ensures in
+    wants-start (asked .0) (asked .1) words (c .meet-over .ensures .1 _ (asked .0 .ok) words)
 
 add-row : tie.Need-add-row Inv-loop μ-loop
 add-row c =
-    omega (arith, c .loop-test .taken, c .before .loop .inv .0 .small)
+    omega (arith, c .loop-test .taken, c .before .loop .inv .small)
 
 mul-row : tie.Need-mul-row Inv-loop μ-loop
 mul-row c =
-    omega (arith, c .loop-test .taken, c .before .loop .inv .0 .small)
+    omega (arith, c .loop-test .taken, c .before .loop .inv .small)
 
 shared-slice-read-row : tie.Need-shared-slice-read-row Inv-loop μ-loop
 shared-slice-read-row c =
     let turn = c .before .before .loop in
-    omega (arith, turn .inv .0 .shaped .node (turn .v) (c .before .loop-test .taken) .listed)
+    omega (arith, turn .inv .shaped .node (turn .v) (c .before .loop-test .taken) .listed)
 
 cast-row : tie.Need-cast-row Inv-loop μ-loop
 cast-row c =
@@ -65,47 +60,45 @@ cast-row c =
 mul-p : tie.Need-mul-p Inv-loop μ-loop
 mul-p c =
     let turn = c .before .before .loop in
-    let node = turn .inv .0 .shaped .node (turn .v) (c .before .loop-test .taken) in
+    let node = turn .inv .shaped .node (turn .v) (c .before .loop-test .taken) in
     omega (arith, node .begun, node .ended)
 
 shared-slice-read-p : tie.Need-shared-slice-read-p Inv-loop μ-loop
 shared-slice-read-p c =
     let turn = c .before .before .before .loop in
-    let node = turn .inv .0 .shaped .node (turn .v) (c .before .before .loop-test .taken) in
+    let node = turn .inv .shaped .node (turn .v) (c .before .before .loop-test .taken) in
     omega (arith, node .begun, node .ended)
 
 cast-p : tie.Need-cast-p Inv-loop μ-loop
 cast-p c =
     let turn = c .before .before .before .loop in
-    omega (arith, turn .inv .0 .typed (turn .v) (c .before .before .loop-test .taken), turn .inv .0 .few)
+    omega (arith, turn .inv .typed (turn .v) (c .before .before .loop-test .taken), turn .inv .few)
 
-array-read-q : tie.Need-array-read-q Inv-loop μ-loop
-array-read-q c =
-    omega (arith, c .before .before .loop-test .taken, c .before .before .before .loop .inv .0 .small)
+mul-wanted : tie.Need-mul-wanted Inv-loop μ-loop
+mul-wanted c =
+    omega (arith, c .before .before .before .loop-test .taken, c .before .before .before .before .loop .inv .small)
 
-cast-q : tie.Need-cast-q Inv-loop μ-loop
-cast-q c =
-    let turn = c .before .before .before .loop in
-    omega (arith, turn .inv .0 .met-known .known (turn .v) (c .before .before .loop-test .taken), turn .inv .0 .few)
+array-read-wanted : tie.Need-array-read-wanted Inv-loop μ-loop
+array-read-wanted c =
+    omega (arith, c .before .before .before .loop-test .taken, c .before .before .before .before .loop .inv .small)
 
 wanted-requires : tie.Need-wanted-requires Inv-loop μ-loop
 wanted-requires c κs =
     let turn = c .before .before .before .before .loop in
-    let inside = c .before .before .before .loop-test .taken in
-    (turn .inv .0 .few, turn .inv .0 .typed (turn .v) inside, turn .inv .0 .met-known .known (turn .v) inside)
+    (turn .inv .few, turn .inv .typed (turn .v) (c .before .before .before .loop-test .taken))
 
 returns : tie.Need-returns Inv-loop μ-loop
 returns c =
     let turn = c .before .before .before .before .before .before .loop in
-    wants-none (turn .inv .0) (c .before .before .before .before .before .loop-test .taken) (c .before .wanted .ensures _ (turn .inv .1) (turn .inv .2)) (c .if1 .taken) _
+    wants-none (turn .inv) (c .before .before .before .before .before .loop-test .taken) (c .before .wanted .ensures _ (turn .inv .ok) (turn .inv .words)) (c .if1 .taken) _
 
 element-write-types : tie.Need-element-write-types Inv-loop μ-loop
 element-write-types c =
-    omega (arith, c .before .before .before .before .before .loop-test .taken, c .before .before .before .before .before .before .loop .inv .0 .small)
+    omega (arith, c .before .before .before .before .before .loop-test .taken, c .before .before .before .before .before .before .loop .inv .small)
 
 add-v : tie.Need-add-v Inv-loop μ-loop
 add-v c =
-    omega (arith, c .before .before .before .before .before .loop-test .taken, c .before .before .before .before .before .before .loop .inv .0 .small)
+    omega (arith, c .before .before .before .before .before .loop-test .taken, c .before .before .before .before .before .before .loop .inv .small)
 
 loop-less : tie.Need-loop-less Inv-loop μ-loop
 loop-less c =
@@ -114,11 +107,11 @@ loop-less c =
 loop-again : tie.Need-loop-again Inv-loop μ-loop
 loop-again c =
     let turn = c .before .before .before .before .before .before .loop in
-    (wants-next (turn .inv .0) (c .before .before .before .before .before .loop-test .taken) (c .before .wanted .ensures _ (turn .inv .1) (turn .inv .2)) (c .if1 .left), turn .inv .1, turn .inv .2)
+    wants-next (turn .inv) (c .before .before .before .before .before .loop-test .taken) (c .before .wanted .ensures _ (turn .inv .ok) (turn .inv .words)) (c .if1 .left)
 
 returns-2 : tie.Need-returns-2 Inv-loop μ-loop
 returns-2 c =
-    wants-done (c .before .loop .inv .0) (c .loop-test .left)
+    wants-done (c .before .loop .inv) (c .loop-test .left)
 
 pub wanted-types-spec : {M : Type 1} → statement M
 wanted-types-spec =
@@ -128,8 +121,8 @@ wanted-types-spec =
     μ-loop
     shared-slice-read-nodes
     cast-nodes
-    meet-over-requires
     read-words-requires
+    meet-over-requires
     loop-holds
     add-row
     mul-row
@@ -138,8 +131,8 @@ wanted-types-spec =
     mul-p
     shared-slice-read-p
     cast-p
-    array-read-q
-    cast-q
+    mul-wanted
+    array-read-wanted
     wanted-requires
     returns
     element-write-types

@@ -18,7 +18,7 @@ use Rattle.subsume.proofs.subsume.Reads as subsume-reads
 subsume-requires : tie.Need-subsume-requires
 subsume-requires c κs =
     let start = c .before .before .before .before in
-    ready (accepted-size (start .args .n) (start .args .table .now) (start .pre .accepts) .1) (loaded-accepts (start .pre .specific), loaded-accepts (start .pre .general))
+    ready (accepted-size (start .args .n) (start .args .table .now) (start .pre .0 .accepts) .1) (loaded-accepts (start .pre .0 .specific), loaded-accepts (start .pre .0 .general))
 
 enum-told : tie.Need-enum-told
 enum-told c = search needs
@@ -30,30 +30,30 @@ returns : tie.Need-returns
 returns c =
     let start = c .before .before .before .before .before .before .before in
     differed-refused (start .args .n) (start .args .table .now) (start .args .out .now) (start .args .g .now) (start .args .s .now)
-    (loaded-accepts (start .pre .general)) (c .before .before .subsume .ensures (start .args .n)) (c .enum-told2 .given .1)
+    (loaded-accepts (start .pre .0 .general)) (c .before .before .subsume .ensures (start .args .n)) (c .enum-told2 .given .1)
 
 wanted-types-requires : tie.Need-wanted-types-requires
 wanted-types-requires c κs =
     let start = c .before .before .before .before .before .before .before .before .before .before in
     let asked =
-    ready-below (start .args .n) (start .args .table .now) (start .args .meets .now) (start .args .g .now) (start .args .s .now) (start .pre) (c .before .before .before .before .before .subsume .ensures (start .args .n)) (c .before .before .before .enum-told .given .1) in
-    (asked, start .pre .met, length-replicate {A = ℕ} 255 0)
+    ready-below (start .args .n) (start .args .table .now) (start .args .g .now) (start .args .s .now) (start .pre .0) (c .before .before .before .before .before .subsume .ensures (start .args .n)) (c .before .before .before .enum-told .given .1) in
+    (asked, length-replicate {A = ℕ} 255 0)
 
 returns-2 : tie.Need-returns-2
 returns-2 c =
     let start = c .before .before .before .before .before .before .before .before .before .before .before .before in
     let asked =
-    ready-below (start .args .n) (start .args .table .now) (start .args .meets .now) (start .args .g .now) (start .args .s .now) (start .pre) (c .before .before .before .before .before .before .before .subsume .ensures (start .args .n)) (c .before .before .before .before .before .enum-told .given .1) in
+    ready-below (start .args .n) (start .args .table .now) (start .args .g .now) (start .args .s .now) (start .pre .0) (c .before .before .before .before .before .before .before .subsume .ensures (start .args .n)) (c .before .before .before .before .before .enum-told .given .1) in
     differed-unwanted (start .args .n) (start .args .table .now) (start .args .out .now) (start .args .g .now) (start .args .s .now)
-    (loaded-accepts (start .pre .general)) (c .before .before .before .before .before .before .before .subsume .ensures (start .args .n)) (c .before .before .before .before .before .enum-told .given .1)
+    (loaded-accepts (start .pre .0 .general)) (c .before .before .before .before .before .before .before .subsume .ensures (start .args .n)) (c .before .before .before .before .before .enum-told .given .1)
     (sym (not-true _ (c .if1 .taken)) ∙ answers-wanted asked (c .before .wanted-types .ensures))
 
 difference-requires : tie.Need-difference-requires
 difference-requires c κs =
-    let start = c .before .before .before .before .before .before .before .before .before .before .before .before .before .before .before in
+    let start = c .before .before .before .before .before .before .before .before .before .before .before .before .before .before .before .before in
     let asked =
-    ready-below (start .args .n) (start .args .table .now) (start .args .meets .now) (start .args .g .now) (start .args .s .now) (start .pre) (c .before .before .before .before .before .before .before .before .before .before .subsume .ensures (start .args .n)) (c .before .before .before .before .before .before .before .before .enum-told .given .1) in
-    (asked, c .before .before .before .before .wanted-types .ensures .wants (not-false _ (c .before .before .before .if1 .left)))
+    ready-below (start .args .n) (start .args .table .now) (start .args .g .now) (start .args .s .now) (start .pre .0) (c .before .before .before .before .before .before .before .before .before .before .before .subsume .ensures (start .args .n)) (c .before .before .before .before .before .before .before .before .before .enum-told .given .1) in
+    ((asked, c .before .before .before .before .before .wanted-types .ensures .wants (not-false _ (c .before .before .before .before .if1 .left))), start .pre .1)
 
 reply-of-requires : tie.Need-reply-of-requires
 reply-of-requires c κs = search needs
@@ -63,12 +63,12 @@ same-length c = search needs
 
 returns-3 : tie.Need-returns-3
 returns-3 c =
-    let start = c .before .before .before .before .before .before .before .before .before .before .before .before .before .before .before .before .before .before .before in
+    let start = c .before .before .before .before .before .before .before .before .before .before .before .before .before .before .before .before .before .before .before .before in
     let asked =
-    ready-below (start .args .n) (start .args .table .now) (start .args .meets .now) (start .args .g .now) (start .args .s .now) (start .pre) (c .before .before .before .before .before .before .before .before .before .before .before .before .before .before .subsume .ensures (start .args .n)) (c .before .before .before .before .before .before .before .before .before .before .before .before .enum-told .given .1) in
+    ready-below (start .args .n) (start .args .table .now) (start .args .g .now) (start .args .s .now) (start .pre .0) (c .before .before .before .before .before .before .before .before .before .before .before .before .before .before .before .subsume .ensures (start .args .n)) (c .before .before .before .before .before .before .before .before .before .before .before .before .before .enum-told .given .1) in
     differed-as (start .args .n) (start .args .table .now) (start .args .out .now) (start .args .g .now) (start .args .s .now)
-    (loaded-accepts (start .pre .general)) (c .before .before .before .before .before .before .before .before .before .before .before .before .before .before .subsume .ensures (start .args .n)) (c .before .before .before .before .before .before .before .before .before .before .before .before .enum-told .given .1)
-    (sym (not-false _ (c .before .before .before .before .before .before .before .if1 .left)) ∙ answers-wanted asked (c .before .before .before .before .before .before .before .before .wanted-types .ensures))
+    (loaded-accepts (start .pre .0 .general)) (c .before .before .before .before .before .before .before .before .before .before .before .before .before .before .before .subsume .ensures (start .args .n)) (c .before .before .before .before .before .before .before .before .before .before .before .before .before .enum-told .given .1)
+    (sym (not-false _ (c .before .before .before .before .before .before .before .before .if1 .left)) ∙ answers-wanted asked (c .before .before .before .before .before .before .before .before .before .wanted-types .ensures))
     (c .before .before .before .difference .ensures) (c .reply-of .ensures)
 
 pub difference-below-spec : {M : Type 1} → statement M

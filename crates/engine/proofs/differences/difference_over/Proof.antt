@@ -36,16 +36,17 @@ slice-aggregate-difference-below-2 c = search needs
 
 difference-below-requires : tie.Need-difference-below-requires
 difference-below-requires c κs =
-    let start = c .before .before .before .before .before .before .before .before .before .before .before .before .before .before .before in
-    let given = both-accept (c .before .before .before .before .before .before .before .before .read-both .ensures) (c .before .before .before .before .before .before .enum-told .given .1) in
-    let renumber = c .before .before .before .renumber .ensures in
-    record {
-      accepts = start .pre .0;
-      met = start .pre .1;
-      general = accepts-loaded (given .0);
-      specific = renumbered (start .args .n) _ (accepts-loaded (given .1)) (renumber .0) .loaded;
-      short = omega (arith, renumber .1);
-    }
+    let start = c .before .before .before .before .before .before .before .before .before .before .before .before .before .before .before .before in
+    let given = both-accept (c .before .before .before .before .before .before .before .before .before .read-both .ensures) (c .before .before .before .before .before .before .before .enum-told .given .1) in
+    let renumber = c .before .before .before .before .renumber .ensures in (
+      record {
+        accepts = start .pre;
+        general = accepts-loaded (given .0);
+        specific = renumbered (start .args .n) _ (accepts-loaded (given .1)) (renumber .0) .loaded;
+        short = omega (arith, renumber .1);
+      },
+      c .before .before .before .before .before .before .before .before .before .read-both .ensures .other-long,
+    )
 
 returns : tie.Need-returns
 returns c =
@@ -57,10 +58,10 @@ same-length c = search needs
 
 returns-2 : tie.Need-returns-2
 returns-2 c =
-    let start = c .before .before .before .before .before .before .before .before .before .before .before .before .before .before .before .before .before .before in
-    let given = both-accept (c .before .before .before .before .before .before .before .before .before .before .before .read-both .ensures) (c .before .before .before .before .before .before .before .before .before .enum-told .given .1) in
+    let start = c .before .before .before .before .before .before .before .before .before .before .before .before .before .before .before .before .before .before .before in
+    let given = both-accept (c .before .before .before .before .before .before .before .before .before .before .before .before .read-both .ensures) (c .before .before .before .before .before .before .before .before .before .before .enum-told .given .1) in
     parting-both (start .args .n) (start .args .table .now) (start .args .first .now) (start .args .second .now) (start .args .out .now) given
-    (renumbered (start .args .n) _ (accepts-loaded (given .1)) (c .before .before .before .before .before .before .renumber .ensures .0)) (c .before .before .difference-below .ensures)
+    (renumbered (start .args .n) _ (accepts-loaded (given .1)) (c .before .before .before .before .before .before .before .renumber .ensures .0)) (c .before .before .difference-below .ensures)
 
 pub difference-over-spec : {M : Type 1} → statement M
 difference-over-spec =

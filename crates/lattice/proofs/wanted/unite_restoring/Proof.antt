@@ -9,27 +9,15 @@ use Rattle.lattice.proofs.wanted.unite_restoring.Statement.{statement}
 use Rattle.lattice.proofs.wanted.unite_restoring.Tie as tie
 
 abbrev Inv-loop : tie.InvT-loop
-Inv-loop n down p q lower over all₀ d₀ all d = (d ≤ n) × Restoring d down p q all
+Inv-loop n down lower over all₀ d₀ all d = (d ≤ n) × Restoring d down lower over all
 
 abbrev μ-loop : tie.MeasureT-loop
-μ-loop n down p q lower over all₀ d₀ all d = n - d
-
-mul-lower : tie.Need-mul-lower Inv-loop μ-loop
-mul-lower c = search needs
-
-element-copy-out-lower : tie.Need-element-copy-out-lower Inv-loop μ-loop
-element-copy-out-lower c = search needs
-
-mul-over : tie.Need-mul-over Inv-loop μ-loop
-mul-over c = search needs
-
-element-copy-out-over : tie.Need-element-copy-out-over Inv-loop μ-loop
-element-copy-out-over c = search needs
+μ-loop n down lower over all₀ d₀ all d = n - d
 
 loop-holds : tie.Need-loop-holds Inv-loop μ-loop
 loop-holds c =
-    let start = c .before .before .args in
-    (search needs, restoring-none (start .down .now) (start .p) (start .q))
+    let start = c .args in
+    (search needs, restoring-none (start .down .now) (start .lower) (start .over))
 
 mul-if1 : tie.Need-mul-if1 Inv-loop μ-loop
 mul-if1 c = search needs
@@ -52,22 +40,22 @@ loop-less c = search needs
 loop-again : tie.Need-loop-again Inv-loop μ-loop
 loop-again c =
     let turn = c .before .before .before .loop in
-    let start = c .before .before .before .before .before .before .args in
-    let next = Restoring (turn .d + 1) (start .down .now) (start .p) (start .q) in (
+    let start = c .before .before .before .before .args in
+    let next = Restoring (turn .d + 1) (start .down .now) (start .lower) (start .over) in (
       search needs,
       ⊎-elim
           (λ (test, _, new).
-          subst next (sym new) (restoring-more (start .down .now) (start .p) (start .q) (turn .d) (turn .all) (turn .inv .1) (test .taken)))
+          subst next (sym new) (restoring-more (start .down .now) (start .lower) (start .over) (turn .d) (turn .all) (turn .inv .1) (test .taken)))
           (λ (test, new).
-          subst next (sym new) (restoring-kept (start .down .now) (start .p) (start .q) (turn .d) (turn .all) (turn .inv .1) (test .left)))
+          subst next (sym new) (restoring-kept (start .down .now) (start .lower) (start .over) (turn .d) (turn .all) (turn .inv .1) (test .left)))
           (c .if1 .came),
     )
 
 returns : tie.Need-returns Inv-loop μ-loop
 returns c =
     let turn = c .before .loop in
-    let start = c .before .before .before .before .args in
-    restoring-done (start .down .now) (start .p) (start .q) (turn .d) (turn .all) (turn .inv .1) (start .n) (search needs) (search needs)
+    let start = c .before .before .args in
+    restoring-done (start .down .now) (start .lower) (start .over) (turn .d) (turn .all) (turn .inv .1) (start .n) (search needs) (search needs)
 
 pub unite-restoring-spec : {M : Type 1} → statement M
 unite-restoring-spec =
@@ -75,10 +63,6 @@ unite-restoring-spec =
     (tie.spec
     Inv-loop
     μ-loop
-    mul-lower
-    element-copy-out-lower
-    mul-over
-    element-copy-out-over
     loop-holds
     mul-if1
     element-copy-out-if1
