@@ -1,6 +1,6 @@
 -- Wanted types, in arrays beside the graphs.
 use mathlib.Core.Path.{_≡_}
-use mathlib.Core.Bool.{Bool, true}
+use mathlib.Core.Bool.{Bool, true, false}
 use mathlib.Core.List.{List}
 use mathlib.Core.Option.{Option, some}
 use Prim.Native.Nat.{ℕ, _≤_, _<_}
@@ -9,7 +9,8 @@ use lib.ListN.{length, getD}
 use Rattle.graphs.specs.Rows.{from}
 use Rattle.graphs.specs.Difference.{meetWhere}
 use Rattle.lattice.specs.Label.{Label}
-use Rattle.lattice.specs.Table.{every, found, wanted}
+use Rattle.lattice.specs.Table.{every, found, accepted, wanted}
+use Rattle.lattice.specs.Words.{Words}
 use Rattle.lattice.specs.Labels.{typeLabels}
 use Rattle.layout.specs.Layout.{size, labelAt, Sound}
 
@@ -35,6 +36,10 @@ pub record Types (n nodes : ℕ) (types : List ℕ) : Type 0 where
 -- the words of the meets of the types from y on, over each node of s
 abbrev pub Met : ℕ → List ℕ → List ℕ → ℕ → List ℕ → List ℕ → ℕ → ℕ → List ℕ → Type 0
 Met n t ws nodes g map y count met = (v : ℕ) → v < nodes → getD met v 0 ≡ getD ws (metFrom n t g map y count v) 0
+
+-- the words of the meets of all types of g over each node of s, by each accepted table that has the words
+abbrev pub MetBy : ℕ → List ℕ → ℕ → List ℕ → List ℕ → List ℕ → Type 0
+MetBy n ws nodes g map met = (t : List ℕ) → accepted n t ≡ true → Words n t false ws → Met n t ws nodes g map 0 (size g) met
 
 -- the wanted type of the node v of s
 abbrev pub wantedAt : ℕ → List ℕ → List ℕ → List ℕ → List ℕ → ℕ → Option ℕ

@@ -1,15 +1,10 @@
 // The wanted types: of each node of s the greatest type whose meet with the meet of all g types over the node is its own.
 
 ghost use mathlib.Core.Path.{_≡_};
-ghost use mathlib.Core.Bool.{true, false};
-ghost use mathlib.Core.List.{List};
 ghost use Prim.Native.Nat.{ℕ, _≤_, _<_};
 ghost use lib.ListN.{length, getD};
-ghost use Rattle.lattice.specs.Table.{accepted};
-ghost use Rattle.lattice.specs.Words.{Words};
-ghost use Rattle.layout.specs.Layout.{size};
 ghost use Rattle.difference.specs.Asked.{Asked};
-ghost use Rattle.difference.specs.Wanted.{Met, TypesOver, WantsAll};
+ghost use Rattle.difference.specs.Wanted.{MetBy, TypesOver, WantsAll};
 
 // Fills the first `nodes` words with one.
 fn clear(value: u64, nodes: usize, words: &mut [u64; 255])
@@ -35,7 +30,7 @@ pub fn meet_over<'a>(
 )
     requires { ⌜ TypesOver n nodes (now g) (now map) × (length (now over) ≡ 255) ⌝ }
     ensures { λ _. ⌜ length (now (over .exit)) ≡ 255 ⌝ }
-    ensures { λ _. ⌜ ((t : List ℕ) → accepted n t ≡ true → Words n t false (now (down .entry)) → Met n t (now (down .entry)) nodes (now (g .entry)) (now (map .entry)) 0 (size (now (g .entry))) (now (over .exit))) ⌝ }
+    ensures { λ _. ⌜ MetBy n (now (down .entry)) nodes (now (g .entry)) (now (map .entry)) (now (over .exit)) ⌝ }
 {
     clear(down[n - 1], nodes, over);
     let mut y = g[0] as usize;

@@ -75,7 +75,7 @@ fn the_peer_answers_as_the_reference() {
     for _ in 0..1_500 {
         let kind = random.pick(12);
         let table = match kind {
-            0 => random::damaged_table(random),
+            0 | 2 => random::damaged_table(random),
             1 => random::rival_table(random),
             _ => random::valid_table(random),
         };
