@@ -49,10 +49,11 @@
  *   10  combination: a clash, and no loop
  *   11  a result of more than 255 nodes or 2,048 links
  *   12  difference: the second graph is not below the first
- *   13  difference: the table does not admit it
+ *   13  difference: some node of the second graph has no wanted type: among the types
+ *       whose meet with the first graph's types over it is its own, none is the greatest
  *
  * Checks run in the order 1, 2, 3; the first record's 4 to 7; the second's 4 to 7;
- * then 13, 12, 9, 10, 11, 8.
+ * then 12, 13, 9, 10, 11, 8.
  */
 #ifndef RECORD_ENGINE_H
 #define RECORD_ENGINE_H
@@ -114,7 +115,7 @@ uint64_t record_unify(size_t n, const uint8_t *table, size_t table_length,
 /* Writes the difference of a general record, the first, and a specific one below it,
  * the second: combined with the general one it gives the specific one again, byte
  * for byte in written form, and nothing strictly more general does. Answers the
- * length, or refuses by 1 to 7, 13, 12 and 8. */
+ * length, or refuses by 1 to 7, 12, 13 and 8. */
 uint64_t record_difference(size_t n, const uint8_t *table, size_t table_length,
                            const uint8_t *general, size_t general_length,
                            const uint8_t *specific, size_t specific_length,

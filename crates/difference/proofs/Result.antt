@@ -24,8 +24,9 @@ use Rattle.graphs.proofs.Unification.Beside.{Operands}
 use Rattle.graphs.proofs.Difference.Induct.{children-first}
 use Rattle.graphs.proofs.Difference.Laws.{Leader, Enters, Reason, atRoot, twoGroups, bareGroup, ownLabel, keptBelow, Idle}
 use Rattle.graphs.proofs.Difference.Keeps.{keep, kept, root-kept, keep-reason, keep-idle, kept-links}
-use Rattle.lattice.specs.Table.{below, cell, residual}
+use Rattle.lattice.specs.Table.{every, found, below, cell, wanted}
 use Rattle.lattice.specs.Label.{Label}
+use Rattle.lattice.proofs.Every.{every-same}
 use Rattle.lattice.proofs.Laws.{accepted-size}
 use Rattle.lattice.specs.Labels.{typeLabels}
 use Rattle.layout.specs.Layout.{size, labelAt, featureAt, targetAt, rowsOf, graphIn, Sound, Place}
@@ -37,12 +38,12 @@ use Rattle.visits.specs.Walks.{Reaches, one, more}
 use Rattle.groups.specs.Cover.{Lying}
 use Rattle.groups.specs.Marks.{Marked}
 use Rattle.groups.proofs.Leading.{At, at-one, one-at, at-link, link-stands, Says, follows-it, leads-covered, leads-bare, mark-says}
-use Rattle.difference.specs.Promise.{wantedType, differenceOf}
-use Rattle.difference.specs.Wanted.{Typed, Wants, metFrom}
+use Rattle.difference.specs.Promise.{wantedAlong, differenceAlong, allWantedAlong}
+use Rattle.difference.specs.Wanted.{TypesOver, wantedAt, Wants, WantsAll, metFrom}
 use Rattle.difference.specs.Keeping.{Leads, several, alone, Stays, Why, isRoot, caused, untop, onward, Keeps, Ready}
 use Rattle.difference.specs.Thinning.{Kept}
 use Rattle.difference.specs.Asked.{Asked}
-use Rattle.difference.proofs.Wanting.{meets-closed, meetWhere-same}
+use Rattle.difference.proofs.Wanting.{wants-types, meetWhere-same}
 use Rattle.difference.proofs.Thinning.{rows-sound, copied-feature, copied-target}
 
 -- Links lead along a path.
@@ -70,7 +71,7 @@ module _ {ws : List ℕ} (sound : Sound ws) where
       any .acyclic v f p (reached v (reaches-inside r)) e
 
 -- Both graphs.
-module _ {n : ℕ} {t : List ℕ} {meets : List (List ℕ)} {gw sw map : List ℕ} (asked : Asked n t meets gw sw map) where
+module _ {n : ℕ} {t gw sw map : List ℕ} (asked : Asked n t gw sw map) where
   abbrev s : Graph Label ℕ
   s = graphIn sw
 
@@ -113,13 +114,12 @@ module _ {n : ℕ} {t : List ℕ} {meets : List (List ℕ)} {gw sw map : List �
       reached-inside s-sound (over y) (r .0, walk-map (asked .lies) (r .0) y (r .1))
 
   -- what meeting the types of g asks
-  pub asked-typed : Typed n meets (size sw) gw map
+  pub asked-typed : TypesOver n (size sw) gw map
   asked-typed =
       let size = accepted-size n t (asked .ok) in
       record {
         two = size .0;
         few = size .1;
-        closed = meets-closed n t (asked .ok) meets (asked .held);
         small = asked .lower .small;
         sound = g-sound;
         upper-small = asked .upper .small;
@@ -148,18 +148,34 @@ module _ {n : ℕ} {t : List ℕ} {meets : List (List ℕ)} {gw sw map : List �
 
   -- the wanted type, by the numbers of nodes
   abbrev want : ℕ → ℕ
-  want v = cell (residual n t (s .label v) (meetOver (typeLabels n t) eqb g (from 0 (size gw)) over v))
+  want v = cell (wanted n t (s .label v) (meetOver (typeLabels n t) eqb g (from 0 (size gw)) over v))
 
-  wants-labels : {types : List ℕ} → Wants n t sw gw map (size sw) types → (v : ℕ) → v < size sw → getD types v 0 ≡ want v
+  at-label : (v : ℕ) → v < size sw → wantedAt n t sw gw map v ≡
+      wanted n t (s .label v) (meetOver (typeLabels n t) eqb g (from 0 (size gw)) over v)
   unfolding meetOver metFrom
-  wants-labels w v h =
-      w .each v h ∙
-      ap₂ (λ (p q : ℕ). cell (residual n t p q)) (sym (label-at sw v h))
+  at-label v h =
+      ap₂ (wanted n t) (sym (label-at sw v h))
       (meetWhere-same (typeLabels n t) (λ y. eqb (over y) v) (λ y. labelAt gw y) (g .label) (from 0 (size gw))
       (λ y m. sym (label-at gw y (omega (arith, from-range 0 (size gw) y m)))))
 
+  wants-labels : {types : List ℕ} → Wants n t sw gw map (size sw) types → (v : ℕ) → v < size sw → getD types v 0 ≡ want v
+  wants-labels w v h = ap cell (sym (w .each v h) ∙ at-label v h)
+
   abbrev first : ℕ → Link ℕ → Link ℕ
   first v l = lead eqb eqb s (from 0 (size sw)) g (from 0 (size gw)) over byNumber v l
+
+  -- whether every node has a wanted type, as it is defined, with the length of the list of rows for the number of nodes
+  pub answers-wanted : {answer : Bool} {types : List ℕ} → WantsAll n t sw gw map answer types →
+      answer ≡ allWantedAlong n t (rowsOf sw) (rowsOf gw) (λ y. getD map y 0)
+  unfolding allWantedAlong wantedAlong
+  answers-wanted all =
+      all .answers ∙
+      every-same (λ v. found (wantedAt n t sw gw map v))
+      (λ v. found (wanted n t (s .label v) (meetOver (typeLabels n t) eqb g (from 0 (size gw)) over v))) (size sw)
+      (λ v h. ap found (at-label v h)) ∙
+      sym
+      (ap₂ (λ (a b : ℕ). every a λ v. found (wanted n t (s .label v) (meetOver (typeLabels n t) eqb g (from 0 b) over v)))
+      (length-rows sw 0 (size sw)) (length-rows gw 0 (size gw)))
 
   abbrev any : AnySize (typeLabels n t) s
   any = asked .any-size
@@ -321,7 +337,7 @@ module _ {n : ℕ} {t : List ℕ} {meets : List (List ℕ)} {gw sw map : List �
 
     module _ {ws : List ℕ} (ready : Ready sw marks keeps) (few : n ≤ 64) (rows : Kept sw marks keeps types ws) where
       sound′ : Sound ws
-      sound′ = rows-sound ready (λ v h. omega (arith, wants .types-known .known v h)) rows
+      sound′ = rows-sound ready (λ v h. omega (arith, wants-types wants .known v h)) rows
 
       inside′ : (v : ℕ) → v < size sw → v < size ws
       inside′ v h = omega (arith, rows .1 .sized)
@@ -387,15 +403,15 @@ module _ {n : ℕ} {t : List ℕ} {meets : List (List ℕ)} {gw sw map : List �
           }
 
       -- as it is defined, with the lengths of the lists of rows for the numbers of nodes
-      named : differenceOf n t (rowsOf sw) (rowsOf gw) map ≡ made
-      unfolding differenceOf wantedType
+      named : differenceAlong n t (rowsOf sw) (rowsOf gw) (λ y. getD map y 0) ≡ made
+      unfolding differenceAlong wantedAlong
       named =
           ap₂ (λ (a b : ℕ). difference (typeLabels n t) eqb eqb byNumber s (from 0 a) g (from 0 b) over
-          (λ v. cell (residual n t (s .label v) (meetOver (typeLabels n t) eqb g (from 0 b) over v))))
+          (λ v. cell (wanted n t (s .label v) (meetOver (typeLabels n t) eqb g (from 0 b) over v))))
           (length-rows sw 0 (size sw)) (length-rows gw 0 (size gw))
 
       -- The rows are those of the difference.
-      pub result-canonical : canonical eqb (differenceOf n t (rowsOf sw) (rowsOf gw) map) ≡ canonical eqb result
+      pub result-canonical : canonical eqb (differenceAlong n t (rowsOf sw) (rowsOf gw) (λ y. getD map y 0)) ≡ canonical eqb result
       result-canonical =
           ap (canonical eqb) named ∙
           bisimilar-canonical eqb eqb tells-eqb tells-eqb (λ x y. Reached s x × (x ≡ y)) made result made-alike

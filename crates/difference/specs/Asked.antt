@@ -1,5 +1,5 @@
--- What a difference is asked of: a table that admits differences, its meets, and two graphs of records over it, s below g. `map` has the
--- node of s that each node of g leads to.
+-- What a difference is asked of: an accepted table and two graphs of records over it, s below g. `map` has the node of s that each node
+-- of g leads to.
 use mathlib.Core.Path.{_≡_}
 use mathlib.Core.Bool.{true}
 use mathlib.Core.List.{List}
@@ -8,14 +8,11 @@ use lib.ListN.{length, getD}
 use Rattle.graphs.specs.Graph.{AnySize, Reached}
 use Rattle.graphs.specs.Map.{NodeMap}
 use Rattle.lattice.specs.Labels.{typeLabels}
-use Rattle.lattice.specs.Table.{accepted, admits}
+use Rattle.lattice.specs.Table.{accepted}
 use Rattle.layout.specs.Layout.{size, labelAt, graphIn, Recorded}
-use Rattle.difference.specs.Wanted.{MeetsHeld}
 
-pub record Asked (n : ℕ) (t : List ℕ) (meets : List (List ℕ)) (g s map : List ℕ) : Type 0 where
+pub record Asked (n : ℕ) (t g s map : List ℕ) : Type 0 where
   pub ok : accepted n t ≡ true
-  pub differs : admits n t ≡ true
-  pub held : MeetsHeld n t meets
   pub upper : Recorded g
   pub lower : Recorded s
   pub short : length s ≤ 2560

@@ -1,6 +1,8 @@
--- The difference of g and s as a call writes it: s and g are given by their rows, t is the table of n types, and `map` has the node of
+-- The difference of g and s as a call writes it: s and g are given by their rows, t is the table of n types, and `over` gives the node of
 -- s that each node of g leads to (document 01, "Difference": "Each path of g leads to one node of s").
+use mathlib.Core.Bool.{Bool}
 use mathlib.Core.List.{List}
+use mathlib.Core.Option.{Option}
 use Prim.Native.Nat.{ℕ}
 use lib.Dec.{eqb}
 use lib.ListN.{length, getD}
@@ -8,25 +10,29 @@ use Rattle.graphs.specs.Graph.{Graph}
 use Rattle.graphs.specs.Rows.{Row, from}
 use Rattle.graphs.specs.Number.{Canonical, canonical}
 use Rattle.graphs.specs.Difference.{difference, meetOver, byNumber}
-use Rattle.lattice.specs.Table.{cell, residual}
+use Rattle.lattice.specs.Table.{every, found, cell, wanted}
 use Rattle.lattice.specs.Label.{Label}
 use Rattle.lattice.specs.Labels.{typeLabels}
 use Rattle.layout.specs.Layout.{graphOfRows, rowsOf}
 
-module _ (n : ℕ) (t : List ℕ) (s g : List (Row Label)) (map : List ℕ) where
-  -- "The wanted type is the greatest type whose meet with the meet of all g types over this node (top if none) equals the type in s":
-  -- where s is below g, this is the greatest whose meet with it is below or equal to the type in s
-  unfoldable pub wantedType : ℕ → Label
-  wantedType v =
-      cell (residual n t (graphOfRows s .label v)
-      (meetOver (typeLabels n t) eqb (graphOfRows g) (from 0 (length g)) (λ y. getD map y 0) v))
+module _ (n : ℕ) (t : List ℕ) (s g : List (Row Label)) (over : ℕ → ℕ) where
+  -- "The wanted type is the greatest type whose meet with the meet of all g types over this node (top if none) equals the type in s"; none
+  -- where "none is the greatest"
+  unfoldable pub wantedAlong : ℕ → Option ℕ
+  wantedAlong v =
+      wanted n t (graphOfRows s .label v)
+      (meetOver (typeLabels n t) eqb (graphOfRows g) (from 0 (length g)) over v)
 
   -- the difference, its links ordered "by parent number, then feature"
-  unfoldable pub differenceOf : Graph Label ℕ
-  differenceOf =
+  unfoldable pub differenceAlong : Graph Label ℕ
+  differenceAlong =
       difference (typeLabels n t) eqb eqb byNumber (graphOfRows s) (from 0 (length s)) (graphOfRows g) (from 0 (length g))
-      (λ y. getD map y 0) wantedType
+      over (λ v. cell (wantedAlong v))
+
+  -- every node of s, kept or not, has a wanted type
+  unfoldable pub allWantedAlong : Bool
+  allWantedAlong = every (length s) λ v. found (wantedAlong v)
 
 -- the canonical form of the difference, of graphs in words
 abbrev pub differenceForm : ℕ → List ℕ → List ℕ → List ℕ → List ℕ → Canonical Label
-differenceForm n t s g map = canonical eqb (differenceOf n t (rowsOf s) (rowsOf g) map)
+differenceForm n t s g map = canonical eqb (differenceAlong n t (rowsOf s) (rowsOf g) λ y. getD map y 0)

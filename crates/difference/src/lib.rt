@@ -7,31 +7,33 @@ pub mod wanted;
 
 use encode::Written;
 ghost use mathlib.Core.Path.{_≡_};
-ghost use Rattle.encode.specs.Encode.{writtenOut};
+ghost use lib.ListN.{length};
+ghost use Rattle.encode.specs.Encode.{writtenOut, yielding};
+ghost use Rattle.layout.specs.Layout.{size};
 ghost use Rattle.difference.specs.Asked.{Asked};
+ghost use Rattle.difference.specs.Wanted.{Wants};
 ghost use Rattle.difference.specs.Promise.{differenceForm};
 
-// Writes the difference of g and s; `map` gives the node of s that each node of g leads to.
+// Writes the difference of g and s; `map` gives the node of s that each node of g leads to, `types` has the wanted type of each node of
+// s, and the rows are made in `words`.
 pub fn difference<'a>(
     n: usize,
     table: &'a [u8],
-    meets: &'a [[u8; 64]; 64],
     g: &'a [u16],
     s: &'a [u16],
     map: &'a [u16; 255],
+    types: &'a [u8; 255],
+    words: &mut [u16; 2560],
     out: &mut [u8],
 ) -> Written
-    requires { ⌜ Asked n (now table) (now meets) (now g) (now s) (now map) ⌝ }
-    ensures { λ r. ⌜ r ≡ writtenOut (differenceForm n (now (table .entry)) (now (s .entry)) (now (g .entry)) (now (map .entry))) (now (out .entry)) .answer ⌝ }
-    ensures { λ r. ⌜ now (out .exit) ≡ writtenOut (differenceForm n (now (table .entry)) (now (s .entry)) (now (g .entry)) (now (map .entry))) (now (out .entry)) .output ⌝ }
+    requires { ⌜ Asked n (now table) (now g) (now s) (now map) × Wants n (now table) (now s) (now g) (now map) (size (now s)) (now types) ⌝ }
+    requires { ⌜ length (now words) ≡ 2560 ⌝ }
+    ensures { λ r. ⌜ yielding r (now (out .exit)) ≡ writtenOut (differenceForm n (now (table .entry)) (now (s .entry)) (now (g .entry)) (now (map .entry))) (now (out .entry)) ⌝ }
 {
     let mut marks = [0u8; 2560];
     groups::mark_links(s, g, map, &mut marks);
-    let mut types = [0u8; 255];
-    wanted::wanted_types(n, table, meets, g, s, map, &mut types);
     let mut keep = [0u8; 255];
-    keep::kept_nodes(n, table, s, &marks, &types, &mut keep);
-    let mut words = [layout::BLANK; 2560];
-    rows::kept_links(s, &marks, &keep, &types, &mut words);
-    encode::canonical::write(&words, out)
+    keep::kept_nodes(n, table, s, &marks, types, &mut keep);
+    rows::kept_links(s, &marks, &keep, types, words);
+    encode::canonical::write(words, out)
 }

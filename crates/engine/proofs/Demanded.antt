@@ -2,7 +2,10 @@
 pub mod Order
 pub mod CommonPart
 pub mod Combination
+pub mod Wanted
 pub mod Remainder
 pub mod Difference
+pub mod Before
+pub mod Itself
 pub mod Output
 pub mod Meaning

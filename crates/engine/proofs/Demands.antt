@@ -2,7 +2,7 @@
 -- `ordering`, `generalizing`, `unifying` and `differing`. What the statements say stands in those definitions and in `Demand`; the proofs
 -- are cited. n and t are the table, out is the output lent; a and b are the records.
 use mathlib.Core.Path.{_≡_, refl}
-use mathlib.Core.Bool.{Bool, true, false}
+use mathlib.Core.Bool.{Bool}
 use mathlib.Core.List.{List}
 use mathlib.Core.Logic.{_↔_, _⊎_}
 use Prim.Native.Nat.{ℕ, _≤_}
@@ -14,15 +14,14 @@ use Rattle.graphs.specs.Generalize.{IsGeneralization}
 use Rattle.graphs.specs.Unify as unify
 use Rattle.lattice.specs.Label.{Label}
 use Rattle.lattice.specs.declared.Opened.the-variants.{Accepted}
-use Rattle.lattice.specs.Table.{admits}
 use Rattle.lattice.specs.Reply.{opened}
-use Rattle.lattice.specs.Labels.{typeLabels, OfAnySize, LeastOfAnySize, GreatestOfAnySize, IsCombination, TypeClash}
+use Rattle.lattice.specs.Labels.{typeLabels, OfAnySize, LeastOfAnySize, GreatestOfAnySize, IsCombination, TypeClash, SomeUnwanted}
 use Rattle.lattice.proofs.Residuals.{opened-accepted}
 use Rattle.lattice.proofs.AnySize.{combination-greatest}
 use Rattle.encode.specs.Encode.{fitted}
 use Rattle.record.specs.Read.{reading, accepted, graphOfRows}
 use Rattle.generalize.specs.Pairs.{samePair}
-use Rattle.engine.specs.declared.Reply.the-variants.{Length, Yes, No, Cycle, Clash, TooLarge, NotBelow, NotAdmitted}
+use Rattle.engine.specs.declared.Reply.the-variants.{Length, Yes, No, Cycle, Clash, TooLarge, NotBelow, NoWantedType}
 use Rattle.engine.specs.Reply.{Result, resultOf, rewriting, ordering, generalizing}
 use Rattle.engine.specs.Unification.{unifying}
 use Rattle.engine.specs.Difference.{differing}
@@ -181,25 +180,25 @@ module _ (n : ℕ) (t a b : List ℕ) (g h : List (Row Label)) (given : Given n 
 -- Demand 3, the difference of a, the general record, and b, the specific one.
 
 module _ (n : ℕ) (t a b : List ℕ) (g s : List (Row Label)) (given : Given n t a b g s) where
-  -- Where the table admits differences and s is below g, the difference restores s with g and nothing more general does.
-  pub difference-restores : admits n t ≡ true → Below (typeLabels n t) (graphOfRows s) (graphOfRows g) →
-      Restores n t (remainder n t g s) (graphOfRows g) (graphOfRows s)
-  difference-restores = Differed.remainder-restores n t a b g s given
+  -- Where s is below g and no node of s is without a wanted type, the difference restores s with g and nothing more general does.
+  pub difference-restores : Below (typeLabels n t) (graphOfRows s) (graphOfRows g) →
+      (SomeUnwanted n t (graphOfRows s) (graphOfRows g) → ⊥) → Restores n t (remainder n t g s) (graphOfRows g) (graphOfRows s)
+  difference-restores below all = Differed.remainder-restores n t a b g s given below (Differed.all-wanted n t a b g s given below all)
 
   module _ (out : List ℕ) where
-    -- 13 exactly where the table does not admit differences,
-    pub difference-not-admitted : (differing n t a b out .reply ≡ NotAdmitted) ↔ (admits n t ≡ false)
-    difference-not-admitted = Differed.not-admitted-exact n t a b g s given out
-
-    -- 12 exactly where it does and s is not below g,
-    pub difference-not-below : (differing n t a b out .reply ≡ NotBelow) ↔
-        ((admits n t ≡ true) × (Below (typeLabels n t) (graphOfRows s) (graphOfRows g) → ⊥))
+    -- 12 exactly where s is not below g,
+    pub difference-not-below : (differing n t a b out .reply ≡ NotBelow) ↔ (Below (typeLabels n t) (graphOfRows s) (graphOfRows g) → ⊥)
     difference-not-below = Differed.not-below-exact n t a b g s given out
 
+    -- 13 exactly where it is and some node of s has no wanted type,
+    pub difference-not-wanted : (differing n t a b out .reply ≡ NoWantedType) ↔
+        (Below (typeLabels n t) (graphOfRows s) (graphOfRows g) × SomeUnwanted n t (graphOfRows s) (graphOfRows g))
+    difference-not-wanted = Differed.unwanted-reply-exact n t a b g s given out
+
     -- and else 8 exactly where it is due, and the call writes the difference.
-    pub difference-written : admits n t ≡ true → Below (typeLabels n t) (graphOfRows s) (graphOfRows g) →
-        Writes n t eqb (remainder n t g s) out (differing n t a b out)
-    difference-written = Differed.remainder-writes n t a b g s given out
+    pub difference-written : Below (typeLabels n t) (graphOfRows s) (graphOfRows g) →
+        (SomeUnwanted n t (graphOfRows s) (graphOfRows g) → ⊥) → Writes n t eqb (remainder n t g s) out (differing n t a b out)
+    difference-written below all = Differed.remainder-writes n t a b g s given out below (Differed.all-wanted n t a b g s given below all)
 
     -- What is written restores b byte for byte when it is combined with a, nothing more general does, and the order agrees.
     pub difference : (l : ℕ) → differing n t a b out .reply ≡ Length l → Difference n t a b g s (take l (differing n t a b out .output))

@@ -3,11 +3,10 @@
 use mathlib.Core.Path.{_≡_, refl, sym, _∙_, ap, subst}
 use mathlib.Core.Bool.{Bool, true, false, cond}
 use mathlib.Core.List.{List, [], List·Memᴰ}
-use Prim.Native.Nat.{ℕ, _≤_, _<_}
+use Prim.Native.Nat.{ℕ, _<_}
 use native.Mathlib.Omega.{arith}
 use lib.Dec.{eqb}
 use lib.ListN.{length, getD}
-use Rattle.graphs.specs.Graph.{AnySize, Reached}
 use Rattle.graphs.specs.Map.{NodeMap}
 use Rattle.graphs.specs.Rows.{Row, from}
 use Rattle.graphs.specs.Number.{canonical}
@@ -24,25 +23,30 @@ use Rattle.lattice.specs.declared.Opened.the-variants as opened
 use Rattle.lattice.specs.Table as types
 use Rattle.lattice.specs.Reply as table
 use Rattle.lattice.specs.Labels.{typeLabels}
+use Rattle.lattice.proofs.Every.{every-same}
 use Rattle.lattice.proofs.Laws.{accepted-size}
 use Rattle.encode.specs.declared.Written.{Written}
-use Rattle.encode.specs.Encode.{encoded, writtenOut}
+use Rattle.encode.specs.Encode.{encoded, writtenOut, yielding}
 use Rattle.encode.specs.Copies.{Renumbers}
-use Rattle.record.specs.Read.{reading}
+use Rattle.record.specs.declared.GraphFault.{GraphFault}
 use Rattle.record.proofs.Accepted.{Rules, accepted-rules, rules-of-any-size, rules-fit}
 use Rattle.record.proofs.Rewritten.{form-rules, rules-read}
 use Rattle.subsume.specs.declared.Order.{Order}
 use Rattle.subsume.specs.declared.Order.the-variants as order
 use Rattle.subsume.specs.Promise.{Orders}
-use Rattle.difference.specs.Promise.{wantedType, differenceOf}
+use Rattle.difference.specs.Promise.{wantedAlong, allWantedAlong, differenceAlong}
 use Rattle.difference.specs.Asked.{Asked}
+use Rattle.engine.specs.declared.Side.{Side}
+use Rattle.engine.specs.declared.PairVerdict.{PairVerdict}
+use Rattle.engine.specs.declared.PairVerdict.the-variants as pair
 use Rattle.engine.specs.declared.Reply.{Reply}
-use Rattle.engine.specs.declared.Reply.the-variants.{Table, NotBelow, NotAdmitted}
-use Rattle.engine.specs.Reply.{Result, resultOf, replyOf, refusing, readBoth}
-use Rattle.engine.specs.Difference.{over, wanted, differenceRows, differed, numbered, differedRows, differing}
+use Rattle.engine.specs.declared.Reply.the-variants.{Table, Graph, NotBelow, NoWantedType}
+use Rattle.engine.specs.Reply.{Result, resulting, resultOf, replyOf, refusing}
+use Rattle.engine.specs.Difference.{over, wantedType, allWanted, differenceRows, differed, numbered, differedRows, differing}
+use Rattle.engine.specs.Pair.{ReadsBoth, parting}
 use Rattle.engine.specs.Renumbering.{Acceptable, Loaded, Comparable}
-use Rattle.engine.proofs.Readings.{Accepts, accepts-rules, accepts-reached, accepts-recorded, both-next}
-use Rattle.engine.proofs.Replies.{Gives, gives-as, table-refused, table-accepted}
+use Rattle.engine.proofs.Readings.{Accepts, accepts-rules, accepts-reached, accepts-recorded, both-refused, both-next}
+use Rattle.engine.proofs.Replies.{table-refused, table-accepted}
 use Rattle.engine.proofs.Orders.{order-test}
 use Rattle.engine.proofs.Over.{over-only}
 
@@ -100,27 +104,37 @@ module _ (n : ℕ) (t : List ℕ) (s g : List (Row Label)) (map : List ℕ) (gen
   lies : (y : ℕ) → y < length g → getD map y 0 ≡ over s g y
   lies y h = sym (over-only n t g s general (map-below along) (λ y. getD map y 0) along y h)
 
-  -- it is the difference
-  difference-along : differenceOf n t s g map ≡ differenceRows n t g s
-  unfolding differenceOf wantedType differenceRows wanted
+  -- the wanted types along it are the wanted types
+  wanted-along : (v : ℕ) → wantedAlong n t s g (λ y. getD map y 0) v ≡ wantedType n t s g v
+  unfolding wantedAlong
+  wanted-along v =
+      ap (types.wanted n t (graphOfRows s .label v))
+      (meetOver-agree (typeLabels n t) eqb (graphOfRows g) (from 0 (length g)) (λ y. getD map y 0) (over s g)
+      (λ y m. lies y (omega (arith, from-range 0 (length g) y m))) v)
+
+  all-along : allWantedAlong n t s g (λ y. getD map y 0) ≡ allWanted n t s g
+  unfolding allWantedAlong
+  all-along =
+      every-same (λ v. types.found (wantedAlong n t s g (λ y. getD map y 0) v)) (λ v. types.found (wantedType n t s g v)) (length s)
+      (λ v _. ap types.found (wanted-along v))
+
+  -- and the difference along it is the difference
+  difference-along : differenceAlong n t s g (λ y. getD map y 0) ≡ differenceRows n t g s
+  unfolding differenceAlong
   difference-along =
       difference-agree (typeLabels n t) eqb eqb byNumber (graphOfRows s) (from 0 (length s)) (graphOfRows g) (from 0 (length g))
-      (λ y. getD map y 0) (over s g) (wantedType n t s g map) (wanted n t s g) (λ y m. lies y (omega (arith, from-range 0 (length g) y m)))
-      (λ v. ap (λ (q : ℕ). types.cell (types.residual n t (graphOfRows s .label v) q))
-      (meetOver-agree (typeLabels n t) eqb (graphOfRows g) (from 0 (length g)) (λ y. getD map y 0) (over s g)
-      (λ y m. lies y (omega (arith, from-range 0 (length g) y m))) v))
+      (λ y. getD map y 0) (over s g) (λ v. types.cell (wantedAlong n t s g (λ y. getD map y 0) v)) (λ v. types.cell (wantedType n t s g v))
+      (λ y m. lies y (omega (arith, from-range 0 (length g) y m))) (λ v. ap types.cell (wanted-along v))
 
 -- what the difference asks
-pub ready-below : (n : ℕ) (t : List ℕ) (meets : List (List ℕ)) (g s : List ℕ) {answer : Order} {map : List ℕ} →
-    Comparable n t meets g s → Orders n t (rowsOf s) (rowsOf g) answer map → answer ≡ order.Below → Asked n t meets g s map
-ready-below n t meets g s given orders below =
+pub ready-below : (n : ℕ) (t g s : List ℕ) {answer : Order} {map : List ℕ} → Comparable n t g s →
+    Orders n t (rowsOf s) (rowsOf g) answer map → answer ≡ order.Below → Asked n t g s map
+ready-below n t g s given orders below =
     let few = accepted-size n t (given .accepts) .1 in
     let one = loaded-accepts (given .general) in
     let other = loaded-accepts (given .specific) in
     record {
       ok = given .accepts;
-      differs = given .admits;
-      held = given .met;
       upper = accepts-recorded few one;
       lower = accepts-recorded few other;
       short = given .short;
@@ -137,68 +151,66 @@ module _ (n : ℕ) (t out : List ℕ) {a : List ℕ} (g s : List ℕ) (given : A
   abbrev below : Bool
   below = subsumes (typeLabels n t) eqb eqb (graphIn s) (graphIn g) (length (rowsOf g))
 
-  abbrev chosen : Bool → Result
-  chosen b = cond b (resultOf (writtenOut (canonical eqb (differenceRows n t (rowsOf g) (rowsOf s))) out)) (refusing NotBelow out)
+  abbrev written : Result
+  written = resultOf (writtenOut (canonical eqb (differenceRows n t (rowsOf g) (rowsOf s))) out)
+
+  abbrev chosen : Bool → Bool → Result
+  chosen lies all = cond lies (cond all written (refusing NoWantedType out)) (refusing NotBelow out)
 
   -- 12
-  pub differed-refused : answer ≡ order.NotBelow → Gives (differed n t out (rowsOf g) (rowsOf s)) NotBelow out
+  pub differed-refused : answer ≡ order.NotBelow → resulting NotBelow out ≡ differed n t out (rowsOf g) (rowsOf s)
   unfolding differed
-  differed-refused e = gives-as (ap chosen (go below refl)) (refl, refl)
+  differed-refused e = sym (ap (λ (b : Bool). chosen b (allWanted n t (rowsOf s) (rowsOf g))) (go below refl))
     where
       go : (b : Bool) → below ≡ b → b ≡ false
       go false q = refl
       go true q = absurd (orders .no-stands e (order-test n t (rowsOf s) (rowsOf g) (accepts-rules given) .0 q))
 
-  pub differed-as : answer ≡ order.Below → {w : Written} {r : Reply} {new : List ℕ} →
-      w ≡ writtenOut (canonical eqb (differenceOf n t (rowsOf s) (rowsOf g) map)) out .answer →
-      new ≡ writtenOut (canonical eqb (differenceOf n t (rowsOf s) (rowsOf g) map)) out .output →
-      r ≡ replyOf w → Gives (differed n t out (rowsOf g) (rowsOf s)) r new
-  unfolding differed
-  differed-as e answers leaves said =
-      gives-as
-      (ap chosen (order-test n t (rowsOf s) (rowsOf g) (accepts-rules given) .1 (map-below (orders .yes-stands e))) ∙
-      sym
-      (ap (λ k. resultOf (writtenOut (canonical eqb k) out))
-      (difference-along n t (rowsOf s) (rowsOf g) map (accepts-rules given) (orders .yes-stands e))))
-      (said ∙ ap replyOf answers, leaves)
+  module _ (e : answer ≡ order.Below) where
+    lies-below : below ≡ true
+    lies-below = order-test n t (rowsOf s) (rowsOf g) (accepts-rules given) .1 (map-below (orders .yes-stands e))
+
+    chosen-all : (b : Bool) → b ≡ allWantedAlong n t (rowsOf s) (rowsOf g) (λ y. getD map y 0) →
+        chosen true b ≡ differed n t out (rowsOf g) (rowsOf s)
+    unfolding differed
+    chosen-all b all =
+        ap (chosen true) (all ∙ all-along n t (rowsOf s) (rowsOf g) map (accepts-rules given) (orders .yes-stands e)) ∙
+        ap (λ (x : Bool). chosen x (allWanted n t (rowsOf s) (rowsOf g))) (sym lies-below)
+
+    -- 13
+    pub differed-unwanted : false ≡ allWantedAlong n t (rowsOf s) (rowsOf g) (λ y. getD map y 0) →
+        resulting NoWantedType out ≡ differed n t out (rowsOf g) (rowsOf s)
+    differed-unwanted = chosen-all false
+
+    pub differed-as : true ≡ allWantedAlong n t (rowsOf s) (rowsOf g) (λ y. getD map y 0) → {w : Written} {r : Reply} {new : List ℕ} →
+        yielding w new ≡ writtenOut (canonical eqb (differenceAlong n t (rowsOf s) (rowsOf g) (λ y. getD map y 0))) out →
+        r ≡ replyOf w → resulting r new ≡ differed n t out (rowsOf g) (rowsOf s)
+    differed-as all {new = new} answers said =
+        ap (λ (x : Reply). resulting x new) said ∙ ap resultOf answers ∙
+        ap (λ k. resultOf (writtenOut (canonical eqb k) out))
+        (difference-along n t (rowsOf s) (rowsOf g) map (accepts-rules given) (orders .yes-stands e)) ∙
+        chosen-all true all
 
 -- Over an accepted table.
 
-module _ (n : ℕ) (t a b out : List ℕ) {g s : List ℕ} (given : Accepts n a g × Accepts n b s) where
-  abbrev replied : Result
-  replied = readBoth (λ r. refusing r out) (reading n a) (reading n b) (differedRows n t out)
+-- 4 to 7
+pub parting-refused : {n : ℕ} {a b : List ℕ} {v : PairVerdict} {ws ws₂ : List ℕ} → ReadsBoth n a b v ws ws₂ → (t out : List ℕ)
+    (fault : GraphFault) (side : Side) → v ≡ pair.Refused fault side → resulting (Graph fault side) out ≡ parting n t a b out
+parting-refused {n} reads t out fault side e = sym (both-refused reads (λ r. refusing r out) (differedRows n t out) fault side e)
 
-  abbrev picked : Bool → List (Row Label) → Result
-  picked admitted rows = cond admitted (differed n t out (rowsOf g) rows) (refusing NotAdmitted out)
-
-  -- 13
-  pub not-admitted : types.admits n t ≡ false → Gives replied NotAdmitted out
-  unfolding differedRows
-  not-admitted e =
-      gives-as
-      (both-next n a b (λ r. refusing r out) (differedRows n t out) given ∙
-      ap (λ (c : Bool). picked c (numbered (canonical eqb (graphIn s)))) e)
-      (refl, refl)
-
-  pub replies-difference : types.admits n t ≡ true → {h : List ℕ} → Renumbered n (rowsOf s) h → {r : Reply} {new : List ℕ} →
-      Gives (differed n t out (rowsOf g) (rowsOf h)) r new → Gives replied r new
-  unfolding differedRows
-  replies-difference e {h} numbers =
-      gives-as
-      (both-next n a b (λ r. refusing r out) (differedRows n t out) given ∙
-      ap (λ (c : Bool). picked c (numbered (canonical eqb (graphIn s)))) e ∙
-      sym (ap (picked true) (numbers .rows-are)))
+pub parting-both : (n : ℕ) (t a b out : List ℕ) {g s : List ℕ} → Accepts n a g × Accepts n b s → {h : List ℕ} →
+    Renumbered n (rowsOf s) h → {r : Result} → r ≡ differed n t out (rowsOf g) (rowsOf h) → r ≡ parting n t a b out
+unfolding differedRows
+parting-both n t a b out {g} given numbers e =
+    e ∙ ap (differed n t out (rowsOf g)) (numbers .rows-are) ∙
+    sym (both-next n a b (λ r. refusing r out) (differedRows n t out) given)
 
 module _ (n : ℕ) (t a b out : List ℕ) where
-  pub differing-refused : (fault : TableFault) → table.opened n t ≡ opened.Refused fault → Gives (differing n t a b out) (Table fault) out
+  pub differing-refused : (fault : TableFault) → table.opened n t ≡ opened.Refused fault →
+      resulting (Table fault) out ≡ differing n t a b out
   unfolding differing
-  differing-refused fault e =
-      gives-as
-      (table-refused (λ r. refusing r out) (readBoth (λ r. refusing r out) (reading n a) (reading n b) (differedRows n t out)) fault e)
-      (refl, refl)
+  differing-refused fault e = sym (table-refused (λ r. refusing r out) (parting n t a b out) fault e)
 
-  pub differing-accepted : {r : Reply} {new : List ℕ} → table.opened n t ≡ opened.Accepted →
-      Gives (readBoth (λ r. refusing r out) (reading n a) (reading n b) (differedRows n t out)) r new → Gives (differing n t a b out) r new
+  pub differing-accepted : {r : Result} → table.opened n t ≡ opened.Accepted → r ≡ parting n t a b out → r ≡ differing n t a b out
   unfolding differing
-  differing-accepted e h =
-      gives-as (table-accepted (λ r. refusing r out) (readBoth (λ r. refusing r out) (reading n a) (reading n b) (differedRows n t out)) e) h
+  differing-accepted e h = h ∙ sym (table-accepted (λ r. refusing r out) (parting n t a b out) e)

@@ -12,13 +12,13 @@ use Rattle.record.specs.declared.GraphFault.the-variants.{Malformed, OutOfRange
 use Rattle.engine.specs.declared.kinds.Kind.{Kind}
 use Rattle.engine.specs.declared.kinds.Kind.the-variants as kind
 use Rattle.engine.specs.declared.Reply.{Reply}
-use Rattle.engine.specs.declared.Reply.the-variants.{Length, Yes, No, Table, Graph, NoRoom, Cycle, Clash, TooLarge, NotBelow, NotAdmitted}
+use Rattle.engine.specs.declared.Reply.the-variants.{Length, Yes, No, Table, Graph, NoRoom, Cycle, Clash, TooLarge, NotBelow, NoWantedType}
 use Rattle.engine.specs.Reply.{kindOf, Bounded}
 
 -- refusals by their numbers, of which 0 and 4 to 7 are not among these
 refusals : List Reply
 refusals =
-    No ∷ Table Size ∷ Table Order ∷ Table Bounds ∷ No ∷ No ∷ No ∷ No ∷ NoRoom ∷ Cycle ∷ Clash ∷ TooLarge ∷ NotBelow ∷ NotAdmitted ∷ []
+    No ∷ Table Size ∷ Table Order ∷ Table Bounds ∷ No ∷ No ∷ No ∷ No ∷ NoRoom ∷ Cycle ∷ Clash ∷ TooLarge ∷ NotBelow ∷ NoWantedType ∷ []
 
 -- 4 to 7
 faults : List GraphFault
@@ -57,7 +57,7 @@ tells Cycle = (refl, refl)
 tells Clash = (refl, refl)
 tells TooLarge = (refl, refl)
 tells NotBelow = (refl, refl)
-tells NotAdmitted = (refl, refl)
+tells NoWantedType = (refl, refl)
 
 -- different replies tell different things
 pub kind-injective : (r q : Reply) → kindOf r ≡ kindOf q → r ≡ q

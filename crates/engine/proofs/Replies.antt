@@ -1,5 +1,5 @@
 -- From what opening a table, reading and writing a graph promise to what the calls reply.
-use mathlib.Core.Path.{_≡_, sym, _∙_, ap, ap₂, subst}
+use mathlib.Core.Path.{_≡_, sym, _∙_, ap}
 use mathlib.Core.List.{List}
 use Prim.Native.Nat.{ℕ}
 use lib.Dec.{eqb}
@@ -27,20 +27,6 @@ use Rattle.engine.specs.declared.Reply.the-variants.{Table, Graph}
 use Rattle.engine.specs.Reply.{Result, resulting, checked, readBoth, refusing, replyOf, resultOf, rewriting, rewritten}
 use Rattle.engine.specs.Pair.{ReadsBoth}
 use Rattle.engine.proofs.Readings.{Accepts, refuses, both-refused}
-
--- a reply and an output are those of a result
-abbrev pub Gives : Result → Reply → List ℕ → Type 0
-Gives result r out = (r ≡ result .reply) × (out ≡ result .output)
-
-pub gives-as : {x y : Result} {r : Reply} {out : List ℕ} → x ≡ y → Gives y r out → Gives x r out
-gives-as {r = r} {out} e h = subst (λ z. Gives z r out) (sym e) h
-
--- the two equations are one
-pub results : {x : Result} {r : Reply} {out : List ℕ} → Gives x r out → resulting r out ≡ x
-results (replies, leaves) = ap₂ resulting replies leaves
-
-pub gives : {x : Result} {r : Reply} {out : List ℕ} → resulting r out ≡ x → Gives x r out
-gives e = (ap (λ (x : Result). x .reply) e, ap (λ (x : Result). x .output) e)
 
 -- what writing yields, as a result
 pub replied-as : {o : Outcome} {w : Written} {r : Reply} {new : List ℕ} → yielding w new ≡ o → r ≡ replyOf w → resulting r new ≡ resultOf o

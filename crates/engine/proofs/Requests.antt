@@ -1,12 +1,13 @@
 -- The change requests, one section for each paper and one theorem for each sentence, about the definitions that the calls are proved equal
--- to. The definitions that the statements use stand in `Reply`, `Unification` and `Demand`; the proofs are cited. n and t are the table,
+-- to. The definitions that the statements use stand in `Reply`, `Unification`, `Difference`, `Before` and `Demand`; the proofs are cited. n and t are the table,
 -- out and out′ are the outputs lent; a, b, c and d are the records.
 use mathlib.Core.Path.{_≡_, refl}
 use mathlib.Core.Bool.{Bool, true}
 use mathlib.Core.List.{List, []}
 use mathlib.Core.Option.{some}
-use mathlib.Core.Logic.{_⊎_}
+use mathlib.Core.Logic.{_↔_, _⊎_}
 use Prim.Native.Nat.{ℕ, _+_, _*_, _<_}
+use lib.Dec.{eqb}
 use lib.ListN.{length, getD, take}
 use Rattle.graphs.specs.Graph.{Graph, Tells, Below}
 use Rattle.graphs.specs.Rows.{Row}
@@ -14,19 +15,25 @@ use Rattle.graphs.specs.Generalize.{generalization}
 use Rattle.lattice.specs.Label.{Label}
 use Rattle.lattice.specs.declared.Opened.the-variants.{Accepted}
 use Rattle.lattice.specs.Reply.{opened}
-use Rattle.lattice.specs.Labels.{typeLabels, OfAnySize, LeastOfAnySize, GreatestOfAnySize, IsCombination}
+use Rattle.lattice.specs.Labels.{typeLabels, OfAnySize, LeastOfAnySize, GreatestOfAnySize, IsCombination, SomeUnwanted}
 use Rattle.lattice.proofs.Residuals.{opened-accepted}
 use Rattle.lattice.proofs.AnySize.{generalization-least, least-monotone, greatest-monotone, combines-broader, combines-not-refuted}
 use Rattle.lattice.specs.Table as types
 use Rattle.house.specs.House.{lesser, under, meets, houseTable}
 use Rattle.house.proofs.Theorems as house
+use Rattle.encode.specs.Encode.{fitted}
 use Rattle.record.specs.Read.{reading, accepted, graphOfRows}
-use Rattle.engine.specs.declared.Reply.the-variants.{Length, Yes, Cycle, Clash}
-use Rattle.engine.specs.Reply.{ordering, generalizing}
+use Rattle.engine.specs.declared.Reply.the-variants.{Length, Yes, Cycle, Clash, NotBelow, NoWantedType}
+use Rattle.engine.specs.Reply.{resultOf, ordering, generalizing}
 use Rattle.engine.specs.Unification.{unifying}
-use Rattle.engine.specs.Demand.{Given}
+use Rattle.engine.specs.Difference.{differing}
+use Rattle.engine.specs.Before.{differingBefore}
+use Rattle.engine.specs.Demand.{Given, Writes, loneTop, remainder, Restores, Difference}
 use Rattle.engine.proofs.Broader.{RecordBelow, answer-below, rows-below, below-answer, below-paths}
 use Rattle.engine.proofs.Broader as Broader
+use Rattle.engine.proofs.Demanded.Difference as Differed
+use Rattle.engine.proofs.Demanded.Before.{differing-before, never-unwanted}
+use Rattle.engine.proofs.Demanded.Itself.{itself}
 
 -- Paper 1: a broader program never clashes anew. Where a is below b and c is below d, b combines with d if a combines with c; what is
 -- written of the narrower pair is below what is written of the broader one, of combinations and of common parts.
@@ -103,6 +110,43 @@ module _ (n : ℕ) (t : List ℕ) (opens : opened n t ≡ Accepted) {A B C D : T
   pub any-size-common-part : {U W : Type 0} (u : Graph Label U) (w : Graph Label W) → LeastOfAnySize n t g h u → LeastOfAnySize n t k m w →
       Below (typeLabels n t) u w
   any-size-common-part = least-monotone n t (opened-accepted n t (opened n t) refl opens) g k h m g-size k-size h-size m-size first second
+
+-- Paper 6: tables with three rival types. a is the general record, b the specific one.
+module _ (n : ℕ) (t a b : List ℕ) (g s : List (Row Label)) (given : Given n t a b g s) (out : List ℕ) where
+  -- 13 is given exactly where s is below g and some node of s has no wanted type;
+  pub unwanted-exact : (differing n t a b out .reply ≡ NoWantedType) ↔
+      (Below (typeLabels n t) (graphOfRows s) (graphOfRows g) × SomeUnwanted n t (graphOfRows s) (graphOfRows g))
+  unwanted-exact = Differed.unwanted-reply-exact n t a b g s given out
+
+  -- 12 is checked before it: it is given wherever s is not below g.
+  pub unwanted-after-below : (differing n t a b out .reply ≡ NotBelow) ↔ (Below (typeLabels n t) (graphOfRows s) (graphOfRows g) → ⊥)
+  unwanted-after-below = Differed.not-below-exact n t a b g s given out
+
+  -- Over every accepted table, where s is below g: 13 for that reason, or the difference restores s and nothing more general of any size
+  -- does, and it is what the call writes;
+  pub restored-or-unwanted : Below (typeLabels n t) (graphOfRows s) (graphOfRows g) →
+      ((differing n t a b out .reply ≡ NoWantedType) × SomeUnwanted n t (graphOfRows s) (graphOfRows g)) ⊎
+      (Restores n t (remainder n t g s) (graphOfRows g) (graphOfRows s) × Writes n t eqb (remainder n t g s) out (differing n t a b out))
+  restored-or-unwanted = Differed.unwanted-or-restored n t a b g s given out
+
+  -- the record that is written restores b byte for byte when it is combined with a, and of records too nothing more general does.
+  pub restored-bytes : (l : ℕ) → differing n t a b out .reply ≡ Length l → Difference n t a b g s (take l (differing n t a b out .output))
+  restored-bytes = Differed.written-difference n t a b g s given out
+
+-- Where the table admits differences, every call for a difference gives what it gave before, reply and output, whatever is handed in
+-- beside the table;
+pub admitted-as-before : (n : ℕ) (t : List ℕ) → types.admits n t ≡ true → (a b out : List ℕ) →
+    differing n t a b out ≡ differingBefore n t a b out
+admitted-as-before = differing-before
+
+-- and 13 never comes.
+pub admitted-wanted : (n : ℕ) (t : List ℕ) → types.admits n t ≡ true → (a b out : List ℕ) → differing n t a b out .reply ≡ NoWantedType → ⊥
+admitted-wanted n t differ a b out = never-unwanted n t differ out a b
+
+-- A graph's difference from itself is a lone top, over every accepted table: its record where it fits, else 8.
+pub itself-lone-top : (n : ℕ) (t a : List ℕ) (s : List (Row Label)) → opened n t ≡ Accepted → reading n a ≡ accepted s → (out : List ℕ) →
+    differing n t a a out ≡ resultOf (fitted (loneTop n) out)
+itself-lone-top = itself
 
 -- Paper 8: the house types as a constant. Entry 64 a + b of the constant has in each grade the lesser of a's and b's;
 pub house-rule : (a b : ℕ) → a < 64 → b < 64 → getD meets (64 * a + b) 0 ≡ lesser a b

@@ -2,12 +2,12 @@
 -- result a graph of any size gives, and what the records of a common part, a combination and a difference are among all graphs of any size.
 use mathlib.Core.Path.{_≡_}
 use mathlib.Core.Bool.{Bool}
-use mathlib.Core.List.{List}
+use mathlib.Core.List.{List, _∷_}
 use mathlib.Core.Logic.{_↔_, _⊎_}
 use mathlib.Core.Option.{some}
-use Prim.Native.Nat.{ℕ, _≤_, _<_}
+use Prim.Native.Nat.{ℕ, _-_, _≤_, _<_}
 use lib.Dec.{eqb}
-use lib.ListN.{length, take, drop}
+use lib.ListN.{length, take, drop, replicate}
 use Rattle.graphs.specs.Graph.{Graph, Tells, Below, SameMeaning}
 use Rattle.graphs.specs.Rows.{Row}
 use Rattle.graphs.specs.Number.{canonical, written}
@@ -120,6 +120,10 @@ pub record Combination (n : ℕ) (t a b : List ℕ) (g h : List (Row Label)) (by
 -- "strictly more general when s is not above g": e lies above d, and d not above e
 abbrev pub MoreGeneral : ℕ → List ℕ → {A B : Type 0} → Graph Label A → Graph Label B → Type 0
 MoreGeneral n t e d = Below (typeLabels n t) d e × (Below (typeLabels n t) e d → ⊥)
+
+-- the record of "a lone top": one node of type n - 1, no link
+abbrev pub loneTop : ℕ → List ℕ
+loneTop n = 1 ∷ (n - 1) ∷ replicate 8 0
 
 -- the difference of g and s, for s below g, with s numbered as written
 abbrev pub remainder : ℕ → List ℕ → List (Row Label) → List (Row Label) → Graph Label ℕ

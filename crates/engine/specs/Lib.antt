@@ -4,4 +4,5 @@ pub mod Unification
 pub mod Pair
 pub mod Demand
 pub mod Difference
+pub mod Before
 pub mod Renumbering

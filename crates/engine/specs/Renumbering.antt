@@ -10,7 +10,6 @@ use Rattle.lattice.specs.Table as types
 use Rattle.layout.specs.Layout.{Sound, labelAt, rowsOf, size}
 use Rattle.encode.specs.Encode.{encoded}
 use Rattle.record.specs.Read.{accepted, reading}
-use Rattle.difference.specs.Wanted.{MeetsHeld}
 
 -- rows whose record is accepted over a table with n types
 abbrev pub Acceptable : ℕ → List (Row Label) → Type 0
@@ -23,11 +22,9 @@ pub record Loaded (n : ℕ) (ws : List ℕ) : Type 0 where
   pub small : size ws ≤ 255
   pub typed : (v : ℕ) → v < size ws → labelAt ws v < n
 
--- two graphs over an accepted table that admits differences
-pub record Comparable (n : ℕ) (t : List ℕ) (meets : List (List ℕ)) (g s : List ℕ) : Type 0 where
+-- two graphs over an accepted table
+pub record Comparable (n : ℕ) (t g s : List ℕ) : Type 0 where
   pub accepts : types.accepted n t ≡ true
-  pub admits : types.admits n t ≡ true
-  pub met : MeetsHeld n t meets
   pub general : Loaded n g
   pub specific : Loaded n s
   pub short : length s ≤ 2560

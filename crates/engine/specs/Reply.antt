@@ -24,7 +24,7 @@ use Rattle.engine.specs.declared.Side.the-variants.{First, Second}
 use Rattle.engine.specs.declared.kinds.Kind.{Kind}
 use Rattle.engine.specs.declared.kinds.Kind.the-variants as kind
 use Rattle.engine.specs.declared.Reply.{Reply}
-use Rattle.engine.specs.declared.Reply.the-variants.{Length, Yes, No, Table, Graph, NoRoom, Cycle, Clash, TooLarge, NotBelow, NotAdmitted}
+use Rattle.engine.specs.declared.Reply.the-variants.{Length, Yes, No, Table, Graph, NoRoom, Cycle, Clash, TooLarge, NotBelow, NoWantedType}
 
 -- what a reply tells: a refusal has a number, and one of a graph tells which of the two it is
 abbrev pub kindOf : Reply → Kind
@@ -38,7 +38,7 @@ kindOf Cycle = kind.Refused 9
 kindOf Clash = kind.Refused 10
 kindOf TooLarge = kind.Refused 11
 kindOf NotBelow = kind.Refused 12
-kindOf NotAdmitted = kind.Refused 13
+kindOf NoWantedType = kind.Refused 13
 
 abbrev pub refusalIn : Kind → Option ℕ
 refusalIn (kind.Length l) = none

@@ -6,26 +6,24 @@ use crate::Reply;
 use subsume::Order;
 ghost use mathlib.Core.Path.{_≡_};
 ghost use mathlib.Core.Bool.{true};
+ghost use lib.ListN.{length};
 ghost use Rattle.lattice.specs.Table.{accepted};
 ghost use Rattle.layout.specs.Layout.{rowsOf};
-ghost use Rattle.difference.specs.Wanted.{MeetsHeld};
 ghost use Rattle.engine.specs.Difference.{differed};
+ghost use Rattle.engine.specs.Reply.{resulting};
 ghost use Rattle.engine.specs.Pair.{parting};
 ghost use Rattle.engine.specs.Renumbering.{Comparable};
 
-// The difference of two records, with the meets of an accepted table with n types.
+// The difference of two records, over an accepted table with n types.
 pub fn difference_over<'a>(
     n: usize,
     table: &'a [u8],
-    meets: &'a [[u8; 64]; 64],
     first: &[u8],
     second: &[u8],
     out: &mut [u8],
 ) -> Reply
     requires { ⌜ accepted n (now table) ≡ true ⌝ }
-    requires { ⌜ MeetsHeld n (now table) (now meets) ⌝ }
-    ensures { λ r. ⌜ r ≡ parting n (now (table .entry)) (now (first .entry)) (now (second .entry)) (now (out .entry)) .reply ⌝ }
-    ensures { λ r. ⌜ now (out .exit) ≡ parting n (now (table .entry)) (now (first .entry)) (now (second .entry)) (now (out .entry)) .output ⌝ }
+    ensures { λ r. ⌜ resulting r (now (out .exit)) ≡ parting n (now (table .entry)) (now (first .entry)) (now (second .entry)) (now (out .entry)) ⌝ }
 {
     let mut g = [layout::BLANK; 2560];
     let mut given = [layout::BLANK; 2560];
@@ -33,29 +31,25 @@ pub fn difference_over<'a>(
     match verdict {
         PairVerdict::Refused(fault, side) => Reply::Graph(fault, side),
         PairVerdict::Both => {
-            if !lattice::differences::admits(n, table) {
-                return Reply::NotAdmitted;
-            }
             // an accepted graph can be written: the words alone are wanted
             let mut s = [layout::BLANK; 2560];
             encode::numbered::renumber(&given, &mut s);
-            difference_below(n, table, meets, &g, &s, out)
+            difference_below(n, table, &g, &s, &mut given, out)
         }
     }
 }
 
-// The difference of g and s where s is below g.
+// The difference of g and s where s is below g and each of its nodes has a wanted type. Its rows are made in `words`.
 fn difference_below<'a>(
     n: usize,
     table: &'a [u8],
-    meets: &'a [[u8; 64]; 64],
     g: &'a [u16],
     s: &'a [u16],
+    words: &mut [u16; 2560],
     out: &mut [u8],
 ) -> Reply
-    requires { ⌜ Comparable n (now table) (now meets) (now g) (now s) ⌝ }
-    ensures { λ r. ⌜ r ≡ differed n (now (table .entry)) (now (out .entry)) (rowsOf (now (g .entry))) (rowsOf (now (s .entry))) .reply ⌝ }
-    ensures { λ r. ⌜ now (out .exit) ≡ differed n (now (table .entry)) (now (out .entry)) (rowsOf (now (g .entry))) (rowsOf (now (s .entry))) .output ⌝ }
+    requires { ⌜ Comparable n (now table) (now g) (now s) × (length (now words) ≡ 2560) ⌝ }
+    ensures { λ r. ⌜ resulting r (now (out .exit)) ≡ differed n (now (table .entry)) (now (out .entry)) (rowsOf (now (g .entry))) (rowsOf (now (s .entry))) ⌝ }
 {
     let ordered = subsume::subsume(table, s, g);
     let order = ordered.order;
@@ -63,5 +57,9 @@ fn difference_below<'a>(
         return Reply::NotBelow;
     };
     let map = ordered.map;
-    crate::reply_of(difference::difference(n, table, meets, g, s, &map, out))
+    let mut types = [0u8; 255];
+    if !difference::wanted::wanted_types(n, table, g, s, &map, &mut types) {
+        return Reply::NoWantedType;
+    }
+    crate::reply_of(difference::difference(n, table, g, s, &map, &types, words, out))
 }

@@ -33,7 +33,7 @@ pub fn kind_of(reply: Reply) -> Kind
         Reply::Clash => Kind::Refused(10),
         Reply::TooLarge => Kind::Refused(11),
         Reply::NotBelow => Kind::Refused(12),
-        Reply::NotAdmitted => Kind::Refused(13),
+        Reply::NoWantedType => Kind::Refused(13),
     }
 }
 

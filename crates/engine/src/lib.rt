@@ -39,7 +39,7 @@ pub enum Reply {
     Clash,
     TooLarge,
     NotBelow,
-    NotAdmitted,
+    NoWantedType,
 }
 
 // Whether two records are accepted; else the first refusal and which graph it tells of.
@@ -192,13 +192,11 @@ fn combined_reply(combined: Combined) -> Reply
 
 // The difference of the first graph, g, and the second, s, in written form.
 pub fn difference(n: usize, table: &[u8], first: &[u8], second: &[u8], out: &mut [u8]) -> Reply
-    ensures { λ r. ⌜ r ≡ differing n (now (table .entry)) (now (first .entry)) (now (second .entry)) (now (out .entry)) .reply ⌝ }
-    ensures { λ r. ⌜ now (out .exit) ≡ differing n (now (table .entry)) (now (first .entry)) (now (second .entry)) (now (out .entry)) .output ⌝ }
+    ensures { λ r. ⌜ resulting r (now (out .exit)) ≡ differing n (now (table .entry)) (now (first .entry)) (now (second .entry)) (now (out .entry)) ⌝ }
 {
-    let mut meets = [[0u8; 64]; 64];
-    let opened = lattice::open_meets(n, table, &mut meets);
+    let opened = lattice::accept(n, table);
     match opened {
         Opened::Refused(fault) => Reply::Table(fault),
-        Opened::Accepted => differences::difference_over(n, table, &meets, first, second, out),
+        Opened::Accepted => differences::difference_over(n, table, first, second, out),
     }
 }

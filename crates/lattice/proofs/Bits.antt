@@ -4,8 +4,7 @@ use Prim.Native.Nat.{ℕ, zero, suc, _+_, _*_, _-_, _/_, _%_, _^_, _<_, _≤_}
 use mathlib.Core.Path.{_≡_, refl, sym, ap, ap₂, subst, _∙_}
 use mathlib.Core.Bool.{Bool, true, false, not, _&&_, _||_}
 use mathlib.Core.List.{List}
-use mathlib.Core.Logic.{⊎-elim}
-use native.Mathlib.Nat.{mod-lt, zero-div, mod-eq-of-lt, two-pow-succ, div-lt-iff-lt-mul, le-div-iff-mul-le, div-eq-of-lt, lt-of-lt-of-le, add-zero, add-suc, add-mul, mul-assoc, mul-comm}
+use native.Mathlib.Nat.{mod-lt, zero-div, mod-eq-of-lt, two-pow-succ, div-lt-iff-lt-mul, le-div-iff-mul-le, lt-of-lt-of-le, add-zero, add-suc, add-mul, mul-assoc, mul-comm}
 use native.Mathlib.Omega.{arith}
 use lib.Bits.{bitAnd, bitOr, bitXor, and-shr, or-shr, xor-shr, and-mod, or-mod, xor-mod, xor-add-and, and-le-l, and-step, and-self}
 use lib.Count.{trailingZeros, under, leadingZeros, leading-top}
@@ -14,8 +13,8 @@ use lib.ListN.{getD}
 use lib.Pow.{mod-pow-add, shr-shr, shr-lt, pow-mono, pow-pos, pow-add, shl-exact}
 use borrow.Author.Tests.{eq-eqb, ne-eqb, eqb-true}
 use Rattle.lattice.specs.Table.{below}
-use Rattle.lattice.specs.Words.{digit, word, related, bit, without, partOf, Inside}
-use Rattle.lattice.proofs.Every.{below-or-not, and-right, and-both, true-not-false}
+use Rattle.lattice.specs.Words.{digit, word, related, bit, without, partOf}
+use Rattle.lattice.proofs.Every.{and-right, and-both, true-not-false}
 use Rattle.lattice.proofs.WordLaws.{word-below, word-same, word-bits, word-cut, turn-more, turn-fits}
 
 two : 0 < 2
@@ -50,16 +49,6 @@ bits-same k v w l s h = sym (bits-word k v l) ∙ word-same k (bit v) (bit w) h 
 pub no-bit : (j : ℕ) → bit 0 j ≡ false
 unfolding bit
 no-bit j = rw (zero-div (2 ^ j))
-
--- a number below 2 ^ n has no bit at n or above
-pub small-inside : (n w : ℕ) → w < 2 ^ n → Inside n w
-unfolding bit
-small-inside n w l j s e = ⊎-elim (λ r. r) (λ r. absurd (true-not-false (bit w j) e (none r))) (below-or-not j n) where
-  none : n ≤ j → eqb (w / 2 ^ j % 2) 1 ≡ false
-  none r =
-      let most : 2 ^ n ≤ 2 ^ j = pow-mono r in
-      let small : w < 2 ^ j = omega arith in
-      rw (div-eq-of-lt small)
 
 -- a number with a bit is not 0
 bit-positive : (w j : ℕ) → bit w j ≡ true → 0 < w

@@ -6,18 +6,19 @@ use mathlib.Core.Bool.{true}
 use mathlib.Core.HLevel.{Σ-prop-path}
 use mathlib.Core.List.{List}
 use mathlib.Core.Logic.{_⊎_, inl, inr}
+use mathlib.Core.Option.{some}
 use native.Mathlib.Bridge.{le-prop}
 use native.Mathlib.Omega.{arith}
 use lib.Dec.{eqb}
 use borrow.Author.Tests.{eq-eqb, eqb-true}
 use Rattle.graphs.specs.Label.{Labels, Lattice}
-use Rattle.graphs.specs.Difference.{IsResidual}
-use Rattle.lattice.specs.Table.{below, accepted, meet, join, cell, residual, admits}
+use Rattle.graphs.specs.Difference.{IsWanted}
+use Rattle.lattice.specs.Table.{below, accepted, meet, join, cell, wanted}
 use Rattle.lattice.proofs.Every.{below-or-not}
 use Rattle.lattice.proofs.Laws.{
   Meet,
   Join,
-  Residual,
+  Wanted,
   zero-type,
   top-type,
   below-reflexive,
@@ -26,7 +27,7 @@ use Rattle.lattice.proofs.Laws.{
   zero-least,
   meet-exists,
   join-exists,
-  residual-exists,
+  wanted-sound,
 }
 use Rattle.lattice.proofs.Laws as laws
 
@@ -72,7 +73,7 @@ module _ (n : ℕ) (t : List ℕ) (ok : accepted n t ≡ true) where
         contradiction = λ x. eqb (x .0) 0;
       }
 
-  -- the number of a meet, a join or a residual is what the cell holds
+  -- the number of a meet or a join is what the cell holds
   pub meet-number : (x y : TypeBelow n) → lawful .meet x y .0 ≡ cell (meet n t (x .0) (y .0))
   meet-number x y =
       let r : (m : ℕ) × Meet n t (x .0) (y .0) m = meet-exists n t ok (x .0) (y .0) (x .1) (y .1) in
@@ -114,22 +115,11 @@ module _ (n : ℕ) (t : List ℕ) (ok : accepted n t ≡ true) where
             (zero-least n t ok (a .0) (a .1)));
       }
 
-  module _ (differ : admits n t ≡ true) where
-    residual-of : (q p : TypeBelow n) → (c : ℕ) × Residual n t (p .0) (q .0) c
-    residual-of q p = residual-exists n t ok differ (p .0) (q .0) (p .1) (q .1)
-
-    -- where the table admits differences, every two types have a residual
-    pub lawful-residual : (q p : TypeBelow n) → (c : TypeBelow n) × IsResidual lawful q p c
-    lawful-residual q p =
-        let c : Residual n t (p .0) (q .0) (residual-of q p .0) = residual-of q p .1 in
-        let type : TypeBelow n = (residual-of q p .0, c .type) in (
-          type,
-          record {
-            under = c .under (lawful .meet type q .0) (meet-is type q .is);
-            greatest = λ d e. c .greatest (d .0) (lawful .meet d q .0) (d .1) (meet-is d q .is) e;
-          },
-        )
-
-    pub residual-number : (q p : TypeBelow n) → lawful-residual q p .0 .0 ≡ cell (residual n t (p .0) (q .0))
-    unfolding lawful-residual
-    residual-number q p = sym (ap cell (residual-of q p .1 .is))
+  -- the wanted type of a table is the wanted label
+  pub lawful-wanted : (q p c : TypeBelow n) → wanted n t (p .0) (q .0) ≡ some (c .0) → IsWanted lawful q p c
+  lawful-wanted q p c e =
+      let w : Wanted n t (p .0) (q .0) (c .0) = wanted-sound n t ok (p .0) (q .0) (c .0) (q .1) e in
+      record {
+        restores = type-path (meet-number c q ∙ ap cell (w .exact));
+        greatest = λ d f. w .greatest (d .0) (d .1) (meet-is d q .is ∙ ap (λ (x : TypeBelow n). some (x .0)) f);
+      }

@@ -1,13 +1,15 @@
--- The laws of an accepted table, for the types below n: an order with a least and a greatest type, meets and joins; and where
--- the table admits differences, residuals and wanted types.
+-- The laws of an accepted table, for the types below n: an order with a least and a greatest type, meets and joins, wanted types;
+-- and where the table admits differences, residuals, which are the wanted types.
 use Prim.Native.Nat.{ℕ, _*_, _-_, _<_, _≤_}
-use mathlib.Core.Path.{_≡_, sym, ap, subst, _∙_}
+use mathlib.Core.Path.{_≡_, refl, sym, ap, subst, _∙_}
 use mathlib.Core.Bool.{true, false, _&&_}
 use mathlib.Core.List.{List, []}
 use mathlib.Core.Option.{Option, some}
 use native.Mathlib.Omega.{arith}
 use lib.ListN.{length, getD}
-use Rattle.lattice.specs.Table.{every, found, implies, below, sized, ordered, bounded, accepted, isMeet, isJoin, meet, join, meetBelow, isResidual, residual, admits, filled, boundRow}
+use lib.Dec.{eqb}
+use borrow.Author.Tests.{eq-eqb, eqb-true}
+use Rattle.lattice.specs.Table.{every, found, implies, below, sized, ordered, bounded, accepted, isMeet, isJoin, meet, join, restores, isWanted, wanted, meetBelow, isResidual, residual, admits, filled, boundRow}
 use Rattle.lattice.specs.Words.{related, Words, Sided}
 use Rattle.lattice.proofs.Every.{and-left, and-right, and-both, implies-at, implies-from, every-at, every-all, last-passes, last-found, found-some}
 use Rattle.lattice.proofs.OrderLaws.{Ordered, ordered-facts, side, sided}
@@ -39,15 +41,27 @@ pub record Residual (n : ℕ) (t : List ℕ) (p q c : ℕ) : Type 0 where
 
 -- c is the wanted type of p over q: the greatest type whose meet with q is p
 pub record Wanted (n : ℕ) (t : List ℕ) (p q c : ℕ) : Type 0 where
-  pub is : residual n t p q ≡ some c
+  pub is : wanted n t p q ≡ some c
   pub type : c < n
   pub exact : meet n t c q ≡ some p
   pub greatest : (d : ℕ) → d < n → meet n t d q ≡ some p → below t d c ≡ true
 
--- the test of one meet, where the meet is known
+-- the tests of one meet, where the meet is known
+pub meet-restores : (n : ℕ) (t : List ℕ) (p q d m : ℕ) → meet n t d q ≡ some m → restores n t p q d ≡ eqb m p
+unfolding restores
+meet-restores n t p q d m e = rw e
+
 pub meet-below : (n : ℕ) (t : List ℕ) (p q d m : ℕ) → meet n t d q ≡ some m → meetBelow n t p q d ≡ below t m p
 unfolding meetBelow
 meet-below n t p q d m e = rw e
+
+-- a wanted type is a type
+pub wanted-type : (n : ℕ) (t : List ℕ) (p q c : ℕ) → wanted n t p q ≡ some c → c < n
+unfolding wanted
+wanted-type n t p q c e = last-passes (isWanted n t p q) n c e .0
+
+some-same : {a b : ℕ} → _≡_ {A = Option ℕ} (some a) (some b) → a ≡ b
+some-same e = cc
 
 module _ (n : ℕ) (t : List ℕ) (ok : accepted n t ≡ true) where
   accepted-order : sized n t && ordered n t ≡ true
@@ -157,6 +171,57 @@ module _ (n : ℕ) (t : List ℕ) (ok : accepted n t ≡ true) where
   pub meet-of-below : (p q : ℕ) → p < n → q < n → below t p q ≡ true → meet n t p q ≡ some p
   meet-of-below p q l s e = meet-unique p q p l s l (below-reflexive p l) e λ c r f g. f
 
+  -- what restores p over q has p as its meet with q
+  restores-meet : (p q d : ℕ) → q < n → d < n → restores n t p q d ≡ true → meet n t d q ≡ some p
+  restores-meet p q d lq ld e =
+      let r : (m : ℕ) × Meet n t d q m = meet-exists d q ld lq in
+      r .1 .is ∙ ap some (eqb-true (r .0) p (sym (meet-restores n t p q d (r .0) (r .1 .is)) ∙ e))
+
+  meet-restoring : (p q d : ℕ) → meet n t d q ≡ some p → restores n t p q d ≡ true
+  meet-restoring p q d e = meet-restores n t p q d p e ∙ eq-eqb p p refl
+
+  -- what the search for a wanted type finds is the wanted type
+  pub wanted-sound : (p q c : ℕ) → q < n → wanted n t p q ≡ some c → Wanted n t p q c
+  unfolding wanted isWanted
+  wanted-sound p q c lq e =
+      let r : (c < n) × (isWanted n t p q c ≡ true) = last-passes (isWanted n t p q) n c e in
+      let most : every n (λ d. implies (restores n t p q d) (below t d c)) ≡ true = and-right (restores n t p q c) _ (r .1) in
+      record {
+        is = e;
+        type = r .0;
+        exact = restores-meet p q c lq (r .0) (and-left (restores n t p q c) _ (r .1));
+        greatest = λ d l f. implies-at (restores n t p q d) (below t d c) (every-at _ n d most l) (meet-restoring p q d f);
+      }
+
+  -- the wanted type is the one greatest type whose meet with q is p
+  pub wanted-unique : (p q c : ℕ) → q < n → c < n → meet n t c q ≡ some p
+      → ((d : ℕ) → d < n → meet n t d q ≡ some p → below t d c ≡ true) → wanted n t p q ≡ some c
+  unfolding wanted isWanted
+  wanted-unique p q c lq lc exact most =
+      let passes : isWanted n t p q c ≡ true =
+      and-both (restores n t p q c) (every n (λ d. implies (restores n t p q d) (below t d c))) (meet-restoring p q c exact)
+      (every-all _ n λ d l. implies-from (restores n t p q d) (below t d c) λ e. most d l (restores-meet p q d lq l e)) in
+      let r : (i : ℕ) × (wanted n t p q ≡ some i) = found-some (wanted n t p q) (last-found (isWanted n t p q) n c lc passes) in
+      let i : Wanted n t p q (r .0) = wanted-sound p q (r .0) lq (r .1) in
+      i .is ∙
+      ap some
+      (below-antisymmetric (r .0) c (i .type) lc (most (r .0) (i .type) (i .exact)) (i .greatest c lc exact))
+
+  -- where q is p, the wanted type is the greatest type
+  pub wanted-of-same : (p : ℕ) → p < n → wanted n t p p ≡ some (n - 1)
+  wanted-of-same p l =
+      wanted-unique p p (n - 1) l top-type
+      (meet-unique (n - 1) p p top-type l l (top-greatest p l) (below-reflexive p l) λ c r f g. g)
+      λ d s e. top-greatest d s
+
+  -- where q is the greatest type, the wanted type is p
+  pub wanted-by-top : (p : ℕ) → p < n → wanted n t p (n - 1) ≡ some p
+  wanted-by-top p l =
+      wanted-unique p (n - 1) p top-type l (meet-of-below p (n - 1) l top-type (top-greatest p l))
+      λ d s e.
+      let same : d ≡ p = some-same (sym (meet-of-below d (n - 1) s top-type (top-greatest d s)) ∙ e) in
+      subst (λ (c : ℕ). below t d c ≡ true) same (below-reflexive d s)
+
   residual-sound : (p q c : ℕ) → residual n t p q ≡ some c → Residual n t p q c
   unfolding residual isResidual
   residual-sound p q c e =
@@ -192,23 +257,6 @@ module _ (n : ℕ) (t : List ℕ) (ok : accepted n t ≡ true) where
       (most (r .0) (k .0) (i .type) (k .1 .is) (i .under (k .0) (k .1 .is)))
       (i .greatest c (m .0) lc (m .1 .is) (under (m .0) (m .1 .is))))
 
-  -- where q is below p, the residual is the greatest type
-  pub residual-of-below : (p q : ℕ) → p < n → q < n → below t q p ≡ true → residual n t p q ≡ some (n - 1)
-  residual-of-below p q lp lq e =
-      residual-unique p q (n - 1) lq top-type
-      (λ m f.
-      let k : Meet n t (n - 1) q m = meet-sound (n - 1) q m f in
-      below-transitive m q p (k .type) lq lp (k .right) e)
-      λ d m l f g. top-greatest d l
-
-  -- the residual by the greatest type is the type itself
-  pub residual-by-top : (p : ℕ) → p < n → residual n t p (n - 1) ≡ some p
-  residual-by-top p lp =
-      residual-unique p (n - 1) p top-type lp (λ m f. meet-sound p (n - 1) m f .left)
-      λ d m l f g.
-      let k : Meet n t d (n - 1) m = meet-sound d (n - 1) m f in
-      below-transitive d m p l (k .type) lp (k .greatest d l (below-reflexive d l) (top-greatest d l)) g
-
   module _ (differ : admits n t ≡ true) where
     -- where the table admits differences, every two types have a residual
     pub residual-exists : (p q : ℕ) → p < n → q < n → (c : ℕ) × Residual n t p q c
@@ -218,23 +266,16 @@ module _ (n : ℕ) (t : List ℕ) (ok : accepted n t ≡ true) where
         (r .0, residual-sound p q (r .0) (r .1))
 
     -- where p is below q, the residual is the wanted type: its meet with q is p, and it is the greatest such type
-    pub wanted-exists : (p q : ℕ) → p < n → q < n → below t p q ≡ true → (c : ℕ) × Wanted n t p q c
-    wanted-exists p q l s e =
+    pub wanted-residual : (p q : ℕ) → p < n → q < n → below t p q ≡ true → wanted n t p q ≡ residual n t p q
+    wanted-residual p q l s e =
         let r : (c : ℕ) × Residual n t p q c = residual-exists p q l s in
         let c : Residual n t p q (r .0) = r .1 in
         let m : (k : ℕ) × Meet n t (r .0) q k = meet-exists (r .0) q (c .type) s in
         let k : Meet n t (r .0) q (m .0) = m .1 in
         let up : below t p (r .0) ≡ true = c .greatest p p l (meet-of-below p q l s e) (below-reflexive p l) in
         let same : m .0 ≡ p =
-        below-antisymmetric (m .0) p (k .type) l (c .under (m .0) (k .is)) (k .greatest p l up e) in (
-          r .0,
-          record {
-            is = c .is;
-            type = c .type;
-            exact = k .is ∙ ap some same;
-            greatest = λ d ld f. c .greatest d p ld f (below-reflexive p l);
-          },
-        )
+        below-antisymmetric (m .0) p (k .type) l (c .under (m .0) (k .is)) (k .greatest p l up e) in
+        wanted-unique p q (r .0) s (c .type) (k .is ∙ ap some same) (λ d ld f. c .greatest d p ld f (below-reflexive p l)) ∙ sym (c .is)
 
   -- a lent table of 64 rows holds the bound of a and b in cell (a, b), once it is filled
   filled-cell : (bound : ℕ → ℕ → Option ℕ) (rows : List (List ℕ)) → length rows ≡ 64 → (a b m : ℕ) → a < n → b < n → bound a b ≡ some m

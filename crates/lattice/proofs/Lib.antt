@@ -11,6 +11,7 @@ pub mod Search
 pub mod Opening
 pub mod Laws
 pub mod Residuals
+pub mod Restoring
 pub mod Primes
 pub mod Lawful
 pub mod Relabel

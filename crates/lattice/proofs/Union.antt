@@ -18,7 +18,7 @@ and-yes true = refl
 and-yes false = refl
 
 -- two words are parts of a third where their union is
-or-part : (a b m : ℕ) → partOf (bitOr a b) m ≡ (partOf a m && partOf b m)
+pub or-part : (a b m : ℕ) → partOf (bitOr a b) m ≡ (partOf a m && partOf b m)
 or-part a b m =
     same-test (partOf (bitOr a b) m) (partOf a m && partOf b m)
     (λ h.
@@ -43,7 +43,7 @@ or-part a b m =
     either j false e f g h = g (rw e at h)
 
 -- a word is part of another with bit i cleared where it is part of the other and has no bit i
-cleared-part : (a b i : ℕ) → partOf a (without b (2 ^ i)) ≡ (partOf a b && not (bit a i))
+pub cleared-part : (a b i : ℕ) → partOf a (without b (2 ^ i)) ≡ (partOf a b && not (bit a i))
 cleared-part a b i =
     same-test (partOf a (without b (2 ^ i))) (partOf a b && not (bit a i))
     (λ h.

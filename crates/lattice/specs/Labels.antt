@@ -1,6 +1,6 @@
 -- The types of a table as labels of graphs: numbers below n with the order, meets and joins of the table, n - 1 as top and 0 as the
--- contradiction (document 01, "Type table"); graphs of any size over a table, bounds among them, and what combines
--- two of them over paths.
+-- contradiction (document 01, "Type table"); graphs of any size over a table, bounds among them, what combines two of them
+-- over paths, and the wanted types of their difference.
 use Prim.Native.Nat.{ℕ, _-_, _<_}
 use mathlib.Core.Path.{_≡_}
 use mathlib.Core.Bool.{true}
@@ -65,3 +65,28 @@ module _ (n : ℕ) (t : List ℕ) {A B : Type 0} (g : Graph Label A) (h : Graph 
   -- "A clash is a class whose meet is type 0."
   abbrev pub TypeClash : Type 0
   TypeClash = (p : List ℕ) × Joined g h p p × TypesMeet p 0
+
+module _ (n : ℕ) (t : List ℕ) {A B : Type 0} (s : Graph Label A) (g : Graph Label B) where
+  -- a type is below each type of g over the node v of s: "Each path of g leads to one node of s, so nodes and links of g lie over
+  -- those of s"
+  abbrev pub BelowOver : A → ℕ → Type 0
+  BelowOver v a = (p : List ℕ) (y : B) → walk s p ≡ some v → walk g p ≡ some y → below t a (g .label y) ≡ true
+
+  -- "the meet of all g types over this node (top if none)": the greatest of the table's n types below each
+  pub record MeetOver (v : A) (q : ℕ) : Type 0 where
+    pub type : q < n
+    pub under : BelowOver v q
+    pub greatest : (b : ℕ) → b < n → BelowOver v b → below t b q ≡ true
+
+  -- "The wanted type is the greatest type whose meet with the meet of all g types over this node (top if none) equals the type in s":
+  -- c is that of the node v.
+  pub record WantedAt (v : A) (c : ℕ) : Type 0 where
+    pub over : ℕ
+    pub is-over : MeetOver v over
+    pub type : c < n
+    pub restores : meet n t c over ≡ some (s .label v)
+    pub greatest : (d : ℕ) → d < n → meet n t d over ≡ some (s .label v) → below t d c ≡ true
+
+  -- "some node of s has no wanted type"
+  abbrev pub SomeUnwanted : Type 0
+  SomeUnwanted = (v : A) × Reached s v × ((c : ℕ) → WantedAt v c → ⊥)

@@ -33,6 +33,11 @@ abbrev pub found : Option ℕ → Bool
 found none = false
 found (some c) = true
 
+-- the bound was found and is p
+abbrev pub foundAs : ℕ → Option ℕ → Bool
+foundAs p none = false
+foundAs p (some c) = eqb c p
+
 -- the bound was found and is below p
 abbrev pub foundBelow : List ℕ → ℕ → Option ℕ → Bool
 foundBelow t p none = false
@@ -91,6 +96,19 @@ module _ (n : ℕ) (t : List ℕ) where
   unfoldable pub accepted : Bool
   accepted = sized n t && ordered && bounded
 
+  -- the meet of c and q is p: c restores p over q
+  unfoldable pub restores : ℕ → ℕ → ℕ → Bool
+  restores p q c = foundAs p (meet c q)
+
+  -- c is the greatest type that restores p over q
+  unfoldable pub isWanted : ℕ → ℕ → ℕ → Bool
+  isWanted p q c = restores p q c && every n λ d. implies (restores p q d) (below t d c)
+
+  -- "The wanted type is the greatest type whose meet with the meet of all g types over this node (top if none) equals the type in
+  -- s", for the meet q and the type p in s; none where "none is the greatest"
+  unfoldable pub wanted : ℕ → ℕ → Option ℕ
+  wanted p q = last n (isWanted p q)
+
   -- the meet of c and q is below p
   unfoldable pub meetBelow : ℕ → ℕ → ℕ → Bool
   meetBelow p q c = foundBelow t p (meet c q)
@@ -99,7 +117,7 @@ module _ (n : ℕ) (t : List ℕ) where
   unfoldable pub isResidual : ℕ → ℕ → ℕ → Bool
   isResidual p q c = meetBelow p q c && every n λ d. implies (meetBelow p q d) (below t d c)
 
-  -- the wanted type (document 01): the relative pseudo-complement of q with respect to p
+  -- the relative pseudo-complement of q with respect to p
   unfoldable pub residual : ℕ → ℕ → Option ℕ
   residual p q = last n (isResidual p q)
 

@@ -1,5 +1,5 @@
--- What the parts of opening and of `admits_differences` answer, in words. Nothing here is needed to read the contracts of
--- those calls: their proofs show that these tests on words decide what `Table` defines.
+-- What the parts of opening and of the search for a wanted type answer, in words. Nothing here is needed to read the contracts
+-- of those: their proofs show that these tests on words decide what `Table` defines.
 use Prim.Native.Nat.{ℕ, zero, suc, _+_, _*_, _-_, _/_, _%_, _^_, _<_, _≤_}
 use mathlib.Core.Path.{_≡_}
 use mathlib.Core.Bool.{Bool, true, false, _&&_}
@@ -8,7 +8,7 @@ use mathlib.Core.Option.{Option}
 use lib.ListN.{length, getD}
 use lib.Dec.{leb, eqb}
 use lib.Bits.{bitAnd, bitXor}
-use Rattle.lattice.specs.Table.{every, last, implies, below, found, cell}
+use Rattle.lattice.specs.Table.{every, last, implies, below, found, cell, wanted}
 
 -- a bit as a number
 abbrev pub digit : Bool → ℕ
@@ -68,9 +68,17 @@ pub record Sided (n : ℕ) (ws : List ℕ) : Type 0 where
 abbrev pub Inside : ℕ → ℕ → Type 0
 Inside n w = (j : ℕ) → j < 64 → bit w j ≡ true → j < n
 
--- what is below both d and q is below p
-abbrev pub wordMeetBelow : List ℕ → ℕ → ℕ → ℕ → Bool
-wordMeetBelow ws p q d = partOf (bitAnd (getD ws d 0) (getD ws q 0)) (getD ws p 0)
+-- the common part of the word of c and `over` is `lower`
+abbrev pub wordRestores : List ℕ → ℕ → ℕ → ℕ → Bool
+wordRestores ws lower over c = eqb (bitAnd (getD ws c 0) over) lower
+
+-- u is the union of the words of the first k types that restore `lower` over `over`: it is part of a word where each of them is
+abbrev pub Restoring : ℕ → List ℕ → ℕ → ℕ → ℕ → Type 0
+Restoring k ws lower over u = (m : ℕ) → partOf u m ≡ every k λ c. implies (wordRestores ws lower over c) (partOf (getD ws c 0) m)
+
+-- r is the wanted type of p over the type whose word is `over`, 64 where there is none
+abbrev pub WantedOver : ℕ → List ℕ → List ℕ → ℕ → ℕ → ℕ → Type 0
+WantedOver n t ws p over r = (q : ℕ) → q < n → over ≡ getD ws q 0 → r ≡ cell (wanted n t p q)
 
 module _ (n : ℕ) (ws : List ℕ) where
   -- the last type whose word is w
@@ -80,10 +88,6 @@ module _ (n : ℕ) (ws : List ℕ) where
   -- the type whose word is the common part of two words
   abbrev pub wordBound : ℕ → ℕ → Option ℕ
   wordBound a b = holder (bitAnd (getD ws a 0) (getD ws b 0))
-
-  -- the types whose meet with q is below p are those below one type
-  abbrev pub wordResidual : ℕ → ℕ → Option ℕ
-  wordResidual p q = holder (word n (wordMeetBelow ws p q))
 
   -- where the types strictly below j are those below one type, the types not above j are those below one type
   unfoldable pub wordPrime : ℕ → Bool

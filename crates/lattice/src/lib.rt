@@ -2,13 +2,13 @@
 // caller needs the meets or the joins, a table that it lends is filled with them. The order is kept as words: bit j of word i is
 // set where type j is on one side of type i, below it or above it.
 ghost use mathlib.Core.Path.{_≡_};
-ghost use mathlib.Core.Bool.{_&&_};
-ghost use Rattle.lattice.specs.Table.{accepted, admits, meet, join};
+ghost use Rattle.lattice.specs.Table.{meet, join};
 ghost use Rattle.lattice.specs.Reply.{opened, Opening};
 
 mod bounds;
 pub mod differences;
 mod order;
+pub mod wanted;
 pub mod words;
 
 pub enum TableFault {
@@ -73,15 +73,4 @@ pub fn open_joins(n: usize, table: &[u8], joins: &mut [[u8; 64]; 64]) -> Opened
         return Opened::Refused(TableFault::Bounds);
     }
     Opened::Accepted
-}
-
-// Whether the table is accepted and admits differences.
-pub fn admits_differences(n: usize, table: &[u8]) -> bool
-    ensures { λ r. ⌜ r ≡ (accepted n (now (table .entry)) && admits n (now (table .entry))) ⌝ }
-{
-    let answer = accept(n, table);
-    let Opened::Accepted = answer else {
-        return false;
-    };
-    differences::admits(n, table)
 }

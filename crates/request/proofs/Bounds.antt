@@ -19,7 +19,6 @@ use Rattle.lattice.specs.Label.{Label}
 use Rattle.lattice.specs.declared.Opened.{Opened}
 use Rattle.lattice.specs.declared.Opened.the-variants as opened
 use Rattle.lattice.specs.Reply as table
-use Rattle.lattice.specs.Table.{admits}
 use Rattle.lattice.specs.Labels.{typeLabels}
 use Rattle.record.specs.Read as graph
 use Rattle.encode.specs.Encode.{encoded, fitted, writtenOut}
@@ -30,10 +29,10 @@ use Rattle.engine.specs.declared.Side.the-variants.{First, Second}
 use Rattle.engine.specs.declared.kinds.Kind.{Kind}
 use Rattle.engine.specs.declared.kinds.Kind.the-variants as kind
 use Rattle.engine.specs.declared.Reply.{Reply}
-use Rattle.engine.specs.declared.Reply.the-variants.{Length, Yes, No, Table, Graph, NoRoom, Cycle, Clash, TooLarge, NotBelow, NotAdmitted}
+use Rattle.engine.specs.declared.Reply.the-variants.{Length, Yes, No, Table, Graph, NoRoom, Cycle, Clash, TooLarge, NotBelow, NoWantedType}
 use Rattle.engine.specs.Reply.{Result, Bounded, kindOf, refusal, checked, refusing, readBoth, resultOf, generalizing, generalized, ordering, ordered}
 use Rattle.engine.specs.Unification.{sameEither, combined, unifiedRows, unifying}
-use Rattle.engine.specs.Difference.{differenceRows, differed, numbered, differedRows, differing}
+use Rattle.engine.specs.Difference.{allWanted, differenceRows, differed, numbered, differedRows, differing}
 use Rattle.engine.proofs.Numbers.{numberIn, number-small, kind-bounded}
 use Rattle.request.specs.declared.parse.Operation.{Operation}
 use Rattle.request.specs.declared.parse.Operation.the-variants.{Generalize, Unify, Difference, Order}
@@ -119,11 +118,12 @@ module _ (n : ℕ) (t a b : List ℕ) where
   unfolding differing differedRows differed
   differing-bounded out = writing-bounded out (differedRows n t out) λ g s.
       let s = numbered (canonical eqb (graph.graphOfRows s)) in
-      cond-bounded (admits n t) (differed n t out g s) (refusing NotAdmitted out) (length out)
-      (cond-bounded (subsumes (typeLabels n t) eqb eqb (graph.graphOfRows s) (graph.graphOfRows g) (length g))
-      (resultOf (writtenOut (canonical eqb (differenceRows n t g s)) out)) (refusing NotBelow out) (length out)
-      (written-bounded (canonical eqb (differenceRows n t g s)) out) (refused-bounded NotBelow 12 refl (length out)))
-      (refused-bounded NotAdmitted 13 refl (length out))
+      cond-bounded (subsumes (typeLabels n t) eqb eqb (graph.graphOfRows s) (graph.graphOfRows g) (length g))
+      (cond (allWanted n t s g) (resultOf (writtenOut (canonical eqb (differenceRows n t g s)) out)) (refusing NoWantedType out))
+      (refusing NotBelow out) (length out)
+      (cond-bounded (allWanted n t s g) (resultOf (writtenOut (canonical eqb (differenceRows n t g s)) out)) (refusing NoWantedType out)
+      (length out) (written-bounded (canonical eqb (differenceRows n t g s)) out) (refused-bounded NoWantedType 13 refl (length out)))
+      (refused-bounded NotBelow 12 refl (length out))
 
   ordering-bounded : (most : ℕ) → Bounded (ordering n t a b) most
   unfolding ordering ordered

@@ -1,10 +1,12 @@
 -- Document 01's small set, computed: "The small set is one table proved by one result about the definitions." Every definition that
 -- a case runs through is named where it unfolds.
-use mathlib.Core.Path.{_≡_, refl}
-use mathlib.Core.Bool.{false}
+use mathlib.Core.Path.{_≡_, refl, ap}
+use mathlib.Core.Bool.{true, false, not, _&&_}
 use mathlib.Core.List.{List, flatMap}
 use mathlib.Core.Option.{bind, orElse}
 use Prim.Native.Nat.{ℕ}
+use lib.Dec.{eqb}
+use lib.ListN.{length}
 use Rattle.graphs.specs.Rows.{Row, from, target, linksOf}
 use Rattle.graphs.specs.Order.{allOf, within as walks, fitsAt, subsumes}
 use Rattle.graphs.specs.Number.{canonical, visit, each, member, indexOf, outDegree, linkCount, rowOf}
@@ -66,27 +68,37 @@ use Rattle.lattice.specs.Table.{
   meet,
   join,
   bounded,
-  meetBelow,
-  isResidual,
-  residual,
-  admits,
+  restores,
+  isWanted,
+  wanted,
+  implies,
+  found,
 }
 use Rattle.lattice.specs.Reply.{opened}
+use Rattle.lattice.specs.Labels.{typeLabels}
+use Rattle.lattice.proofs.Every.{and-both, implies-at, every-at, found-some}
+use Rattle.lattice.proofs.Residuals.{opened-accepted}
 use Rattle.decode.specs.Decode.{bitOf, takeLinks, takeRow, takeRows, decoded}
 use Rattle.encode.specs.Encode.{bitsFrom, encodedRow, encodedRows, encoded, fitted, writtenOut}
-use Rattle.record.specs.Read.{inRange, cyclic, reachesAll, reading, accepted}
+use Rattle.record.specs.Read.{inRange, cyclic, reachesAll, reading, accepted, graphOfRows}
+use Rattle.record.proofs.Accepted.{accepted-rules}
+use Rattle.record.proofs.Theorems.{accepted-of-any-size}
 use Rattle.generalize.specs.Pairs.{samePair}
+use Rattle.difference.specs.Promise.{wantedAlong, allWantedAlong, differenceAlong}
 use Rattle.engine.specs.Reply.{generalized, generalizing}
 use Rattle.engine.specs.Unification.{unifiedRows, unifying}
-use Rattle.engine.specs.Difference.{firstAt, over, wanted, differenceRows, differed, differedRows, differing}
-use Rattle.small_set.specs.Cases.{threeMiddles, twoOverTwo, refuses, Answers, NoDifference, AllHold, none-left, _and_, cases, SmallSet}
+use Rattle.engine.specs.Difference.{firstAt, over, wantedType, allWanted, differenceRows, differed, differedRows, differing}
+use Rattle.engine.specs.declared.Reply.the-variants.{NoWantedType}
+use Rattle.engine.proofs.Demanded.Wanted.{meet-type, label-below, wanted-exact}
+use Rattle.engine.proofs.Requests.{unwanted-exact, itself-lone-top}
+use Rattle.small_set.specs.Cases.{threeMiddles, twoOverTwo, NeverUnwanted, ItselfTop, AllHold, none-left, _and_, cases, SmallSet}
 
 all-hold : AllHold cases
 unfolding
     bind orElse
-    generalizing generalized unifying unifiedRows differing differedRows differed differenceRows wanted over firstAt
+    generalizing generalized unifying unifiedRows differing differedRows differed allWantedAlong differenceAlong wantedAlong over firstAt
     opened sized ordered confined reflexive antisymmetric transitive least greatest bounded meet isMeet join isJoin every last below
-    meetBelow isResidual residual admits
+    restores isWanted wanted
     reading decoded takeRows takeRow takeLinks bitOf inRange allOf cyclic anyOf deep reachesAll
     canonical visit each member target from linkCount outDegree rowOf linksOf indexOf
     writtenOut fitted encoded encodedRows encodedRow bitsFrom
@@ -110,33 +122,53 @@ all-hold =
     and refl
     and refl
     and refl
+    and refl
+    and refl
+    and refl
     and none-left
 
 three-middles-opened : opened (threeMiddles .count) (threeMiddles .table) ≡ Accepted
 unfolding opened sized ordered confined reflexive antisymmetric transitive least greatest bounded meet isMeet join isJoin every last below
 three-middles-opened = refl
 
-three-middles-admits : admits (threeMiddles .count) (threeMiddles .table) ≡ false
-unfolding admits residual isResidual meetBelow meet isMeet every last below
-three-middles-admits = refl
+-- every two types below one another have a wanted type, but for type 0, which no node has
+three-middles-wanted : every 5 (λ p. every 5 λ q. implies (not (eqb p 0) && below (threeMiddles .table) p q)
+    (found (wanted (threeMiddles .count) (threeMiddles .table) p q))) ≡ true
+unfolding wanted isWanted restores meet isMeet every last below
+three-middles-wanted = refl
 
--- 13 for all accepted graphs, where the table is accepted and does not admit differences
-not-admitted :
-    (n : ℕ) (t first second out : List ℕ) (g s : List (Row Label)) →
-    opened n t ≡ Accepted →
-    admits n t ≡ false →
-    reading n first ≡ accepted g →
-    reading n second ≡ accepted s →
-    Answers out (refuses 13) (differing n t first second out)
-unfolding differing differedRows
-not-admitted n t first second out g s o d e f = rw (o, e, f, d)
+-- 13 for no two accepted graphs, where the table is accepted and has such types
+no-unwanted : (n : ℕ) (t first second out : List ℕ) (g s : List (Row Label)) → opened n t ≡ Accepted →
+    every n (λ p. every n λ q. implies (not (eqb p 0) && below t p q) (found (wanted n t p q))) ≡ true →
+    reading n first ≡ accepted g → reading n second ≡ accepted s → differing n t first second out .reply ≡ NoWantedType → ⊥
+unfolding wantedAlong
+no-unwanted n t first second out g s opens all e f told =
+    let ok = opened-accepted n t (opened n t) refl opens in
+    let general = accepted-rules n first g e in
+    let specific = accepted-rules n second s f in
+    let (lies, (v, r, nothing)) =
+    unwanted-exact n t first second g s (record { opens = opens; first = e; second = f }) out .0 told in
+    let size = accepted-of-any-size n second s f t in
+    let p : ℕ = graphOfRows s .label v in
+    let q : ℕ = meetOver (typeLabels n t) eqb (graphOfRows g) (from 0 (length g)) (over s g) v in
+    let nonzero : eqb p 0 ≡ false = size .any-size .consistent v r in
+    let (c, is) =
+    found-some (wanted n t p q)
+    (implies-at (not (eqb p 0) && below t p q) (found (wanted n t p q))
+    (every-at _ n q (every-at _ n p all (size .typed v r)) (meet-type n t ok g s general specific lies v))
+    (and-both (not (eqb p 0)) (below t p q) (ap not nonzero) (label-below n t ok g s general specific lies v))) in
+    nothing c (wanted-exact n t ok g s general specific lies v c .0 is)
 
-no-difference : NoDifference threeMiddles
-no-difference first second out g s =
-    not-admitted (threeMiddles .count) (threeMiddles .table) first second out g s three-middles-opened three-middles-admits
+never-unwanted : NeverUnwanted threeMiddles
+never-unwanted first second out g s =
+    no-unwanted (threeMiddles .count) (threeMiddles .table) first second out g s three-middles-opened three-middles-wanted
+
+itself-top : ItselfTop threeMiddles
+itself-top bytes out s reads =
+    itself-lone-top (threeMiddles .count) (threeMiddles .table) bytes s three-middles-opened reads out
 
 pub small-set : SmallSet
-small-set = record { all-hold = all-hold; no-difference = no-difference }
+small-set = record { all-hold = all-hold; never-unwanted = never-unwanted; itself-top = itself-top }
 
 -- 13. "Types 1, 2 both under 3 and 4, which are unordered, and 5 top: 3."
 pub two-over-two-opened : opened (twoOverTwo .count) (twoOverTwo .table) ≡ Refused Bounds

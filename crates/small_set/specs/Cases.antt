@@ -8,10 +8,12 @@ use lib.ListN.{length, drop, replicate}
 use Rattle.graphs.specs.Rows.{Row}
 use Rattle.lattice.specs.Label.{Label}
 use Rattle.record.specs.Read.{reading, accepted}
-use Rattle.engine.specs.declared.Reply.the-variants.{Length}
-use Rattle.engine.specs.Reply.{Result, refusal, generalizing}
+use Rattle.engine.specs.declared.Reply.the-variants.{Length, NoWantedType}
+use Rattle.engine.specs.Reply.{Result, refusal, resultOf, generalizing}
 use Rattle.engine.specs.Unification.{unifying}
 use Rattle.engine.specs.Difference.{differing}
+use Rattle.engine.specs.Demand.{loneTop}
+use Rattle.encode.specs.Encode.{fitted}
 
 -- a type table and its number of types
 pub record Types : Type 0 where
@@ -40,6 +42,10 @@ top = 3
 -- "Three middle types between least and top, mutually unordered": 1, 2 and 3 between 0 and 4
 abbrev pub threeMiddles : Types
 threeMiddles = record { count = 5; table = rows (0x01 ∷ 0x03 ∷ 0x05 ∷ 0x09 ∷ 0x1F ∷ []) }
+
+-- of Paper 6: "six types, 0 below 1, 1 below 2, 3 and 4, which are mutually unordered, and 5 top"
+abbrev pub threeOverOne : Types
+threeOverOne = record { count = 6; table = rows (0x01 ∷ 0x03 ∷ 0x07 ∷ 0x0B ∷ 0x13 ∷ 0x3F ∷ []) }
 
 -- of case 13, which is not in the small set: "Types 1, 2 both under 3 and 4, which are unordered, and 5 top"
 abbrev pub twoOverTwo : Types
@@ -109,12 +115,12 @@ abbrev pub overDiamond : Call → List ℕ → List ℕ → Answer → Case
 overDiamond call first second answer =
     record { call = call; types = diamond; first = first; second = second; answer = answer }
 
--- a case over three middle types, on two of them
-abbrev pub overThreeMiddles : Call → Answer → Case
-overThreeMiddles call answer =
-    record { call = call; types = threeMiddles; first = lone 1; second = lone 2; answer = answer }
+-- a case over three middle types
+abbrev pub overThreeMiddles : Call → List ℕ → List ℕ → Answer → Case
+overThreeMiddles call first second answer =
+    record { call = call; types = threeMiddles; first = first; second = second; answer = answer }
 
--- "Cases 1 to 12 are the small set."
+-- "Cases 1 to 12 are the small set.", with case 12 and a new case as Paper 6 has them
 abbrev pub cases : List Case
 cases =
     -- 1. Common part of a[0: b] and b: a lone top, 01 03 and eight 00.
@@ -143,21 +149,34 @@ cases =
     (3 ∷ node top 0x07 (1 ∷ 1 ∷ 2 ∷ []) ++ leaf top ++ leaf top)
     (2 ∷ node top 0x07 (1 ∷ 1 ∷ 1 ∷ []) ++ leaf top)
     (gives (2 ∷ node top 0x05 (1 ∷ 1 ∷ []) ++ leaf top))
-    -- 12. Three middle types between least and top, mutually unordered: accepted (a common part is given), and every difference
-    -- gives 13.
-    ∷ overThreeMiddles generalizing (gives (lone 4))
-    ∷ overThreeMiddles differing (refuses 13)
+    -- 12. Three middle types between least and top, mutually unordered: accepted (a common part is given), no difference gives 13, and a
+    -- graph's difference from itself is a lone top.
+    ∷ overThreeMiddles generalizing (lone 1) (lone 2) (gives (lone 4))
+    ∷ overThreeMiddles differing (lone 1) (lone 1) (gives (lone 4))
+    ∷ overThreeMiddles differing (lone 4) (lone 1) (gives (lone 1))
+    ∷ overThreeMiddles differing (lone 1) (lone 2) (refuses 12)
+    -- Paper 6: "with g a lone 2 and s a lone 1, the types 1, 3 and 4 all restore and none is the greatest, so 13".
+    ∷ record { call = differing; types = threeOverOne; first = lone 2; second = lone 1; answer = refuses 13 }
     ∷ []
 
--- every difference of two graphs accepted over a table gives 13, whatever output is lent
-abbrev pub NoDifference : Types → Type 0
-NoDifference types =
+-- no difference of two graphs accepted over a table gives 13, whatever output is lent
+abbrev pub NeverUnwanted : Types → Type 0
+NeverUnwanted types =
     (first second out : List ℕ) (g s : List (Row Label)) →
     reading (types .count) first ≡ accepted g →
     reading (types .count) second ≡ accepted s →
-    Answers out (refuses 13) (differing (types .count) (types .table) first second out)
+    differing (types .count) (types .table) first second out .reply ≡ NoWantedType → ⊥
 
--- The small set: every case of the table holds, and of case 12 "every difference gives 13" for all graphs.
+-- "a graph's difference from itself is a lone top", of every graph accepted over a table: its record where it fits, else 8
+abbrev pub ItselfTop : Types → Type 0
+ItselfTop types =
+    (bytes out : List ℕ) (s : List (Row Label)) →
+    reading (types .count) bytes ≡ accepted s →
+    differing (types .count) (types .table) bytes bytes out ≡ resultOf (fitted (loneTop (types .count)) out)
+
+-- The small set: every case of the table holds, and of case 12 for all graphs that no difference gives 13 and that a graph's difference
+-- from itself is a lone top.
 pub record SmallSet : Type 0 where
   pub all-hold : AllHold cases
-  pub no-difference : NoDifference threeMiddles
+  pub never-unwanted : NeverUnwanted threeMiddles
+  pub itself-top : ItselfTop threeMiddles

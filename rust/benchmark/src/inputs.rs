@@ -1,6 +1,7 @@
 //! What is measured: a table, a graph, a more general one, and one beside it with
 //! which it has a common part, a combination and a difference. The same on every run.
 
+use reference::difference::difference;
 use reference::graph::Graph;
 use reference::random::{self, Shape, TableBytes, Xorshift};
 use reference::record;
@@ -8,6 +9,8 @@ use reference::table::Table;
 
 /// The bytes of one measurement.
 pub struct Input {
+    /// The table's name in what is printed: its number of types.
+    pub kind: &'static str,
     /// The number of types.
     pub n: usize,
     /// The number of nodes of the specific graph.
@@ -22,19 +25,39 @@ pub struct Input {
     pub other: Vec<u8>,
 }
 
-/// All sizes, first with 4 types, then with 64.
+/// All sizes, first with 4 types, then with 64, then with 64 that do not admit
+/// differences and are not numbered along their order.
 pub fn inputs() -> Vec<Input> {
     let mut inputs = Vec::new();
-    for table in [random::diamond(), random::boolean(6)] {
+    let rivals = random::large_rival_table(&mut Xorshift::new(64));
+    for (kind, table) in [
+        ("4", random::diamond()),
+        ("64", random::boolean(6)),
+        ("64 rivals", rivals),
+    ] {
         for nodes in [8, 40, 255] {
-            inputs.push(input(&table, nodes));
+            inputs.push(input(kind, &table, nodes));
         }
     }
     inputs
 }
 
-fn input(table: &TableBytes, nodes: usize) -> Input {
-    let random = &mut Xorshift::new(nodes as u64);
+/// The first input of a seed whose graphs have a difference.
+fn input(kind: &'static str, table: &TableBytes, nodes: usize) -> Input {
+    let accepted = table.accepted();
+    (0..)
+        .map(|seed| attempt(kind, table, nodes, seed))
+        .find(|input| {
+            let [g, s] =
+                [&input.general, &input.specific].map(|bytes| record::read(&accepted, bytes));
+            let (g, s) = (g.expect("a record"), s.expect("a record"));
+            difference(&accepted, &g, &s).is_ok()
+        })
+        .expect("a seed")
+}
+
+fn attempt(kind: &'static str, table: &TableBytes, nodes: usize, seed: u64) -> Input {
+    let random = &mut Xorshift::new(nodes as u64 + 1000 * seed);
     let shape = Shape {
         nodes,
         // Together some two links for each node.
@@ -47,6 +70,7 @@ fn input(table: &TableBytes, nodes: usize) -> Input {
     let general = weaker(random, &table.accepted(), &specific);
     let other = weaker(random, &table.accepted(), &specific);
     Input {
+        kind,
         n: table.n,
         nodes,
         table: table.bytes.clone(),

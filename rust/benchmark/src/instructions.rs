@@ -65,7 +65,7 @@ pub fn print() {
             println!(
                 "| {} | {} | {} | {engine:.0} | {peer:.0} | {:.2} |",
                 known.name,
-                input.n,
+                input.kind,
                 input.nodes,
                 engine / peer
             );

@@ -1,7 +1,8 @@
-//! Prints what a call takes, at graphs of 8, 40 and 255 nodes and tables of 4 and 64
-//! types: where valgrind is there, the instructions that a call of the engine and of
-//! the peer runs, which repeat; then the times by the engine, by the peer and by the
-//! reference, which do so only on a machine that has nothing else to do.
+//! Prints what a call takes, at graphs of 8, 40 and 255 nodes and tables of 4 types, of
+//! 64, and of 64 rivals, which do not admit differences: where valgrind is there, the
+//! instructions that a call of the engine and of the peer runs, which repeat; then the
+//! times by the engine, by the peer and by the reference, which do so only on a machine
+//! that has nothing else to do.
 
 mod calls;
 mod inputs;

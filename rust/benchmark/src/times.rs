@@ -65,7 +65,7 @@ pub fn print() {
             println!(
                 "| {} | {} | {} | {:.2} | {:.2} | {:.2} | {:.2} | {:.3} | {:.0} % |",
                 call.name,
-                input.n,
+                input.kind,
                 input.nodes,
                 engine.least,
                 peer.least,

@@ -107,6 +107,6 @@ fn refused(refusal: Refusal) -> Reply {
         Refusal::Clash => reply::Refusal::Clash,
         Refusal::TooLarge => reply::Refusal::TooLarge,
         Refusal::NotBelow => reply::Refusal::NotBelow,
-        Refusal::NotAdmitted => reply::Refusal::NoDifferences,
+        Refusal::NoWantedType => reply::Refusal::NoWantedType,
     })
 }

@@ -113,8 +113,17 @@ fn fittings(add: &mut impl FnMut(&'static str, Vec<u8>)) {
     let middle = record::write(&Graph::lone(1));
     add("case 12: accepted", asked(Order, &middles, &middle, &lone));
     add(
-        "case 12: every difference",
+        "case 12: no difference gives 13",
         asked(Difference, &middles, &lone, &middle),
+    );
+    add(
+        "case 12: a graph's difference from itself",
+        asked(Difference, &middles, &middle, &middle),
+    );
+    let two = record::write(&Graph::lone(2));
+    add(
+        "a node without a wanted type",
+        asked(Difference, &random::three_over_one(), &two, &middle),
     );
     let two_over_two = rows(&[0x01, 0x03, 0x05, 0x0F, 0x17, 0x3F]);
     add("case 13", with_table(6, two_over_two));

@@ -145,17 +145,32 @@ fn over(call: Writes, table: &random::TableBytes, first: u8, second: u8) -> Resu
 }
 
 #[test]
-fn case_12_three_middles_admit_no_difference() {
+fn case_12_three_middles_have_wanted_types() {
     let table = random::middles(3);
     for first in 1..5 {
         for second in 1..5 {
-            assert_eq!(
-                over(difference, &table, first, second),
-                Err(Refusal::NotAdmitted)
-            );
+            let below = first == second || first == 4;
+            let expected = below.then_some(10).ok_or(Refusal::NotBelow);
+            assert_eq!(over(difference, &table, first, second), expected);
         }
     }
     assert_eq!(over(generalize, &table, 1, 2), Ok(10));
+}
+
+/// Paper 6: six types, of which 2, 3 and 4 are unordered above 1.
+#[test]
+fn three_types_over_one_keep_the_refusal() {
+    let table = random::three_over_one();
+    for first in 1..6 {
+        for second in 1..6 {
+            let expected = match (first, second) {
+                (2..=4, 1) => Err(Refusal::NoWantedType),
+                (first, second) if first == second || second == 1 || first == 5 => Ok(10),
+                _ => Err(Refusal::NotBelow),
+            };
+            assert_eq!(over(difference, &table, first, second), expected);
+        }
+    }
 }
 
 #[test]

@@ -34,7 +34,7 @@ fn compare_pairs(call: Call, seed: u64) -> Comparison {
     let mut compared = Comparison::new(call, seed);
     let random = &mut Xorshift::stored(seed + 1);
     while compared.inputs() < 20_000 {
-        let table = match random.chance(1, 16) {
+        let table = match random.chance(1, 8) {
             true => random::damaged_table(random),
             false => random::valid_table(random),
         };
@@ -141,7 +141,46 @@ fn the_difference_of_random_pairs() {
 #[test]
 fn the_difference_of_large_pairs() {
     let compared = compare_large(DIFFERENCE, 39);
-    compared.assert_replies(&[0, 8, 12, 13], 20);
+    compared.assert_replies(&[0, 8, 12, 13], 3);
+}
+
+/// Over tables that admit no differences: 13 and lengths both come up often.
+#[test]
+fn the_difference_over_rival_types() {
+    let mut compared = Comparison::new(DIFFERENCE, 41);
+    let random = &mut Xorshift::new(42);
+    while compared.inputs() < 20_000 {
+        let table = random::rival_table(random);
+        let accepted = table.accepted();
+        for _ in 0..8 {
+            let shape = Shape::small(random, 9, 4);
+            let s = random::low_graph(random, table.n, &shape);
+            let g = random::graph_well_above(random, &accepted, &s);
+            compared.check(&table, &[&record::write(&g), &record::write(&s)]);
+        }
+    }
+    compared.assert_replies(&[0, 8, 13], 2_000);
+}
+
+/// The same over tables of 64 types that are not numbered along their order.
+#[test]
+fn the_difference_over_64_rival_types() {
+    let mut compared = Comparison::new(DIFFERENCE, 43);
+    let random = &mut Xorshift::new(44);
+    while compared.inputs() < 4_000 {
+        let table = random::large_rival_table(random);
+        let accepted = table.accepted();
+        for _ in 0..40 {
+            let shape = match random.chance(1, 10) {
+                true => Shape::any(random),
+                false => Shape::small(random, 9, 4),
+            };
+            let s = random::low_graph(random, table.n, &shape);
+            let g = random::graph_well_above(random, &accepted, &s);
+            compared.check(&table, &[&record::write(&g), &record::write(&s)]);
+        }
+    }
+    compared.assert_replies(&[0, 8, 13], 300);
 }
 
 /// What the two graphs of a crossing have beyond their paths to leaves.

@@ -1,5 +1,7 @@
-//! The difference of g and s, s in written numbering and below g by a map of nodes.
+//! The difference of g and s, s in written numbering and below g by a map of nodes;
+//! 13 where a node has no wanted type.
 
+use crate::Refusal;
 use crate::classes::Classes;
 use crate::graph::Graph;
 use crate::table::{Bounds, Table};
@@ -17,7 +19,7 @@ pub fn difference(
     s: &Graph,
     map: &[u8; 255],
     rest: &mut Graph,
-) {
+) -> Result<(), Refusal> {
     let top = (table.n - 1) as u8;
     // For each link of s a node of g that a link over it enters, and classes of such nodes.
     let mut owner = [BARE; 2048];
@@ -64,8 +66,8 @@ pub fn difference(
     let mut wanted = [0u8; 255];
     let mut kept = [false; 255];
     for node in 0..s.nodes {
-        let residual = table.residual(s.types[node], over[node]);
-        wanted[node] = residual.expect("the table admits differences");
+        let greatest = table.wanted(s.types[node], over[node]);
+        wanted[node] = greatest.ok_or(Refusal::of(13))?;
         kept[node] = node == 0 || leaders[node] >= 2 || has_bare[node] || wanted[node] != top;
     }
     keep_above(s, &leads, &mut kept);
@@ -82,6 +84,7 @@ pub fn difference(
         }
         rest.first[node + 1] = count as u16;
     }
+    Ok(())
 }
 
 /// Keeps every node from which a leading link leaves to a kept one.

@@ -95,16 +95,13 @@ pub fn difference(
     types.open_meets(n, table, &mut meets)?;
     let (mut general, mut specific) = (Graph::empty(), Graph::empty());
     read_both(n, [g, s], [&mut general, &mut specific])?;
-    if !types.admits_differences() {
-        return Err(Refusal::of(13));
-    }
     let mut written = Graph::empty();
     write::renumber(&specific, &mut written);
     let Some(map) = order::node_map(&types, &written, &general) else {
         return Err(Refusal::of(12));
     };
     let mut rest = Graph::empty();
-    difference::difference(&types, &meets, &general, &written, &map, &mut rest);
+    difference::difference(&types, &meets, &general, &written, &map, &mut rest)?;
     write::write(&rest, output)
 }
 

@@ -71,31 +71,20 @@ impl Table {
         self.down[usize::from(upper)] >> lower & 1 == 1
     }
 
-    /// Whether for all p, q there is a greatest type whose meet with q is below p. That is so
-    /// where the lattice is distributive: for every type with one lower cover there is a
-    /// greatest type that is not above it.
-    pub fn admits_differences(&self) -> bool {
-        let all = u64::MAX >> (64 - self.n);
-        (1..self.n).all(|i| {
-            let has_one_cover = word_of(&self.down, self.down[i] & !(1 << i)).is_some();
-            !has_one_cover || word_of(&self.down, all & !self.up[i]).is_some()
-        })
-    }
-
-    /// The greatest type whose meet with q is below p, if there is one. At once where q is
-    /// below p, then it is the greatest type, and where q is the greatest type, then it is p.
-    pub fn residual(&self, p: u8, q: u8) -> Option<u8> {
+    /// The greatest type whose meet with q is p, for p below q, if there is one.
+    pub fn wanted(&self, p: u8, q: u8) -> Option<u8> {
         let top = (self.n - 1) as u8;
-        if self.is_below(q, p) {
+        if q == p {
             return Some(top);
         }
         if q == top {
             return Some(p);
         }
-        let (q, p) = (self.down[usize::from(q)], self.down[usize::from(p)]);
+        let (lower, over) = (self.down[usize::from(p)], self.down[usize::from(q)]);
+        // What is below some type that restores; the greatest has all of it below.
         let mut types = 0;
-        for d in 0..self.n {
-            types |= u64::from(self.down[d] & q & !p == 0) << d;
+        for &down in &self.down[..self.n] {
+            types |= if down & over == lower { down } else { 0 };
         }
         word_of(&self.down, types)
     }

@@ -73,9 +73,11 @@ fn the_peer_answers_as_the_reference() {
     let random = &mut Xorshift::stored(41);
     let mut counts = [0; 14];
     for _ in 0..1_500 {
-        let table = match random.chance(1, 12) {
-            true => random::damaged_table(random),
-            false => random::valid_table(random),
+        let kind = random.pick(12);
+        let table = match kind {
+            0 | 2 => random::damaged_table(random),
+            1 => random::rival_table(random),
+            _ => random::valid_table(random),
         };
         for _ in 0..6 {
             let shape = match random.chance(1, 8) {
@@ -85,7 +87,14 @@ fn the_peer_answers_as_the_reference() {
             let n = table.n.clamp(2, 64);
             let mut records = match Table::accept(table.n, &table.bytes) {
                 Ok(accepted) => {
-                    let (first, second) = random::pair(random, &accepted, &shape);
+                    let (first, second) = match kind {
+                        // Their difference often has a node without a wanted type.
+                        1 => {
+                            let low = random::low_graph(random, n, &shape);
+                            (random::graph_well_above(random, &accepted, &low), low)
+                        }
+                        _ => random::pair(random, &accepted, &shape),
+                    };
                     [record::write(&first), record::write(&second)]
                 }
                 Err(_) => [0, 1].map(|_| random::valid_record(random, n)),

@@ -270,7 +270,7 @@ pub fn unify(
 /// with the general record it gives the specific one again, and nothing strictly
 /// more general does.
 ///
-/// Refused by 1 to 7, then by 13, 12 and 8.
+/// Refused by 1 to 7, then by 12, 13 and 8.
 ///
 /// ```
 /// let diamond = record_engine::table(&[0x01, 0x03, 0x05, 0x0F]).expect("at most 8 types");

@@ -53,8 +53,9 @@ pub enum Refusal {
     TooLarge,
     /// 12: difference, the second record is not below the first.
     NotBelow,
-    /// 13: difference, the table does not admit it.
-    NotAdmitted,
+    /// 13: difference, some node of the second record has no wanted type: among the
+    /// types that restore its type, none is the greatest.
+    NoWantedType,
 }
 
 impl Refusal {
@@ -76,7 +77,7 @@ impl Refusal {
         Refusal::Clash,
         Refusal::TooLarge,
         Refusal::NotBelow,
-        Refusal::NotAdmitted,
+        Refusal::NoWantedType,
     ];
 
     /// The number of this refusal in document 01.
@@ -99,7 +100,7 @@ impl Refusal {
             Refusal::Clash => 10,
             Refusal::TooLarge => 11,
             Refusal::NotBelow => 12,
-            Refusal::NotAdmitted => 13,
+            Refusal::NoWantedType => 13,
         }
     }
 
@@ -126,7 +127,7 @@ impl fmt::Display for Refusal {
             Refusal::Cycle => "a class of shared paths reaches itself",
             Refusal::Clash => "a class of shared paths has no type in common",
             Refusal::NotBelow => "the second record is not below the first",
-            Refusal::NotAdmitted => "the table does not admit differences",
+            Refusal::NoWantedType => "a node of the second record has no wanted type",
             Refusal::TooLarge => "the result has more than 255 nodes or 2,048 links",
         };
         write!(formatter, "refused {}", self.number())?;

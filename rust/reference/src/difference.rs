@@ -1,7 +1,8 @@
 //! The difference of two graphs, for s below g: the most general graph that
-//! combined with g gives back s. It is a part of s with residuals for types.
+//! combined with g gives back s. It is a part of s with wanted types.
 //! Document 01's rules are followed word for word: groups of incoming links,
-//! wanted types (residuals), kept links. Refusals 13, then 12.
+//! wanted types, kept links. Refusals 12, then 13 where a node of s, kept or
+//! not, has no wanted type (Paper 6).
 
 use crate::canonical::canonical;
 use crate::graph::{Graph, Link, Node, ROOT};
@@ -12,9 +13,6 @@ use std::collections::BTreeSet;
 
 /// The difference of s from g.
 pub fn difference(table: &Table, g: &Graph, s: &Graph) -> Result<Graph, Refusal> {
-    if !table.admits_differences() {
-        return Err(Refusal::NoDifferences);
-    }
     // "Number s as written."
     let s = canonical(s);
     let Some(morphism) = subsumption(table, g, &s) else {
@@ -23,7 +21,8 @@ pub fn difference(table: &Table, g: &Graph, s: &Graph) -> Result<Graph, Refusal>
     let overlay = Overlay::new(g, &s, &morphism);
     let wanted: Vec<Type> = (0..s.nodes.len())
         .map(|node| overlay.wanted_type(table, node))
-        .collect();
+        .collect::<Option<_>>()
+        .ok_or(Refusal::NoWantedType)?;
     let kept = overlay.kept_links(table, &wanted);
     // "Kept nodes carry their wanted types." A node that a kept link leaves is the
     // root or is itself entered by a kept link, by the last condition for one
@@ -82,14 +81,12 @@ impl<'a> Overlay<'a> {
     }
 
     /// The greatest type whose meet with the meet of all g types over the node
-    /// (top if none) equals the type in s.
-    fn wanted_type(&self, table: &Table, node: usize) -> Type {
+    /// (top if none) equals the type in s, if there is a greatest.
+    fn wanted_type(&self, table: &Table, node: usize) -> Option<Type> {
         let types_over = self.nodes_over[node]
             .iter()
             .map(|&over| self.g.nodes[over].node_type);
-        table
-            .wanted(table.meet_of(types_over), self.s.nodes[node].node_type)
-            .expect("the table admits differences and s is below g")
+        table.wanted(table.meet_of(types_over), self.s.nodes[node].node_type)
     }
 
     /// The groups of the links that enter a node other than the root. Two are in

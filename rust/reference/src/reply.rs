@@ -30,8 +30,8 @@ pub enum Refusal {
     TooLarge,
     /// 12: difference, s is not below g.
     NotBelow,
-    /// 13: difference, the table does not admit it.
-    NoDifferences,
+    /// 13: difference, some node of s has no wanted type.
+    NoWantedType,
 }
 
 impl Refusal {
@@ -45,7 +45,7 @@ impl Refusal {
             Refusal::Clash => 10,
             Refusal::TooLarge => 11,
             Refusal::NotBelow => 12,
-            Refusal::NoDifferences => 13,
+            Refusal::NoWantedType => 13,
         }
     }
 }

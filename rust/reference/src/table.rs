@@ -1,7 +1,6 @@
 //! Type tables: a finite lattice of types, read from bytes and checked
-//! (refusals 1 to 3), with its meets and joins, whether it admits differences
-//! (a Brouwer lattice), and the residual of two types, which document 01 calls
-//! the wanted type. A set of types is a 64-bit word: bit j stands for type j,
+//! (refusals 1 to 3), with its meets and joins, the wanted type of a type and a
+//! meet over it, and whether it admits differences (a Brouwer lattice). A set of types is a 64-bit word: bit j stands for type j,
 //! just as in a row of the table.
 
 /// The number of a type.

@@ -128,7 +128,7 @@ fn case_11_one_link_of_each_group_is_kept() {
 }
 
 #[test]
-fn case_12_three_middle_types_admit_no_difference() {
+fn case_12_three_middle_types_have_wanted_types() {
     let rows = "0100000000000000 0300000000000000 0500000000000000 0900000000000000
                 1F00000000000000";
     let table = TableBytes {
@@ -137,17 +137,47 @@ fn case_12_three_middle_types_admit_no_difference() {
     };
     assert_eq!(random::middles(3), table);
     assert!(!table.accepted().admits_differences());
-    for (g, s) in [("4", "4"), ("4", "1"), ("1", "2"), ("4[0: 4]", "3[0: 1]")] {
+    // Paper 6: no difference gives 13, and a graph's from itself is a lone top.
+    for (g, s, expected) in [
+        ("4", "4", Ok("4")),
+        ("1[0: 2]", "1[0: 2]", Ok("4")),
+        ("4", "1", Ok("1")),
+        ("1", "2", Err(Refusal::NotBelow)),
+        ("4[0: 4]", "3[0: 1]", Ok("3[0: 1]")),
+    ] {
         let (g, s) = (record::write(&graph(4, g)), record::write(&graph(4, s)));
         let result = written(calls::difference, 5, &table.bytes, &g, &s);
-        assert_eq!(result, Err(Refusal::NoDifferences));
+        assert_eq!(
+            result,
+            expected.map(|graph_of| record::write(&graph(4, graph_of)))
+        );
     }
-    assert_eq!(Refusal::NoDifferences.number(), 13);
     // The table is accepted: the other calls give results.
     let one = record::write(&Graph::lone(1));
     let two = record::write(&Graph::lone(2));
     let common = written(calls::common_part, 5, &table.bytes, &one, &two);
     assert_eq!(common, Ok(bytes("01 04 0000000000000000")));
+}
+
+/// Paper 6: with g a lone 2 and s a lone 1, the types 1, 3 and 4 all restore and
+/// none is the greatest.
+#[test]
+fn three_types_over_one_keep_the_refusal() {
+    let table = random::three_over_one();
+    assert_eq!(
+        table.bytes,
+        bytes(
+            "0100000000000000 0300000000000000 0700000000000000
+             0B00000000000000 1300000000000000 3F00000000000000"
+        )
+    );
+    let [one, two] = [1, 2].map(|of_type| record::write(&Graph::lone(of_type)));
+    let result = |g: &[u8], s: &[u8]| written(calls::difference, 6, &table.bytes, g, s);
+    assert_eq!(result(&two, &one), Err(Refusal::NoWantedType));
+    assert_eq!(Refusal::NoWantedType.number(), 13);
+    // 12 comes first, and equal types want the greatest.
+    assert_eq!(result(&one, &two), Err(Refusal::NotBelow));
+    assert_eq!(result(&one, &one), Ok(record::write(&Graph::lone(5))));
 }
 
 #[test]

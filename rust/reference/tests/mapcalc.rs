@@ -62,9 +62,9 @@ fn refusals_are_printed_with_their_number() {
     let looping = ask(COMBINE, "top[0: X top, 1: X]", "top[0: Z a, 1: b[0: Z]]");
     assert_eq!(line(&looping), "refused 9");
     assert_eq!(line(&ask(DIFFERENCE, "a", "b")), "refused 12");
-    let m3 = random::middles(3);
-    let one = over(&m3, "1");
-    assert_eq!(line(&input(3, 5, &m3.bytes, &one, &one)), "refused 13");
+    let rivals = random::three_over_one();
+    let (two, one) = (over(&rivals, "2"), over(&rivals, "1"));
+    assert_eq!(line(&input(3, 6, &rivals.bytes, &two, &one)), "refused 13");
     let table = random::diamond();
     let low = record::write(&random::chain_graph(129, 0, 3));
     let high = record::write(&random::chain_graph(128, 1, 3));

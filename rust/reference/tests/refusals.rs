@@ -373,10 +373,14 @@ fn refusals_of_results_in_the_order_of_the_checks() {
         let (first, second) = (record::write(first), record::write(second));
         call(table.n, &table.bytes, &first, &second, &mut []).number()
     };
-    // 13 before 12.
-    let m3 = random::middles(3);
+    // 12 before 13: the second graph has a node without a wanted type in both, and
+    // in one a node more in the first.
+    let rivals = random::three_over_one();
     let (one, two) = (Graph::lone(1), Graph::lone(2));
-    assert_eq!(refused(&m3, calls::difference, &one, &two), Some(13));
+    let longer = random::chain_graph(2, 0, 2);
+    assert_eq!(refused(&rivals, calls::difference, &longer, &one), Some(12));
+    // 13 before 8.
+    assert_eq!(refused(&rivals, calls::difference, &two, &one), Some(13));
     // 12 before 8, and 8 where the difference exists.
     assert_eq!(refused(&diamond, calls::difference, &one, &two), Some(12));
     assert_eq!(refused(&diamond, calls::difference, &one, &one), Some(8));

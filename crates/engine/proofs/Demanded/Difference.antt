@@ -1,9 +1,9 @@
--- The difference: 13 and 12 exactly where they are due, never 11; what is written of it restores the specific record byte for byte when it
+-- The difference: 12 and 13 exactly where they are due, never 11; what is written of it restores the specific record byte for byte when it
 -- is combined with the general one, and nothing more general does.
 use mathlib.Core.Path.{_≡_, refl, sym, _∙_, ap, ap₂, subst}
 use mathlib.Core.Bool.{Bool, true, false, cond}
 use mathlib.Core.List.{List}
-use mathlib.Core.Logic.{_↔_}
+use mathlib.Core.Logic.{_↔_, _⊎_, inl, inr}
 use Prim.Native.Nat.{ℕ}
 use native.Mathlib.Omega.{arith}
 use lib.Dec.{eqb}
@@ -18,7 +18,8 @@ use Rattle.graphs.proofs.Below.{same-refl, same-sym}
 use Rattle.lattice.specs.Label.{Label}
 use Rattle.lattice.specs.Table as table
 use Rattle.lattice.specs.Reply.{opened}
-use Rattle.lattice.specs.Labels.{typeLabels}
+use Rattle.lattice.specs.Labels.{typeLabels, SomeUnwanted}
+use Rattle.lattice.proofs.Every.{not-false-true}
 use Rattle.lattice.proofs.Residuals.{opened-accepted}
 use Rattle.lattice.proofs.Relabel.{same-below-left, same-below-right}
 use Rattle.lattice.proofs.Transfer.{same-of-any-size}
@@ -30,33 +31,34 @@ use Rattle.record.proofs.Theorems.{accepted-of-any-size, accepted-fits, written
 use Rattle.engine.specs.declared.Reply.the-variants as replies
 use Rattle.engine.specs.Reply.{Result, refusal, refusing, resultOf}
 use Rattle.engine.specs.Unification.{unifying}
-use Rattle.engine.specs.Difference.{numbered, differenceRows, differed, differedRows, differing}
+use Rattle.engine.specs.Difference.{allWanted, numbered, differenceRows, differed, differedRows, differing}
 use Rattle.engine.specs.Demand.{Given, Large, Writes, MoreGeneral, remainder, Restores, Difference}
 use Rattle.engine.proofs.Orders.{order-test}
 use Rattle.engine.proofs.Results.{resultFor, rewriting-is, result-writes}
 use Rattle.engine.proofs.Demanded.Order.{order-exact}
 use Rattle.engine.proofs.Demanded.Combination.{other-refusal, greatest-result, written-combination}
+use Rattle.engine.proofs.Demanded.Wanted.{unwanted-exact, same-unwanted}
 use Rattle.engine.proofs.Demanded.Remainder.{rows-small, rows-restore}
 
--- 13, then 12, else what writing answers
+-- 12, then 13, else what writing answers
 abbrev chosen : Bool → Bool → Outcome → List ℕ → Result
-chosen admitted lies o out =
-    cond admitted (cond lies (resultOf o) (refusing replies.NotBelow out)) (refusing replies.NotAdmitted out)
+chosen lies all o out =
+    cond lies (cond all (resultOf o) (refusing replies.NoWantedType out)) (refusing replies.NotBelow out)
 
 module _ (o : Outcome) (out : List ℕ) where
-  chosen-admitted : (x y : Bool) → (chosen x y o out .reply ≡ replies.NotAdmitted) ↔ (x ≡ false)
-  chosen-admitted false y = (λ _. refl, λ _. refl)
-  chosen-admitted true false = (λ q. let z : _≡_ {A = ℕ} 0 1 = cc in absurd (omega arith), λ q. true-false refl q)
-  chosen-admitted true true = (
-    λ q. absurd (other-refusal (o .answer) 13 (ap refusal q) (λ z. omega arith) (λ z. omega arith)),
+  chosen-below : (x y : Bool) → (chosen x y o out .reply ≡ replies.NotBelow) ↔ (x ≡ false)
+  chosen-below false y = (λ _. refl, λ _. refl)
+  chosen-below true false = (λ q. let z : _≡_ {A = ℕ} 0 1 = cc in absurd (omega arith), λ q. true-false refl q)
+  chosen-below true true = (
+    λ q. absurd (other-refusal (o .answer) 12 (ap refusal q) (λ z. omega arith) (λ z. omega arith)),
     λ q. true-false refl q,
   )
 
-  chosen-below : (x y : Bool) → (chosen x y o out .reply ≡ replies.NotBelow) ↔ ((x ≡ true) × (y ≡ false))
-  chosen-below false y = (λ q. let z : _≡_ {A = ℕ} 0 1 = cc in absurd (omega arith), λ (q, _). true-false q refl)
-  chosen-below true false = (λ _. (refl, refl), λ _. refl)
-  chosen-below true true = (
-    λ q. absurd (other-refusal (o .answer) 12 (ap refusal q) (λ z. omega arith) (λ z. omega arith)),
+  chosen-wanted : (x y : Bool) → (chosen x y o out .reply ≡ replies.NoWantedType) ↔ ((x ≡ true) × (y ≡ false))
+  chosen-wanted false y = (λ q. let z : _≡_ {A = ℕ} 0 1 = cc in absurd (omega arith), λ (q, _). true-false q refl)
+  chosen-wanted true false = (λ _. (refl, refl), λ _. refl)
+  chosen-wanted true true = (
+    λ q. absurd (other-refusal (o .answer) 13 (ap refusal q) (λ z. omega arith) (λ z. omega arith)),
     λ (_, q). true-false refl q,
   )
 
@@ -99,32 +101,53 @@ module _ (n : ℕ) (t a b : List ℕ) (g s : List (Row Label)) (given : Given n 
         λ x. order-test n t form g general-rules .1 (same-below-left means x),
       )
 
-  -- Where s is below g and the table admits differences, the difference restores s, and nothing more general does.
-  module _ (differ : table.admits n t ≡ true) (below : Below (typeLabels n t) (graphOfRows s) (graphOfRows g)) where
+  -- whether every node of s has a wanted type
+  abbrev all : Bool
+  all = allWanted n t (numbered (canonical eqb (graphOfRows s))) g
+
+  module _ (below : Below (typeLabels n t) (graphOfRows s) (graphOfRows g)) where
     form-below : Below (typeLabels n t) (graphOfRows form) (graphOfRows g)
     form-below = same-below-left means below
 
     form-rules : Rules n form
     form-rules = accepted-rules n (encoded form) form (form-reads .0)
 
-    pub remainder-small : Large (remainder n t g s) → ⊥
-    remainder-small =
-        subst (λ (k : Graph Label ℕ). Large k → ⊥) (sym remainder-is) (rows-small n t accepts g form general-rules form-rules form-below differ)
+    all-exact : (all ≡ false) ↔ SomeUnwanted n t (graphOfRows s) (graphOfRows g)
+    all-exact =
+        let (there, back) = unwanted-exact n t accepts g form general-rules form-rules form-below in
+        subst (λ (rows : List (Row Label)). (allWanted n t rows g ≡ false) ↔ SomeUnwanted n t (graphOfRows s) (graphOfRows g))
+        (sym (ap numbered form-is)) (
+          λ e. same-unwanted n t (graphOfRows form) (graphOfRows s) (graphOfRows g) (same-sym means) (there e),
+          λ u. back (same-unwanted n t (graphOfRows s) (graphOfRows form) (graphOfRows g) means u),
+        )
 
-    pub remainder-restores : Restores n t (remainder n t g s) (graphOfRows g) (graphOfRows s)
-    remainder-restores =
-        let made = rows-restore n t accepts g form general-rules form-rules form-below differ in
-        subst (λ (k : Graph Label ℕ). Restores n t k (graphOfRows g) (graphOfRows s)) (sym remainder-is)
-        (record {
-          of-any-size = made .of-any-size;
-          restores =
-              same-greatest n t accepts (differenceRows n t g form) (graphOfRows g) (graphOfRows form) (differenceRows n t g form) (graphOfRows s)
-              (same-refl (differenceRows n t g form)) (same-sym means) (made .restores);
-          most-general = λ e c more u best.
-              let (x, y) = made .most-general e c more u best in
-              (same-below-left (same-sym means) x, λ z. y (same-below-right means z));
-          combines = made .combines;
-        })
+    pub all-wanted : (SomeUnwanted n t (graphOfRows s) (graphOfRows g) → ⊥) → all ≡ true
+    all-wanted none = not-false-true all (λ e. none (all-exact .0 e))
+
+    -- Where every node of s has a wanted type, the difference restores s, and nothing more general does.
+    module _ (wants : all ≡ true) where
+      form-wanted : allWanted n t form g ≡ true
+      form-wanted = ap (λ c. allWanted n t (numbered c) g) (sym form-is) ∙ wants
+
+      pub remainder-small : Large (remainder n t g s) → ⊥
+      remainder-small =
+          subst (λ (k : Graph Label ℕ). Large k → ⊥) (sym remainder-is)
+          (rows-small n t accepts g form general-rules form-rules form-below form-wanted)
+
+      pub remainder-restores : Restores n t (remainder n t g s) (graphOfRows g) (graphOfRows s)
+      remainder-restores =
+          let made = rows-restore n t accepts g form general-rules form-rules form-below form-wanted in
+          subst (λ (k : Graph Label ℕ). Restores n t k (graphOfRows g) (graphOfRows s)) (sym remainder-is)
+          (record {
+            of-any-size = made .of-any-size;
+            restores =
+                same-greatest n t accepts (differenceRows n t g form) (graphOfRows g) (graphOfRows form) (differenceRows n t g form) (graphOfRows s)
+                (same-refl (differenceRows n t g form)) (same-sym means) (made .restores);
+            most-general = λ e c more u best.
+                let (x, y) = made .most-general e c more u best in
+                (same-below-left (same-sym means) x, λ z. y (same-below-right means z));
+            combines = made .combines;
+          })
 
   -- what means the same restores the same
   restores-again : (d : Graph Label ℕ) (again : List (Row Label)) → SameMeaning (typeLabels n t) d (graphOfRows again) →
@@ -142,53 +165,75 @@ module _ (n : ℕ) (t a b : List ℕ) (g s : List (Row Label)) (given : Given n 
       as-general e (above, strict) = (same-below-left (same-sym same) above, λ z. strict (same-below-right same z))
 
   module _ (out : List ℕ) where
-    differing-is : differing n t a b out ≡ chosen (table.admits n t) lies (writtenOut (canonical eqb (remainder n t g s)) out) out
+    differing-is : differing n t a b out ≡ chosen lies all (writtenOut (canonical eqb (remainder n t g s)) out) out
     unfolding differing differedRows differed
     differing-is = rw (given .opens, given .first, given .second)
 
-    -- 13 exactly where the table does not admit differences
-    pub not-admitted-exact : (differing n t a b out .reply ≡ replies.NotAdmitted) ↔ (table.admits n t ≡ false)
-    not-admitted-exact =
-        subst (λ (r : Result). (r .reply ≡ replies.NotAdmitted) ↔ (table.admits n t ≡ false)) (sym differing-is)
-        (chosen-admitted (writtenOut (canonical eqb (remainder n t g s)) out) out (table.admits n t) lies)
-
-    -- 12 exactly where it does, and s is not below g
+    -- 12 exactly where s is not below g
     pub not-below-exact : (differing n t a b out .reply ≡ replies.NotBelow) ↔
-        ((table.admits n t ≡ true) × (Below (typeLabels n t) (graphOfRows s) (graphOfRows g) → ⊥))
+        (Below (typeLabels n t) (graphOfRows s) (graphOfRows g) → ⊥)
     not-below-exact =
         let (there, back) =
-        subst (λ (r : Result). (r .reply ≡ replies.NotBelow) ↔ ((table.admits n t ≡ true) × (lies ≡ false))) (sym differing-is)
-        (chosen-below (writtenOut (canonical eqb (remainder n t g s)) out) out (table.admits n t) lies) in (
-          λ q. let (x, y) = there q in (x, λ z. true-false (lies-exact .1 z) y),
-          λ (x, y). back (x, not-true lies (λ z. y (lies-exact .0 z))),
+        subst (λ (r : Result). (r .reply ≡ replies.NotBelow) ↔ (lies ≡ false)) (sym differing-is)
+        (chosen-below (writtenOut (canonical eqb (remainder n t g s)) out) out lies all) in (
+          λ q z. true-false (lies-exact .1 z) (there q),
+          λ y. back (not-true lies (λ z. y (lies-exact .0 z))),
         )
 
-    -- the three results: 13, 12, or what is written where neither is due
+    -- 13 exactly where it is, and some node of s has no wanted type
+    pub unwanted-reply-exact : (differing n t a b out .reply ≡ replies.NoWantedType) ↔
+        (Below (typeLabels n t) (graphOfRows s) (graphOfRows g) × SomeUnwanted n t (graphOfRows s) (graphOfRows g))
+    unwanted-reply-exact =
+        let (there, back) =
+        subst (λ (r : Result). (r .reply ≡ replies.NoWantedType) ↔ ((lies ≡ true) × (all ≡ false))) (sym differing-is)
+        (chosen-wanted (writtenOut (canonical eqb (remainder n t g s)) out) out lies all) in (
+          λ q.
+              let (x, y) = there q in
+              let below = lies-exact .0 x in
+              (below, all-exact below .0 y),
+          λ (below, some). back (lies-exact .1 below, all-exact below .1 some),
+        )
+
+    -- the three results: 12, 13, or what is written where neither is due
     pub data Told : Type 0 where
-      not-admitted : differing n t a b out ≡ refusing replies.NotAdmitted out → Told
       not-below : differing n t a b out ≡ refusing replies.NotBelow out → Told
-      differs : table.admits n t ≡ true → Below (typeLabels n t) (graphOfRows s) (graphOfRows g) → Told
+      not-wanted : Below (typeLabels n t) (graphOfRows s) (graphOfRows g) → all ≡ false →
+          differing n t a b out ≡ refusing replies.NoWantedType out → Told
+      differs : Below (typeLabels n t) (graphOfRows s) (graphOfRows g) → all ≡ true → Told
 
     pub difference-told : Told
-    difference-told = go (table.admits n t) lies refl refl
+    difference-told = go lies all refl refl
       where
-        go : (x y : Bool) → table.admits n t ≡ x → lies ≡ y → Told
-        go false y p q = not-admitted (differing-is ∙ ap (λ (z : Bool). chosen z lies (writtenOut (canonical eqb (remainder n t g s)) out) out) p)
+        go : (x y : Bool) → lies ≡ x → all ≡ y → Told
+        go false y p q = not-below (differing-is ∙ ap (λ (z : Bool). chosen z all (writtenOut (canonical eqb (remainder n t g s)) out) out) p)
         go true false p q =
-            not-below (differing-is ∙ ap₂ (λ (z w : Bool). chosen z w (writtenOut (canonical eqb (remainder n t g s)) out) out) p q)
-        go true true p q = differs p (lies-exact .0 q)
+            not-wanted (lies-exact .0 p) q
+            (differing-is ∙ ap₂ (λ (z w : Bool). chosen z w (writtenOut (canonical eqb (remainder n t g s)) out) out) p q)
+        go true true p q = differs (lies-exact .0 p) q
 
-    module _ (differ : table.admits n t ≡ true) (below : Below (typeLabels n t) (graphOfRows s) (graphOfRows g)) where
+    module _ (below : Below (typeLabels n t) (graphOfRows s) (graphOfRows g)) (wants : all ≡ true) where
       -- then the difference is what the call writes
       pub remainder-result : differing n t a b out ≡ resultFor eqb (remainder n t g s) out
       remainder-result =
           differing-is ∙
-          ap₂ (λ (x y : Bool). chosen x y (writtenOut (canonical eqb (remainder n t g s)) out) out) differ (lies-exact .1 below)
+          ap₂ (λ (x y : Bool). chosen x y (writtenOut (canonical eqb (remainder n t g s)) out) out) (lies-exact .1 below) wants
 
       pub remainder-writes : Writes n t eqb (remainder n t g s) out (differing n t a b out)
       remainder-writes =
           subst (Writes n t eqb (remainder n t g s) out) (sym remainder-result)
-          (result-writes n t eqb tells-eqb (remainder n t g s) (remainder-restores differ below .of-any-size) out)
+          (result-writes n t eqb tells-eqb (remainder n t g s) (remainder-restores below wants .of-any-size) out)
+
+    -- s below g gives 13 for a node without a wanted type, or a difference that restores and is most general.
+    pub unwanted-or-restored : Below (typeLabels n t) (graphOfRows s) (graphOfRows g) →
+        ((differing n t a b out .reply ≡ replies.NoWantedType) × SomeUnwanted n t (graphOfRows s) (graphOfRows g)) ⊎
+        (Restores n t (remainder n t g s) (graphOfRows g) (graphOfRows s) × Writes n t eqb (remainder n t g s) out (differing n t a b out))
+    unwanted-or-restored below = go all refl
+      where
+        go : (x : Bool) → all ≡ x →
+            ((differing n t a b out .reply ≡ replies.NoWantedType) × SomeUnwanted n t (graphOfRows s) (graphOfRows g)) ⊎
+            (Restores n t (remainder n t g s) (graphOfRows g) (graphOfRows s) × Writes n t eqb (remainder n t g s) out (differing n t a b out))
+        go false q = let some = all-exact below .0 q in inl (unwanted-reply-exact .1 (below, some), some)
+        go true q = inr (remainder-restores below q, remainder-writes below q)
 
     -- What is written restores b with a, byte for byte, and nothing more general does.
     pub written-difference : (l : ℕ) → differing n t a b out .reply ≡ replies.Length l →
@@ -196,15 +241,15 @@ module _ (n : ℕ) (t a b : List ℕ) (g s : List (Row Label)) (given : Given n 
     written-difference l q = go difference-told
       where
         go : Told → Difference n t a b g s (take l (differing n t a b out .output))
-        go (not-admitted e) = let z : _≡_ {A = ℕ} 0 1 = cc (q, ap (λ (r : Result). r .reply) e) in absurd (omega arith)
+        go (not-wanted _ _ e) = let z : _≡_ {A = ℕ} 0 1 = cc (q, ap (λ (r : Result). r .reply) e) in absurd (omega arith)
         go (not-below e) = let z : _≡_ {A = ℕ} 0 1 = cc (q, ap (λ (r : Result). r .reply) e) in absurd (omega arith)
-        go (differs differ below) =
-            let wrote = remainder-writes differ below .wrote l q in
+        go (differs below wants) =
+            let wrote = remainder-writes below wants .wrote l q in
             let bytes : List ℕ = take l (differing n t a b out .output) in
             let again : List (Row Label) = wrote .form in
             let reads : reading n bytes ≡ accepted again = wrote .reads in
             let restores : Restores n t (graphOfRows again) (graphOfRows g) (graphOfRows s) =
-            restores-again (remainder n t g s) again (wrote .means) (remainder-restores differ below) in
+            restores-again (remainder n t g s) again (wrote .means) (remainder-restores below wants) in
             record {
               form = again;
               reads = reads;

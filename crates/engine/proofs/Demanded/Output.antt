@@ -41,7 +41,7 @@ use Rattle.engine.proofs.Demanded.CommonPart.{common-part-exists}
 use Rattle.engine.proofs.Demanded.Combination.{refused-cycle, refused-clash, written, tells-either, combination-told}
 use Rattle.engine.proofs.Demanded.Combination as Combined
 use Rattle.engine.proofs.Demanded.Difference.{
-  not-admitted,
+  not-wanted,
   not-below,
   differs,
   difference-told,
@@ -178,11 +178,11 @@ module _ (n : ℕ) (t : List ℕ) (out : List ℕ) where
         (λ g s given. subst (Leaves n out) (differing-next n t a b given out) (leaves g s given (difference-told n t a b g s given out)))
       where
         leaves : (g s : List (Row Label)) (given : Given n t a b g s) → Differed.Told n t a b g s given out → Leaves n out (differing n t a b out)
-        leaves g s given (not-admitted e) = subst (Leaves n out) (sym e) (refusing-leaves n out replies.NotAdmitted 13 refl)
+        leaves g s given (not-wanted _ _ e) = subst (Leaves n out) (sym e) (refusing-leaves n out replies.NoWantedType 13 refl)
         leaves g s given (not-below e) = subst (Leaves n out) (sym e) (refusing-leaves n out replies.NotBelow 12 refl)
-        leaves g s given (differs differ below) =
-            subst (Leaves n out) (sym (remainder-result n t a b g s given out differ below))
-            (graph-leaves n out t eqb tells-eqb (remainder n t g s) (remainder-restores n t a b g s given differ below .of-any-size))
+        leaves g s given (differs below wants) =
+            subst (Leaves n out) (sym (remainder-result n t a b g s given out below wants))
+            (graph-leaves n out t eqb tells-eqb (remainder n t g s) (remainder-restores n t a b g s given below wants .of-any-size))
 
 -- 11 does not occur where the result is no larger than an accepted record.
 abbrev NotLarge : Result → Type 0
@@ -213,9 +213,9 @@ module _ (n : ℕ) (t : List ℕ) (out : List ℕ) where
       (λ g s given. subst NotLarge (differing-next n t a b given out) (small g s given (difference-told n t a b g s given out)))
     where
       small : (g s : List (Row Label)) (given : Given n t a b g s) → Differed.Told n t a b g s given out → NotLarge (differing n t a b out)
-      small g s given (not-admitted e) = subst NotLarge (sym e) (λ q. let z : _≡_ {A = ℕ} 0 1 = cc in omega arith)
+      small g s given (not-wanted _ _ e) = subst NotLarge (sym e) (λ q. let z : _≡_ {A = ℕ} 0 1 = cc in omega arith)
       small g s given (not-below e) = subst NotLarge (sym e) (λ q. let z : _≡_ {A = ℕ} 0 1 = cc in omega arith)
-      small g s given (differs differ below) =
-          subst NotLarge (sym (remainder-result n t a b g s given out differ below))
-          (graph-small (remainder n t g s) (remainder-restores n t a b g s given differ below .of-any-size)
-          (remainder-small n t a b g s given differ below))
+      small g s given (differs below wants) =
+          subst NotLarge (sym (remainder-result n t a b g s given out below wants))
+          (graph-small (remainder n t g s) (remainder-restores n t a b g s given below wants .of-any-size)
+          (remainder-small n t a b g s given below wants))

@@ -1,27 +1,26 @@
--- The difference of rows that keep the rules of accepted records, s below g over a table that admits differences: it is the difference
--- that the theory of graphs speaks of, over the table's lattice of types. The wanted types are residuals.
-use mathlib.Core.Path.{_≡_, refl, sym, _∙_, ap, ap₂, fun-ext, subst}
+-- The difference of rows that keep the rules of accepted records, s below g, where every node of s has a wanted type: it is the difference
+-- that the theory of graphs speaks of, over the table's lattice of types.
+use mathlib.Core.Path.{_≡_, refl, sym, _∙_, ap, ap₂, subst}
 use mathlib.Core.Bool.{true}
-use mathlib.Core.List.{List, List·Memᴰ}
-use mathlib.Core.Logic.{_↔_, _⊎_, inl, inr, ⊎-elim}
+use mathlib.Core.List.{List}
+use mathlib.Core.Logic.{inl, inr, ⊎-elim}
 use mathlib.Core.Option.{some}
-use Prim.Native.Nat.{ℕ}
+use Prim.Native.Nat.{ℕ, _<_}
 use lib.Dec.{eqb}
 use lib.ListN.{length}
 use Rattle.graphs.specs.Graph.{Graph, walk, Reached, Below}
 use Rattle.graphs.specs.Rows.{Row, from}
-use Rattle.graphs.specs.Difference.{byNumber, meetOver, difference}
+use Rattle.graphs.specs.Difference.{IsWanted, byNumber, meetOver, difference}
 use Rattle.graphs.proofs.Walk.{some-injective, snoc-induction, follow-nil, follow-last, reached-root, reached-link}
 use Rattle.graphs.proofs.Lists.{tells-eqb}
-use Rattle.graphs.proofs.Unification.Beside.{Operands}
 use Rattle.graphs.proofs.Difference.ByNumber.{by-number-order}
-use Rattle.graphs.proofs.Difference.Computed.{Setting, residual-setting}
+use Rattle.graphs.proofs.Difference.Computed.{Setting}
 use Rattle.lattice.specs.Label.{Label}
 use Rattle.lattice.specs.Table as table
 use Rattle.lattice.specs.Labels.{typeLabels, OfAnySize, GreatestOfAnySize}
-use Rattle.lattice.proofs.Laws.{zero-type}
-use Rattle.lattice.proofs.Lawful.{TypeBelow, typed-number, lawful, lawful-lattice, lawful-residual, residual-number}
-use Rattle.lattice.proofs.Transfer.{lift, map-lift, lift-any-size, meetOver-number}
+use Rattle.lattice.proofs.Laws.{wanted-type}
+use Rattle.lattice.proofs.Lawful.{TypeBelow, lawful, lawful-lattice, lawful-wanted}
+use Rattle.lattice.proofs.Transfer.{lift, map-lift, lift-any-size}
 use Rattle.lattice.proofs.AnySize.{
   difference-of-any-size,
   difference-links,
@@ -34,11 +33,12 @@ use Rattle.lattice.proofs.AnySize.{
 }
 use Rattle.record.specs.Read.{graphOfRows}
 use Rattle.record.proofs.Nodes.{few-nodes, few-links}
-use Rattle.record.proofs.Accepted.{Rules, rules-linked, rules-of-any-size, rules-nodes}
-use Rattle.engine.specs.Difference.{over, wanted, differenceRows}
+use Rattle.record.proofs.Accepted.{Rules, rules-linked}
+use Rattle.difference.specs.Promise.{wantedAlong, differenceAlong}
+use Rattle.engine.specs.Difference.{over, wantedType, allWanted, differenceRows}
 use Rattle.engine.specs.Demand.{Large, Restores}
-use Rattle.engine.proofs.Tables.{label-known}
 use Rattle.engine.proofs.Over.{over-map}
+use Rattle.engine.proofs.Demanded.Wanted.{general-size, specific-size, operands, labelOver, meet-number, s-number, wanted-found}
 
 -- a graph whose links are links of another from the same root reaches no more of it
 fewer-reached : {L A : Type 0} (d s : Graph L A) → d .root ≡ s .root →
@@ -71,66 +71,57 @@ fewer-large d s same links (inr (ls, distinct, all, many)) =
 
 module _ (n : ℕ) (t : List ℕ) (ok : table.accepted n t ≡ true) (g s : List (Row Label)) (general : Rules n g) (specific : Rules n s)
     (below : Below (typeLabels n t) (graphOfRows s) (graphOfRows g)) where
-  general-size : OfAnySize n t (graphOfRows g)
-  general-size = rules-of-any-size n g general t
+  abbrev g-size : OfAnySize n t (graphOfRows g)
+  g-size = general-size n t ok g s general specific below
 
-  specific-size : OfAnySize n t (graphOfRows s)
-  specific-size = rules-of-any-size n s specific t
+  abbrev s-size : OfAnySize n t (graphOfRows s)
+  s-size = specific-size n t ok g s general specific below
 
-  module _ (differ : table.admits n t ≡ true) where
-    -- the wanted types
-    abbrev wantedType : ℕ → TypeBelow n
-    wantedType v =
-        lawful-residual n t ok differ (meetOver (lawful n t ok) eqb (lift n t ok (graphOfRows g)) (from 0 (length g)) (over s g) v)
-        (lift n t ok (graphOfRows s) .label v) .0
+  module _ (all : allWanted n t s g ≡ true) where
+    found : (v : ℕ) → (c : ℕ) × (wantedType n t s g v ≡ some c)
+    found = wanted-found n t ok g s general specific below all
 
-    wanted-number : (v : ℕ) → wanted n t s g v ≡ wantedType v .0
-    unfolding wanted
-    wanted-number v =
-        ap₂ (λ (x y : ℕ). table.cell (table.residual n t x y))
-        (sym (typed-number n t ok (graphOfRows s .label v) (label-known (zero-type n t ok) specific v)))
-        (meetOver-number n t ok eqb (graphOfRows g) (from 0 (length g)) (over s g) (λ w _. label-known (zero-type n t ok) general w) v) ∙
-        sym
-        (residual-number n t ok differ (meetOver (lawful n t ok) eqb (lift n t ok (graphOfRows g)) (from 0 (length g)) (over s g) v)
-        (lift n t ok (graphOfRows s) .label v))
+    -- the wanted types, as labels
+    wanted-low : (v : ℕ) → table.cell (wantedType n t s g v) < n
+    unfolding wantedAlong
+    wanted-low v =
+        let (c, e) = found v in
+        subst (λ (x : ℕ). x < n) (sym (ap table.cell e))
+        (wanted-type n t (graphOfRows s .label v) (meetOver (typeLabels n t) eqb (graphOfRows g) (from 0 (length g)) (over s g) v) c e)
+
+    abbrev wantedLabel : ℕ → TypeBelow n
+    wantedLabel v = (table.cell (wantedType n t s g v), wanted-low v)
+
+    wanted-label : (v : ℕ) →
+        IsWanted (lawful n t ok) (labelOver n t ok g s general specific below v) (lift n t ok (graphOfRows s) .label v) (wantedLabel v)
+    unfolding wantedAlong
+    wanted-label v =
+        let (c, e) = found v in
+        lawful-wanted n t ok (labelOver n t ok g s general specific below v) (lift n t ok (graphOfRows s) .label v) (wantedLabel v)
+        (ap₂ (table.wanted n t) (s-number n t ok g s general specific below v) (sym (meet-number n t ok g s general specific below v)) ∙ e ∙
+        ap some (sym (ap table.cell e)))
 
     -- the difference by those types
     abbrev byTypes : Graph Label ℕ
     byTypes =
         difference (typeLabels n t) eqb eqb byNumber (graphOfRows s) (from 0 (length s)) (graphOfRows g) (from 0 (length g)) (over s g)
-        (λ v. wantedType v .0)
+        (λ v. wantedLabel v .0)
 
     rows-difference : differenceRows n t g s ≡ byTypes
-    unfolding differenceRows
-    rows-difference =
-        ap (λ (w : ℕ → ℕ). difference (typeLabels n t) eqb eqb byNumber (graphOfRows s) (from 0 (length s)) (graphOfRows g) (from 0 (length g))
-        (over s g) w) (fun-ext wanted-number)
-
-    operands : Operands eqb eqb (lift n t ok (graphOfRows s)) (from 0 (length s)) (lift n t ok (graphOfRows g)) (from 0 (length g))
-    unfolding specific-size general-size
-    operands =
-        record {
-          tells-left = tells-eqb;
-          tells-right = tells-eqb;
-          lists-left = record {
-            listed = subst (λ (nodes : List ℕ). (v : ℕ) → Reached (graphOfRows s) v ↔ List·Memᴰ v nodes) (rules-nodes n s specific t)
-                (specific-size .any-size .listed);
-            features = specific-size .any-size .features;
-          };
-          lists-right = record {
-            listed = subst (λ (nodes : List ℕ). (v : ℕ) → Reached (graphOfRows g) v ↔ List·Memᴰ v nodes) (rules-nodes n g general t)
-                (general-size .any-size .listed);
-            features = general-size .any-size .features;
-          };
-        }
+    unfolding differenceAlong
+    rows-difference = refl
 
     setting : Setting (lawful n t ok) eqb eqb byNumber (lift n t ok (graphOfRows s)) (from 0 (length s)) (lift n t ok (graphOfRows g))
-        (from 0 (length g)) (over s g) wantedType
+        (from 0 (length g)) (over s g) wantedLabel
     setting =
-        residual-setting (lawful-lattice n t ok) (lawful-residual n t ok differ) operands by-number-order
-        (lift-any-size n t ok (graphOfRows s) specific-size)
-        (map-lift n t ok (graphOfRows s) (graphOfRows g) (specific-size .typed) (general-size .typed) (over s g) .0
-        (over-map n t g s general below))
+        record {
+          lattice = lawful-lattice n t ok;
+          operands = operands n t ok g s general specific below;
+          order = by-number-order;
+          sound = lift-any-size n t ok (graphOfRows s) s-size;
+          map = map-lift n t ok (graphOfRows s) (graphOfRows g) (s-size .typed) (g-size .typed) (over s g) .0 (over-map n t g s general below);
+          wants = λ v _. wanted-label v;
+        }
 
     -- It is no larger than s, so that it always can be written.
     pub rows-small : Large (differenceRows n t g s) → ⊥
@@ -138,8 +129,8 @@ module _ (n : ℕ) (t : List ℕ) (ok : table.accepted n t ≡ true) (g s : List
     rows-small large =
         ⊎-elim (few-nodes s (rules-linked specific) (specific .short)) (few-links s (specific .links))
         (fewer-large byTypes (graphOfRows s) refl
-        (difference-links n t ok eqb eqb byNumber (graphOfRows s) (from 0 (length s)) (graphOfRows g) (from 0 (length g)) (over s g) wantedType
-        specific-size general-size setting)
+        (difference-links n t ok eqb eqb byNumber (graphOfRows s) (from 0 (length s)) (graphOfRows g) (from 0 (length g)) (over s g) wantedLabel
+        s-size g-size setting)
         (subst (λ (k : Graph Label ℕ). Large k) rows-difference large))
 
     -- It restores s with g, and nothing more general does.
@@ -151,21 +142,21 @@ module _ (n : ℕ) (t : List ℕ) (ok : table.accepted n t ≡ true) (g s : List
           restores = best;
           most-general = λ e c (above, strict) u is.
               difference-most-general n t ok eqb eqb byNumber (graphOfRows s) (from 0 (length s)) (graphOfRows g) (from 0 (length g)) (over s g)
-              wantedType specific-size general-size setting e c above strict u is;
+              wantedLabel s-size g-size setting e c above strict u is;
           combines = λ same tells e c (above, _).
               let (u, q) =
-              unification-exists n t ok same eqb tells tells-eqb e (graphOfRows g) c general-size (graphOfRows s) specific-size
-              (below-transitive n t ok (graphOfRows s) byTypes e specific-size size c (best .left) above) below in
-              let (bounded, is) = unification-combination n t ok same eqb tells tells-eqb e (graphOfRows g) c general-size u q in
-              (u, is, combination-greatest n t ok e (graphOfRows g) c general-size u bounded is);
+              unification-exists n t ok same eqb tells tells-eqb e (graphOfRows g) c g-size (graphOfRows s) s-size
+              (below-transitive n t ok (graphOfRows s) byTypes e s-size size c (best .left) above) below in
+              let (bounded, is) = unification-combination n t ok same eqb tells tells-eqb e (graphOfRows g) c g-size u q in
+              (u, is, combination-greatest n t ok e (graphOfRows g) c g-size u bounded is);
         })
       where
         size : OfAnySize n t byTypes
         size =
             difference-of-any-size n t ok eqb eqb byNumber (graphOfRows s) (from 0 (length s)) (graphOfRows g) (from 0 (length g)) (over s g)
-            wantedType specific-size general-size setting
+            wantedLabel s-size g-size setting
 
         best : GreatestOfAnySize n t byTypes (graphOfRows g) (graphOfRows s)
         best =
             difference-restores n t ok eqb eqb byNumber (graphOfRows s) (from 0 (length s)) (graphOfRows g) (from 0 (length g)) (over s g)
-            wantedType specific-size general-size setting
+            wantedLabel s-size g-size setting

@@ -10,14 +10,14 @@ use Rattle.graphs.specs.Label.{Labels, Lattice}
 use Rattle.graphs.specs.Graph.{Graph, AnySize, Below, SameMeaning, Reached}
 use Rattle.graphs.specs.Map.{NodeMap}
 use Rattle.graphs.specs.Unify.{IsUnification}
-use Rattle.graphs.specs.Difference.{IsResidual, Link, StrictOrder, IsWanted, meetOver, lead, keeps, keptLink, difference}
+use Rattle.graphs.specs.Difference.{Link, StrictOrder, IsWanted, meetOver, lead, keeps, keptLink, difference}
 use Rattle.graphs.proofs.Unification.Beside.{Operands}
 use Rattle.graphs.proofs.Difference.Laws.{DifferenceLaws}
 use Rattle.graphs.proofs.Difference.Kept.{below-difference}
 use Rattle.graphs.proofs.Difference.Restores.{restores-greatest}
 use Rattle.graphs.proofs.Difference.Lead.{lead-one, lead-grouped, lead-leads}
 use Rattle.graphs.proofs.Difference.Keeps.{root-kept, keep-reason, keep-idle, kept-links}
-use Rattle.graphs.proofs.Difference.Wanted.{residual-wanted, label-under, wanted-above, wanted-restores, wanted-greatest}
+use Rattle.graphs.proofs.Difference.Wanted.{wanted-above, wanted-restores, wanted-greatest}
 use Rattle.graphs.proofs.Difference.Consequences.{
   laws-restore,
   laws-most-general,
@@ -118,22 +118,3 @@ module _ (𝓛 : Labels) {A B : Type 0} (sameA : A → A → Bool) (sameB : B �
         difference 𝓛 sameA sameB earlier s ss g gs over wanted .link u f ≡ some v → Reached s u × (s .link u f ≡ some v)
     unfolding difference
     difference-links = laws-links difference-laws (set .lattice) (set .sound) (set .map)
-
--- Where for all labels p and q there is a greatest one whose meet with q is below p, nothing has to be assumed of wanted labels.
-pub residual-setting : {𝓛 : Labels} (lattice : Lattice 𝓛) (residual : (q p : 𝓛 .L) → (c : 𝓛 .L) × IsResidual 𝓛 q p c)
-    {A B : Type 0} {sameA : A → A → Bool} {sameB : B → B → Bool} {earlier : Link A → Link A → Bool}
-    {s : Graph (𝓛 .L) A} {ss : List A} {g : Graph (𝓛 .L) B} {gs : List B} {over : B → A} →
-    Operands sameA sameB s ss g gs → StrictOrder earlier → AnySize 𝓛 s → NodeMap 𝓛 s g over →
-    Setting 𝓛 sameA sameB earlier s ss g gs over λ v. residual (meetOver 𝓛 sameA g gs over v) (s .label v) .0
-residual-setting {𝓛} lattice residual {sameA = sameA} {s = s} {g = g} {gs = gs} {over = over} operands order sound map =
-    record {
-      lattice = lattice;
-      operands = operands;
-      order = order;
-      sound = sound;
-      map = map;
-      wants = λ v _.
-          let q = meetOver 𝓛 sameA g gs over v in
-          let r = residual q (s .label v) in
-          residual-wanted lattice q (s .label v) (r .0) (label-under lattice operands over map v) (r .1);
-    }

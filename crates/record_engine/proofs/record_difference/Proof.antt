@@ -1,6 +1,5 @@
 -- The exported call answers the code of what the engine replies, and leaves the output that the engine leaves.
 use borrow.Author.Needs.{needs}
-use Rattle.engine.proofs.Replies.{results}
 use Rattle.record_engine.proofs.Codes.{codes}
 use Rattle.record_engine.proofs.record_difference.Statement.{statement}
 use Rattle.record_engine.proofs.record_difference.Tie as tie
@@ -15,7 +14,7 @@ same-length : tie.Need-same-length
 same-length c = search needs
 
 returns : tie.Need-returns
-returns c = codes (c .code .ensures) (results (c .before .before .before .difference .ensures))
+returns c = codes (c .code .ensures) (c .before .before .before .difference .ensures)
 
 pub record-difference-spec : {M : Type 1} → statement M
 record-difference-spec = tie.close (tie.spec difference-requires code-requires same-length returns)

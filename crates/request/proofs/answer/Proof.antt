@@ -2,7 +2,6 @@
 use mathlib.Core.Path.{ap}
 use Rattle.engine.specs.declared.Reply.{Reply}
 use Rattle.engine.specs.Reply.{resulting}
-use Rattle.engine.proofs.Replies.{results}
 use Rattle.request.proofs.Replies.{answers-by}
 use borrow.Author.Needs.{needs}
 use Rattle.request.proofs.answer.Statement.{statement}
@@ -54,7 +53,7 @@ same-length-3 c = search needs
 returns-3 : tie.Need-returns-3
 returns-3 c =
     let a = c .before .before .before .before .before .before .before .before .before .before .args in
-    answers-by (a .n) (a .table .now) (a .first .now) (a .second .now) (a .output .now) (c .before .before .before .before .enum-told3 .given .1) (results (c .before .before .difference .ensures))
+    answers-by (a .n) (a .table .now) (a .first .now) (a .second .now) (a .output .now) (c .before .before .before .before .enum-told3 .given .1) (c .before .before .difference .ensures)
 
 returns-4 : tie.Need-returns-4
 returns-4 c =

@@ -166,6 +166,34 @@ fn raised(random: &mut Xorshift, table: &Table, graph: &Graph) -> Graph {
     weaker
 }
 
+/// One of the types above or equal to the one given.
+fn type_above(random: &mut Xorshift, table: &Table, lower: Type) -> Type {
+    let above: Vec<Type> = table.types().filter(|&c| table.below(lower, c)).collect();
+    *random.choose(&above)
+}
+
+/// A graph in which a third of the nodes have type 1.
+pub fn low_graph(random: &mut Xorshift, n: usize, shape: &Shape) -> Graph {
+    let mut low = graph(random, n, shape);
+    for node in &mut low.nodes {
+        if random.chance(1, 3) {
+            node.node_type = 1;
+        }
+    }
+    low
+}
+
+/// A graph above the one given, by a few steps and with every other type raised.
+pub fn graph_well_above(random: &mut Xorshift, table: &Table, graph: &Graph) -> Graph {
+    let mut above = graph_above(random, table, graph);
+    for node in &mut above.nodes {
+        if random.chance(1, 2) {
+            node.node_type = type_above(random, table, node.node_type);
+        }
+    }
+    above
+}
+
 /// The graph without one of its links, if it has any.
 fn dropped(random: &mut Xorshift, graph: &Graph) -> Option<Graph> {
     let links = graph.incoming().concat();

@@ -2,8 +2,8 @@
 //! in each way that document 01 refuses.
 
 use super::Xorshift;
-use super::graphs::{Shape, graph, node_type, pair};
-use super::tables::{damaged_table, valid_table};
+use super::graphs::{Shape, graph, graph_well_above, low_graph, node_type, pair};
+use super::tables::{damaged_table, rival_table, valid_table};
 use crate::graph::Node;
 use crate::mapcalc;
 use crate::record::{self, MOST_NODES};
@@ -93,14 +93,23 @@ pub fn damaged_record(random: &mut Xorshift, n: usize) -> Vec<u8> {
 
 /// A whole input of `mapcalc`: mostly valid, sometimes damaged in any of its parts.
 pub fn mapcalc_input(random: &mut Xorshift) -> Vec<u8> {
-    let table = match random.chance(1, 12) {
-        true => damaged_table(random),
-        false => valid_table(random),
+    let kind = random.pick(12);
+    let table = match kind {
+        0 => damaged_table(random),
+        1 => rival_table(random),
+        _ => valid_table(random),
     };
     let (mut first, mut second) = match Table::accept(table.n, &table.bytes) {
         Ok(accepted) => {
             let shape = Shape::any(random);
-            let (first, second) = pair(random, &accepted, &shape);
+            let (first, second) = match kind {
+                // Their difference often has a node without a wanted type.
+                1 => {
+                    let low = low_graph(random, table.n, &shape);
+                    (graph_well_above(random, &accepted, &low), low)
+                }
+                _ => pair(random, &accepted, &shape),
+            };
             (record::write(&first), record::write(&second))
         }
         Err(_) => (valid_record(random, 4), valid_record(random, 4)),

@@ -125,6 +125,60 @@ pub fn bounded_order(random: &mut Xorshift) -> TableBytes {
     TableBytes::of_relation(n, |j, i| down[i] >> j & 1 == 1)
 }
 
+/// The table with a new least type below its own, which becomes type 1.
+fn lifted(table: &TableBytes) -> TableBytes {
+    let below = |j: usize, i: usize| table.bytes[8 * i + j / 8] >> (j % 8) & 1 == 1;
+    TableBytes::of_relation(table.n + 1, |j, i| j == 0 || (i > 0 && below(j - 1, i - 1)))
+}
+
+/// The six types of Paper 6: 2, 3 and 4 above 1, mutually unordered.
+pub fn three_over_one() -> TableBytes {
+    lifted(&middles(3))
+}
+
+/// A table that does not admit differences. Its least types but 0 are below much of
+/// the rest, so that a node of such a type often has no wanted type.
+pub fn rival_table(random: &mut Xorshift) -> TableBytes {
+    loop {
+        let table = match random.pick(8) {
+            0 => large_rival_table(random),
+            1 => three_over_one(),
+            2 => lifted(&middles(random.between(3, 6))),
+            3 | 4 => closure_system(random),
+            _ => match closure_system(random) {
+                table if table.n < MOST_TYPES => lifted(&table),
+                table => table,
+            },
+        };
+        if !table.accepted().admits_differences() {
+            return table;
+        }
+    }
+}
+
+/// 64 types that do not admit differences, numbered in any order between the least
+/// two and the greatest: random sets closed under intersection, and a new least.
+pub fn large_rival_table(random: &mut Xorshift) -> TableBytes {
+    loop {
+        let whole = (1 << 9) - 1;
+        let mut sets = BTreeSet::from([0, whole]);
+        for _ in 0..400 {
+            let new = random.word() & random.word() & whole;
+            let mut more = sets.clone();
+            more.extend(sets.iter().map(|set| set & new));
+            if more.len() < MOST_TYPES {
+                sets = more;
+            }
+        }
+        if sets.len() == MOST_TYPES - 1 {
+            let table = lifted(&of_sets(random, &sets));
+            if !table.accepted().admits_differences() {
+                return table;
+            }
+        }
+    }
+}
+
 /// A table that is accepted.
 pub fn valid_table(random: &mut Xorshift) -> TableBytes {
     match random.pick(9) {
@@ -141,6 +195,7 @@ pub fn valid_table(random: &mut Xorshift) -> TableBytes {
             let count = random.between(3, 5);
             middles(count)
         }
+        4 if random.chance(1, 2) => three_over_one(),
         4 => pentagon(),
         5 if random.chance(1, 8) => chain(MOST_TYPES),
         5 if random.chance(1, 8) => boolean(6),

@@ -1,4 +1,4 @@
--- `clear` meets its contract. The loop's invariant: the types before v have the value.
+-- `clear` meets its contract. The loop's invariant: the words before v have the value.
 use Prim.Native.Nat.{_-_, _≤_}
 use native.Mathlib.Omega.{arith}
 use borrow.Author.Needs.{needs}
@@ -7,17 +7,20 @@ use Rattle.difference.proofs.wanted.clear.Statement.{statement}
 use Rattle.difference.proofs.wanted.clear.Tie as tie
 
 abbrev Inv-loop : tie.InvT-loop
-Inv-loop value nodes types₀ v₀ types v =
-    (v ≤ nodes) × Filling value v types
+Inv-loop value nodes words₀ v₀ words v =
+    (v ≤ nodes) × Filling value v words
 
 abbrev μ-loop : tie.MeasureT-loop
-μ-loop value nodes types₀ v₀ types v = nodes - v
+μ-loop value nodes words₀ v₀ words v = nodes - v
 
 loop-holds : tie.Need-loop-holds Inv-loop μ-loop
 loop-holds c = (search needs, record { long = c .pre .1; each = λ v h. absurd (omega arith) })
 
-element-write-types : tie.Need-element-write-types Inv-loop μ-loop
-element-write-types c = search needs
+mul-words : tie.Need-mul-words Inv-loop μ-loop
+mul-words c = search needs
+
+element-write-words : tie.Need-element-write-words Inv-loop μ-loop
+element-write-words c = search needs
 
 add-v : tie.Need-add-v Inv-loop μ-loop
 add-v c = search needs
@@ -35,4 +38,4 @@ returns c =
 pub clear-spec : {M : Type 1} → statement M
 clear-spec =
     tie.close
-    (tie.spec Inv-loop μ-loop loop-holds element-write-types add-v loop-less loop-again returns)
+    (tie.spec Inv-loop μ-loop loop-holds mul-words element-write-words add-v loop-less loop-again returns)

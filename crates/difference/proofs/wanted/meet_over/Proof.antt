@@ -7,114 +7,122 @@ use Rattle.difference.proofs.wanted.meet_over.Tie as tie
 use Rattle.difference.proofs.wanted.clear.Reads as clear-reads
 
 abbrev Inv-loop : tie.InvT-loop
-Inv-loop n meets nodes g map met₀ y₀ met y = Meeting n meets nodes g map y met
+Inv-loop n down nodes g map over₀ y₀ over y = Meeting n down nodes g map y over
 
 abbrev μ-loop : tie.MeasureT-loop
-μ-loop n meets nodes g map met₀ y₀ met y = y
+μ-loop n down nodes g map over₀ y₀ over y = y
 
--- src/wanted.rt:37:12
 sub-clear : tie.Need-sub-clear Inv-loop μ-loop
 sub-clear c = omega (arith, c .before .pre .0 .two)
 
--- src/wanted.rt:37:11
-cast-clear : tie.Need-cast-clear Inv-loop μ-loop
-cast-clear c = omega (arith, c .before .pre .0 .two, c .before .pre .0 .few)
+mul-clear : tie.Need-mul-clear Inv-loop μ-loop
+mul-clear c = omega (arith, c .before .pre .0 .two, c .before .pre .0 .few)
 
--- src/wanted.rt:37:5
+element-copy-out-clear : tie.Need-element-copy-out-clear Inv-loop μ-loop
+element-copy-out-clear c = omega (arith, c .before .pre .0 .two, c .before .pre .0 .few)
+
 clear-requires : tie.Need-clear-requires Inv-loop μ-loop
-clear-requires c κs = (c .before .before .pre .0 .small, c .before .before .pre .1)
+clear-requires c κs = (c .before .before .before .pre .0 .small, c .before .before .before .pre .1)
 
--- src/wanted.rt:38:17
 shared-slice-read-y : tie.Need-shared-slice-read-y Inv-loop μ-loop
-shared-slice-read-y c = let shaped = c .before .before .before .before .pre .0 .sound .shaped in omega (arith, shaped .node 0 (shaped .nonempty) .listed)
+shared-slice-read-y c =
+    let shaped = c .before .before .before .before .before .pre .0 .sound .shaped in omega (arith, shaped .node 0 (shaped .nonempty) .listed)
 
--- src/wanted.rt:38:17
 cast-y : tie.Need-cast-y Inv-loop μ-loop
-cast-y c = omega (arith, c .before .before .before .before .pre .0 .upper-small)
+cast-y c = omega (arith, c .before .before .before .before .before .pre .0 .upper-small)
 
--- src/wanted.rt:39:5
 loop-holds : tie.Need-loop-holds Inv-loop μ-loop
-loop-holds c = met-start (c .before .before .before .before .pre .0) (c .before .clear .ensures .0) (c .before .clear .ensures .1)
+loop-holds c = met-start (c .before .before .before .before .before .pre .0) (c .before .clear .ensures .0) (c .before .clear .ensures .1)
 
--- src/wanted.rt:40:9
 sub-y : tie.Need-sub-y Inv-loop μ-loop
 sub-y c = omega (arith, c .loop-test .taken)
 
--- src/wanted.rt:41:17
 mul-v : tie.Need-mul-v Inv-loop μ-loop
-mul-v c = let turn = turn-known (c .before .loop .inv) (c .loop-test .taken) in omega (arith, turn .small)
+mul-v c =
+    let turn = turn-known (c .before .loop .inv) (c .loop-test .taken) in
+    omega (arith, turn .small)
 
--- src/wanted.rt:41:17
 element-copy-out-v : tie.Need-element-copy-out-v Inv-loop μ-loop
-element-copy-out-v c = let turn = turn-known (c .before .loop .inv) (c .loop-test .taken) in turn .small
+element-copy-out-v c =
+    let turn = turn-known (c .before .loop .inv) (c .loop-test .taken) in
+    turn .small
 
--- src/wanted.rt:41:17
 cast-v : tie.Need-cast-v Inv-loop μ-loop
-cast-v c = let turn = turn-known (c .before .before .loop .inv) (c .before .loop-test .taken) in omega (arith, turn .stored)
+cast-v c =
+    let turn = turn-known (c .before .before .loop .inv) (c .before .loop-test .taken) in
+    omega (arith, turn .stored)
 
--- src/wanted.rt:42:21
 add-row : tie.Need-add-row Inv-loop μ-loop
-add-row c = let turn = turn-known (c .before .before .loop .inv) (c .before .loop-test .taken) in omega (arith, turn .small)
+add-row c =
+    let turn = turn-known (c .before .before .loop .inv) (c .before .loop-test .taken) in
+    omega (arith, turn .small)
 
--- src/wanted.rt:42:19
 mul-row : tie.Need-mul-row Inv-loop μ-loop
-mul-row c = let turn = turn-known (c .before .before .loop .inv) (c .before .loop-test .taken) in omega (arith, turn .small)
+mul-row c =
+    let turn = turn-known (c .before .before .loop .inv) (c .before .loop-test .taken) in
+    omega (arith, turn .small)
 
--- src/wanted.rt:42:19
 shared-slice-read-row : tie.Need-shared-slice-read-row Inv-loop μ-loop
-shared-slice-read-row c = let turn = turn-known (c .before .before .before .loop .inv) (c .before .before .loop-test .taken) in omega (arith, turn .node .listed)
+shared-slice-read-row c =
+    let turn = turn-known (c .before .before .before .loop .inv) (c .before .before .loop-test .taken) in
+    omega (arith, turn .node .listed)
 
--- src/wanted.rt:42:19
 cast-row : tie.Need-cast-row Inv-loop μ-loop
 cast-row c = omega (arith, c .shared-slice-known3 .given ((c .before .before .before .loop .y - 1) + 1))
 
--- src/wanted.rt:43:17
 mul-a : tie.Need-mul-a Inv-loop μ-loop
-mul-a c = let turn = turn-known (c .before .before .before .loop .inv) (c .before .before .loop-test .taken) in omega (arith, turn .from)
+mul-a c =
+    let turn = turn-known (c .before .before .before .loop .inv) (c .before .before .loop-test .taken) in
+    omega (arith, turn .from)
 
--- src/wanted.rt:43:17
 shared-slice-read-a : tie.Need-shared-slice-read-a Inv-loop μ-loop
-shared-slice-read-a c = let turn = turn-known (c .before .before .before .before .loop .inv) (c .before .before .before .loop-test .taken) in turn .from
+shared-slice-read-a c =
+    let turn = turn-known (c .before .before .before .before .loop .inv) (c .before .before .before .loop-test .taken) in
+    turn .from
 
--- src/wanted.rt:43:17
 cast-a : tie.Need-cast-a Inv-loop μ-loop
-cast-a c = let turn = turn-known (c .before .before .before .before .loop .inv) (c .before .before .before .loop-test .taken) in omega (arith, turn .known, turn .few)
+cast-a c =
+    let turn = turn-known (c .before .before .before .before .loop .inv) (c .before .before .before .loop-test .taken) in
+    omega (arith, turn .known, turn .few)
 
--- src/wanted.rt:44:17
-element-copy-out-q : tie.Need-element-copy-out-q Inv-loop μ-loop
-element-copy-out-q c = let turn = turn-known (c .before .before .before .before .loop .inv) (c .before .before .before .loop-test .taken) in turn .stored
+mul-word : tie.Need-mul-word Inv-loop μ-loop
+mul-word c =
+    let turn = turn-known (c .before .before .before .before .loop .inv) (c .before .before .before .loop-test .taken) in
+    omega (arith, turn .stored)
 
--- src/wanted.rt:44:17
-cast-q : tie.Need-cast-q Inv-loop μ-loop
-cast-q c = let turn = turn-known (c .before .before .before .before .before .loop .inv) (c .before .before .before .before .loop-test .taken) in omega (arith, turn .met-known, turn .few)
+element-copy-out-word : tie.Need-element-copy-out-word Inv-loop μ-loop
+element-copy-out-word c =
+    let turn = turn-known (c .before .before .before .before .loop .inv) (c .before .before .before .loop-test .taken) in
+    turn .stored
 
--- src/wanted.rt:45:18
-mul-met : tie.Need-mul-met Inv-loop μ-loop
-mul-met c = let turn = turn-known (c .before .before .before .before .before .loop .inv) (c .before .before .before .before .loop-test .taken) in omega (arith, turn .known, turn .met-known, turn .few)
+mul-over : tie.Need-mul-over Inv-loop μ-loop
+mul-over c =
+    let turn = turn-known (c .before .before .before .before .before .loop .inv) (c .before .before .before .before .loop-test .taken) in
+    omega (arith, turn .known, turn .few)
 
--- src/wanted.rt:45:18
-index-1-met : tie.Need-index-1-met Inv-loop μ-loop
-index-1-met c = let turn = turn-known (c .before .before .before .before .before .loop .inv) (c .before .before .before .before .loop-test .taken) in omega (arith, turn .known, turn .met-known, turn .few)
+element-copy-out-over : tie.Need-element-copy-out-over Inv-loop μ-loop
+element-copy-out-over c =
+    let turn = turn-known (c .before .before .before .before .before .loop .inv) (c .before .before .before .before .loop-test .taken) in
+    omega (arith, turn .known, turn .few)
 
--- src/wanted.rt:45:18
-index-2-met : tie.Need-index-2-met Inv-loop μ-loop
-index-2-met c = let turn = turn-known (c .before .before .before .before .before .loop .inv) (c .before .before .before .before .loop-test .taken) in omega (arith, turn .known, turn .met-known, turn .few)
+mul-over-2 : tie.Need-mul-over-2 Inv-loop μ-loop
+mul-over-2 c =
+    let turn = turn-known (c .before .before .before .before .before .before .loop .inv) (c .before .before .before .before .before .loop-test .taken) in
+    omega (arith, turn .stored)
 
--- src/wanted.rt:45:9
-element-write-met : tie.Need-element-write-met Inv-loop μ-loop
-element-write-met c = let turn = turn-known (c .before .before .before .before .before .before .loop .inv) (c .before .before .before .before .before .loop-test .taken) in turn .stored
+element-write-over : tie.Need-element-write-over Inv-loop μ-loop
+element-write-over c =
+    let turn = turn-known (c .before .before .before .before .before .before .loop .inv) (c .before .before .before .before .before .loop-test .taken) in
+    turn .stored
 
--- src/wanted.rt:39:5
 loop-less : tie.Need-loop-less Inv-loop μ-loop
 loop-less c = omega (arith, c .before .before .before .before .before .loop-test .taken)
 
--- src/wanted.rt:39:5
 loop-again : tie.Need-loop-again Inv-loop μ-loop
 loop-again c = met-down (c .before .before .before .before .before .before .loop .inv) (c .before .before .before .before .before .loop-test .taken)
 
--- src/wanted.rt:25:1
 returns : tie.Need-returns Inv-loop μ-loop
-returns c = (c .before .loop .inv .types, met-done (c .before .loop .inv) (c .loop-test .left))
+returns c = (c .before .loop .inv .long, met-done (c .before .loop .inv) (c .loop-test .left))
 
 pub meet-over-spec : {M : Type 1} → statement M
 meet-over-spec =
@@ -123,7 +131,8 @@ meet-over-spec =
     Inv-loop
     μ-loop
     sub-clear
-    cast-clear
+    mul-clear
+    element-copy-out-clear
     clear-requires
     shared-slice-read-y
     cast-y
@@ -139,12 +148,12 @@ meet-over-spec =
     mul-a
     shared-slice-read-a
     cast-a
-    element-copy-out-q
-    cast-q
-    mul-met
-    index-1-met
-    index-2-met
-    element-write-met
+    mul-word
+    element-copy-out-word
+    mul-over
+    element-copy-out-over
+    mul-over-2
+    element-write-over
     loop-less
     loop-again
     returns)

@@ -1,59 +1,75 @@
--- The difference goes on only where the order gives a yes, along its node map.
+-- The difference goes on only where the order gives a yes, along its node map, and where every node of s has a wanted type.
+use mathlib.Core.Path.{sym, _∙_}
+use Prim.Native.Nat.{ℕ}
+use borrow.Author.Tests.{not-true, not-false}
+use lib.ListN.{length-replicate}
 use Rattle.lattice.proofs.Laws.{accepted-size}
+use Rattle.difference.proofs.Result.{answers-wanted}
 use Rattle.engine.proofs.Readings.{ready}
-use Rattle.engine.proofs.Differing.{loaded-accepts, ready-below, differed-refused, differed-as}
+use Rattle.engine.proofs.Differing.{loaded-accepts, ready-below, differed-refused, differed-unwanted, differed-as}
 use borrow.Author.Needs.{needs}
 use Rattle.engine.proofs.differences.difference_below.Statement.{statement}
 use Rattle.engine.proofs.differences.difference_below.Tie as tie
-use Rattle.engine.proofs.differences.difference_below.Reads as reads
-use Rattle.engine.proofs.differences.difference_below.Lts as lts
 use Rattle.difference.proofs.difference.Reads as difference-reads
+use Rattle.difference.proofs.wanted.wanted_types.Reads as wanted-types-reads
 use Rattle.engine.proofs.reply_of.Reads as reply-of-reads
 use Rattle.subsume.proofs.subsume.Reads as subsume-reads
 
--- src/differences.rt:60:9
 subsume-requires : tie.Need-subsume-requires
 subsume-requires c κs =
-    let given = c .before .before .before .before .pre in
-    ready (accepted-size (c .before .before .before .before .args .n) (c .before .before .before .before .args .table .now) (given .accepts) .1)
-    (loaded-accepts (given .specific), loaded-accepts (given .general))
+    let start = c .before .before .before .before in
+    ready (accepted-size (start .args .n) (start .args .table .now) (start .pre .0 .accepts) .1) (loaded-accepts (start .pre .0 .specific), loaded-accepts (start .pre .0 .general))
 
 enum-told : tie.Need-enum-told
 enum-told c = search needs
 
--- src/differences.rt:63:9
 enum-told-2 : tie.Need-enum-told-2
 enum-told-2 c = search needs
 
--- src/differences.rt:63:9
 returns : tie.Need-returns
 returns c =
     let start = c .before .before .before .before .before .before .before in
     differed-refused (start .args .n) (start .args .table .now) (start .args .out .now) (start .args .g .now) (start .args .s .now)
-    (loaded-accepts (start .pre .general)) (c .before .before .subsume .ensures (start .args .n)) (c .enum-told2 .given .1)
+    (loaded-accepts (start .pre .0 .general)) (c .before .before .subsume .ensures (start .args .n)) (c .enum-told2 .given .1)
 
--- src/differences.rt:66:21
+wanted-types-requires : tie.Need-wanted-types-requires
+wanted-types-requires c κs =
+    let start = c .before .before .before .before .before .before .before .before .before .before in
+    let asked =
+    ready-below (start .args .n) (start .args .table .now) (start .args .g .now) (start .args .s .now) (start .pre .0) (c .before .before .before .before .before .subsume .ensures (start .args .n)) (c .before .before .before .enum-told .given .1) in
+    (asked, length-replicate {A = ℕ} 255 0)
+
+returns-2 : tie.Need-returns-2
+returns-2 c =
+    let start = c .before .before .before .before .before .before .before .before .before .before .before .before in
+    let asked =
+    ready-below (start .args .n) (start .args .table .now) (start .args .g .now) (start .args .s .now) (start .pre .0) (c .before .before .before .before .before .before .before .subsume .ensures (start .args .n)) (c .before .before .before .before .before .enum-told .given .1) in
+    differed-unwanted (start .args .n) (start .args .table .now) (start .args .out .now) (start .args .g .now) (start .args .s .now)
+    (loaded-accepts (start .pre .0 .general)) (c .before .before .before .before .before .before .before .subsume .ensures (start .args .n)) (c .before .before .before .before .before .enum-told .given .1)
+    (sym (not-true _ (c .if1 .taken)) ∙ answers-wanted asked (c .before .wanted-types .ensures))
+
 difference-requires : tie.Need-difference-requires
 difference-requires c κs =
-    let start = c .before .before .before .before .before .before .before .before .before .before in
-    ready-below (start .args .n) (start .args .table .now) (start .args .meets .now) (start .args .g .now) (start .args .s .now) (start .pre)
-    (c .before .before .before .before .before .subsume .ensures (start .args .n)) (c .before .before .before .enum-told .given .1)
+    let start = c .before .before .before .before .before .before .before .before .before .before .before .before .before .before .before .before in
+    let asked =
+    ready-below (start .args .n) (start .args .table .now) (start .args .g .now) (start .args .s .now) (start .pre .0) (c .before .before .before .before .before .before .before .before .before .before .before .subsume .ensures (start .args .n)) (c .before .before .before .before .before .before .before .before .before .enum-told .given .1) in
+    ((asked, c .before .before .before .before .before .wanted-types .ensures .wants (not-false _ (c .before .before .before .before .if1 .left))), start .pre .1)
 
--- src/differences.rt:66:5
 reply-of-requires : tie.Need-reply-of-requires
 reply-of-requires c κs = search needs
 
--- src/differences.rt:48:1
 same-length : tie.Need-same-length
 same-length c = search needs
 
--- src/differences.rt:48:1
-returns-2 : tie.Need-returns-2
-returns-2 c =
-    let start = c .before .before .before .before .before .before .before .before .before .before .before .before .before .before in
+returns-3 : tie.Need-returns-3
+returns-3 c =
+    let start = c .before .before .before .before .before .before .before .before .before .before .before .before .before .before .before .before .before .before .before .before in
+    let asked =
+    ready-below (start .args .n) (start .args .table .now) (start .args .g .now) (start .args .s .now) (start .pre .0) (c .before .before .before .before .before .before .before .before .before .before .before .before .before .before .before .subsume .ensures (start .args .n)) (c .before .before .before .before .before .before .before .before .before .before .before .before .before .enum-told .given .1) in
     differed-as (start .args .n) (start .args .table .now) (start .args .out .now) (start .args .g .now) (start .args .s .now)
-    (loaded-accepts (start .pre .general)) (c .before .before .before .before .before .before .before .before .before .subsume .ensures (start .args .n)) (c .before .before .before .before .before .before .before .enum-told .given .1)
-    (c .before .before .before .difference .ensures .0) (c .before .before .before .difference .ensures .1) (c .reply-of .ensures)
+    (loaded-accepts (start .pre .0 .general)) (c .before .before .before .before .before .before .before .before .before .before .before .before .before .before .before .subsume .ensures (start .args .n)) (c .before .before .before .before .before .before .before .before .before .before .before .before .before .enum-told .given .1)
+    (sym (not-false _ (c .before .before .before .before .before .before .before .before .if1 .left)) ∙ answers-wanted asked (c .before .before .before .before .before .before .before .before .before .wanted-types .ensures))
+    (c .before .before .before .difference .ensures) (c .reply-of .ensures)
 
 pub difference-below-spec : {M : Type 1} → statement M
 difference-below-spec =
@@ -63,7 +79,9 @@ difference-below-spec =
     enum-told
     enum-told-2
     returns
+    wanted-types-requires
+    returns-2
     difference-requires
     reply-of-requires
     same-length
-    returns-2)
+    returns-3)

@@ -1,0 +1,41 @@
+-- The difference as document 01 has it without Paper 6: over a table that admits differences, by residuals; over others 13, checked
+-- before 12. What is said of it is that a table that admits differences gives what it gave.
+use mathlib.Core.Bool.{cond}
+use mathlib.Core.List.{List}
+use Prim.Native.Nat.{ℕ}
+use lib.Dec.{eqb}
+use lib.ListN.{length}
+use Rattle.graphs.specs.Graph.{Graph}
+use Rattle.graphs.specs.Rows.{Row, from}
+use Rattle.graphs.specs.Number.{canonical}
+use Rattle.graphs.specs.Order.{subsumes}
+use Rattle.graphs.specs.Difference.{byNumber, meetOver, difference}
+use Rattle.lattice.specs.Label.{Label}
+use Rattle.lattice.specs.Table.{cell, residual, admits}
+use Rattle.lattice.specs.Reply.{opened}
+use Rattle.lattice.specs.Labels.{typeLabels}
+use Rattle.encode.specs.Encode.{writtenOut}
+use Rattle.record.specs.Read.{graphOfRows, reading}
+use Rattle.engine.specs.declared.Reply.the-variants.{NotBelow, NoWantedType}
+use Rattle.engine.specs.Reply.{Result, resultOf, refusing, checked, readBoth}
+use Rattle.engine.specs.Difference.{over, numbered}
+
+-- the difference by residuals: "a greatest type c whose meet with q is below or equal to p"
+unfoldable pub residualRows : ℕ → List ℕ → List (Row Label) → List (Row Label) → Graph Label ℕ
+residualRows n t g s =
+    difference (typeLabels n t) eqb eqb byNumber (graphOfRows s) (from 0 (length s)) (graphOfRows g) (from 0 (length g)) (over s g)
+    (λ v. cell (residual n t (graphOfRows s .label v)
+    (meetOver (typeLabels n t) eqb (graphOfRows g) (from 0 (length g)) (over s g) v)))
+
+-- 13, then 12, else the difference
+unfoldable pub differedBefore : ℕ → List ℕ → List ℕ → List (Row Label) → List (Row Label) → Result
+differedBefore n t out g s =
+    cond (admits n t)
+    (cond (subsumes (typeLabels n t) eqb eqb (graphOfRows s) (graphOfRows g) (length g))
+    (resultOf (writtenOut (canonical eqb (residualRows n t g s)) out)) (refusing NotBelow out))
+    (refusing NoWantedType out)
+
+unfoldable pub differingBefore : ℕ → List ℕ → List ℕ → List ℕ → List ℕ → Result
+differingBefore n t a b out =
+    checked (λ r. refusing r out) (opened n t)
+    (readBoth (λ r. refusing r out) (reading n a) (reading n b) (λ g s. differedBefore n t out g (numbered (canonical eqb (graphOfRows s)))))

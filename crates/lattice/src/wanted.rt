@@ -1,0 +1,41 @@
+// The wanted type of a node (document 01, "Difference"): of the types whose meet with q is p, the greatest.
+ghost use mathlib.Core.Path.{_≡_};
+ghost use Prim.Native.Nat.{ℕ, _<_, _≤_};
+ghost use mathlib.Core.Bool.{true, false};
+ghost use mathlib.Core.List.{List};
+ghost use Rattle.lattice.specs.Table.{accepted};
+ghost use Rattle.lattice.specs.Words.{Words, Restoring, WantedOver};
+
+// The union of the words of the types below n whose common part with `over` is `lower`.
+fn unite_restoring(n: usize, down: &[u64; 64], lower: u64, over: u64) -> u64
+    requires { ⌜ n ≤ 64 ⌝ }
+    ensures { λ r. ⌜ Restoring n (now (down .entry)) lower over r ⌝ }
+{
+    let mut all = 0u64;
+    let mut d = 0;
+    while d < n {
+        if down[d] & over == lower {
+            all |= down[d];
+        }
+        d += 1;
+    }
+    all
+}
+
+// The wanted type for the type p in s and the meet q, of which the word is given, in an accepted table with these words; 64 where
+// there is none. At once where q is p, then it is the greatest type, and where q is the greatest type, then it is p. Else
+// it is the type whose word is the union: every type that restores is below it, and it is below one of them.
+pub fn wanted(n: usize, down: &[u64; 64], p: usize, over: u64) -> u8
+    requires { ⌜ (n ≤ 64) × (p < n) ⌝ }
+    ensures { λ r. ⌜ ((t : List ℕ) → accepted n t ≡ true → Words n t false (now (down .entry)) → WantedOver n t (now (down .entry)) p over r) ⌝ }
+{
+    let lower = down[p];
+    if over == lower {
+        return (n - 1) as u8;
+    }
+    if over == down[n - 1] {
+        return p as u8;
+    }
+    let all = unite_restoring(n, down, lower, over);
+    super::bounds::find_word(down, all, false)
+}
