@@ -9,7 +9,7 @@ use mathlib.Core.Logic.{_↔_, _⊎_}
 use Prim.Native.Nat.{ℕ, _+_, _*_, _<_}
 use lib.Dec.{eqb}
 use lib.ListN.{length, getD, take}
-use Rattle.graphs.specs.Graph.{Graph, Tells, Below}
+use Rattle.graphs.specs.Graph.{Graph, Tells, Below, SameMeaning}
 use Rattle.graphs.specs.Rows.{Row}
 use Rattle.graphs.specs.Generalize.{generalization}
 use Rattle.lattice.specs.Label.{Label}
@@ -134,12 +134,15 @@ module _ (n : ℕ) (t a b : List ℕ) (s g : List (Row Label)) (given : Given n 
       ((Below (typeLabels n t) (graphOfRows s) (graphOfRows g) → ⊥) × (Below (typeLabels n t) (graphOfRows g) (graphOfRows s) → ⊥))
   order-neither = Order.neither-exact n t a b s g given
 
-  -- Same is answered exactly where the meanings are equal (`meaning-order` in `Demands`), so exactly where the written records are equal
-  -- bytes.
+  -- Same exactly where the meanings are equal,
+  pub same-meaning : (ordering n t a b ≡ Same) ↔ SameMeaning (typeLabels n t) (graphOfRows s) (graphOfRows g)
+  same-meaning = meaning-order n t a b s g given
+
+  -- so exactly where the written records are equal bytes.
   pub same-bytes : (out : List ℕ) (l m : ℕ) → rewriting n t a out .reply ≡ Length l → rewriting n t b out .reply ≡ Length m →
       (ordering n t a b ≡ Same) ↔ (take l (rewriting n t a out .output) ≡ take m (rewriting n t b out .output))
   same-bytes out l m p q =
-      let (means, answers) = meaning-order n t a b s g given in
+      let (means, answers) = same-meaning in
       let (there, back) = meaning-bytes n t a b s g given out l m p q in
       (λ e. there (means e), λ e. answers (back e))
 

@@ -19,30 +19,29 @@ use Rattle.record.specs.Read.{Reading, refused, accepted, reading, graphOfRows}
 use Rattle.record.specs.declared.GraphFault.{GraphFault}
 use Rattle.record.proofs.Accepted.{accepted-rules}
 use Rattle.engine.specs.declared.Side.the-variants.{First, Second}
+use Rattle.engine.specs.declared.kinds.Kind.{Kind}
+use Rattle.engine.specs.declared.kinds.Kind.the-variants as kind
 use Rattle.engine.specs.declared.Reply.{Reply}
-use Rattle.engine.specs.declared.Reply.the-variants.{Length, Same, Under, Above, Neither, Table, Graph, NoRoom, Cycle, Clash, TooLarge, NotBelow, NoWantedType}
-use Rattle.engine.specs.Reply.{checked, readBoth, rowsBelow, compared, ordered, ordering}
+use Rattle.engine.specs.declared.Reply.the-variants.{Same, Under, Above, Neither, Table, Graph}
+use Rattle.engine.specs.Reply.{kindOf, checked, readBoth, rowsBelow, compared, ordered, ordering}
 use Rattle.engine.specs.Demand.{Given, AnswersBelow, AnswersNotBelow}
 use Rattle.engine.proofs.Orders.{order-test}
 
 -- the two tests that one of the four tells
-told : Reply → Option (Bool × Bool)
-told Same = some (true, true)
-told Under = some (true, false)
-told Above = some (false, true)
-told Neither = some (false, false)
-told (Length l) = none
-told (Table fault) = none
-told (Graph fault side) = none
-told NoRoom = none
-told Cycle = none
-told Clash = none
-told TooLarge = none
-told NotBelow = none
-told NoWantedType = none
+toldIn : Kind → Option (Bool × Bool)
+toldIn kind.Same = some (true, true)
+toldIn kind.Under = some (true, false)
+toldIn kind.Above = some (false, true)
+toldIn kind.Neither = some (false, false)
+toldIn (kind.Length l) = none
+toldIn (kind.Refused number) = none
+toldIn (kind.RefusedGraph number side) = none
+
+abbrev told : Reply → Option (Bool × Bool)
+told r = toldIn (kindOf r)
 
 compared-told : (x y : Bool) → told (compared x y) ≡ some (x, y)
-unfolding told
+unfolding toldIn
 compared-told true true = refl
 compared-told true false = refl
 compared-told false true = refl
@@ -138,7 +137,7 @@ module _ (n : ℕ) (t a b : List ℕ) (s g : List (Row Label)) (given : Given n 
 -- One of the four says that the table and both records are accepted.
 answer-given : (n : ℕ) (t a b : List ℕ) (x y : Bool) → ordering n t a b ≡ compared x y →
     (s : List (Row Label)) × (g : List (Row Label)) × Given n t a b s g
-unfolding ordering told
+unfolding ordering toldIn
 answer-given n t a b x y e = go (table.opened n t) (reading n a) (reading n b) refl refl refl e
   where
     go : (o : Opened) (v w : Reading) → table.opened n t ≡ o → reading n a ≡ v → reading n b ≡ w →
@@ -164,7 +163,7 @@ module _ (n : ℕ) (t a b : List ℕ) where
   -- and the side of a refusal, where only one is refused
   pub refusal-turned : (s : List (Row Label)) → reading n a ≡ accepted s → (fault : GraphFault) →
       (ordering n t a b ≡ Graph fault Second) ↔ (ordering n t b a ≡ Graph fault First)
-  unfolding ordering ordered told
+  unfolding ordering ordered toldIn
   refusal-turned s e fault = rw e (go (table.opened n t) (reading n b))
     where
       go : (o : Opened) (w : Reading) →
