@@ -16,14 +16,15 @@ static const uint8_t diamond[32] = {[0] = 0x01, [8] = 0x03, [16] = 0x05, [24] = 
 static const uint8_t p[] = {2, 3, 3, 0, 0, 0, 0, 0, 0, 0, 1, 1, 3, 0, 0, 0, 0, 0, 0, 0, 0};
 static const uint8_t r[] = {2, 3, 3, 0, 0, 0, 0, 0, 0, 0, 1, 1, 1, 0, 0, 0, 0, 0, 0, 0, 0};
 
-/* Prints what a call answered: a length, yes or no, or a refusal with the record that
- * it tells of. */
+/* Prints what a call answered: a length, the order's answer, or a refusal with the
+ * record that it tells of. */
 static void print_answer(const char *call, uint64_t answer) {
     static const char *const side[] = {"", " first", " second"};
+    static const char *const order[] = {"same", "under", "above", "neither"};
     if (RECORD_IS_REFUSED(answer))
         printf("%s: refused %d%s\n", call, RECORD_REFUSAL(answer), side[RECORD_SIDE(answer)]);
-    else if (answer == RECORD_YES || answer == RECORD_NO)
-        printf("%s: %s\n", call, answer == RECORD_YES ? "yes" : "no");
+    else if (answer >= RECORD_SAME)
+        printf("%s: %s\n", call, order[answer - RECORD_SAME]);
     else
         printf("%s: %d bytes\n", call, (int)answer);
 }
@@ -31,8 +32,8 @@ static void print_answer(const char *call, uint64_t answer) {
 int main(void) {
     uint8_t part[RECORD_LONGEST], whole[RECORD_LONGEST];
 
-    print_answer("R below P", record_order(4, diamond, sizeof diamond, r, sizeof r, p, sizeof p));
-    print_answer("P below R", record_order(4, diamond, sizeof diamond, p, sizeof p, r, sizeof r));
+    print_answer("order of R and P", record_order(4, diamond, sizeof diamond, r, sizeof r, p, sizeof p));
+    print_answer("order of P and R", record_order(4, diamond, sizeof diamond, p, sizeof p, r, sizeof r));
 
     uint64_t length = record_difference(4, diamond, sizeof diamond, p, sizeof p, r, sizeof r, part, sizeof part);
     print_answer("difference of P and R", length);

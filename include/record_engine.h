@@ -72,9 +72,13 @@ extern "C" {
 #define RECORD_HOUSE_TYPES 64
 #define RECORD_HOUSE_TABLE 512
 
-/* What `record_order` answers. */
-#define RECORD_NO (UINT64_C(1) << 33)
-#define RECORD_YES (RECORD_NO + 1)
+/* What `record_order` answers, seen from the first graph: each is below the other, so
+ * that they mean the same; only the first is below the second; only the second is below
+ * the first; neither is below the other. */
+#define RECORD_SAME (UINT64_C(1) << 33)
+#define RECORD_UNDER (RECORD_SAME + 1)
+#define RECORD_ABOVE (RECORD_SAME + 2)
+#define RECORD_NEITHER (RECORD_SAME + 3)
 
 /* Whether an answer is a refusal; its number; and the record that a refusal by 4 to
  * 7 tells of, 1 or 2, and 0 for the other refusals. */
@@ -89,9 +93,10 @@ uint64_t record_rewrite(size_t n, const uint8_t *table, size_t table_length,
                         const uint8_t *record, size_t record_length,
                         uint8_t *output, size_t output_length);
 
-/* Whether the first record's graph is below the second's: every path of the second
- * is one of the first, with a type below or equal, and paths that share in the
- * second share in the first. Answers RECORD_YES or RECORD_NO, or refuses by 1 to 7. */
+/* Which of two records is the broader. A graph is below another when every path of the
+ * other is one of its own, with a type below or equal, and paths that share in the
+ * other share in it. Answers RECORD_SAME, RECORD_UNDER, RECORD_ABOVE or RECORD_NEITHER,
+ * or refuses by 1 to 7. */
 uint64_t record_order(size_t n, const uint8_t *table, size_t table_length,
                       const uint8_t *first, size_t first_length,
                       const uint8_t *second, size_t second_length);

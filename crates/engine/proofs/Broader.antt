@@ -14,11 +14,11 @@ use Rattle.lattice.specs.Labels.{typeLabels, OfAnySize}
 use Rattle.lattice.proofs.AnySize.{below-broader, greatest-monotone, least-monotone}
 use Rattle.record.specs.Read.{reading, accepted, graphOfRows}
 use Rattle.record.proofs.Theorems.{accepted-of-any-size}
-use Rattle.engine.specs.declared.Reply.the-variants.{Length, Yes, Cycle, Clash}
-use Rattle.engine.specs.Reply.{ordering, generalizing}
+use Rattle.engine.specs.declared.Reply.the-variants.{Length, Cycle, Clash}
+use Rattle.engine.specs.Reply.{generalizing}
 use Rattle.engine.specs.Unification.{unifying}
-use Rattle.engine.specs.Demand.{Given}
-use Rattle.engine.proofs.Demanded.Order.{order-exact, yes-given}
+use Rattle.engine.specs.Demand.{Given, AnswersBelow}
+use Rattle.engine.proofs.Demanded.Order.{order-exact, below-given}
 use Rattle.engine.proofs.Demanded.CommonPart.{accepts, common-part}
 use Rattle.engine.proofs.Demanded.Combination.{none-exact, exists, written-combination}
 
@@ -30,9 +30,9 @@ pub record RecordBelow (n : ℕ) (t x y : List ℕ) : Type 0 where
   pub below : Below (typeLabels n t) (graphOfRows lower) (graphOfRows upper)
 
 module _ (n : ℕ) (t x y : List ℕ) where
-  pub answer-below : ordering n t x y ≡ Yes → RecordBelow n t x y
+  pub answer-below : AnswersBelow n t x y → RecordBelow n t x y
   answer-below q =
-      let (s, g, given) = yes-given n t x y q in
+      let (s, g, given) = below-given n t x y q in
       record { lower = s; upper = g; given = given; below = order-exact n t x y s g given .0 .0 q }
 
   pub rows-below : (s g : List (Row Label)) → opened n t ≡ Accepted → reading n x ≡ accepted s → reading n y ≡ accepted g →
@@ -41,7 +41,7 @@ module _ (n : ℕ) (t x y : List ℕ) where
       record { lower = s; upper = g; given = record { opens = opens; first = i; second = j }; below = below }
 
   module _ (r : RecordBelow n t x y) where
-    pub below-answer : ordering n t x y ≡ Yes
+    pub below-answer : AnswersBelow n t x y
     below-answer = order-exact n t x y (r .lower) (r .upper) (r .given) .0 .1 (r .below)
 
     -- whichever rows they are read as

@@ -21,12 +21,14 @@ use Rattle.lattice.proofs.AnySize.{combination-greatest}
 use Rattle.encode.specs.Encode.{fitted}
 use Rattle.record.specs.Read.{reading, accepted, graphOfRows}
 use Rattle.generalize.specs.Pairs.{samePair}
-use Rattle.engine.specs.declared.Reply.the-variants.{Length, Yes, No, Cycle, Clash, TooLarge, NotBelow, NoWantedType}
+use Rattle.engine.specs.declared.Reply.the-variants.{Length, Same, Cycle, Clash, TooLarge, NotBelow, NoWantedType}
 use Rattle.engine.specs.Reply.{Result, resultOf, rewriting, ordering, generalizing}
 use Rattle.engine.specs.Unification.{unifying}
 use Rattle.engine.specs.Difference.{differing}
 use Rattle.engine.specs.Demand.{
   Given,
+  AnswersBelow,
+  AnswersNotBelow,
   WrittenRecord,
   Leaves,
   Writes,
@@ -97,9 +99,9 @@ module _ (n : ℕ) (t a b : List ℕ) (s g : List (Row Label)) (given : Given n 
       ((out : List ℕ) → rewriting n t a out ≡ rewriting n t b out)
   meaning-rewriting = Meaning.meaning-exact n t a b s g given
 
-  -- and exactly when each is below the other.
-  pub meaning-order : ((ordering n t a b ≡ Yes) × (ordering n t b a ≡ Yes)) ↔ SameMeaning (typeLabels n t) (graphOfRows s) (graphOfRows g)
-  meaning-order = Meaning.order-both-ways n t a b s g given
+  -- and exactly when the order answers same.
+  pub meaning-order : (ordering n t a b ≡ Same) ↔ SameMeaning (typeLabels n t) (graphOfRows s) (graphOfRows g)
+  meaning-order = Meaning.order-same n t a b s g given
 
 -- One form: every record that a call wrote is a `WrittenRecord`, as its `Leaves` says.
 module _ (n : ℕ) (t a : List ℕ) (one : WrittenRecord n a) where
@@ -112,11 +114,11 @@ module _ (n : ℕ) (t a : List ℕ) (one : WrittenRecord n a) where
       SameMeaning (typeLabels n t) (graphOfRows (one .form)) (graphOfRows (other .form)) ↔ (a ≡ b)
   written-one-form = Meaning.one-form n t a one
 
--- Demand 3, the order: yes exactly where the first graph is below the second, and no exactly where it is not.
+-- Demand 3, the order: same or under exactly where the first graph is below the second, and above or neither exactly where it is not.
 
 module _ (n : ℕ) (t a b : List ℕ) (s g : List (Row Label)) (given : Given n t a b s g) where
-  pub order-exact : ((ordering n t a b ≡ Yes) ↔ Below (typeLabels n t) (graphOfRows s) (graphOfRows g)) ×
-      ((ordering n t a b ≡ No) ↔ (Below (typeLabels n t) (graphOfRows s) (graphOfRows g) → ⊥))
+  pub order-exact : (AnswersBelow n t a b ↔ Below (typeLabels n t) (graphOfRows s) (graphOfRows g)) ×
+      (AnswersNotBelow n t a b ↔ (Below (typeLabels n t) (graphOfRows s) (graphOfRows g) → ⊥))
   order-exact = Order.order-exact n t a b s g given
 
 -- Demand 3, the common part.

@@ -12,13 +12,13 @@ use Rattle.record.specs.declared.GraphFault.the-variants.{Malformed, OutOfRange
 use Rattle.engine.specs.declared.kinds.Kind.{Kind}
 use Rattle.engine.specs.declared.kinds.Kind.the-variants as kind
 use Rattle.engine.specs.declared.Reply.{Reply}
-use Rattle.engine.specs.declared.Reply.the-variants.{Length, Yes, No, Table, Graph, NoRoom, Cycle, Clash, TooLarge, NotBelow, NoWantedType}
+use Rattle.engine.specs.declared.Reply.the-variants.{Length, Same, Under, Above, Neither, Table, Graph, NoRoom, Cycle, Clash, TooLarge, NotBelow, NoWantedType}
 use Rattle.engine.specs.Reply.{kindOf, Bounded}
 
 -- refusals by their numbers, of which 0 and 4 to 7 are not among these
 refusals : List Reply
 refusals =
-    No ∷ Table Size ∷ Table Order ∷ Table Bounds ∷ No ∷ No ∷ No ∷ No ∷ NoRoom ∷ Cycle ∷ Clash ∷ TooLarge ∷ NotBelow ∷ NoWantedType ∷ []
+    Neither ∷ Table Size ∷ Table Order ∷ Table Bounds ∷ Neither ∷ Neither ∷ Neither ∷ Neither ∷ NoRoom ∷ Cycle ∷ Clash ∷ TooLarge ∷ NotBelow ∷ NoWantedType ∷ []
 
 -- 4 to 7
 faults : List GraphFault
@@ -27,24 +27,30 @@ faults = Malformed ∷ OutOfRange ∷ Cyclic ∷ Unreached ∷ []
 -- the reply that tells this
 replyIn : Kind → Reply
 replyIn (kind.Length l) = Length l
-replyIn kind.Yes = Yes
-replyIn kind.No = No
-replyIn (kind.Refused number) = getD refusals number No
+replyIn kind.Same = Same
+replyIn kind.Under = Under
+replyIn kind.Above = Above
+replyIn kind.Neither = Neither
+replyIn (kind.Refused number) = getD refusals number Neither
 replyIn (kind.RefusedGraph number side) = Graph (getD faults (number - 4) Malformed) side
 
 -- the number of a refusal, or 0
 abbrev pub numberIn : Kind → ℕ
 numberIn (kind.Length l) = 0
-numberIn kind.Yes = 0
-numberIn kind.No = 0
+numberIn kind.Same = 0
+numberIn kind.Under = 0
+numberIn kind.Above = 0
+numberIn kind.Neither = 0
 numberIn (kind.Refused number) = number
 numberIn (kind.RefusedGraph number side) = number
 
 tells : (r : Reply) → (replyIn (kindOf r) ≡ r) × (ltb (numberIn (kindOf r)) 256 ≡ true)
 unfolding replyIn refusals faults
 tells (Length l) = (refl, refl)
-tells Yes = (refl, refl)
-tells No = (refl, refl)
+tells Same = (refl, refl)
+tells Under = (refl, refl)
+tells Above = (refl, refl)
+tells Neither = (refl, refl)
 tells (Table Size) = (refl, refl)
 tells (Table Order) = (refl, refl)
 tells (Table Bounds) = (refl, refl)

@@ -1,7 +1,7 @@
 -- From the order's promise to what the call replies: a node map shows that the first graph is below the second, and the computed
 -- order is the order over paths.
-use mathlib.Core.Path.{_≡_, refl, sym, _∙_, ap}
-use mathlib.Core.Bool.{Bool, true, false, cond}
+use mathlib.Core.Path.{_≡_, refl, sym, _∙_, ap₂}
+use mathlib.Core.Bool.{true}
 use mathlib.Core.List.{List}
 use mathlib.Core.Logic.{_↔_}
 use mathlib.Core.Option.{some}
@@ -11,8 +11,8 @@ use lib.Dec.{eqb}
 use lib.ListN.{length}
 use Rattle.graphs.specs.Graph.{Below, walk}
 use Rattle.graphs.specs.Rows.{Row, from}
-use Rattle.graphs.specs.Order.{subsumes}
 use Rattle.graphs.proofs.Lists.{tells-eqb}
+use Rattle.graphs.proofs.Search.{not-true}
 use Rattle.graphs.proofs.Below.{map-below}
 use Rattle.graphs.proofs.Finite.{short-paths}
 use Rattle.graphs.proofs.Order.{subsumes-exact}
@@ -29,8 +29,8 @@ use Rattle.subsume.specs.declared.Order.{Order}
 use Rattle.subsume.specs.declared.Order.the-variants as order
 use Rattle.subsume.specs.Promise.{Orders}
 use Rattle.engine.specs.declared.Reply.{Reply}
-use Rattle.engine.specs.declared.Reply.the-variants.{Yes, No, Table}
-use Rattle.engine.specs.Reply.{readBoth, ordered, ordering}
+use Rattle.engine.specs.declared.Reply.the-variants.{Table}
+use Rattle.engine.specs.Reply.{readBoth, rowsBelow, isBelow, compared, ordered, ordering}
 use Rattle.engine.proofs.Readings.{Accepts, accepts-rules, both-next}
 use Rattle.engine.proofs.Replies.{table-refused, table-accepted}
 
@@ -45,35 +45,27 @@ module _ (n : ℕ) (t : List ℕ) (s g : List (Row Label)) (rules : Rules n g) w
       )
 
   -- "is the first below the second": the computed order is the order over paths
-  pub order-test : (subsumes (typeLabels n t) eqb eqb (graphOfRows s) (graphOfRows g) (length g) ≡ true) ↔
-      Below (typeLabels n t) (graphOfRows s) (graphOfRows g)
+  pub order-test : (rowsBelow n t s g ≡ true) ↔ Below (typeLabels n t) (graphOfRows s) (graphOfRows g)
   order-test =
       subsumes-exact (typeLabels n t) eqb eqb tells-eqb tells-eqb (graphOfRows s) (graphOfRows g)
       (rules-of-any-size n g rules t .any-size .features) (length g) short
 
-  module _ {answer : Order} {map : List ℕ} (orders : Orders n t s g answer map) where
-    ordered-yes : answer ≡ order.Below → Yes ≡ ordered n t s g
-    unfolding ordered
-    ordered-yes e = ap (λ (b : Bool). cond b Yes No) (sym (order-test .1 (map-below (orders .yes-stands e))))
+  -- what the walk answers
+  order-found : (answer : Order) (map : List ℕ) → Orders n t s g answer map → isBelow answer ≡ rowsBelow n t s g
+  order-found order.Below map orders = sym (order-test .1 (map-below (orders .yes-stands refl)))
+  order-found order.NotBelow map orders = sym (not-true (rowsBelow n t s g) (λ q. orders .no-stands refl (order-test .0 q)))
 
-    ordered-no : answer ≡ order.NotBelow → No ≡ ordered n t s g
-    unfolding ordered
-    ordered-no e = go (subsumes (typeLabels n t) eqb eqb (graphOfRows s) (graphOfRows g) (length g)) refl
-      where
-        go : (b : Bool) → subsumes (typeLabels n t) eqb eqb (graphOfRows s) (graphOfRows g) (length g) ≡ b → No ≡ cond b Yes No
-        go false q = refl
-        go true q = absurd (orders .no-stands e (order-test .0 q))
-
--- over an accepted table: yes and no
-module _ (n : ℕ) (t a b : List ℕ) {s g : List ℕ} (given : Accepts n a s × Accepts n b g) {answer : Order} {map : List ℕ}
-    (orders : Orders n t (rowsOf s) (rowsOf g) answer map) where
-  pub replies-yes : answer ≡ order.Below → Yes ≡ readBoth (λ r. r) (reading n a) (reading n b) (ordered n t)
-  replies-yes e =
-      ordered-yes n t (rowsOf s) (rowsOf g) (accepts-rules (given .1)) orders e ∙ sym (both-next n a b (λ r. r) (ordered n t) given)
-
-  pub replies-no : answer ≡ order.NotBelow → No ≡ readBoth (λ r. r) (reading n a) (reading n b) (ordered n t)
-  replies-no e =
-      ordered-no n t (rowsOf s) (rowsOf g) (accepts-rules (given .1)) orders e ∙ sym (both-next n a b (λ r. r) (ordered n t) given)
+-- over an accepted table: one of the four, by the walk in both directions
+module _ (n : ℕ) (t a b : List ℕ) {s g : List ℕ} (given : Accepts n a s × Accepts n b g) where
+  pub replies-order : {lower upper : Order} {map map′ : List ℕ} →
+      Orders n t (rowsOf s) (rowsOf g) lower map → Orders n t (rowsOf g) (rowsOf s) upper map′ →
+      compared (isBelow lower) (isBelow upper) ≡ readBoth (λ r. r) (reading n a) (reading n b) (ordered n t)
+  unfolding ordered
+  replies-order one other =
+      ap₂ compared
+      (order-found n t (rowsOf s) (rowsOf g) (accepts-rules (given .1)) _ _ one)
+      (order-found n t (rowsOf g) (rowsOf s) (accepts-rules (given .0)) _ _ other) ∙
+      sym (both-next n a b (λ r. r) (ordered n t) given)
 
 module _ (n : ℕ) (t a b : List ℕ) where
   pub ordering-refused : (fault : TableFault) → table.opened n t ≡ opened.Refused fault → Table fault ≡ ordering n t a b

@@ -1,15 +1,15 @@
 -- The change requests, one section for each paper and one theorem for each sentence, about the definitions that the calls are proved equal
--- to. The definitions that the statements use stand in `Reply`, `Unification`, `Difference`, `Before` and `Demand`; the proofs are cited. n and t are the table,
--- out and out′ are the outputs lent; a, b, c and d are the records.
+-- to. The definitions that the statements use stand in `Reply`, `Unification`, `Difference`, `Before` and `Demand`; the proofs are cited.
+-- n and t are the table, out and out′ are the outputs lent; a, b, c and d are the records.
 use mathlib.Core.Path.{_≡_, refl}
-use mathlib.Core.Bool.{Bool, true}
+use mathlib.Core.Bool.{Bool, true, false}
 use mathlib.Core.List.{List, []}
 use mathlib.Core.Option.{some}
 use mathlib.Core.Logic.{_↔_, _⊎_}
 use Prim.Native.Nat.{ℕ, _+_, _*_, _<_}
 use lib.Dec.{eqb}
 use lib.ListN.{length, getD, take}
-use Rattle.graphs.specs.Graph.{Graph, Tells, Below}
+use Rattle.graphs.specs.Graph.{Graph, Tells, Below, SameMeaning}
 use Rattle.graphs.specs.Rows.{Row}
 use Rattle.graphs.specs.Generalize.{generalization}
 use Rattle.lattice.specs.Label.{Label}
@@ -22,15 +22,19 @@ use Rattle.lattice.specs.Table as types
 use Rattle.house.specs.House.{lesser, under, meets, houseTable}
 use Rattle.house.proofs.Theorems as house
 use Rattle.encode.specs.Encode.{fitted}
+use Rattle.record.specs.declared.GraphFault.{GraphFault}
 use Rattle.record.specs.Read.{reading, accepted, graphOfRows}
-use Rattle.engine.specs.declared.Reply.the-variants.{Length, Yes, Cycle, Clash, NotBelow, NoWantedType}
-use Rattle.engine.specs.Reply.{resultOf, ordering, generalizing}
+use Rattle.engine.specs.declared.Side.the-variants.{First, Second}
+use Rattle.engine.specs.declared.Reply.the-variants.{Length, Same, Under, Above, Neither, Graph as Refusal, Cycle, Clash, NotBelow, NoWantedType}
+use Rattle.engine.specs.Reply.{resultOf, rewriting, ordering, generalizing}
 use Rattle.engine.specs.Unification.{unifying}
 use Rattle.engine.specs.Difference.{differing}
 use Rattle.engine.specs.Before.{differingBefore}
-use Rattle.engine.specs.Demand.{Given, Writes, loneTop, remainder, Restores, Difference}
+use Rattle.engine.specs.Demand.{Given, Writes, AnswersBelow, AnswersNotBelow, WrittenRecord, loneTop, remainder, Restores, Difference}
 use Rattle.engine.proofs.Broader.{RecordBelow, answer-below, rows-below, below-answer, below-paths}
 use Rattle.engine.proofs.Broader as Broader
+use Rattle.engine.proofs.Demands.{meaning-bytes, meaning-order, written-one-form, order-exact, difference-not-below}
+use Rattle.engine.proofs.Demanded.Order as Order
 use Rattle.engine.proofs.Demanded.Difference as Differed
 use Rattle.engine.proofs.Demanded.Before.{differing-before, never-unwanted}
 use Rattle.engine.proofs.Demanded.Itself.{itself}
@@ -38,20 +42,20 @@ use Rattle.engine.proofs.Demanded.Itself.{itself}
 -- Paper 1: a broader program never clashes anew. Where a is below b and c is below d, b combines with d if a combines with c; what is
 -- written of the narrower pair is below what is written of the broader one, of combinations and of common parts.
 
--- By the order's answers. A yes says that the table and both records are accepted, so nothing else is asked.
-module _ (n : ℕ) (t a b c d : List ℕ) (first : ordering n t a b ≡ Yes) (second : ordering n t c d ≡ Yes) (out out′ : List ℕ) where
+-- By the order's answers. A same or an under says that the table and both records are accepted, so nothing else is asked.
+module _ (n : ℕ) (t a b c d : List ℕ) (first : AnswersBelow n t a b) (second : AnswersBelow n t c d) (out out′ : List ℕ) where
   pub broader-combines : ((unifying n t a c out .reply ≡ Cycle) ⊎ (unifying n t a c out .reply ≡ Clash) → ⊥) →
       (unifying n t b d out′ .reply ≡ Cycle) ⊎ (unifying n t b d out′ .reply ≡ Clash) → ⊥
   broader-combines = Broader.combines n t a b c d (answer-below n t a b first) (answer-below n t c d second) out out′
 
   pub broader-combination : (l l′ : ℕ) → unifying n t a c out .reply ≡ Length l → unifying n t b d out′ .reply ≡ Length l′ →
-      ordering n t (take l (unifying n t a c out .output)) (take l′ (unifying n t b d out′ .output)) ≡ Yes
+      AnswersBelow n t (take l (unifying n t a c out .output)) (take l′ (unifying n t b d out′ .output))
   broader-combination l l′ p q =
       below-answer n t _ _
       (Broader.combination-below n t a b c d (answer-below n t a b first) (answer-below n t c d second) out out′ l l′ p q)
 
   pub broader-common-part : (l l′ : ℕ) → generalizing n t a c out .reply ≡ Length l → generalizing n t b d out′ .reply ≡ Length l′ →
-      ordering n t (take l (generalizing n t a c out .output)) (take l′ (generalizing n t b d out′ .output)) ≡ Yes
+      AnswersBelow n t (take l (generalizing n t a c out .output)) (take l′ (generalizing n t b d out′ .output))
   broader-common-part l l′ p q =
       below-answer n t _ _
       (Broader.common-part-below n t a b c d (answer-below n t a b first) (answer-below n t c d second) out out′ l l′ p q)
@@ -110,6 +114,69 @@ module _ (n : ℕ) (t : List ℕ) (opens : opened n t ≡ Accepted) {A B C D : T
   pub any-size-common-part : {U W : Type 0} (u : Graph Label U) (w : Graph Label W) → LeastOfAnySize n t g h u → LeastOfAnySize n t k m w →
       Below (typeLabels n t) u w
   any-size-common-part = least-monotone n t (opened-accepted n t (opened n t) refl opens) g k h m g-size k-size h-size m-size first second
+
+-- Paper 3: which of two is the broader. "Order shall tell one of four: same, under, above, neither, seen from the first graph": each
+-- exactly where it is true over paths.
+module _ (n : ℕ) (t a b : List ℕ) (s g : List (Row Label)) (given : Given n t a b s g) where
+  pub order-same : (ordering n t a b ≡ Same) ↔
+      (Below (typeLabels n t) (graphOfRows s) (graphOfRows g) × Below (typeLabels n t) (graphOfRows g) (graphOfRows s))
+  order-same = Order.same-exact n t a b s g given
+
+  pub order-under : (ordering n t a b ≡ Under) ↔
+      (Below (typeLabels n t) (graphOfRows s) (graphOfRows g) × (Below (typeLabels n t) (graphOfRows g) (graphOfRows s) → ⊥))
+  order-under = Order.under-exact n t a b s g given
+
+  pub order-above : (ordering n t a b ≡ Above) ↔
+      (Below (typeLabels n t) (graphOfRows g) (graphOfRows s) × (Below (typeLabels n t) (graphOfRows s) (graphOfRows g) → ⊥))
+  order-above = Order.above-exact n t a b s g given
+
+  pub order-neither : (ordering n t a b ≡ Neither) ↔
+      ((Below (typeLabels n t) (graphOfRows s) (graphOfRows g) → ⊥) × (Below (typeLabels n t) (graphOfRows g) (graphOfRows s) → ⊥))
+  order-neither = Order.neither-exact n t a b s g given
+
+  -- Same exactly where the meanings are equal,
+  pub same-meaning : (ordering n t a b ≡ Same) ↔ SameMeaning (typeLabels n t) (graphOfRows s) (graphOfRows g)
+  same-meaning = meaning-order n t a b s g given
+
+  -- so exactly where the written records are equal bytes.
+  pub same-bytes : (out : List ℕ) (l m : ℕ) → rewriting n t a out .reply ≡ Length l → rewriting n t b out .reply ≡ Length m →
+      (ordering n t a b ≡ Same) ↔ (take l (rewriting n t a out .output) ≡ take m (rewriting n t b out .output))
+  same-bytes out l m p q =
+      let (means, answers) = same-meaning in
+      let (there, back) = meaning-bytes n t a b s g given out l m p q in
+      (λ e. there (means e), λ e. answers (back e))
+
+  -- "The difference goes on when s is same or under": 12 exactly where it is above or neither.
+  pub difference-goes-on : (out : List ℕ) → (differing n t a b out .reply ≡ NotBelow) ↔ AnswersNotBelow n t b a
+  difference-goes-on out =
+      let (there, back) = difference-not-below n t a b s g given out in
+      let (answers, means) = order-exact n t b a g s (record { opens = given .opens; first = given .second; second = given .first }) .1 in
+      (λ e. means (there e), λ e. back (answers e))
+
+-- Of records in written form, same is answered exactly for equal bytes.
+pub same-written : (n : ℕ) (t a b : List ℕ) → opened n t ≡ Accepted → (one : WrittenRecord n a) (other : WrittenRecord n b) →
+    (ordering n t a b ≡ Same) ↔ (a ≡ b)
+same-written n t a b opens one other =
+    let (means, answers) =
+    meaning-order n t a b (one .form) (other .form) (record { opens = opens; first = one .reads; second = other .reads }) in
+    let (there, back) = written-one-form n t a one b other in
+    (λ e. there (means e), λ e. answers (back e))
+
+-- Turning the two round turns under and above round and leaves the others; whatever is handed in.
+module _ (n : ℕ) (t a b : List ℕ) where
+  pub turned-same : (ordering n t a b ≡ Same) ↔ (ordering n t b a ≡ Same)
+  turned-same = (Order.answer-turned n t a b true true, Order.answer-turned n t b a true true)
+
+  pub turned-under : (ordering n t a b ≡ Under) ↔ (ordering n t b a ≡ Above)
+  turned-under = (Order.answer-turned n t a b true false, Order.answer-turned n t b a false true)
+
+  pub turned-neither : (ordering n t a b ≡ Neither) ↔ (ordering n t b a ≡ Neither)
+  turned-neither = (Order.answer-turned n t a b false false, Order.answer-turned n t b a false false)
+
+  -- Where one of the two is accepted, a refusal of the other turns its side.
+  pub turned-refusal : (s : List (Row Label)) → reading n a ≡ accepted s → (fault : GraphFault) →
+      (ordering n t a b ≡ Refusal fault Second) ↔ (ordering n t b a ≡ Refusal fault First)
+  turned-refusal = Order.refusal-turned n t a b
 
 -- Paper 6: tables with three rival types. a is the general record, b the specific one.
 module _ (n : ℕ) (t a b : List ℕ) (g s : List (Row Label)) (given : Given n t a b g s) (out : List ℕ) where

@@ -8,7 +8,6 @@ use lib.ListN.{length}
 use Rattle.graphs.specs.Graph.{Graph}
 use Rattle.graphs.specs.Rows.{Row, from}
 use Rattle.graphs.specs.Number.{canonical}
-use Rattle.graphs.specs.Order.{subsumes}
 use Rattle.graphs.specs.Difference.{byNumber, meetOver, difference}
 use Rattle.lattice.specs.Label.{Label}
 use Rattle.lattice.specs.Table.{cell, residual, admits}
@@ -17,7 +16,7 @@ use Rattle.lattice.specs.Labels.{typeLabels}
 use Rattle.encode.specs.Encode.{writtenOut}
 use Rattle.record.specs.Read.{graphOfRows, reading}
 use Rattle.engine.specs.declared.Reply.the-variants.{NotBelow, NoWantedType}
-use Rattle.engine.specs.Reply.{Result, resultOf, refusing, checked, readBoth}
+use Rattle.engine.specs.Reply.{Result, resultOf, refusing, checked, readBoth, rowsBelow}
 use Rattle.engine.specs.Difference.{over, numbered}
 
 -- the difference by residuals: "a greatest type c whose meet with q is below or equal to p"
@@ -31,7 +30,7 @@ residualRows n t g s =
 unfoldable pub differedBefore : ℕ → List ℕ → List ℕ → List (Row Label) → List (Row Label) → Result
 differedBefore n t out g s =
     cond (admits n t)
-    (cond (subsumes (typeLabels n t) eqb eqb (graphOfRows s) (graphOfRows g) (length g))
+    (cond (rowsBelow n t s g)
     (resultOf (writtenOut (canonical eqb (residualRows n t g s)) out)) (refusing NotBelow out))
     (refusing NoWantedType out)
 

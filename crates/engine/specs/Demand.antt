@@ -19,7 +19,7 @@ use Rattle.lattice.specs.Reply.{opened}
 use Rattle.lattice.specs.Labels.{typeLabels, OfAnySize, LeastOfAnySize, GreatestOfAnySize, IsCombination}
 use Rattle.encode.specs.Encode.{encoded}
 use Rattle.record.specs.Read.{reading, accepted, graphOfRows}
-use Rattle.engine.specs.declared.Reply.the-variants.{Length, Yes, No, NoRoom, TooLarge}
+use Rattle.engine.specs.declared.Reply.the-variants.{Length, Same, Under, Above, Neither, NoRoom, TooLarge}
 use Rattle.engine.specs.Reply.{Result, refusal, ordering, rewriting}
 use Rattle.engine.specs.Unification.{unifying}
 use Rattle.engine.specs.Difference.{numbered, differenceRows}
@@ -29,6 +29,14 @@ pub record Given (n : ℕ) (t a b : List ℕ) (s g : List (Row Label)) : Type 0 
   pub opens : opened n t ≡ Accepted
   pub first : reading n a ≡ accepted s
   pub second : reading n b ≡ accepted g
+
+-- The order answers that the first record is below the second: "same or under";
+abbrev pub AnswersBelow : ℕ → List ℕ → List ℕ → List ℕ → Type 0
+AnswersBelow n t a b = (ordering n t a b ≡ Same) ⊎ (ordering n t a b ≡ Under)
+
+-- or that it is not.
+abbrev pub AnswersNotBelow : ℕ → List ℕ → List ℕ → List ℕ → Type 0
+AnswersNotBelow n t a b = (ordering n t a b ≡ Above) ⊎ (ordering n t a b ≡ Neither)
 
 -- The bytes are a record that is accepted when it is read, and is its own written form.
 pub record WrittenRecord (n : ℕ) (bytes : List ℕ) : Type 0 where
@@ -94,10 +102,10 @@ pub record CommonPart (n : ℕ) (t a b : List ℕ) (s g : List (Row Label)) (byt
   pub reads : reading n bytes ≡ accepted form
   pub paths : IsGeneralization (typeLabels n t) (graphOfRows s) (graphOfRows g) (graphOfRows form)
   pub least : LeastOfAnySize n t (graphOfRows s) (graphOfRows g) (graphOfRows form)
-  pub first-below : ordering n t a bytes ≡ Yes
-  pub second-below : ordering n t b bytes ≡ Yes
-  pub below-upper : (c : List ℕ) (m : List (Row Label)) → reading n c ≡ accepted m → ordering n t a c ≡ Yes → ordering n t b c ≡ Yes →
-      ordering n t bytes c ≡ Yes
+  pub first-below : AnswersBelow n t a bytes
+  pub second-below : AnswersBelow n t b bytes
+  pub below-upper : (c : List ℕ) (m : List (Row Label)) → reading n c ≡ accepted m → AnswersBelow n t a c → AnswersBelow n t b c →
+      AnswersBelow n t bytes c
 
 -- no graph of any size lies below both
 abbrev pub NoneBelow : ℕ → List ℕ → List (Row Label) → List (Row Label) → Type 1
@@ -112,10 +120,10 @@ pub record Combination (n : ℕ) (t a b : List ℕ) (g h : List (Row Label)) (by
   pub reads : reading n bytes ≡ accepted form
   pub classes : IsCombination n t (graphOfRows g) (graphOfRows h) (graphOfRows form)
   pub greatest : GreatestOfAnySize n t (graphOfRows g) (graphOfRows h) (graphOfRows form)
-  pub below-first : ordering n t bytes a ≡ Yes
-  pub below-second : ordering n t bytes b ≡ Yes
-  pub above-lower : (c : List ℕ) (m : List (Row Label)) → reading n c ≡ accepted m → ordering n t c a ≡ Yes → ordering n t c b ≡ Yes →
-      ordering n t c bytes ≡ Yes
+  pub below-first : AnswersBelow n t bytes a
+  pub below-second : AnswersBelow n t bytes b
+  pub above-lower : (c : List ℕ) (m : List (Row Label)) → reading n c ≡ accepted m → AnswersBelow n t c a → AnswersBelow n t c b →
+      AnswersBelow n t c bytes
 
 -- "strictly more general when s is not above g": e lies above d, and d not above e
 abbrev pub MoreGeneral : ℕ → List ℕ → {A B : Type 0} → Graph Label A → Graph Label B → Type 0
@@ -142,14 +150,13 @@ pub record Restores (n : ℕ) (t : List ℕ) (d g s : Graph Label ℕ) : Type 1 
 
 -- What stands in the output beside a length of the difference of the records a and b: a record that is read as such a graph. Combined
 -- with a, from either side, it gives the written record of b byte for byte, whatever the output; and the order's own answers agree: b is
--- below it, and every accepted record that is strictly more general gives, combined with a, a record that is strictly more general than b.
+-- below it, and every accepted record that is above it gives, combined with a, a record that is above b.
 pub record Difference (n : ℕ) (t a b : List ℕ) (g s : List (Row Label)) (bytes : List ℕ) : Type 1 where
   pub form : List (Row Label)
   pub reads : reading n bytes ≡ accepted form
   pub restores : Restores n t (graphOfRows form) (graphOfRows g) (graphOfRows s)
   pub combined-first : (out : List ℕ) → unifying n t bytes a out ≡ rewriting n t b out
   pub combined-second : (out : List ℕ) → unifying n t a bytes out ≡ rewriting n t b out
-  pub second-below : ordering n t b bytes ≡ Yes
-  pub more-general : (c : List ℕ) (m : List (Row Label)) → reading n c ≡ accepted m → ordering n t bytes c ≡ Yes →
-      ordering n t c bytes ≡ No → (out : List ℕ) (l : ℕ) → unifying n t c a out .reply ≡ Length l →
-      (ordering n t b (take l (unifying n t c a out .output)) ≡ Yes) × (ordering n t (take l (unifying n t c a out .output)) b ≡ No)
+  pub second-below : AnswersBelow n t b bytes
+  pub more-general : (c : List ℕ) (m : List (Row Label)) → reading n c ≡ accepted m → ordering n t c bytes ≡ Above →
+      (out : List ℕ) (l : ℕ) → unifying n t c a out .reply ≡ Length l → ordering n t (take l (unifying n t c a out .output)) b ≡ Above

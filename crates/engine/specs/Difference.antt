@@ -8,15 +8,14 @@ use lib.ListN.{length}
 use Rattle.graphs.specs.Graph.{Graph}
 use Rattle.graphs.specs.Rows.{Row}
 use Rattle.graphs.specs.Number.{Canonical, manyNodes, manyLinks, written, canonical}
-use Rattle.graphs.specs.Order.{meetings, subsumes}
+use Rattle.graphs.specs.Order.{meetings}
 use Rattle.lattice.specs.Label.{Label}
 use Rattle.lattice.specs.Reply.{opened}
-use Rattle.lattice.specs.Labels.{typeLabels}
 use Rattle.encode.specs.Encode.{writtenOut}
 use Rattle.record.specs.Read.{graphOfRows, reading}
 use Rattle.difference.specs.Promise.{wantedAlong, allWantedAlong, differenceAlong}
 use Rattle.engine.specs.declared.Reply.the-variants.{NotBelow, NoWantedType}
-use Rattle.engine.specs.Reply.{Result, resultOf, refusing, checked, readBoth}
+use Rattle.engine.specs.Reply.{Result, resultOf, refusing, checked, readBoth, rowsBelow}
 
 -- the node that the first pair with y has beside it
 unfoldable pub firstAt : ℕ → List (ℕ × ℕ) → ℕ
@@ -42,7 +41,7 @@ differenceRows n t g s = differenceAlong n t s g (over s g)
 -- 12, then 13, else the difference in written form
 unfoldable pub differed : ℕ → List ℕ → List ℕ → List (Row Label) → List (Row Label) → Result
 differed n t out g s =
-    cond (subsumes (typeLabels n t) eqb eqb (graphOfRows s) (graphOfRows g) (length g))
+    cond (rowsBelow n t s g)
     (cond (allWanted n t s g) (resultOf (writtenOut (canonical eqb (differenceRows n t g s)) out)) (refusing NoWantedType out))
     (refusing NotBelow out)
 

@@ -1,6 +1,6 @@
 -- Replies: the number that document 01 gives to each ("Returned by a call"), and what each call answers and leaves in the output.
 use mathlib.Core.Path.{_≡_}
-use mathlib.Core.Bool.{cond}
+use mathlib.Core.Bool.{Bool, true, false}
 use mathlib.Core.List.{List}
 use mathlib.Core.Option.{Option, none, some}
 use Prim.Native.Nat.{ℕ, _≤_}
@@ -20,17 +20,21 @@ use Rattle.encode.specs.declared.Written.the-variants as written
 use Rattle.encode.specs.Encode.{Outcome, writtenOut}
 use Rattle.record.specs.Read as graph
 use Rattle.generalize.specs.Pairs.{samePair}
+use Rattle.subsume.specs.declared.Order.{Order}
+use Rattle.subsume.specs.declared.Order.the-variants as order
 use Rattle.engine.specs.declared.Side.the-variants.{First, Second}
 use Rattle.engine.specs.declared.kinds.Kind.{Kind}
 use Rattle.engine.specs.declared.kinds.Kind.the-variants as kind
 use Rattle.engine.specs.declared.Reply.{Reply}
-use Rattle.engine.specs.declared.Reply.the-variants.{Length, Yes, No, Table, Graph, NoRoom, Cycle, Clash, TooLarge, NotBelow, NoWantedType}
+use Rattle.engine.specs.declared.Reply.the-variants.{Length, Same, Under, Above, Neither, Table, Graph, NoRoom, Cycle, Clash, TooLarge, NotBelow, NoWantedType}
 
 -- what a reply tells: a refusal has a number, and one of a graph tells which of the two it is
 abbrev pub kindOf : Reply → Kind
 kindOf (Length l) = kind.Length l
-kindOf Yes = kind.Yes
-kindOf No = kind.No
+kindOf Same = kind.Same
+kindOf Under = kind.Under
+kindOf Above = kind.Above
+kindOf Neither = kind.Neither
 kindOf (Table fault) = kind.Refused (table.tableNumber fault)
 kindOf (Graph fault side) = kind.RefusedGraph (graph.graphNumber fault) side
 kindOf NoRoom = kind.Refused 8
@@ -42,8 +46,10 @@ kindOf NoWantedType = kind.Refused 13
 
 abbrev pub refusalIn : Kind → Option ℕ
 refusalIn (kind.Length l) = none
-refusalIn kind.Yes = none
-refusalIn kind.No = none
+refusalIn kind.Same = none
+refusalIn kind.Under = none
+refusalIn kind.Above = none
+refusalIn kind.Neither = none
 refusalIn (kind.Refused number) = some number
 refusalIn (kind.RefusedGraph number side) = some number
 
@@ -97,10 +103,26 @@ unfoldable pub rewriting : ℕ → List ℕ → List ℕ → List ℕ → Result
 rewriting n t bytes out = checked (λ r. refusing r out) (table.opened n t) (rewritten (graph.reading n bytes) out)
 
 -- whether the first of two graphs is below the second
-unfoldable pub ordered : ℕ → List ℕ → List (Row Label) → List (Row Label) → Reply
-ordered n t s g = cond (subsumes (typeLabels n t) eqb eqb (graph.graphOfRows s) (graph.graphOfRows g) (length g)) Yes No
+abbrev pub rowsBelow : ℕ → List ℕ → List (Row Label) → List (Row Label) → Bool
+rowsBelow n t s g = subsumes (typeLabels n t) eqb eqb (graph.graphOfRows s) (graph.graphOfRows g) (length g)
 
--- the order: "is the first below the second"
+-- the same, as a walk answers it
+abbrev pub isBelow : Order → Bool
+isBelow order.Below = true
+isBelow order.NotBelow = false
+
+-- "one of four: same, under, above, neither, seen from the first graph": whether it is below the second, and the second below it
+abbrev pub compared : Bool → Bool → Reply
+compared true true = Same
+compared true false = Under
+compared false true = Above
+compared false false = Neither
+
+-- which of two graphs is the broader
+unfoldable pub ordered : ℕ → List ℕ → List (Row Label) → List (Row Label) → Reply
+ordered n t s g = compared (rowsBelow n t s g) (rowsBelow n t g s)
+
+-- the order of two records
 unfoldable pub ordering : ℕ → List ℕ → List ℕ → List ℕ → Reply
 ordering n t a b = checked (λ r. r) (table.opened n t) (readBoth (λ r. r) (graph.reading n a) (graph.reading n b) (ordered n t))
 

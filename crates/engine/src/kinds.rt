@@ -12,8 +12,10 @@ ghost use Rattle.engine.specs.Reply.{kindOf};
 // What a reply tells: a refusal has a number, and one of a graph tells which of the two it is.
 pub enum Kind {
     Length(usize),
-    Yes,
-    No,
+    Same,
+    Under,
+    Above,
+    Neither,
     Refused(usize),
     RefusedGraph(usize, Side),
 }
@@ -24,8 +26,10 @@ pub fn kind_of(reply: Reply) -> Kind
 {
     match reply {
         Reply::Length(length) => Kind::Length(length),
-        Reply::Yes => Kind::Yes,
-        Reply::No => Kind::No,
+        Reply::Same => Kind::Same,
+        Reply::Under => Kind::Under,
+        Reply::Above => Kind::Above,
+        Reply::Neither => Kind::Neither,
         Reply::Table(fault) => Kind::Refused(table_number(fault)),
         Reply::Graph(fault, side) => Kind::RefusedGraph(graph_number(fault), side),
         Reply::NoRoom => Kind::Refused(8),

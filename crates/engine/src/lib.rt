@@ -12,7 +12,7 @@ ghost use mathlib.Core.Path.{_≡_};
 ghost use Prim.Native.Nat.{_≤_, _<_};
 ghost use Rattle.record.specs.Read.{reading};
 ghost use Rattle.unify.specs.Lowered.{MeetsBelow};
-ghost use Rattle.engine.specs.Reply.{resulting, replyOf, readBoth, rewriting, rewritten, ordering, ordered, generalizing};
+ghost use Rattle.engine.specs.Reply.{resulting, replyOf, readBoth, rewriting, rewritten, isBelow, compared, ordering, ordered, generalizing};
 ghost use Rattle.engine.specs.Unification.{unifying};
 ghost use Rattle.engine.specs.Difference.{differing};
 ghost use Rattle.engine.specs.Pair.{joining, meeting, combinedReply};
@@ -27,11 +27,13 @@ pub enum Side {
     Second,
 }
 
-// What a call answers: the record's length, a yes or a no of the order, or a refusal.
+// What a call answers: the record's length, one of the order's four answers, seen from the first graph, or a refusal.
 pub enum Reply {
     Length(usize),
-    Yes,
-    No,
+    Same,
+    Under,
+    Above,
+    Neither,
     Table(TableFault),
     Graph(GraphFault, Side),
     NoRoom,
@@ -82,7 +84,7 @@ fn reply_of(written: Written) -> Reply
     }
 }
 
-// Whether the first graph is below the second.
+// Which of two graphs is the broader, seen from the first.
 pub fn order(n: usize, table: &[u8], first: &[u8], second: &[u8]) -> Reply
     ensures { λ r. ⌜ r ≡ ordering n (now (table .entry)) (now (first .entry)) (now (second .entry)) ⌝ }
 {
@@ -104,13 +106,28 @@ fn order_over(n: usize, table: &[u8], first: &[u8], second: &[u8]) -> Reply
     match verdict {
         PairVerdict::Refused(fault, side) => Reply::Graph(fault, side),
         PairVerdict::Both => {
-            let ordered = subsume::subsume(table, &s, &g);
-            let order = ordered.order;
-            match order {
-                Order::Below => Reply::Yes,
-                Order::NotBelow => Reply::No,
-            }
+            let lower = subsume::subsume(table, &s, &g);
+            let upper = subsume::subsume(table, &g, &s);
+            let below = lower.order;
+            let above = upper.order;
+            order_reply(below, above)
         }
+    }
+}
+
+// What the order of two graphs in both directions comes to.
+fn order_reply(below: Order, above: Order) -> Reply
+    ensures { λ r. ⌜ r ≡ compared (isBelow below) (isBelow above) ⌝ }
+{
+    match below {
+        Order::Below => match above {
+            Order::Below => Reply::Same,
+            Order::NotBelow => Reply::Under,
+        },
+        Order::NotBelow => match above {
+            Order::Below => Reply::Above,
+            Order::NotBelow => Reply::Neither,
+        },
     }
 }
 

@@ -7,16 +7,19 @@ use borrow.Author.Tests.{lt-ltb, le-ltb}
 use lib.Dec.{eqb, ltb}
 use Rattle.engine.specs.declared.Side.the-variants.{First, Second}
 use Rattle.engine.specs.declared.kinds.Kind.{Kind}
-use Rattle.engine.specs.declared.kinds.Kind.the-variants.{Length, Yes, No, Refused, RefusedGraph}
+use Rattle.engine.specs.declared.kinds.Kind.the-variants.{Length, Same, Under, Above, Neither, Refused, RefusedGraph}
 use Rattle.engine.specs.declared.Reply.{Reply}
 use Rattle.engine.specs.Reply.{kindOf, Bounded}
 use Rattle.engine.proofs.Numbers.{numberIn, number-small, kind-injective, kind-bounded}
 use Rattle.record_engine.specs.Code.{codeFor, codeOf}
 
--- What a code tells: from the side 2 on, from 1 on, from 0 on, and whatever it is.
+-- What a code tells: from the order's answers on, from the side 2 on, from 1 on, from 0 on, and whatever it is.
+
+abbrev fromSame : ℕ → Kind
+fromSame c = cond (eqb c 8589934592) Same (cond (eqb c 8589934593) Under (cond (eqb c 8589934594) Above Neither))
 
 abbrev fromSecond : ℕ → Kind
-fromSecond c = cond (ltb c 8589934592) (RefusedGraph (c - 4294967808) Second) (cond (eqb c 8589934592) No Yes)
+fromSecond c = cond (ltb c 8589934592) (RefusedGraph (c - 4294967808) Second) (fromSame c)
 
 abbrev fromFirst : ℕ → Kind
 fromFirst c = cond (ltb c 4294967808) (RefusedGraph (c - 4294967552) First) (fromSecond c)
@@ -46,14 +49,16 @@ second-told : (c : ℕ) → 4294967808 ≤ c → c < 8589934592 → told c ≡ R
 second-told c low high =
     graph-told c (omega arith)
     ∙ ap (λ (b : Bool). cond b (RefusedGraph (c - 4294967552) First) (fromSecond c)) (le-ltb c 4294967808 low)
-    ∙ ap (λ (b : Bool). cond b (RefusedGraph (c - 4294967808) Second) (cond (eqb c 8589934592) No Yes)) (lt-ltb c 8589934592 high)
+    ∙ ap (λ (b : Bool). cond b (RefusedGraph (c - 4294967808) Second) (fromSame c)) (lt-ltb c 8589934592 high)
 
 -- the code of a short length, or of a refusal by a small number, tells which it is
 code-told : (k : Kind) → ((l : ℕ) → k ≡ Length l → l ≤ 4344) → numberIn k < 256 → told (codeFor k) ≡ k
 code-told (Length l) short small =
     ap (λ (b : Bool). cond b (Length l) (fromNumber l)) (lt-ltb l 4294967296 (omega (arith, short l refl)))
-code-told Yes short small = refl
-code-told No short small = refl
+code-told Same short small = refl
+code-told Under short small = refl
+code-told Above short small = refl
+code-told Neither short small = refl
 code-told (Refused number) short small =
     number-told (codeFor (Refused number)) (omega arith) (omega arith) ∙ ap Refused (omega arith)
 code-told (RefusedGraph number First) short small =

@@ -1,10 +1,10 @@
 -- One number for a reply: the length itself, which is at most 4,344; for a refusal 2³² + 256 × the side + its number in document 01;
--- for a no 2³³, for a yes 2³³ + 1.
+-- for same, under, above and neither 2³³ and the three numbers after it.
 use Prim.Native.Nat.{ℕ, _+_, _*_}
 use Rattle.engine.specs.declared.Side.{Side}
 use Rattle.engine.specs.declared.Side.the-variants.{First, Second}
 use Rattle.engine.specs.declared.kinds.Kind.{Kind}
-use Rattle.engine.specs.declared.kinds.Kind.the-variants.{Length, Yes, No, Refused, RefusedGraph}
+use Rattle.engine.specs.declared.kinds.Kind.the-variants.{Length, Same, Under, Above, Neither, Refused, RefusedGraph}
 use Rattle.engine.specs.declared.Reply.{Reply}
 use Rattle.engine.specs.Reply.{kindOf}
 
@@ -18,8 +18,10 @@ refusalCode number which = 4294967296 + 256 * which + number
 
 abbrev pub codeFor : Kind → ℕ
 codeFor (Length l) = l
-codeFor Yes = 8589934593
-codeFor No = 8589934592
+codeFor Same = 8589934592
+codeFor Under = 8589934593
+codeFor Above = 8589934594
+codeFor Neither = 8589934595
 codeFor (Refused number) = refusalCode number 0
 codeFor (RefusedGraph number which) = refusalCode number (sideNumber which)
 

@@ -92,8 +92,10 @@ fn code(reply: Reply) -> u64
     let kind = engine::kinds::kind_of(reply);
     match kind {
         Kind::Length(length) => length as u64,
-        Kind::Yes => 8589934593,
-        Kind::No => 8589934592,
+        Kind::Same => 8589934592,
+        Kind::Under => 8589934593,
+        Kind::Above => 8589934594,
+        Kind::Neither => 8589934595,
         Kind::Refused(number) => refusal(number as u64, 0),
         Kind::RefusedGraph(number, side) => refusal(number as u64, side_number(side)),
     }

@@ -29,8 +29,8 @@ use Rattle.engine.specs.declared.Side.the-variants.{First, Second}
 use Rattle.engine.specs.declared.kinds.Kind.{Kind}
 use Rattle.engine.specs.declared.kinds.Kind.the-variants as kind
 use Rattle.engine.specs.declared.Reply.{Reply}
-use Rattle.engine.specs.declared.Reply.the-variants.{Length, Yes, No, Table, Graph, NoRoom, Cycle, Clash, TooLarge, NotBelow, NoWantedType}
-use Rattle.engine.specs.Reply.{Result, Bounded, kindOf, refusal, checked, refusing, readBoth, resultOf, generalizing, generalized, ordering, ordered}
+use Rattle.engine.specs.declared.Reply.the-variants.{Length, Table, Graph, NoRoom, Cycle, Clash, TooLarge, NotBelow, NoWantedType}
+use Rattle.engine.specs.Reply.{Result, Bounded, kindOf, refusal, checked, refusing, readBoth, resultOf, generalizing, generalized, rowsBelow, compared, ordering, ordered}
 use Rattle.engine.specs.Unification.{sameEither, combined, unifiedRows, unifying}
 use Rattle.engine.specs.Difference.{allWanted, differenceRows, differed, numbered, differedRows, differing}
 use Rattle.engine.proofs.Numbers.{numberIn, number-small, kind-bounded}
@@ -92,9 +92,11 @@ combined-bounded cycle out = refused-bounded Cycle 9 refl (length out)
 combined-bounded clash out = refused-bounded Clash 10 refl (length out)
 combined-bounded (unified u) out = written-bounded (canonical sameEither u) out
 
-ordered-bounded : (most : ℕ) (b : Bool) → Bounded (cond b Yes No) most
-ordered-bounded most true l e = let z : _≡_ {A = ℕ} 0 1 = cc in absurd (omega arith)
-ordered-bounded most false l e = let z : _≡_ {A = ℕ} 0 1 = cc in absurd (omega arith)
+compared-bounded : (most : ℕ) (x y : Bool) → Bounded (compared x y) most
+compared-bounded most true true l e = let z : _≡_ {A = ℕ} 0 1 = cc in absurd (omega arith)
+compared-bounded most true false l e = let z : _≡_ {A = ℕ} 0 1 = cc in absurd (omega arith)
+compared-bounded most false true l e = let z : _≡_ {A = ℕ} 0 1 = cc in absurd (omega arith)
+compared-bounded most false false l e = let z : _≡_ {A = ℕ} 0 1 = cc in absurd (omega arith)
 
 module _ (n : ℕ) (t a b : List ℕ) where
   -- a call that writes a record
@@ -128,7 +130,7 @@ module _ (n : ℕ) (t a b : List ℕ) where
   ordering-bounded : (most : ℕ) → Bounded (ordering n t a b) most
   unfolding ordering ordered
   ordering-bounded most = call-good (λ r. r) (λ (r : Reply). Bounded r most) (λ r h. h most) n t a b (ordered n t) λ s g.
-      ordered-bounded most (subsumes (typeLabels n t) eqb eqb (graph.graphOfRows s) (graph.graphOfRows g) (length g))
+      compared-bounded most (rowsBelow n t s g) (rowsBelow n t g s)
 
   pub answering-bounded : (operation : Operation) (out : List ℕ) → Bounded (answering operation n t a b out .reply) (length out)
   answering-bounded Generalize out = generalizing-bounded out
@@ -150,8 +152,10 @@ side-short Second = omega arith
 kind-short : (k : Kind) (out : List ℕ) → ((l : ℕ) → k ≡ kind.Length l → l ≤ 4344) → numberIn k < 256 → length (kindText k out) ≤ 8696
 kind-short (kind.Length l) out h small =
     simp (length-append, length-hexadecimal, length-take) (omega (arith, h l refl, decimal-short l (omega (arith, h l refl))))
-kind-short kind.Yes out h small = omega arith
-kind-short kind.No out h small = omega arith
+kind-short kind.Same out h small = omega arith
+kind-short kind.Under out h small = omega arith
+kind-short kind.Above out h small = omega arith
+kind-short kind.Neither out h small = omega arith
 kind-short (kind.Refused number) out h small = omega (arith, refused-short number (omega arith))
 kind-short (kind.RefusedGraph number which) out h small =
     omega (

@@ -7,7 +7,7 @@ use Rattle.engine.specs.declared.Side.{Side}
 use Rattle.engine.specs.declared.Side.the-variants.{First, Second}
 use Rattle.engine.specs.declared.Reply.{Reply}
 use Rattle.engine.specs.declared.kinds.Kind.{Kind}
-use Rattle.engine.specs.declared.kinds.Kind.the-variants.{Length, Yes, No, Refused, RefusedGraph}
+use Rattle.engine.specs.declared.kinds.Kind.the-variants.{Length, Same, Under, Above, Neither, Refused, RefusedGraph}
 use Rattle.engine.specs.Reply.{Result, kindOf, refusing, generalizing, ordering}
 use Rattle.engine.specs.Unification.{unifying}
 use Rattle.engine.specs.Difference.{differing}
@@ -37,8 +37,10 @@ sideText Second = 32 ∷ 115 ∷ 101 ∷ 99 ∷ 111 ∷ 110 ∷ 100 ∷ []
 -- the words of what a reply tells: the record is the output's first bytes, and a refused graph is named, "for 4 to 7 `first` or `second`"
 abbrev pub kindText : Kind → List ℕ → List ℕ
 kindText (Length l) out = okText l (take l out)
-kindText Yes out = 121 ∷ 101 ∷ 115 ∷ []
-kindText No out = 110 ∷ 111 ∷ []
+kindText Same out = 115 ∷ 97 ∷ 109 ∷ 101 ∷ []
+kindText Under out = 117 ∷ 110 ∷ 100 ∷ 101 ∷ 114 ∷ []
+kindText Above out = 97 ∷ 98 ∷ 111 ∷ 118 ∷ 101 ∷ []
+kindText Neither out = 110 ∷ 101 ∷ 105 ∷ 116 ∷ 104 ∷ 101 ∷ 114 ∷ []
 kindText (Refused number) out = refusedText number
 kindText (RefusedGraph number which) out = refusedText number ++ sideText which
 

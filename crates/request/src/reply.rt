@@ -69,8 +69,10 @@ pub fn put_reply(reply: Reply, output: &[u8], out: &mut [u8]) -> usize
     let kind = kind_of(reply);
     match kind {
         Kind::Length(count) => put_record(count, &output[..count], out),
-        Kind::Yes => put_word(b"yes", 0, out),
-        Kind::No => put_word(b"no", 0, out),
+        Kind::Same => put_word(b"same", 0, out),
+        Kind::Under => put_word(b"under", 0, out),
+        Kind::Above => put_word(b"above", 0, out),
+        Kind::Neither => put_word(b"neither", 0, out),
         Kind::Refused(number) => put_refused(number, out),
         Kind::RefusedGraph(number, side) => put_refused_graph(number, side, out),
     }

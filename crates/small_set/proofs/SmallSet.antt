@@ -85,13 +85,13 @@ use Rattle.record.proofs.Accepted.{accepted-rules}
 use Rattle.record.proofs.Theorems.{accepted-of-any-size}
 use Rattle.generalize.specs.Pairs.{samePair}
 use Rattle.difference.specs.Promise.{wantedAlong, allWantedAlong, differenceAlong}
-use Rattle.engine.specs.Reply.{generalized, generalizing}
+use Rattle.engine.specs.Reply.{generalized, generalizing, ordered as comparing, ordering}
 use Rattle.engine.specs.Unification.{unifiedRows, unifying}
 use Rattle.engine.specs.Difference.{firstAt, over, wantedType, allWanted, differenceRows, differed, differedRows, differing}
 use Rattle.engine.specs.declared.Reply.the-variants.{NoWantedType}
 use Rattle.engine.proofs.Demanded.Wanted.{meet-type, label-below, wanted-exact}
 use Rattle.engine.proofs.Requests.{unwanted-exact, itself-lone-top}
-use Rattle.small_set.specs.Cases.{threeMiddles, twoOverTwo, NeverUnwanted, ItselfTop, AllHold, none-left, _and_, cases, SmallSet}
+use Rattle.small_set.specs.Cases.{threeMiddles, twoOverTwo, NeverUnwanted, ItselfTop, AllHold, none-left, _and_, cases, SmallSet, FourAnswers}
 
 all-hold : AllHold cases
 unfolding
@@ -174,3 +174,14 @@ small-set = record { all-hold = all-hold; never-unwanted = never-unwanted; itsel
 pub two-over-two-opened : opened (twoOverTwo .count) (twoOverTwo .table) ≡ Refused Bounds
 unfolding opened sized ordered confined reflexive antisymmetric transitive least greatest bounded meet isMeet join isJoin every last below
 two-over-two-opened = refl
+
+-- The order's four answers on P, Q, R, a and b, computed.
+pub four-answers : FourAnswers
+unfolding
+    ordering comparing
+    opened sized ordered confined reflexive antisymmetric transitive least greatest bounded meet isMeet join isJoin every last below
+    reading decoded takeRows takeRow takeLinks bitOf inRange allOf cyclic anyOf deep reachesAll
+    visit each member target from linksOf bind orElse
+    subsumes walks fitsAt flatMap
+four-answers =
+    record { itself = refl; unshared = refl; shared = refl; typed = refl; untyped = refl; apart = refl }

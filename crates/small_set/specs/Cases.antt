@@ -8,8 +8,9 @@ use lib.ListN.{length, drop, replicate}
 use Rattle.graphs.specs.Rows.{Row}
 use Rattle.lattice.specs.Label.{Label}
 use Rattle.record.specs.Read.{reading, accepted}
-use Rattle.engine.specs.declared.Reply.the-variants.{Length, NoWantedType}
-use Rattle.engine.specs.Reply.{Result, refusal, resultOf, generalizing}
+use Rattle.engine.specs.declared.Reply.the-variants.{Length, Same, Under, Above, Neither, NoWantedType}
+use Rattle.engine.specs.declared.Reply.{Reply}
+use Rattle.engine.specs.Reply.{Result, refusal, resultOf, generalizing, ordering}
 use Rattle.engine.specs.Unification.{unifying}
 use Rattle.engine.specs.Difference.{differing}
 use Rattle.engine.specs.Demand.{loneTop}
@@ -180,3 +181,16 @@ pub record SmallSet : Type 0 where
   pub all-hold : AllHold cases
   pub never-unwanted : NeverUnwanted threeMiddles
   pub itself-top : ItselfTop threeMiddles
+
+-- the order of two graphs over the diamond
+abbrev pub Orders : List ℕ → List ℕ → Reply → Type 0
+Orders first second answer = ordering (diamond .count) (diamond .table) first second ≡ answer
+
+-- The order's four answers, seen from the first graph.
+pub record FourAnswers : Type 0 where
+  pub itself : Orders P P Same
+  pub unshared : Orders P Q Under
+  pub shared : Orders Q P Above
+  pub typed : Orders R P Under
+  pub untyped : Orders P R Above
+  pub apart : Orders (lone a) (lone b) Neither

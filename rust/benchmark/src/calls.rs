@@ -17,7 +17,8 @@ impl Worker {
     pub const ALL: [Worker; 3] = [Worker::Engine, Worker::Peer, Worker::Reference];
 }
 
-/// Work on an input; gives the length of what it wrote, and 1 for a yes.
+/// Work on an input; gives the length of what it wrote, and for the order the place
+/// of its answer among the four.
 pub type Work = fn(&Input, &mut [u8]) -> Option<usize>;
 
 /// One call by each of the three.
@@ -52,12 +53,12 @@ pub const CALLS: [Call; 5] = [
     Call {
         name: "order",
         engine: |x, _| {
-            let answer = record_engine::is_below(x.n, &x.table, &x.specific, &x.general);
-            answer.ok().map(usize::from)
+            let answer = record_engine::order(x.n, &x.table, &x.specific, &x.general);
+            answer.ok().map(|order| order as usize)
         },
         peer: |x, _| {
-            let answer = peer::is_below(x.n, &x.table, &x.specific, &x.general);
-            answer.ok().map(usize::from)
+            let answer = peer::order(x.n, &x.table, &x.specific, &x.general);
+            answer.ok().map(|order| order as usize)
         },
         reference: |x, _| length(calls::order(x.n, &x.table, &x.specific, &x.general)),
     },
@@ -94,8 +95,7 @@ pub const CALLS: [Call; 5] = [
 fn length(reply: Reply) -> Option<usize> {
     match reply {
         Reply::Length(length) => Some(length),
-        Reply::Yes => Some(1),
-        Reply::No => Some(0),
+        Reply::Order(order) => Some(order as usize),
         Reply::Refused(_) => None,
     }
 }

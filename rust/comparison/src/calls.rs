@@ -2,6 +2,7 @@
 
 use record_engine::{GraphFault, Refusal, Side, TableFault};
 use reference::calls;
+use reference::order::Order;
 use reference::random::TableBytes;
 use reference::record;
 use reference::reply::{self, Reply};
@@ -32,17 +33,11 @@ pub const REWRITE: Call = Call {
     reference: |table, records, output| calls::rewrite(table.n, &table.bytes, records[0], output),
 };
 
-/// Whether the first is below the second; nothing is written.
+/// Which is the broader, seen from the first; nothing is written.
 pub const ORDER: Call = Call {
-    engine: |table, records, _| match record_engine::is_below(
-        table.n,
-        &table.bytes,
-        records[0],
-        records[1],
-    ) {
-        Ok(true) => Reply::Yes,
-        Ok(false) => Reply::No,
-        Err(refusal) => refused(refusal),
+    engine: |table, records, _| {
+        record_engine::order(table.n, &table.bytes, records[0], records[1])
+            .map_or_else(refused, |order| Reply::Order(ordered(order)))
     },
     reference: |table, records, _| calls::order(table.n, &table.bytes, records[0], records[1]),
 };
@@ -80,6 +75,15 @@ fn judged(call: calls::Call, table: &TableBytes, records: &[&[u8]], output: &mut
 /// The reply of a call of the proved engine that writes a record.
 fn written(result: Result<usize, Refusal>) -> Reply {
     result.map_or_else(refused, Reply::Length)
+}
+
+fn ordered(order: record_engine::Order) -> Order {
+    match order {
+        record_engine::Order::Same => Order::Same,
+        record_engine::Order::Under => Order::Under,
+        record_engine::Order::Above => Order::Above,
+        record_engine::Order::Neither => Order::Neither,
+    }
 }
 
 fn refused(refusal: Refusal) -> Reply {

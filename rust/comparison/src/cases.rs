@@ -147,9 +147,15 @@ fn fittings(add: &mut impl FnMut(&'static str, Vec<u8>)) {
         "the longest record",
         asked(Combine, &random::diamond(), &longest, &longest),
     );
-    add("order: yes", over_diamond(Order, R, P));
-    add("order: no", over_diamond(Order, P, R));
-    add("order: itself", over_diamond(Order, Q, Q));
+    add("order: itself", over_diamond(Order, P, P));
+    add("order: shared", over_diamond(Order, P, Q));
+    add("order: not shared", over_diamond(Order, Q, P));
+    add("order: a lower type", over_diamond(Order, R, P));
+    add("order: a higher type", over_diamond(Order, P, R));
+    add(
+        "order: types beside each other",
+        over_diamond(Order, "a", "b"),
+    );
 }
 
 fn tables(add: &mut impl FnMut(&'static str, Vec<u8>)) {

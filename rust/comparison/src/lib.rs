@@ -9,6 +9,7 @@ pub mod program;
 
 pub use calls::{Call, DIFFERENCE, GENERALIZE, ORDER, REWRITE, UNIFY};
 
+use reference::order::Order;
 use reference::random::{self, TableBytes, Xorshift};
 use reference::record::LONGEST_RECORD;
 use reference::reply::Reply;
@@ -23,8 +24,8 @@ pub struct Comparison {
     inputs: usize,
     /// The number of replies by document 01's number, lengths at 0.
     replies: [usize; 14],
-    yes: usize,
-    no: usize,
+    /// The number of the order's answers, by their places in `Order::ALL`.
+    answers: [usize; 4],
 }
 
 impl Comparison {
@@ -35,8 +36,7 @@ impl Comparison {
             random: Xorshift::stored(seed),
             inputs: 0,
             replies: [0; 14],
-            yes: 0,
-            no: 0,
+            answers: [0; 4],
         }
     }
 
@@ -59,7 +59,7 @@ impl Comparison {
                     assert_eq!(self.call(table, records, room).0.number(), expected);
                 }
             }
-            Reply::Yes | Reply::No => {}
+            Reply::Order(_) => {}
             Reply::Refused(_) => {
                 for room in [0, any] {
                     assert_eq!(self.call(table, records, room).0, reply);
@@ -89,8 +89,7 @@ impl Comparison {
             "outputs of {room} bytes differ: {table:?}, the records {records:?}"
         );
         match reference {
-            Reply::Yes => self.yes += 1,
-            Reply::No => self.no += 1,
+            Reply::Order(order) => self.answers[order as usize] += 1,
             _ => self.replies[usize::from(reference.number().unwrap_or(0))] += 1,
         }
         let length = match reference {
@@ -113,10 +112,11 @@ impl Comparison {
         }
     }
 
-    /// From the stored seeds, yes and no came at least so often.
+    /// From the stored seeds, each of the order's four answers came at least so often.
     pub fn assert_answers(&self, least: usize) {
-        let answers = (self.yes, self.no);
-        let enough = answers.0.min(answers.1) >= least || !random::is_stored();
-        assert!(enough, "yes and no: {answers:?}");
+        for order in Order::ALL {
+            let enough = self.answers[order as usize] >= least || !random::is_stored();
+            assert!(enough, "{order:?}: {:?}", self.answers);
+        }
     }
 }

@@ -79,7 +79,8 @@ impl Broader {
 
     fn assert_below(&mut self, table: &TableBytes, lower: &[u8], upper: &[u8]) {
         let (answer, _) = self.order.call(table, &[lower, upper], 0);
-        assert_eq!(answer, Reply::Yes, "{table:?} {lower:?} {upper:?}");
+        let below = matches!(answer, Reply::Order(order) if order.is_below());
+        assert!(below, "{answer:?} {table:?} {lower:?} {upper:?}");
     }
 
     /// From the stored seeds, two replies of which the narrower pair's is among the first

@@ -1,10 +1,11 @@
 //! The cases of document 01 by the proved engine, over the diamond.
 
-use record_engine::{LONGEST_RECORD, Refusal, difference, generalize, is_below, unify};
+use record_engine::{LONGEST_RECORD, Order, Refusal, difference, generalize, order, unify};
 use reference::graph::Graph;
 use reference::notation;
 use reference::random;
 use reference::record;
+use std::cmp::Ordering;
 
 const P: &str = "top[0: X top, 1: X]";
 const Q: &str = "top[0: top, 1: top]";
@@ -26,10 +27,9 @@ fn written(call: Writes, first: &str, second: &str) -> Result<Vec<u8>, Refusal> 
     Ok(output)
 }
 
-fn below(first: &str, second: &str) -> bool {
+fn ordered(first: &str, second: &str) -> Order {
     let table = random::diamond();
-    is_below(table.n, &table.bytes, &record_of(first), &record_of(second))
-        .expect("accepted records")
+    order(table.n, &table.bytes, &record_of(first), &record_of(second)).expect("accepted records")
 }
 
 #[test]
@@ -68,7 +68,12 @@ fn the_order_of_small_graphs() {
     ] {
         for (i, upper) in chain.into_iter().enumerate() {
             for (j, lower) in chain.into_iter().enumerate() {
-                assert_eq!(below(lower, upper), i <= j, "{lower} below {upper}");
+                let expected = match i.cmp(&j) {
+                    Ordering::Less => Order::Under,
+                    Ordering::Equal => Order::Same,
+                    Ordering::Greater => Order::Above,
+                };
+                assert_eq!(ordered(lower, upper), expected, "{lower} and {upper}");
             }
         }
     }
@@ -79,8 +84,16 @@ fn the_order_of_small_graphs() {
         ("top[0: top]", "top[1: top]"),
         ("top[0: X a, 1: X]", "top[0: a, 1: b]"),
     ] {
-        assert!(!below(first, second), "{first} below {second}");
-        assert!(!below(second, first), "{second} below {first}");
+        assert_eq!(
+            ordered(first, second),
+            Order::Neither,
+            "{first} and {second}"
+        );
+        assert_eq!(
+            ordered(second, first),
+            Order::Neither,
+            "{second} and {first}"
+        );
     }
 }
 

@@ -73,7 +73,7 @@ const INPUTS: usize = 5_000;
 /// Every line that the program can print but those with a record, which are `ok`
 /// here. 8 does not come: the program lends as many bytes as the longest record has.
 fn kinds() -> Vec<String> {
-    let mut kinds = ["ok", "yes", "no", "bad input"]
+    let mut kinds = ["ok", "same", "under", "above", "neither", "bad input"]
         .map(str::to_string)
         .to_vec();
     kinds.extend([1, 2, 3, 9, 10, 11, 12, 13].map(|number| format!("refused {number}")));
@@ -114,7 +114,7 @@ fn random_requests() {
     }
     // Every kind comes from the stored seeds, and from no seed another line.
     for kind in kinds() {
-        let least = if kind.starts_with("refused") { 1 } else { 200 };
+        let least = if kind.starts_with("refused") { 1 } else { 100 };
         let count = counts.remove(&kind).unwrap_or(0);
         let enough = count >= least || !random::is_stored();
         assert!(enough, "{kind}: {count}");

@@ -1,7 +1,7 @@
 //! A call gets by with the stack that the header, the wrapper and the README state:
 //! every call on the deepest and on the largest records, on a thread with no more.
 
-use record_engine::{LONGEST_RECORD, difference, generalize, is_below, rewrite, unify};
+use record_engine::{LONGEST_RECORD, Order, difference, generalize, order, rewrite, unify};
 use reference::random;
 use reference::record;
 
@@ -19,7 +19,8 @@ fn the_largest_records_need_little_stack() {
         .spawn(move || {
             let mut output = vec![0; LONGEST_RECORD];
             let (n, table) = (table.n, &table.bytes);
-            assert_eq!(is_below(n, table, &ladder, &chain), Ok(true));
+            assert_eq!(order(n, table, &ladder, &chain), Ok(Order::Under));
+            assert_eq!(order(n, table, &chain, &chain), Ok(Order::Same));
             [
                 rewrite(n, table, &chain, &mut output),
                 rewrite(n, table, &ladder, &mut output),

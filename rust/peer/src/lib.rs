@@ -15,6 +15,8 @@ mod table;
 mod unify;
 mod write;
 
+pub use order::Order;
+
 use graph::Graph;
 use table::{Bounds, Table};
 
@@ -44,12 +46,12 @@ pub fn rewrite(n: usize, table: &[u8], record: &[u8], output: &mut [u8]) -> Resu
     write::write(&graph, output)
 }
 
-/// Whether the first is below the second.
-pub fn is_below(n: usize, table: &[u8], first: &[u8], second: &[u8]) -> Result<bool, Refusal> {
+/// Which of two is the broader, seen from the first.
+pub fn order(n: usize, table: &[u8], first: &[u8], second: &[u8]) -> Result<Order, Refusal> {
     let (mut types, mut a, mut b) = (Table::empty(), Graph::empty(), Graph::empty());
     types.open(n, table)?;
     read_both(n, [first, second], [&mut a, &mut b])?;
-    Ok(order::node_map(&types, &a, &b).is_some())
+    Ok(order::order(&types, &a, &b))
 }
 
 /// The common part.

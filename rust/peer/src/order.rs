@@ -1,12 +1,44 @@
-//! Whether one graph is below another.
+//! Which of two graphs is the broader: whether one is below another, both ways.
 
 use crate::graph::Graph;
 use crate::table::Table;
 
+/// Which of two graphs is the broader, seen from the first.
+#[derive(Clone, Copy, Debug, PartialEq, Eq)]
+pub enum Order {
+    /// Each is below the other.
+    Same,
+    /// The first is below the second alone.
+    Under,
+    /// The second is below the first alone.
+    Above,
+    /// Neither is below the other.
+    Neither,
+}
+
+/// Which of two graphs is the broader.
+pub fn order(table: &Table, first: &Graph, second: &Graph) -> Order {
+    let below = is_below(table, first, second, &mut [NONE; 255]);
+    let above = is_below(table, second, first, &mut [NONE; 255]);
+    match (below, above) {
+        (true, true) => Order::Same,
+        (true, false) => Order::Under,
+        (false, true) => Order::Above,
+        (false, false) => Order::Neither,
+    }
+}
+
 /// The node of s for each node of g, if s is below g.
 pub fn node_map(table: &Table, s: &Graph, g: &Graph) -> Option<[u8; 255]> {
-    const NONE: u16 = u16::MAX;
     let mut map = [NONE; 255];
+    is_below(table, s, g, &mut map).then(|| map.map(|node| node as u8))
+}
+
+/// A node that is not mapped yet.
+const NONE: u16 = u16::MAX;
+
+/// Whether s is below g; maps the nodes of g to those of s.
+fn is_below(table: &Table, s: &Graph, g: &Graph, map: &mut [u16; 255]) -> bool {
     let mut queue = [0u8; 255];
     map[0] = 0;
     let (mut next, mut end) = (0, 1);
@@ -14,15 +46,15 @@ pub fn node_map(table: &Table, s: &Graph, g: &Graph) -> Option<[u8; 255]> {
         let upper = usize::from(queue[next]);
         let lower = usize::from(map[upper]);
         if !table.is_below(s.types[lower], g.types[upper]) {
-            return None;
+            return false;
         }
         let mut below = s.row(lower);
         for place in g.row(upper) {
             let feature = g.features[place];
-            let found = below.find(|&other| s.features[other] >= feature)?;
-            if s.features[found] != feature {
-                return None;
-            }
+            let found = below.find(|&other| s.features[other] >= feature);
+            let Some(found) = found.filter(|&found| s.features[found] == feature) else {
+                return false;
+            };
             let image = &mut map[usize::from(g.targets[place])];
             let target = u16::from(s.targets[found]);
             if *image == NONE {
@@ -30,10 +62,10 @@ pub fn node_map(table: &Table, s: &Graph, g: &Graph) -> Option<[u8; 255]> {
                 queue[end] = g.targets[place];
                 end += 1;
             } else if *image != target {
-                return None;
+                return false;
             }
         }
         next += 1;
     }
-    Some(map.map(|node| node as u8))
+    true
 }

@@ -2,6 +2,7 @@
 
 use peer::Refusal;
 use reference::calls;
+use reference::order::Order;
 use reference::random::{self, Shape, TableBytes, Xorshift};
 use reference::record::{self, LONGEST_RECORD};
 use reference::reply::{self, Reply, Which};
@@ -46,8 +47,13 @@ fn check(table: &TableBytes, first: &[u8], second: &[u8], room: usize, counts: &
     check(
         "order",
         &mut |_| {
-            let answer = peer::is_below(n, bytes, first, second)?;
-            Ok(if answer { Reply::Yes } else { Reply::No })
+            let order = peer::order(n, bytes, first, second)?;
+            Ok(Reply::Order(match order {
+                peer::Order::Same => Order::Same,
+                peer::Order::Under => Order::Under,
+                peer::Order::Above => Order::Above,
+                peer::Order::Neither => Order::Neither,
+            }))
         },
         &mut |_| calls::order(n, bytes, first, second),
     );

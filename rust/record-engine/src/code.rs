@@ -1,28 +1,33 @@
 //! The number that the static library answers (`crates/record_engine/specs/Code.antt`),
 //! read as an answer.
 
+use crate::Order;
 use crate::refusal::{Refusal, Side};
 
 /// What a number stands for.
 #[derive(Clone, Copy, Debug, PartialEq, Eq)]
 pub enum Answer {
     Length(usize),
-    Yes,
-    No,
+    Order(Order),
     Refused(Refusal),
 }
 
 /// A number below this is a length; a refusal's is this or more.
 const FIRST_REFUSAL: u64 = 1 << 32;
 
-const NO: u64 = 1 << 33;
-const YES: u64 = NO + 1;
+/// The order's answers.
+const SAME: u64 = 1 << 33;
+const UNDER: u64 = SAME + 1;
+const ABOVE: u64 = SAME + 2;
+const NEITHER: u64 = SAME + 3;
 
 /// The answer that a number stands for; stops the program where there is none.
 pub fn answer(code: u64) -> Answer {
     match code {
-        YES => Answer::Yes,
-        NO => Answer::No,
+        SAME => Answer::Order(Order::Same),
+        UNDER => Answer::Order(Order::Under),
+        ABOVE => Answer::Order(Order::Above),
+        NEITHER => Answer::Order(Order::Neither),
         length if length < FIRST_REFUSAL => Answer::Length(length as usize),
         _ => {
             let refusal = Refusal::ALL
@@ -66,8 +71,10 @@ mod tests {
             assert_eq!(answer(code), Answer::Refused(refusal));
         }
         assert_eq!(answer(4344), Answer::Length(4344));
-        assert_eq!(answer((1 << 33) + 1), Answer::Yes);
-        assert_eq!(answer(1 << 33), Answer::No);
+        let four = [Order::Same, Order::Under, Order::Above, Order::Neither];
+        for (code, order) in (1 << 33..).zip(four) {
+            assert_eq!(answer(code), Answer::Order(order));
+        }
         for refusal in Refusal::ALL {
             assert_eq!(answer(code_of(refusal)), Answer::Refused(refusal));
         }

@@ -1,6 +1,6 @@
 //! The record engine for Rust programs. A call takes a type table, one or two
 //! records and, where it writes a record, an output that the caller lends; it
-//! gives the length of what it wrote, a yes or a no, or a [`Refusal`].
+//! gives the length of what it wrote, an [`Order`], or a [`Refusal`].
 //!
 //! The functions behind these calls are proved (`crates/engine`); here is only
 //! the passage to them, by the static library `librecord_engine.a`, which
@@ -64,6 +64,19 @@ use code::Answer;
 
 /// The length of the longest record: an output of so many bytes is never too short.
 pub const LONGEST_RECORD: usize = 4344;
+
+/// Which of two graphs is the broader, seen from the first.
+#[derive(Clone, Copy, Debug, PartialEq, Eq, Hash)]
+pub enum Order {
+    /// Each is below the other: they mean the same.
+    Same,
+    /// The first is below the second, and the second is not below the first.
+    Under,
+    /// The second is below the first, and the first is not below the second.
+    Above,
+    /// Neither is below the other.
+    Neither,
+}
 
 /// The number of the house types.
 pub const HOUSE_TYPES: usize = 64;
@@ -175,21 +188,25 @@ pub fn rewrite(n: usize, table: &[u8], record: &[u8], output: &mut [u8]) -> Resu
     length(code)
 }
 
-/// Whether the first record's graph is below the second's: every path of the
-/// second is a path of the first, with a type below or equal, and paths that
-/// share in the second share in the first.
+/// Which of two records is the broader, seen from the first. A graph is below
+/// another when every path of the other is a path of it, with a type below or
+/// equal, and paths that share in the other share in it.
 ///
 /// Refused by 1 to 7.
 ///
 /// ```
+/// use record_engine::Order;
 /// let diamond = record_engine::table(&[0x01, 0x03, 0x05, 0x0F]).expect("at most 8 types");
 /// let a = [1, 1, 0, 0, 0, 0, 0, 0, 0, 0];
 /// let top = [1, 3, 0, 0, 0, 0, 0, 0, 0, 0];
-/// assert!(record_engine::is_below(4, &diamond, &a, &top)?);
-/// assert!(!record_engine::is_below(4, &diamond, &top, &a)?);
+/// let b = [1, 2, 0, 0, 0, 0, 0, 0, 0, 0];
+/// assert_eq!(record_engine::order(4, &diamond, &a, &a)?, Order::Same);
+/// assert_eq!(record_engine::order(4, &diamond, &a, &top)?, Order::Under);
+/// assert_eq!(record_engine::order(4, &diamond, &top, &a)?, Order::Above);
+/// assert_eq!(record_engine::order(4, &diamond, &a, &b)?, Order::Neither);
 /// # Ok::<(), record_engine::Refusal>(())
 /// ```
-pub fn is_below(n: usize, table: &[u8], first: &[u8], second: &[u8]) -> Result<bool, Refusal> {
+pub fn order(n: usize, table: &[u8], first: &[u8], second: &[u8]) -> Result<Order, Refusal> {
     // SAFETY: as in `rewrite`; nothing is written.
     let code = unsafe {
         record_order(
@@ -203,8 +220,7 @@ pub fn is_below(n: usize, table: &[u8], first: &[u8], second: &[u8]) -> Result<b
         )
     };
     match code::answer(code) {
-        Answer::Yes => Ok(true),
-        Answer::No => Ok(false),
+        Answer::Order(order) => Ok(order),
         Answer::Refused(refusal) => Err(refusal),
         Answer::Length(_) => unreachable!("the order gives no length"),
     }
@@ -367,6 +383,6 @@ fn length(code: u64) -> Result<usize, Refusal> {
     match code::answer(code) {
         Answer::Length(length) => Ok(length),
         Answer::Refused(refusal) => Err(refusal),
-        Answer::Yes | Answer::No => unreachable!("a call that writes gives a length"),
+        Answer::Order(_) => unreachable!("a call that writes gives a length"),
     }
 }

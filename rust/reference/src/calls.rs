@@ -8,7 +8,7 @@ use crate::combination::unification;
 use crate::common::generalization;
 use crate::difference;
 use crate::graph::Graph;
-use crate::order::below;
+use crate::order;
 use crate::record::{self, LONGEST_RECORD, MOST_LINKS, MOST_NODES};
 use crate::reply::{Refusal, Reply, Which};
 use crate::table::Table;
@@ -32,7 +32,7 @@ pub fn written(
             Ok(output)
         }
         Reply::Refused(refusal) => Err(refusal),
-        Reply::Yes | Reply::No => unreachable!("a call that writes gives a length"),
+        Reply::Order(_) => unreachable!("a call that writes gives a length"),
     }
 }
 
@@ -44,15 +44,10 @@ pub fn rewrite(n: usize, table: &[u8], graph: &[u8], output: &mut [u8]) -> Reply
     reply(result)
 }
 
-/// Whether the first graph is below the second.
+/// Which of two graphs is the broader, seen from the first.
 pub fn order(n: usize, table: &[u8], first: &[u8], second: &[u8]) -> Reply {
-    let result = accept(n, table, first, second).map(|(table, first, second)| {
-        if below(&table, &first, &second) {
-            Reply::Yes
-        } else {
-            Reply::No
-        }
-    });
+    let result = accept(n, table, first, second)
+        .map(|(table, first, second)| Reply::Order(order::order(&table, &first, &second)));
     reply(result)
 }
 

@@ -19,7 +19,7 @@ pub enum Operation {
     Combine,
     /// 3: the difference, g first.
     Difference,
-    /// 4: whether the first is below the second.
+    /// 4: which is the broader, seen from the first.
     Order,
 }
 
@@ -80,8 +80,7 @@ pub fn line(input: &[u8]) -> String {
     };
     match reply {
         Reply::Length(length) => format!("ok {length} {}", hexadecimal(&output[..length])),
-        Reply::Yes => "yes".to_string(),
-        Reply::No => "no".to_string(),
+        Reply::Order(order) => order.word().to_string(),
         Reply::Refused(Refusal::Graph(fault, which)) => {
             let which = match which {
                 Which::First => "first",

@@ -7,13 +7,63 @@ use crate::graph::{Graph, ROOT};
 use crate::table::Table;
 use std::collections::BTreeMap;
 
-/// The map that stands behind a yes: each node of the upper graph and the one
+/// The map that shows one graph below another: each node of the upper graph and the one
 /// node of the lower graph that all its paths lead to. The node of the upper
 /// graph lies over the node of the lower one.
 #[derive(Clone, Debug, PartialEq, Eq)]
 pub struct Morphism {
     /// The node of the lower graph, for each node of the upper graph.
     pub image: Vec<usize>,
+}
+
+/// Which of two graphs is the broader, seen from the first: "one of four: same,
+/// under, above, neither".
+#[derive(Clone, Copy, Debug, PartialEq, Eq, PartialOrd, Ord)]
+pub enum Order {
+    /// Each is below the other.
+    Same,
+    /// The first is below the second, and not above it.
+    Under,
+    /// The first is above the second, and not below it.
+    Above,
+    /// Neither is below the other.
+    Neither,
+}
+
+impl Order {
+    /// All four.
+    pub const ALL: [Order; 4] = [Order::Same, Order::Under, Order::Above, Order::Neither];
+
+    /// The answer where it is known whether the first is below the second, and
+    /// whether the second is below the first.
+    pub fn of(below: bool, above: bool) -> Order {
+        match (below, above) {
+            (true, true) => Order::Same,
+            (true, false) => Order::Under,
+            (false, true) => Order::Above,
+            (false, false) => Order::Neither,
+        }
+    }
+
+    /// Whether the first is below the second.
+    pub fn is_below(self) -> bool {
+        matches!(self, Order::Same | Order::Under)
+    }
+
+    /// The word that `mapcalc` prints.
+    pub fn word(self) -> &'static str {
+        match self {
+            Order::Same => "same",
+            Order::Under => "under",
+            Order::Above => "above",
+            Order::Neither => "neither",
+        }
+    }
+}
+
+/// Which of two graphs is the broader.
+pub fn order(table: &Table, first: &Graph, second: &Graph) -> Order {
+    Order::of(below(table, first, second), below(table, second, first))
 }
 
 /// Whether `s` is below `g`.

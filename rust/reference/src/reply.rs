@@ -1,6 +1,8 @@
-//! What a call gives back: a length, yes, no, or a refusal with the number it
-//! has in document 01. A refusal of a graph tells the kind and which graph.
+//! What a call gives back: a length, one of the order's four answers, or a refusal
+//! with the number it has in document 01. A refusal of a graph tells the kind and
+//! which graph.
 
+use crate::order::Order;
 use crate::record::GraphFault;
 use crate::table::TableFault;
 
@@ -55,19 +57,17 @@ impl Refusal {
 pub enum Reply {
     /// The record stands in the first bytes of the output, this many.
     Length(usize),
-    /// The order holds.
-    Yes,
-    /// The order does not hold.
-    No,
+    /// Which graph is the broader, seen from the first.
+    Order(Order),
     /// There is no result, and the output is unchanged.
     Refused(Refusal),
 }
 
 impl Reply {
-    /// The number of the refusal in document 01; none for a length, yes or no.
+    /// The number of the refusal in document 01; none for a length and for the order's answers.
     pub fn number(self) -> Option<u8> {
         match self {
-            Reply::Length(_) | Reply::Yes | Reply::No => None,
+            Reply::Length(_) | Reply::Order(_) => None,
             Reply::Refused(refusal) => Some(refusal.number()),
         }
     }

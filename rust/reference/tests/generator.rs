@@ -138,7 +138,7 @@ fn whole_inputs_bring_up_every_kind_of_line() {
         ]
     });
     let others = [1, 2, 3, 9, 10, 11, 12, 13].map(|number| format!("refused {number}"));
-    let words = ["ok", "yes", "no", "bad input"].map(str::to_string);
+    let words = ["ok", "same", "under", "above", "neither", "bad input"].map(str::to_string);
     let expected: BTreeSet<String> = graph_faults.chain(others).chain(words).collect();
     assert_eq!(
         kinds.keys().cloned().collect::<BTreeSet<_>>(),

@@ -18,7 +18,10 @@ fn over_diamond(call: Call, first: &Graph, second: &Graph) -> Result<Vec<u8>, Re
 fn is_below(lower: &Graph, upper: &Graph) -> bool {
     let table = random::diamond();
     let (lower, upper) = (record::write(lower), record::write(upper));
-    calls::order(4, &table.bytes, &lower, &upper) == Reply::Yes
+    let Reply::Order(order) = calls::order(4, &table.bytes, &lower, &upper) else {
+        panic!("accepted records");
+    };
+    order.is_below()
 }
 
 /// 255 nodes in a row with 8 links from each to the next: 8 to the 254th paths.
@@ -140,7 +143,8 @@ fn large_random_graphs_keep_the_laws() {
         let make = |call: Call, first: &[u8], second: &[u8]| {
             written(call, table.n, &table.bytes, first, second)
         };
-        assert_eq!(calls::order(table.n, &table.bytes, &s, &g), Reply::Yes);
+        let order = calls::order(table.n, &table.bytes, &s, &g);
+        assert!(matches!(order, Reply::Order(order) if order.is_below()));
         assert_eq!(make(calls::combination, &s, &g).as_ref(), Ok(&written_s));
         let difference = make(calls::difference, &g, &s).expect("s is below g");
         let restored = make(calls::combination, &g, &difference);

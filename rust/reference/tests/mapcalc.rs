@@ -46,14 +46,17 @@ fn results_are_printed_with_length_and_digits() {
 }
 
 #[test]
-fn the_order_asks_whether_the_first_is_below_the_second() {
-    assert_eq!(line(&ask(ORDER, "a", "top")), "yes");
-    assert_eq!(line(&ask(ORDER, "top", "a")), "no");
-    assert_eq!(line(&ask(ORDER, "top[0: a]", "top")), "yes");
-    assert_eq!(line(&ask(ORDER, "top", "top[0: top]")), "no");
+fn the_order_tells_which_is_the_broader() {
+    assert_eq!(line(&ask(ORDER, "a", "a")), "same");
+    assert_eq!(line(&ask(ORDER, "a", "top")), "under");
+    assert_eq!(line(&ask(ORDER, "top", "a")), "above");
+    assert_eq!(line(&ask(ORDER, "a", "b")), "neither");
+    assert_eq!(line(&ask(ORDER, "top[0: a]", "top")), "under");
+    assert_eq!(line(&ask(ORDER, "top", "top[0: top]")), "above");
     let shared = "top[0: X top, 1: X]";
-    assert_eq!(line(&ask(ORDER, shared, "top[0: top, 1: top]")), "yes");
-    assert_eq!(line(&ask(ORDER, "top[0: top, 1: top]", shared)), "no");
+    assert_eq!(line(&ask(ORDER, shared, "top[0: top, 1: top]")), "under");
+    assert_eq!(line(&ask(ORDER, "top[0: top, 1: top]", shared)), "above");
+    assert_eq!(line(&ask(ORDER, shared, "top[0: a, 1: top]")), "neither");
 }
 
 #[test]

@@ -8,13 +8,13 @@ use reference::combination::unification;
 use reference::common::generalization;
 use reference::difference::difference;
 use reference::graph::{Graph, Node, ROOT};
-use reference::order::{below, strictly_more_general, subsumption};
+use reference::order::{Order, below, order, strictly_more_general, subsumption};
 use reference::paths::{self, PathGraph};
 use reference::random::{self, Shape, TableBytes, Xorshift};
 use reference::record;
 use reference::reply::{Refusal, Reply};
 use reference::table::{Table, Type};
-use std::collections::BTreeSet;
+use std::collections::{BTreeMap, BTreeSet};
 
 /// Calls the property with many random pairs of small graphs, over all kinds of
 /// accepted tables.
@@ -47,19 +47,21 @@ fn few_paths(graph: &Graph) -> bool {
 
 #[test]
 fn order_agrees_with_the_sentence_over_paths() {
-    let (mut yes, mut no) = (0, 0);
+    let mut counts = BTreeMap::new();
     for_pairs(1, 600, |table, s, g| {
         if !few_paths(s) || !few_paths(g) {
             return;
         }
-        let by_paths = paths::below(table, &PathGraph::of(s), &PathGraph::of(g));
-        assert_eq!(below(table, s, g), by_paths, "{s:?} {g:?}");
-        match by_paths {
-            true => yes += 1,
-            false => no += 1,
-        }
+        let (lower, upper) = (PathGraph::of(s), PathGraph::of(g));
+        let by_paths = Order::of(
+            paths::below(table, &lower, &upper),
+            paths::below(table, &upper, &lower),
+        );
+        assert_eq!(order(table, s, g), by_paths, "{s:?} {g:?}");
+        *counts.entry(by_paths).or_insert(0) += 1;
     });
-    assert!(yes > 500 && no > 500, "{yes} {no}");
+    let often = |order| counts.get(order).is_some_and(|&count| count > 100);
+    assert!(Order::ALL.iter().all(often), "{counts:?}");
 }
 
 #[test]
@@ -125,10 +127,8 @@ fn rewriting_is_idempotent_and_forgets_the_numbering() {
         assert_eq!(rewrite(table.n, &table.bytes, &once), once);
         let renumbered = record::write(&random::renumbered(&mut random, &graph));
         assert_eq!(rewrite(table.n, &table.bytes, &renumbered), once);
-        let yes = calls::order(table.n, &table.bytes, &record, &once);
-        assert_eq!(yes, Reply::Yes);
-        let yes = calls::order(table.n, &table.bytes, &once, &record);
-        assert_eq!(yes, Reply::Yes);
+        let order = calls::order(table.n, &table.bytes, &record, &once);
+        assert_eq!(order, Reply::Order(Order::Same));
     }
 }
 

@@ -5,6 +5,7 @@ use reference::calls::{self, Call, written};
 use reference::canonical::canonical;
 use reference::graph::{Graph, Node};
 use reference::notation::{bytes, graph};
+use reference::order::Order;
 use reference::random::{self, TableBytes};
 use reference::record::{self, GraphFault};
 use reference::reply::{Refusal, Reply, Which};
@@ -496,7 +497,8 @@ fn refusal_11_of_a_common_part_by_links_alone() {
 
 #[test]
 fn replies_without_a_refusal_have_no_number() {
-    for reply in [Reply::Length(10), Reply::Yes, Reply::No] {
-        assert_eq!(reply.number(), None);
+    assert_eq!(Reply::Length(10).number(), None);
+    for order in Order::ALL {
+        assert_eq!(Reply::Order(order).number(), None);
     }
 }

@@ -5,6 +5,7 @@
 use reference::calls::{self, Call, written};
 use reference::graph::Graph;
 use reference::notation::{bytes, graph};
+use reference::order::Order;
 use reference::random::{self, TableBytes};
 use reference::record;
 use reference::reply::{Refusal, Reply};
@@ -162,9 +163,9 @@ fn different_nodes_may_lie_over_one() {
     let general = record::write(&graph(3, "top[0: a, 1: top]"));
     let specific = record::write(&graph(3, "top[0: X a, 1: X]"));
     let below = calls::order(4, &table.bytes, &specific, &general);
-    assert_eq!(below, Reply::Yes);
+    assert_eq!(below, Reply::Order(Order::Under));
     let above = calls::order(4, &table.bytes, &general, &specific);
-    assert_eq!(above, Reply::No);
+    assert_eq!(above, Reply::Order(Order::Above));
 }
 
 #[test]

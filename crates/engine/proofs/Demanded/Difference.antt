@@ -35,7 +35,7 @@ use Rattle.engine.specs.Difference.{allWanted, numbered, differenceRows,
 use Rattle.engine.specs.Demand.{Given, Large, Writes, MoreGeneral, remainder, Restores, Difference}
 use Rattle.engine.proofs.Orders.{order-test}
 use Rattle.engine.proofs.Results.{resultFor, rewriting-is, result-writes}
-use Rattle.engine.proofs.Demanded.Order.{order-exact}
+use Rattle.engine.proofs.Demanded.Order.{order-exact, above-exact}
 use Rattle.engine.proofs.Demanded.Combination.{other-refusal, greatest-result, written-combination}
 use Rattle.engine.proofs.Demanded.Wanted.{unwanted-exact, same-unwanted}
 use Rattle.engine.proofs.Demanded.Remainder.{rows-small, rows-restore}
@@ -264,16 +264,11 @@ module _ (n : ℕ) (t a b : List ℕ) (g s : List (Row Label)) (given : Given n 
                   sym (rewriting-is n t b s (given .opens) (given .second) room);
               second-below = order-exact n t b bytes s again (record { opens = given .opens; first = given .second; second = reads }) .0 .1
                   (restores .restores .left);
-              more-general = λ c m read x y room k w.
-                  let higher = order-exact n t bytes c again m (record { opens = given .opens; first = reads; second = read }) .0 .0 x in
-                  let strict = order-exact n t c bytes m again (record { opens = given .opens; first = read; second = reads }) .1 .0 y in
+              more-general = λ c m read x room k w.
+                  let higher = above-exact n t c bytes m again (record { opens = given .opens; first = read; second = reads }) .0 x in
                   let found = written-combination n t c a m g (record { opens = given .opens; first = read; second = given .first }) room k w in
-                  let (over, not-under) =
-                  restores .most-general (graphOfRows m) (accepted-of-any-size n c m read t) (higher, strict) (graphOfRows (found .form))
-                  (found .greatest) in (
-                    order-exact n t b (take k (unifying n t c a room .output)) s (found .form)
-                        (record { opens = given .opens; first = given .second; second = found .reads }) .0 .1 over,
-                    order-exact n t (take k (unifying n t c a room .output)) b (found .form) s
-                        (record { opens = given .opens; first = found .reads; second = given .second }) .1 .1 not-under,
-                  );
+                  above-exact n t (take k (unifying n t c a room .output)) b (found .form) s
+                  (record { opens = given .opens; first = found .reads; second = given .second }) .1
+                  (restores .most-general (graphOfRows m) (accepted-of-any-size n c m read t) higher (graphOfRows (found .form))
+                  (found .greatest));
             }

@@ -1,4 +1,4 @@
--- Meaning and bytes: accepted records mean the same exactly when rewriting gives equal bytes, and exactly when each is below the other;
+-- Meaning and bytes: accepted records mean the same exactly when rewriting gives equal bytes, and exactly when the order answers same;
 -- what rewriting writes means the same and is its own written form; a record in written form is rewritten as itself, and two such mean the
 -- same exactly when they are equal.
 use mathlib.Core.Path.{_≡_, refl, sym, _∙_, ap, subst}
@@ -25,11 +25,11 @@ use Rattle.record.specs.Read.{reading, accepted, graphOfRows}
 use Rattle.record.proofs.Rewritten.{form-again}
 use Rattle.record.proofs.Theorems.{accepted-of-any-size, accepted-fits}
 use Rattle.record.proofs.Theorems as record-theorems
-use Rattle.engine.specs.declared.Reply.the-variants.{Length, Yes}
+use Rattle.engine.specs.declared.Reply.the-variants.{Length, Same}
 use Rattle.engine.specs.Reply.{Result, resultOf, ordering, rewriting}
 use Rattle.engine.specs.Demand.{Given, WrittenRecord, Writes, Rewritten}
 use Rattle.engine.proofs.Results.{rewriting-is, result-writes}
-use Rattle.engine.proofs.Demanded.Order.{order-exact}
+use Rattle.engine.proofs.Demanded.Order.{same-exact}
 use Rattle.engine.proofs.Demanded.Output.{rewriting-small}
 
 module _ (n : ℕ) (t a : List ℕ) (rows : List (Row Label)) (opens : opened n t ≡ Accepted) (reads : reading n a ≡ accepted rows) (out : List ℕ) where
@@ -80,16 +80,12 @@ module _ (n : ℕ) (t a b : List ℕ) (s g : List (Row Label)) (given : Given n 
           (ap (λ (r : Result). take (length (encoded form)) (r .output)) (all room))
 
   -- "Graphs of equal meaning, and no others, are below each other."
-  pub order-both-ways : ((ordering n t a b ≡ Yes) × (ordering n t b a ≡ Yes)) ↔ SameMeaning (typeLabels n t) (graphOfRows s) (graphOfRows g)
-  order-both-ways =
+  pub order-same : (ordering n t a b ≡ Same) ↔ SameMeaning (typeLabels n t) (graphOfRows s) (graphOfRows g)
+  order-same =
       let accepts = opened-accepted n t (opened n t) refl (given .opens) in
       let (there, back) =
       below-both n t accepts (graphOfRows s) (graphOfRows g) (accepted-of-any-size n a s (given .first) t) (accepted-of-any-size n b g (given .second) t) in
-      let one = order-exact n t a b s g given .0 in
-      let other = order-exact n t b a g s (record { opens = given .opens; first = given .second; second = given .first }) .0 in (
-        λ (x, y). back (one .0 x, other .0 y),
-        λ m. let (x, y) = there m in (one .1 x, other .1 y),
-      )
+      (λ e. back (same-exact n t a b s g given .0 e), λ m. same-exact n t a b s g given .1 (there m))
 
 -- What rewriting writes.
 module _ (n : ℕ) (t a : List ℕ) (rows : List (Row Label)) (opens : opened n t ≡ Accepted) (reads : reading n a ≡ accepted rows) (out : List ℕ) where

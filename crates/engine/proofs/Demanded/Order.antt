@@ -1,65 +1,183 @@
--- What the order's reply means: yes exactly where the first graph is below the second, and no exactly where it is not.
-use mathlib.Core.Path.{_≡_, refl, _∙_, ap}
-use mathlib.Core.Bool.{Bool, true, false, cond}
+-- What the order's four answers mean: each is given exactly where it is true over paths, and turning the two graphs round turns the answer.
+use mathlib.Core.Path.{_≡_, refl, sym, _∙_, ap, ap₂}
+use mathlib.Core.Bool.{Bool, true, false}
 use mathlib.Core.List.{List}
-use mathlib.Core.Logic.{_↔_}
+use mathlib.Core.Logic.{_↔_, inl, inr, ⊎-elim}
+use mathlib.Core.Option.{Option, none, some}
 use Prim.Native.Nat.{ℕ}
 use native.Mathlib.Omega.{arith}
-use lib.Dec.{eqb}
-use lib.ListN.{length}
 use Rattle.graphs.specs.Graph.{Below}
 use Rattle.graphs.specs.Rows.{Row}
-use Rattle.graphs.specs.Order.{subsumes}
-use Rattle.graphs.proofs.Search.{true-false}
+use Rattle.graphs.proofs.Search.{true-false, not-true}
+use Rattle.graphs.proofs.Walk.{none-some}
 use Rattle.lattice.specs.Label.{Label}
 use Rattle.lattice.specs.declared.Opened.{Opened}
 use Rattle.lattice.specs.declared.Opened.the-variants as opened
 use Rattle.lattice.specs.Reply as table
 use Rattle.lattice.specs.Labels.{typeLabels}
 use Rattle.record.specs.Read.{Reading, refused, accepted, reading, graphOfRows}
+use Rattle.record.specs.declared.GraphFault.{GraphFault}
 use Rattle.record.proofs.Accepted.{accepted-rules}
-use Rattle.engine.specs.declared.Reply.the-variants.{Yes, No}
-use Rattle.engine.specs.Reply.{checked, readBoth, ordered, ordering}
-use Rattle.engine.specs.Demand.{Given}
+use Rattle.engine.specs.declared.Side.the-variants.{First, Second}
+use Rattle.engine.specs.declared.kinds.Kind.{Kind}
+use Rattle.engine.specs.declared.kinds.Kind.the-variants as kind
+use Rattle.engine.specs.declared.Reply.{Reply}
+use Rattle.engine.specs.declared.Reply.the-variants.{Same, Under, Above, Neither, Table, Graph}
+use Rattle.engine.specs.Reply.{kindOf, checked, readBoth, rowsBelow, compared, ordered, ordering}
+use Rattle.engine.specs.Demand.{Given, AnswersBelow, AnswersNotBelow}
 use Rattle.engine.proofs.Orders.{order-test}
 
+-- the two tests that one of the four tells
+toldIn : Kind → Option (Bool × Bool)
+toldIn kind.Same = some (true, true)
+toldIn kind.Under = some (true, false)
+toldIn kind.Above = some (false, true)
+toldIn kind.Neither = some (false, false)
+toldIn (kind.Length l) = none
+toldIn (kind.Refused number) = none
+toldIn (kind.RefusedGraph number side) = none
+
+abbrev told : Reply → Option (Bool × Bool)
+told r = toldIn (kindOf r)
+
+compared-told : (x y : Bool) → told (compared x y) ≡ some (x, y)
+unfolding toldIn
+compared-told true true = refl
+compared-told true false = refl
+compared-told false true = refl
+compared-told false false = refl
+
+-- other tests, another of the four
+compared-injective : (x y z w : Bool) → compared x y ≡ compared z w → (x ≡ z) × (y ≡ w)
+compared-injective x y z w e =
+    let q : _≡_ {A = Option (Bool × Bool)} (some (x, y)) (some (z, w)) = sym (compared-told x y) ∙ ap told e ∙ compared-told z w in
+    let p : _≡_ {A = Bool × Bool} (x, y) (z, w) = cc in
+    (ap (λ (v : Bool × Bool). v .0) p, ap (λ (v : Bool × Bool). v .1) p)
+
+-- no refusal is one of the four
+refusal-told : (r : Reply) (x y : Bool) → told r ≡ none → r ≡ compared x y → ⊥
+refusal-told r x y q e = none-some (sym q ∙ ap told e ∙ compared-told x y)
+
 module _ (n : ℕ) (t a b : List ℕ) (s g : List (Row Label)) (given : Given n t a b s g) where
-  ordering-is : ordering n t a b ≡ ordered n t s g
-  unfolding ordering
+  ordering-is : ordering n t a b ≡ compared (rowsBelow n t s g) (rowsBelow n t g s)
+  unfolding ordering ordered
   ordering-is = rw (given .opens, given .first, given .second)
 
-  test : (subsumes (typeLabels n t) eqb eqb (graphOfRows s) (graphOfRows g) (length g) ≡ true) ↔
-      Below (typeLabels n t) (graphOfRows s) (graphOfRows g)
-  test = order-test n t s g (accepted-rules n b g (given .second))
+  -- each test is of the order over paths
+  lower : (rowsBelow n t s g ≡ true) ↔ Below (typeLabels n t) (graphOfRows s) (graphOfRows g)
+  lower = order-test n t s g (accepted-rules n b g (given .second))
 
-  -- The order answers yes exactly where the first graph is below the second, and no exactly where it is not.
-  pub order-exact : ((ordering n t a b ≡ Yes) ↔ Below (typeLabels n t) (graphOfRows s) (graphOfRows g)) ×
-      ((ordering n t a b ≡ No) ↔ (Below (typeLabels n t) (graphOfRows s) (graphOfRows g) → ⊥))
-  unfolding ordered
-  order-exact = go (subsumes (typeLabels n t) eqb eqb (graphOfRows s) (graphOfRows g) (length g)) refl
+  upper : (rowsBelow n t g s ≡ true) ↔ Below (typeLabels n t) (graphOfRows g) (graphOfRows s)
+  upper = order-test n t g s (accepted-rules n a s (given .first))
+
+  not-lower : (rowsBelow n t s g ≡ false) ↔ (Below (typeLabels n t) (graphOfRows s) (graphOfRows g) → ⊥)
+  not-lower = (λ q x. true-false (lower .1 x) q, λ none. not-true (rowsBelow n t s g) (λ q. none (lower .0 q)))
+
+  not-upper : (rowsBelow n t g s ≡ false) ↔ (Below (typeLabels n t) (graphOfRows g) (graphOfRows s) → ⊥)
+  not-upper = (λ q x. true-false (upper .1 x) q, λ none. not-true (rowsBelow n t g s) (λ q. none (upper .0 q)))
+
+  -- an answer is given exactly where the tests give it
+  answer-exact : (x y : Bool) → (ordering n t a b ≡ compared x y) ↔ ((rowsBelow n t s g ≡ x) × (rowsBelow n t g s ≡ y))
+  answer-exact x y = (
+    λ e. compared-injective (rowsBelow n t s g) (rowsBelow n t g s) x y (sym ordering-is ∙ e),
+    λ (p, q). ordering-is ∙ ap₂ compared p q,
+  )
+
+  -- Each of the four exactly where it is true over paths:
+  pub same-exact : (ordering n t a b ≡ Same) ↔
+      (Below (typeLabels n t) (graphOfRows s) (graphOfRows g) × Below (typeLabels n t) (graphOfRows g) (graphOfRows s))
+  same-exact = (
+    λ e. let (p, q) = answer-exact true true .0 e in (lower .0 p, upper .0 q),
+    λ (x, y). answer-exact true true .1 (lower .1 x, upper .1 y),
+  )
+
+  pub under-exact : (ordering n t a b ≡ Under) ↔
+      (Below (typeLabels n t) (graphOfRows s) (graphOfRows g) × (Below (typeLabels n t) (graphOfRows g) (graphOfRows s) → ⊥))
+  under-exact = (
+    λ e. let (p, q) = answer-exact true false .0 e in (lower .0 p, not-upper .0 q),
+    λ (x, y). answer-exact true false .1 (lower .1 x, not-upper .1 y),
+  )
+
+  pub above-exact : (ordering n t a b ≡ Above) ↔
+      (Below (typeLabels n t) (graphOfRows g) (graphOfRows s) × (Below (typeLabels n t) (graphOfRows s) (graphOfRows g) → ⊥))
+  above-exact = (
+    λ e. let (p, q) = answer-exact false true .0 e in (upper .0 q, not-lower .0 p),
+    λ (x, y). answer-exact false true .1 (not-lower .1 y, upper .1 x),
+  )
+
+  pub neither-exact : (ordering n t a b ≡ Neither) ↔
+      ((Below (typeLabels n t) (graphOfRows s) (graphOfRows g) → ⊥) × (Below (typeLabels n t) (graphOfRows g) (graphOfRows s) → ⊥))
+  neither-exact = (
+    λ e. let (p, q) = answer-exact false false .0 e in (not-lower .0 p, not-upper .0 q),
+    λ (x, y). answer-exact false false .1 (not-lower .1 x, not-upper .1 y),
+  )
+
+  -- The order answers same or under exactly where the first graph is below the second, and above or neither exactly where it is not.
+  pub order-exact : (AnswersBelow n t a b ↔ Below (typeLabels n t) (graphOfRows s) (graphOfRows g)) ×
+      (AnswersNotBelow n t a b ↔ (Below (typeLabels n t) (graphOfRows s) (graphOfRows g) → ⊥))
+  order-exact = (
+    (
+      λ answer. ⊎-elim (λ (e : ordering n t a b ≡ Same). same-exact .0 e .0) (λ (e : ordering n t a b ≡ Under). under-exact .0 e .0) answer,
+      λ x. below (rowsBelow n t g s) refl (lower .1 x),
+    ),
+    (
+      λ answer. ⊎-elim (λ (e : ordering n t a b ≡ Above). above-exact .0 e .1) (λ (e : ordering n t a b ≡ Neither). neither-exact .0 e .0) answer,
+      λ none. not-below (rowsBelow n t g s) refl (not-lower .1 none),
+    ),
+  )
     where
-      go : (c : Bool) → subsumes (typeLabels n t) eqb eqb (graphOfRows s) (graphOfRows g) (length g) ≡ c →
-          ((ordering n t a b ≡ Yes) ↔ Below (typeLabels n t) (graphOfRows s) (graphOfRows g)) ×
-          ((ordering n t a b ≡ No) ↔ (Below (typeLabels n t) (graphOfRows s) (graphOfRows g) → ⊥))
-      go true e =
-          let is : ordering n t a b ≡ Yes = ordering-is ∙ ap (λ (c : Bool). cond c Yes No) e in (
-            (λ _. test .0 e, λ _. is),
-            (λ q. let z : _≡_ {A = ℕ} 0 1 = cc in absurd (omega arith), λ none. absurd (none (test .0 e))),
-          )
-      go false e =
-          let is : ordering n t a b ≡ No = ordering-is ∙ ap (λ (c : Bool). cond c Yes No) e in (
-            (λ q. let z : _≡_ {A = ℕ} 0 1 = cc in absurd (omega arith), λ below. true-false (test .1 below) e),
-            (λ _ below. true-false (test .1 below) e, λ _. is),
-          )
+      below : (y : Bool) → rowsBelow n t g s ≡ y → rowsBelow n t s g ≡ true → AnswersBelow n t a b
+      below true q p = inl (answer-exact true true .1 (p, q))
+      below false q p = inr (answer-exact true false .1 (p, q))
 
--- A yes says that the table and both records are accepted.
-pub yes-given : (n : ℕ) (t a b : List ℕ) → ordering n t a b ≡ Yes → (s : List (Row Label)) × (g : List (Row Label)) × Given n t a b s g
-unfolding ordering
-yes-given n t a b q = go (table.opened n t) (reading n a) (reading n b) refl refl refl q
+      not-below : (y : Bool) → rowsBelow n t g s ≡ y → rowsBelow n t s g ≡ false → AnswersNotBelow n t a b
+      not-below true q p = inl (answer-exact false true .1 (p, q))
+      not-below false q p = inr (answer-exact false false .1 (p, q))
+
+-- One of the four says that the table and both records are accepted.
+answer-given : (n : ℕ) (t a b : List ℕ) (x y : Bool) → ordering n t a b ≡ compared x y →
+    (s : List (Row Label)) × (g : List (Row Label)) × Given n t a b s g
+unfolding ordering toldIn
+answer-given n t a b x y e = go (table.opened n t) (reading n a) (reading n b) refl refl refl e
   where
-    go : (o : Opened) (x y : Reading) → table.opened n t ≡ o → reading n a ≡ x → reading n b ≡ y →
-        checked (λ r. r) o (readBoth (λ r. r) x y (ordered n t)) ≡ Yes → (s : List (Row Label)) × (g : List (Row Label)) × Given n t a b s g
-    go (opened.Refused fault) x y i j k e = let z : _≡_ {A = ℕ} 0 1 = cc in absurd (omega arith)
-    go opened.Accepted (refused fault) y i j k e = let z : _≡_ {A = ℕ} 0 1 = cc in absurd (omega arith)
-    go opened.Accepted (accepted s) (refused fault) i j k e = let z : _≡_ {A = ℕ} 0 1 = cc in absurd (omega arith)
+    go : (o : Opened) (v w : Reading) → table.opened n t ≡ o → reading n a ≡ v → reading n b ≡ w →
+        checked (λ r. r) o (readBoth (λ r. r) v w (ordered n t)) ≡ compared x y →
+        (s : List (Row Label)) × (g : List (Row Label)) × Given n t a b s g
+    go (opened.Refused fault) v w i j k e = absurd (refusal-told (Table fault) x y refl e)
+    go opened.Accepted (refused fault) w i j k e = absurd (refusal-told (Graph fault First) x y refl e)
+    go opened.Accepted (accepted s) (refused fault) i j k e = absurd (refusal-told (Graph fault Second) x y refl e)
     go opened.Accepted (accepted s) (accepted g) i j k e = (s, g, record { opens = i; first = j; second = k })
+
+module _ (n : ℕ) (t a b : List ℕ) where
+  pub below-given : AnswersBelow n t a b → (s : List (Row Label)) × (g : List (Row Label)) × Given n t a b s g
+  below-given (inl e) = answer-given n t a b true true e
+  below-given (inr e) = answer-given n t a b true false e
+
+  -- turning the two round turns the answer
+  pub answer-turned : (x y : Bool) → ordering n t a b ≡ compared x y → ordering n t b a ≡ compared y x
+  answer-turned x y e =
+      let (s, g, given) = answer-given n t a b x y e in
+      let (p, q) = answer-exact n t a b s g given x y .0 e in
+      answer-exact n t b a g s (record { opens = given .opens; first = given .second; second = given .first }) y x .1 (q, p)
+
+  -- and the side of a refusal, where only one is refused
+  pub refusal-turned : (s : List (Row Label)) → reading n a ≡ accepted s → (fault : GraphFault) →
+      (ordering n t a b ≡ Graph fault Second) ↔ (ordering n t b a ≡ Graph fault First)
+  unfolding ordering ordered toldIn
+  refusal-turned s e fault = rw e (go (table.opened n t) (reading n b))
+    where
+      go : (o : Opened) (w : Reading) →
+          (checked (λ r. r) o (readBoth (λ r. r) (accepted s) w (ordered n t)) ≡ Graph fault Second) ↔
+          (checked (λ r. r) o (readBoth (λ r. r) w (accepted s) (ordered n t)) ≡ Graph fault First)
+      go (opened.Refused other) w = (
+        λ q. let z : _≡_ {A = ℕ} 0 1 = cc in absurd (omega arith),
+        λ q. let z : _≡_ {A = ℕ} 0 1 = cc in absurd (omega arith),
+      )
+      go opened.Accepted (refused other) = (
+        λ q. let same : other ≡ fault = cc in ap (λ f. Graph f First) same,
+        λ q. let same : other ≡ fault = cc in ap (λ f. Graph f Second) same,
+      )
+      go opened.Accepted (accepted g) = (
+        λ q. absurd (refusal-told (Graph fault Second) (rowsBelow n t s g) (rowsBelow n t g s) refl (sym q)),
+        λ q. absurd (refusal-told (Graph fault First) (rowsBelow n t g s) (rowsBelow n t s g) refl (sym q)),
+      )

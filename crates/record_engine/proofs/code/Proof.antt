@@ -18,6 +18,12 @@ enum-told c = search needs
 enum-told-2 : tie.Need-enum-told-2
 enum-told-2 c = search needs
 
+enum-told-3 : tie.Need-enum-told-3
+enum-told-3 c = search needs
+
+enum-told-4 : tie.Need-enum-told-4
+enum-told-4 c = search needs
+
 enum-known-kind-2 : tie.Need-enum-known-kind-2
 enum-known-kind-2 c = search needs
 
@@ -49,12 +55,18 @@ returns-3 : tie.Need-returns-3
 returns-3 c = search needs
 
 returns-4 : tie.Need-returns-4
-returns-4 c =
+returns-4 c = search needs
+
+returns-5 : tie.Need-returns-5
+returns-5 c = search needs
+
+returns-6 : tie.Need-returns-6
+returns-6 c =
     let k = c .before .before in
     c .refusal .ensures ∙ ap codeFor (sym (k .kind2 .given .1) ∙ k .before .before .kind-of .ensures)
 
-returns-5 : tie.Need-returns-5
-returns-5 c =
+returns-7 : tie.Need-returns-7
+returns-7 c =
     let k = c .before .before .before in
     c .refusal2 .ensures ∙ ap (refusalCode (k .kind3 .given .0 .0)) (c .before .side-number .ensures .0)
     ∙ ap codeFor (sym (k .kind3 .given .1) ∙ k .before .before .kind-of .ensures)
@@ -67,6 +79,8 @@ code-spec =
     enum-known-kind
     enum-told
     enum-told-2
+    enum-told-3
+    enum-told-4
     enum-known-kind-2
     refusal-requires
     enum-known-kind-3
@@ -76,4 +90,6 @@ code-spec =
     returns-2
     returns-3
     returns-4
-    returns-5)
+    returns-5
+    returns-6
+    returns-7)

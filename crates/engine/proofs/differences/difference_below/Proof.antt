@@ -1,4 +1,4 @@
--- The difference goes on only where the order gives a yes, along its node map, and where every node of s has a wanted type.
+-- The difference goes on only where s is below g, along the order's node map, and where every node of s has a wanted type.
 use mathlib.Core.Path.{sym, _∙_}
 use Prim.Native.Nat.{ℕ}
 use borrow.Author.Tests.{not-true, not-false}

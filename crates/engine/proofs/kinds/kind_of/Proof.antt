@@ -15,6 +15,12 @@ enum-told c = search needs
 enum-told-2 : tie.Need-enum-told-2
 enum-told-2 c = search needs
 
+enum-told-3 : tie.Need-enum-told-3
+enum-told-3 c = search needs
+
+enum-told-4 : tie.Need-enum-told-4
+enum-told-4 c = search needs
+
 enum-known-reply-2 : tie.Need-enum-known-reply-2
 enum-known-reply-2 c = search needs
 
@@ -26,12 +32,6 @@ enum-known-reply-3 c = search needs
 
 graph-number-requires : tie.Need-graph-number-requires
 graph-number-requires c κs = search needs
-
-enum-told-3 : tie.Need-enum-told-3
-enum-told-3 c = search needs
-
-enum-told-4 : tie.Need-enum-told-4
-enum-told-4 c = search needs
 
 enum-told-5 : tie.Need-enum-told-5
 enum-told-5 c = search needs
@@ -45,6 +45,12 @@ enum-told-7 c = search needs
 enum-told-8 : tie.Need-enum-told-8
 enum-told-8 c = search needs
 
+enum-told-9 : tie.Need-enum-told-9
+enum-told-9 c = search needs
+
+enum-told-10 : tie.Need-enum-told-10
+enum-told-10 c = search needs
+
 returns : tie.Need-returns
 returns c = ap kindOf (sym (c .before .reply .given .1))
 
@@ -55,16 +61,16 @@ returns-3 : tie.Need-returns-3
 returns-3 c = search needs
 
 returns-4 : tie.Need-returns-4
-returns-4 c = ap Refused (c .table-number .ensures) ∙ ap kindOf (sym (c .before .before .reply2 .given .1))
+returns-4 c = search needs
 
 returns-5 : tie.Need-returns-5
-returns-5 c = ap (λ number. RefusedGraph number (c .before .before .reply3 .given .0 .1 .0)) (c .graph-number .ensures) ∙ ap kindOf (sym (c .before .before .reply3 .given .1))
+returns-5 c = search needs
 
 returns-6 : tie.Need-returns-6
-returns-6 c = search needs
+returns-6 c = ap Refused (c .table-number .ensures) ∙ ap kindOf (sym (c .before .before .reply2 .given .1))
 
 returns-7 : tie.Need-returns-7
-returns-7 c = search needs
+returns-7 c = ap (λ number. RefusedGraph number (c .before .before .reply3 .given .0 .1 .0)) (c .graph-number .ensures) ∙ ap kindOf (sym (c .before .before .reply3 .given .1))
 
 returns-8 : tie.Need-returns-8
 returns-8 c = search needs
@@ -78,6 +84,12 @@ returns-10 c = search needs
 returns-11 : tie.Need-returns-11
 returns-11 c = search needs
 
+returns-12 : tie.Need-returns-12
+returns-12 c = search needs
+
+returns-13 : tie.Need-returns-13
+returns-13 c = search needs
+
 pub kind-of-spec : {M : Type 1} → statement M
 kind-of-spec =
     tie.close
@@ -85,16 +97,18 @@ kind-of-spec =
     enum-known-reply
     enum-told
     enum-told-2
+    enum-told-3
+    enum-told-4
     enum-known-reply-2
     table-number-requires
     enum-known-reply-3
     graph-number-requires
-    enum-told-3
-    enum-told-4
     enum-told-5
     enum-told-6
     enum-told-7
     enum-told-8
+    enum-told-9
+    enum-told-10
     returns
     returns-2
     returns-3
@@ -105,4 +119,6 @@ kind-of-spec =
     returns-8
     returns-9
     returns-10
-    returns-11)
+    returns-11
+    returns-12
+    returns-13)

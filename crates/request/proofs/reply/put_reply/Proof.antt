@@ -47,6 +47,24 @@ slice-aggregate-put-word-2 c = search needs
 put-word-requires-2 : tie.Need-put-word-requires-2
 put-word-requires-2 c κs = search needs
 
+enum-told-3 : tie.Need-enum-told-3
+enum-told-3 c = search needs
+
+slice-aggregate-put-word-3 : tie.Need-slice-aggregate-put-word-3
+slice-aggregate-put-word-3 c = search needs
+
+put-word-requires-3 : tie.Need-put-word-requires-3
+put-word-requires-3 c κs = search needs
+
+enum-told-4 : tie.Need-enum-told-4
+enum-told-4 c = search needs
+
+slice-aggregate-put-word-4 : tie.Need-slice-aggregate-put-word-4
+slice-aggregate-put-word-4 c = search needs
+
+put-word-requires-4 : tie.Need-put-word-requires-4
+put-word-requires-4 c κs = search needs
+
 enum-known-kind-2 : tie.Need-enum-known-kind-2
 enum-known-kind-2 c = search needs
 
@@ -103,13 +121,33 @@ returns-4 c =
     let p = c .before .before in
     let k = p .before .before .before in
     let f = k .before .before in
-    puts-kind (f .before .before .before .args .output .now) (sym (f .kind-of .ensures) ∙ k .kind2 .given .1) (p .put-refused .ensures)
+    puts-kind (f .before .before .before .args .output .now) (sym (f .kind-of .ensures) ∙ k .enum-told3 .given .1) (p .put-word3 .ensures)
 
 same-length-5 : tie.Need-same-length-5
 same-length-5 c = search needs
 
 returns-5 : tie.Need-returns-5
 returns-5 c =
+    let p = c .before .before in
+    let k = p .before .before .before in
+    let f = k .before .before in
+    puts-kind (f .before .before .before .args .output .now) (sym (f .kind-of .ensures) ∙ k .enum-told4 .given .1) (p .put-word4 .ensures)
+
+same-length-6 : tie.Need-same-length-6
+same-length-6 c = search needs
+
+returns-6 : tie.Need-returns-6
+returns-6 c =
+    let p = c .before .before in
+    let k = p .before .before .before in
+    let f = k .before .before in
+    puts-kind (f .before .before .before .args .output .now) (sym (f .kind-of .ensures) ∙ k .kind2 .given .1) (p .put-refused .ensures)
+
+same-length-7 : tie.Need-same-length-7
+same-length-7 c = search needs
+
+returns-7 : tie.Need-returns-7
+returns-7 c =
     let p = c .before .before in
     let k = p .before .before .before in
     let f = k .before .before in
@@ -129,6 +167,12 @@ put-reply-spec =
     enum-told-2
     slice-aggregate-put-word-2
     put-word-requires-2
+    enum-told-3
+    slice-aggregate-put-word-3
+    put-word-requires-3
+    enum-told-4
+    slice-aggregate-put-word-4
+    put-word-requires-4
     enum-known-kind-2
     put-refused-requires
     enum-known-kind-3
@@ -142,4 +186,8 @@ put-reply-spec =
     same-length-4
     returns-4
     same-length-5
-    returns-5)
+    returns-5
+    same-length-6
+    returns-6
+    same-length-7
+    returns-7)
