@@ -61,3 +61,11 @@ roomy out = leb 512 (length out)
 -- what an output holds that the table is asked into: the table's bytes and its own past them, or its own where they do not fit
 unfoldable pub tabled : List ℕ → List ℕ
 tabled out = cond (roomy out) (houseTable ++ drop 512 out) out
+
+-- an answer and the output beside it
+abbrev pub answerWith : Bool → List ℕ → Bool × List ℕ
+answerWith answer out = (answer, out)
+
+-- what asking for the table answers and leaves in the output
+abbrev pub filling : List ℕ → Bool × List ℕ
+filling out = answerWith (roomy out) (tabled out)

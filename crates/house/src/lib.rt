@@ -3,7 +3,7 @@
 // the meets of all pairs as a constant; the type table that states the order is filled here.
 ghost use mathlib.Core.Path.{_≡_};
 ghost use Prim.Native.Nat.{_<_};
-ghost use Rattle.house.specs.House.{under, byteOf, roomy, tabled};
+ghost use Rattle.house.specs.House.{under, byteOf, answerWith, filling};
 
 pub mod meets;
 
@@ -38,8 +38,7 @@ fn byte_at(k: usize) -> u8
 // Fills the output with the type table, for n = 64, and answers whether it has room for the 512 bytes. Its bytes past them are
 // as they were, and all of them where there is no room.
 pub fn fill_table(out: &mut [u8]) -> bool
-    ensures { λ r. ⌜ r ≡ roomy (now (out .entry)) ⌝ }
-    ensures { λ r. ⌜ now (out .exit) ≡ tabled (now (out .entry)) ⌝ }
+    ensures { λ r. ⌜ answerWith r (now (out .exit)) ≡ filling (now (out .entry)) ⌝ }
 {
     if out.len() < 512 {
         return false;

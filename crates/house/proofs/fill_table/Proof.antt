@@ -1,12 +1,12 @@
 -- Each turn stores one byte of the table; what is left is stored from k on.
 use Prim.Native.Nat.{ℕ, _≤_, _-_}
-use mathlib.Core.Path.{_≡_, refl, sym, _∙_}
+use mathlib.Core.Path.{_≡_, refl, sym, ap₂, _∙_}
 use native.Mathlib.Omega.{arith}
 use lib.ListN.{length, length-set}
 use lib.Seq.{sets}
 use borrow.Author.Needs.{needs}
 use borrow.Author.Tests.{le-leb, lt-leb}
-use Rattle.house.specs.House.{houseTable}
+use Rattle.house.specs.House.{houseTable, answerWith}
 use Rattle.house.proofs.Filling.{left, fill-start, fill-step, fill-end, fill-none}
 use Rattle.house.proofs.fill_table.Statement.{statement}
 use Rattle.house.proofs.fill_table.Tie as tie
@@ -18,7 +18,7 @@ abbrev μ-loop : tie.MeasureT-loop
 μ-loop out₀ k₀ out k = 512 - k
 
 returns : tie.Need-returns Inv-loop μ-loop
-returns c = (sym (lt-leb _ _ (c .if1 .taken)), fill-none _ (c .if1 .taken))
+returns c = ap₂ answerWith (sym (lt-leb _ _ (c .if1 .taken))) (fill-none _ (c .if1 .taken))
 
 loop-holds : tie.Need-loop-holds Inv-loop μ-loop
 loop-holds c = (search needs, search needs, refl, fill-start _)
@@ -50,7 +50,7 @@ same-length c = search needs
 returns-2 : tie.Need-returns-2 Inv-loop μ-loop
 returns-2 c =
     let turn = c .before .loop in
-    (sym (le-leb _ _ (turn .inv .1)), fill-end _ (turn .out) (turn .k) (c .loop-test .left) (turn .inv .1) (turn .inv .3))
+    ap₂ answerWith (sym (le-leb _ _ (turn .inv .1))) (fill-end _ (turn .out) (turn .k) (c .loop-test .left) (turn .inv .1) (turn .inv .3))
 
 pub fill-table-spec : {M : Type 1} → statement M
 fill-table-spec =
