@@ -148,7 +148,7 @@ fn the_difference_of_large_pairs() {
 #[test]
 fn the_difference_over_rival_types() {
     let mut compared = Comparison::new(DIFFERENCE, 41);
-    let random = &mut Xorshift::new(42);
+    let random = &mut Xorshift::stored(42);
     while compared.inputs() < 20_000 {
         let table = random::rival_table(random);
         let accepted = table.accepted();
@@ -166,7 +166,7 @@ fn the_difference_over_rival_types() {
 #[test]
 fn the_difference_over_64_rival_types() {
     let mut compared = Comparison::new(DIFFERENCE, 43);
-    let random = &mut Xorshift::new(44);
+    let random = &mut Xorshift::stored(44);
     while compared.inputs() < 4_000 {
         let table = random::large_rival_table(random);
         let accepted = table.accepted();

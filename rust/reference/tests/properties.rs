@@ -337,7 +337,7 @@ fn difference_from_itself_is_a_lone_top() {
 /// wanted type, and else a difference that restores.
 #[test]
 fn difference_is_refused_where_a_node_has_no_wanted_type() {
-    let mut random = Xorshift::new(16);
+    let mut random = Xorshift::stored(16);
     let (mut refused, mut restored) = (0, 0);
     while refused + restored < 600 {
         let table = random::rival_table(&mut random).accepted();
@@ -370,7 +370,7 @@ fn difference_is_refused_where_a_node_has_no_wanted_type() {
 /// A table of 64 types that admits no differences, not numbered along its order.
 #[test]
 fn rival_tables_of_64_types() {
-    let mut random = Xorshift::new(18);
+    let mut random = Xorshift::stored(18);
     for _ in 0..20 {
         let table = random::large_rival_table(&mut random).accepted();
         assert_eq!(table.n(), 64);
