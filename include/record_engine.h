@@ -13,16 +13,22 @@
  *
  * A record is a graph of up to 255 nodes. Byte 0 is the number of nodes; node 0, the
  * root, and the others follow, each as
- *    1 byte   its type, 1 to n - 1
+ *    1 byte   its type, 1 to n - 1, in bits 0 to 6; bit 7 is set when it has a range
+ *    2 bytes  where bit 7 is set, its range: the lowest level and the highest, each 0 to
+ *             255 and the lowest not above the highest; without the bit it is 0 to 255,
+ *             the full range, which says nothing
  *    8 bytes  its features, of 0 to 63: bit f % 8 of byte f / 8 is set when it has f
  *    1 byte   for each feature that it has, the lowest first: the number of the node
  *             that the feature's link leads to
  * and nothing follows the last. There are at most 2,048 links, no node reaches itself,
  * and the root reaches every node. Links may share a target. Input may number the other
- * nodes in any way; a record that is written numbers them as they are first met from
- * the root, lowest feature first, all below one link before the next link. Over the
- * diamond {2, 3, 1, 0, 0, 0, 0, 0, 0, 0, 1, 1, 0, 0, 0, 0, 0, 0, 0, 0} is a root of type
- * 3 whose feature 0 leads to a node of type 1.
+ * nodes in any way and spell out a full range; a record that is written numbers them as
+ * they are first met from the root, lowest feature first, all below one link before the
+ * next link, and spells out no full range. Over the diamond
+ * {2, 3, 1, 0, 0, 0, 0, 0, 0, 0, 1, 1, 0, 0, 0, 0, 0, 0, 0, 0} is a root of type 3 whose
+ * feature 0 leads to a node of type 1, and
+ * {1, 0x83, 10, 200, 0, 0, 0, 0, 0, 0, 0, 0} is a lone node of type 3 with the levels 10
+ * to 200.
  *
  * A record or an output is handed in as a pointer to its first byte and a length. A
  * pointer is not null, also where the length is 0. The output overlaps nothing
@@ -41,12 +47,13 @@
  *    2  a bit at n or above; no order; 0 not least; n - 1 not greatest
  *    3  two types without a meet or a join
  *    4  a record with no nodes, too short, with bytes left over, or more than 2,048 links
- *    5  a type that is 0 or at least n; a target that is no node
+ *    5  a type that is 0 or at least n; a target that is no node; a lowest level above
+ *       the highest
  *    6  a node reaches itself
  *    7  a node that the root does not reach
  *    8  the result exists and the output is shorter
  *    9  combination: a loop
- *   10  combination: a clash, and no loop
+ *   10  combination: a clash, by type 0 or by ranges that do not overlap, and no loop
  *   11  a result of more than 255 nodes or 2,048 links
  *   12  difference: the second graph is not below the first
  *   13  difference: some node of the second graph has no wanted type: among the types
@@ -66,7 +73,7 @@ extern "C" {
 #endif
 
 /* An output of so many bytes is never too short. */
-#define RECORD_LONGEST 4344
+#define RECORD_LONGEST 4854
 
 /* The number of the house types, and the length of their table. */
 #define RECORD_HOUSE_TYPES 64
@@ -94,16 +101,17 @@ uint64_t record_rewrite(size_t n, const uint8_t *table, size_t table_length,
                         uint8_t *output, size_t output_length);
 
 /* Which of two records is the broader. A graph is below another when every path of the
- * other is one of its own, with a type below or equal, and paths that share in the
- * other share in it. Answers RECORD_SAME, RECORD_UNDER, RECORD_ABOVE or RECORD_NEITHER,
- * or refuses by 1 to 7. */
+ * other is one of its own, with a type below or equal and a range inside, and paths that
+ * share in the other share in it. Answers RECORD_SAME, RECORD_UNDER, RECORD_ABOVE or
+ * RECORD_NEITHER, or refuses by 1 to 7. */
 uint64_t record_order(size_t n, const uint8_t *table, size_t table_length,
                       const uint8_t *first, size_t first_length,
                       const uint8_t *second, size_t second_length);
 
 /* Writes the common part of two records: the paths in both, each with the join of
- * its two types, two sharing exactly when they share in both. It is the least graph
- * above both. Answers the length, or refuses by 1 to 7, 11 and 8. */
+ * its two types and the smallest range holding both its ranges, two sharing exactly
+ * when they share in both. It is the least graph above both. Answers the length, or
+ * refuses by 1 to 7, 11 and 8. */
 uint64_t record_generalize(size_t n, const uint8_t *table, size_t table_length,
                            const uint8_t *first, size_t first_length,
                            const uint8_t *second, size_t second_length,

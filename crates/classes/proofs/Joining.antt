@@ -59,7 +59,7 @@ module _ (nodes second : ℕ) (start₀ end₀ pool₀ : List ℕ) where
     pub forest : Forest parent
     pub waiting-long : length waiting ≡ 4097
     -- a join takes at most 64 places and leaves one class less
-    pub bounded : used + 64 * rootCount nodes parent ≤ 4606 + 64 * nodes
+    pub bounded : used + 64 * rootCount nodes parent ≤ 5116 + 64 * nodes
     pub room : used + 64 * (rootCount nodes parent - 1) ≤ length pool
     -- a join adds no more pairs than the rows lose links
     pub few : sumTo nodes (rowLength (rootOf parent) start end) ≤ 4096
@@ -78,7 +78,7 @@ module _ (nodes second : ℕ) (start₀ end₀ pool₀ : List ℕ) where
 
 -- Every node is a class of its own, and the two roots wait.
 pub join-start : {nodes second : ℕ} {start end pool : List ℕ} {links : ℕ} → Rows nodes start end pool links →
-    second < nodes → links ≤ 4606 → sumTo nodes (rowLength (λ x. x) start end) ≤ 4096 →
+    second < nodes → links ≤ 5116 → sumTo nodes (rowLength (λ x. x) start end) ≤ 4096 →
     links + 64 * (nodes - 1) ≤ length pool → (parent waiting : List ℕ) →
     length parent ≡ 510 → ((x : ℕ) → x < 510 → getD parent x 0 ≡ x) → length waiting ≡ 4097 →
     Joining nodes second start end pool parent start end pool (set waiting 0 second) links 1
@@ -272,7 +272,7 @@ module _ {nodes second : ℕ} {start₀ end₀ pool₀ parent start end pool wai
     two = omega (arith, sum-two nodes lo hi (ownRoot parent) less hi-in, own-one lo (found .2), own-one hi (found .3))
 
     pub join-asks : (lo < 510) × (hi < 510) × Span pool used (getD start lo 0) (getD end lo 0) ×
-        Span pool used (getD start hi 0) (getD end hi 0) × (used + 64 ≤ 37182) × (used + 64 ≤ length pool) ×
+        Span pool used (getD start hi 0) (getD end hi 0) × (used + 64 ≤ 37692) × (used + 64 ≤ length pool) ×
         ((count - 1) + getD end hi 0 ≤ 4097 + getD start hi 0)
     join-asks = (
       small lo lo-in,
@@ -679,7 +679,7 @@ module _ {nodes second : ℕ} {start₀ end₀ pool₀ parent start end pool wai
     -- What a join of x to y, or of y to x, asks and leaves.
     pub record Round (lo hi : ℕ) : Type 0 where
       pub asks : (lo < 510) × (hi < 510) × Span pool used (getD start lo 0) (getD end lo 0) ×
-          Span pool used (getD start hi 0) (getD end hi 0) × (used + 64 ≤ 37182) × (used + 64 ≤ length pool) ×
+          Span pool used (getD start hi 0) (getD end hi 0) × (used + 64 ≤ 37692) × (used + 64 ≤ length pool) ×
           ((count - 1) + getD end hi 0 ≤ 4097 + getD start hi 0)
       pub goes : {parent′ start′ end′ pool′ waiting′ : List ℕ} {at top : ℕ} →
           Joins lo hi parent₂ start end pool waiting used (count - 1) parent′ start′ end′ pool′ waiting′ at top →

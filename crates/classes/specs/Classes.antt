@@ -48,7 +48,7 @@ pub record Closed (nodes second : ℕ) (start end pool : List ℕ) (class start�
   pub related : (x : ℕ) → x < nodes → Same nodes second start end pool x (getD class x 0)
   pub together : getD class 0 0 ≡ getD class second 0
   pub rows : Rows nodes start′ end′ pool′ used
-  pub bounded : used ≤ 37182
+  pub bounded : used ≤ 37692
   pub room : used ≤ length pool′
   pub short : sumTo nodes (rowLength (λ x. getD class x 0) start′ end′) ≤ 4096
   pub source : (c k : ℕ) → c < nodes → At start′ end′ c k →

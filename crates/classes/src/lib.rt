@@ -27,7 +27,7 @@ fn join(
     requires { ⌜ (reach .used + 64 ≤ length (now pool)) × (length (now waiting) ≡ 4097) ⌝ }
     requires { ⌜ Span (now pool) (reach .used) (getD (now start) lo 0) (getD (now end) lo 0) ⌝ }
     requires { ⌜ Span (now pool) (reach .used) (getD (now start) hi 0) (getD (now end) hi 0) ⌝ }
-    requires { ⌜ (reach .used + 64 ≤ 37182) × (reach .count + getD (now end) hi 0 ≤ 4097 + getD (now start) hi 0) ⌝ }
+    requires { ⌜ (reach .used + 64 ≤ 37692) × (reach .count + getD (now end) hi 0 ≤ 4097 + getD (now start) hi 0) ⌝ }
     ensures { λ r. ⌜ MergesRows lo hi (now (start .entry)) (now (end .entry)) (now (pool .entry)) (now (waiting .entry)) reach (now (pool .exit)) (now (waiting .exit)) r ⌝ }
     ensures { λ r. ⌜ now (class .exit) ≡ set (now (class .entry)) hi lo ⌝ }
     ensures { λ r. ⌜ now (start .exit) ≡ set (now (start .entry)) lo (reach .used) ⌝ }
@@ -56,7 +56,7 @@ pub fn close(
     used: usize,
 ) -> usize
     requires { ⌜ Rows nodes (now start) (now end) (now pool) used ⌝ }
-    requires { ⌜ (second < nodes) × (used ≤ 4606) × (length (now class) ≡ 510) ⌝ }
+    requires { ⌜ (second < nodes) × (used ≤ 5116) × (length (now class) ≡ 510) ⌝ }
     requires { ⌜ sumTo nodes (rowLength (λ x. x) (now start) (now end)) ≤ 4096 ⌝ }
     requires { ⌜ used + 64 * (nodes - 1) ≤ length (now pool) ⌝ }
     ensures { λ r. ⌜ Closed nodes second (now (start .entry)) (now (end .entry)) (now (pool .entry)) (now (class .exit)) (now (start .exit)) (now (end .exit)) (now (pool .exit)) r ⌝ }

@@ -45,7 +45,7 @@ pub fn merge(
     requires { ⌜ (reach .used + 64 ≤ length (now pool)) × (length (now waiting) ≡ 4097) ⌝ }
     requires { ⌜ Span (now pool) (reach .used) «a_start» «a_end» ⌝ }
     requires { ⌜ Span (now pool) (reach .used) «b_start» «b_end» ⌝ }
-    requires { ⌜ (reach .used + 64 ≤ 37182) × (reach .count + «b_end» ≤ 4097 + «b_start») ⌝ }
+    requires { ⌜ (reach .used + 64 ≤ 37692) × (reach .count + «b_end» ≤ 4097 + «b_start») ⌝ }
     ensures { λ r. ⌜ Merges «a_start» «a_end» «b_start» «b_end» (now (pool .entry)) (now (waiting .entry)) reach (now (pool .exit)) (now (waiting .exit)) r ⌝ }
 {
     let mut i = a_start;

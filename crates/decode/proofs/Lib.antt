@@ -1,5 +1,6 @@
 -- Laws of decoding.
 pub mod Steps
+pub mod Labels
 pub mod Thin
 pub mod Word
 pub mod Reading

@@ -1,18 +1,19 @@
 -- Links, rows and records read from bytes, step by step.
-use mathlib.Core.Path.{_≡_, refl, sym, ap, _∙_}
+use mathlib.Core.Path.{_≡_, refl, sym, ap, ap₂, _∙_}
 use mathlib.Core.Bool.{Bool, false, cond}
 use mathlib.Core.List.{List, [], _∷_, _++_, map, append-assoc}
 use mathlib.Core.Option.{Option, none, some, Option·map, bind}
 use Prim.Native.Nat.{ℕ, zero, suc, _+_, _-_, _/_, _%_, _^_, _≤_, _<_}
-use native.Mathlib.Nat.{add-zero, zero-add}
+use native.Mathlib.Nat.{zero-add}
 use native.Mathlib.Omega.{arith}
 use borrow.Author.Tests.{eq-eqb, ne-eqb, le-leb, lt-leb}
 use lib.Dec.{eqb}
 use lib.ListN.{length, getD, drop, length-drop}
 use lib.Seq.{getD-drop, drop-drop}
 use Rattle.graphs.specs.Rows.{from}
-use Rattle.decode.specs.Decode.{Taken, changed, takeTarget, takeLinks, takeRow, takeRows, bitOf, whole, decoded}
-use Rattle.decode.proofs.Steps.{ByteTaken}
+use Rattle.lattice.specs.Label.{Label}
+use Rattle.decode.specs.Decode.{Taken, changed, takeTarget, takeLinks, labelLength, labelOf, takeRow, takeRows, bitOf, whole, decoded}
+use Rattle.decode.proofs.Steps.{ByteTaken, LabelTaken, MapTaken}
 use Rattle.decode.specs.Word.{wordOf, takeWord}
 use Rattle.decode.proofs.Word.{word-digit, word-links}
 
@@ -53,41 +54,48 @@ one-target f next room r b rest e = ap (λ (k : ℕ). takeTarget f next k (b ∷
 pub untaken : {X : Type 0} (b : Bool) (x y : X) → b ≡ false → cond b x y ≡ y
 untaken b x y e = ap (λ (c : Bool). cond c x y) e
 
--- too few bytes for a type and a map
-row-short : (bytes : List ℕ) (at room : ℕ) → length bytes - at < 9 → takeRow room (drop at bytes) ≡ none
+-- too few bytes for a label and a map
+row-short : (bytes : List ℕ) (at room : ℕ) → length bytes - at < labelLength (drop at bytes) + 8 → takeRow room (drop at bytes) ≡ none
 unfolding takeRow
 row-short bytes at room h =
-    untaken _ _ none (lt-leb 9 (length (drop at bytes)) (omega (arith, length-drop at bytes)))
+    untaken _ _ none (lt-leb (labelLength (drop at bytes) + 8) (length (drop at bytes)) (omega (arith, length-drop at bytes)))
 
-pub row-untyped : (bytes : List ℕ) (at room : ℕ) → length bytes ≤ at → takeRow room (drop at bytes) ≡ none
-row-untyped bytes at room h = row-short bytes at room (omega arith)
+pub row-unlabelled : (bytes : List ℕ) (at room : ℕ) → length bytes - at < labelLength (drop at bytes) → takeRow room (drop at bytes) ≡ none
+row-unlabelled bytes at room h = row-short bytes at room (omega arith)
 
-pub row-unmapped : (bytes : List ℕ) (at room : ℕ) {b behind : ℕ} → ByteTaken bytes at b behind → length bytes - behind < 8 →
+pub row-unmapped : (bytes : List ℕ) (at room : ℕ) {l : Label} {behind : ℕ} → LabelTaken bytes at l behind → length bytes - behind < 8 →
     takeRow room (drop at bytes) ≡ none
 row-unmapped bytes at room t h = row-short bytes at room (omega (arith, t .next-is))
 
--- the type, and the links by the word of the map
-pub row-is : (bytes : List ℕ) (at room : ℕ) → ((i : ℕ) → getD bytes i 0 < 256) → 9 ≤ length bytes - at →
-    takeRow room (drop at bytes)
-    ≡ Option·map (changed λ ls. (getD bytes at 0, ls)) (takeWord 64 0 (wordOf 8 (drop (at + 1) bytes)) room (drop (at + 9) bytes))
+-- the label, and the links by the word of the map
+pub row-is : (bytes : List ℕ) (at room : ℕ) {l : Label} {behind word first : ℕ} → ((i : ℕ) → getD bytes i 0 < 256) →
+    LabelTaken bytes at l behind → MapTaken bytes behind word first →
+    takeRow room (drop at bytes) ≡ Option·map (changed λ ls. (l, ls)) (takeWord 64 0 word room (drop first bytes))
 unfolding takeRow bitOf
-row-is bytes at room small h =
-    ap (λ (b : Bool). cond b (Option·map (changed λ ls. (getD (drop at bytes) 0 0, ls))
-    (takeLinks (bitOf (drop 1 (drop at bytes))) (from 0 64) room (drop 9 (drop at bytes)))) none)
-    (le-leb 9 (length (drop at bytes)) (omega (arith, length-drop at bytes)))
-    ∙ ap (λ (l : List ℕ). Option·map (changed λ ls. (getD (drop at bytes) 0 0, ls))
-    (takeLinks (bitOf l) (from 0 64) room (drop 9 (drop at bytes)))) (drop-drop 1 at bytes)
-    ∙ ap (λ (l : List ℕ). Option·map (changed λ ls. (getD (drop at bytes) 0 0, ls))
-    (takeLinks (bitOf (drop (at + 1) bytes)) (from 0 64) room l)) (drop-drop 9 at bytes)
-    ∙ ap (λ (t : ℕ). Option·map (changed λ ls. (t, ls)) (takeLinks (bitOf (drop (at + 1) bytes)) (from 0 64) room (drop (at + 9) bytes)))
-    (getD-drop at bytes 0 0 ∙ ap (λ (k : ℕ). getD bytes k 0) (add-zero at))
-    ∙ ap (Option·map (changed λ ls. (getD bytes at 0, ls)))
-    (sym (word-links (bitOf (drop (at + 1) bytes)) 64 0 (wordOf 8 (drop (at + 1) bytes)) digit room (drop (at + 9) bytes)))
+row-is bytes at room {l} {behind} {word} {first} small t m =
+    ap (λ (b : Bool). cond b (Option·map (changed λ ls. (labelOf (drop at bytes), ls))
+    (takeLinks (bitOf (drop long (drop at bytes))) (from 0 64) room (drop (long + 8) (drop at bytes)))) none)
+    (le-leb (long + 8) (length (drop at bytes)) (omega (arith, length-drop at bytes, t .inside, t .next-is, m .inside)))
+    ∙ ap₂ (λ (x : Label) (o : Option (Taken (List (ℕ × ℕ)))). Option·map (changed λ ls. (x, ls)) o) (sym (t .label-is))
+    (ap₂ (λ (map rest : List ℕ). takeLinks (bitOf map) (from 0 64) room rest) map-is rest-is
+    ∙ sym (word-links (bitOf (drop behind bytes)) 64 0 (wordOf 8 (drop behind bytes)) digit room (drop first bytes))
+    ∙ ap (λ (w : ℕ). takeWord 64 0 w room (drop first bytes)) (sym (m .word-is)))
   where
-    digit : (i : ℕ) → i < 64 → eqb (wordOf 8 (drop (at + 1) bytes) / 2 ^ i % 2) 1 ≡ bitOf (drop (at + 1) bytes) (0 + i)
-    digit i l =
-        ap (λ (x : ℕ). eqb x 1) (word-digit 8 (drop (at + 1) bytes) (λ j. rw getD-drop (small (at + 1 + j))) i l)
-        ∙ ap (bitOf (drop (at + 1) bytes)) (sym (zero-add i))
+    long : ℕ
+    long = labelLength (drop at bytes)
+
+    map-is : drop long (drop at bytes) ≡ drop behind bytes
+    map-is = drop-drop long at bytes ∙ ap (λ (k : ℕ). drop k bytes) (sym (t .next-is))
+
+    rest-is : drop (long + 8) (drop at bytes) ≡ drop first bytes
+    rest-is =
+        let place : at + (long + 8) ≡ first = omega (arith, t .next-is, m .next-is) in
+        drop-drop (long + 8) at bytes ∙ ap (λ (k : ℕ). drop k bytes) place
+
+    digit : (i : ℕ) → i < 64 → eqb (wordOf 8 (drop behind bytes) / 2 ^ i % 2) 1 ≡ bitOf (drop behind bytes) (0 + i)
+    digit i h =
+        ap (λ (x : ℕ). eqb x 1) (word-digit 8 (drop behind bytes) (λ j. rw getD-drop (small (behind + j))) i h)
+        ∙ ap (bitOf (drop behind bytes)) (sym (zero-add i))
 
 -- A record.
 

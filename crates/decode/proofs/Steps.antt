@@ -1,5 +1,5 @@
 -- What a step of the reader tells of the bytes.
-use mathlib.Core.Path.{_≡_, refl, sym, _∙_}
+use mathlib.Core.Path.{_≡_, refl, sym, ap, _∙_}
 use mathlib.Core.Bool.{Bool, true, false, cond}
 use mathlib.Core.List.{List}
 use Prim.Native.Nat.{ℕ, _+_, _-_, _≤_, _<_}
@@ -11,8 +11,14 @@ use Rattle.decode.specs.declared.reader.Step.{Step}
 use Rattle.decode.specs.declared.reader.Step.the-variants.{Byte, End}
 use Rattle.decode.specs.declared.reader.MapStep.{MapStep}
 use Rattle.decode.specs.declared.reader.MapStep.the-variants.{Map, Cut}
+use Rattle.decode.specs.declared.rows.LabelStep.{LabelStep}
+use Rattle.decode.specs.declared.rows.LabelStep.the-variants as label
+use Rattle.lattice.specs.Label.{Label}
+use Rattle.layout.specs.declared.Label.{Label as Stated}
+use Rattle.layout.specs.Builder.{stated, unstated}
+use Rattle.decode.specs.Decode.{labelLength, labelOf}
 use Rattle.decode.specs.Word.{wordOf}
-use Rattle.decode.specs.Reader.{byteStep, mapStep}
+use Rattle.decode.specs.Reader.{byteStep, mapStep, labelStep}
 
 -- a byte was taken
 pub record ByteTaken (bytes : List ℕ) (at b next : ℕ) : Type 0 where
@@ -25,6 +31,12 @@ pub record MapTaken (bytes : List ℕ) (at word next : ℕ) : Type 0 where
   pub inside : 8 ≤ length bytes - at
   pub word-is : word ≡ wordOf 8 (drop at bytes)
   pub next-is : next ≡ at + 8
+
+-- a label was taken
+pub record LabelTaken (bytes : List ℕ) (at : ℕ) (l : Label) (next : ℕ) : Type 0 where
+  pub inside : labelLength (drop at bytes) ≤ length bytes - at
+  pub label-is : l ≡ labelOf (drop at bytes)
+  pub next-is : next ≡ at + labelLength (drop at bytes)
 
 module _ (bytes : List ℕ) (at : ℕ) {s : Step} (e : s ≡ byteStep bytes at) where
   pub byte-taken : {b next : ℕ} → s ≡ Byte b next → ByteTaken bytes at b next
@@ -57,3 +69,26 @@ module _ (bytes : List ℕ) (at : ℕ) {s : MapStep} (e : s ≡ mapStep bytes at
           length bytes - at < 8
       go true h q = absurd (let z : _≡_ {A = ℕ} 0 1 = cc in omega arith)
       go false h q = leb-false 8 (length bytes - at) h
+
+module _ (bytes : List ℕ) (at : ℕ) {s : LabelStep} (e : s ≡ labelStep bytes at) where
+  abbrev long : ℕ
+  long = labelLength (drop at bytes)
+
+  abbrev found : LabelStep
+  found = label.Found (unstated (labelOf (drop at bytes))) (at + long)
+
+  pub label-taken : {l : Stated} {next : ℕ} → s ≡ label.Found l next → LabelTaken bytes at (stated l) next
+  label-taken {l} {next} t = go (leb long (length bytes - at)) refl (sym e ∙ t)
+    where
+      go : (c : Bool) → leb long (length bytes - at) ≡ c → cond c found label.Cut ≡ label.Found l next → LabelTaken bytes at (stated l) next
+      go true h q =
+          let same : l ≡ unstated (labelOf (drop at bytes)) = cc in
+          record { inside = leb-true long (length bytes - at) h; label-is = ap stated same; next-is = cc }
+      go false h q = absurd (let z : _≡_ {A = ℕ} 0 1 = cc in omega arith)
+
+  pub label-cut : s ≡ label.Cut → length bytes - at < long
+  label-cut t = go (leb long (length bytes - at)) refl (sym e ∙ t)
+    where
+      go : (c : Bool) → leb long (length bytes - at) ≡ c → cond c found label.Cut ≡ label.Cut → length bytes - at < long
+      go true h q = absurd (let z : _≡_ {A = ℕ} 0 1 = cc in omega arith)
+      go false h q = leb-false long (length bytes - at) h

@@ -11,25 +11,26 @@ use lib.Bits.{bitAnd, and-le-l}
 use lib.Count.{trailingZeros}
 use lib.Dec.{eqb}
 use lib.ListN.{length, getD, set, drop, length-drop, length-set, drop-of-length-le}
-use lib.Seq.{drop-cons, getD-set-same, getD-set-other}
+use lib.Seq.{drop-cons, getD-drop, getD-set-same, getD-set-other}
 use Rattle.graphs.specs.Rows.{Row}
 use Rattle.graphs.proofs.Walk.{some-injective, none-some}
 use Rattle.lattice.specs.Label.{Label}
 use Rattle.lattice.specs.Words.{without}
 use Rattle.lattice.proofs.Bits.{lowest-bit, lowest-cleared}
-use Rattle.layout.specs.Layout.{header, labelFrom, linkWord, size, linksBetween, rowsFrom, rowsOf}
-use Rattle.layout.specs.Builder.{Built, Open, Same}
+use Rattle.layout.specs.Layout.{header, longest, labelFrom, linkWord, size, linksBetween, rowsFrom, rowsOf}
+use Rattle.layout.specs.Builder.{Built, Open, Same, putLabel}
 use Rattle.layout.proofs.Spans.{links-none}
-use Rattle.layout.proofs.Builder.{same-before, same-trans, label-same, links-put, built-kept, rows-kept, built-begin, row-closes, closed-rows, built-shaped}
+use Rattle.layout.proofs.Builder.{same-before, same-trans, label-same, length-put, put-before, label-put, links-put, built-kept, rows-kept, built-begin, row-closes, closed-rows, built-shaped}
 use Rattle.decode.specs.declared.rows.RowEnd.{RowEnd}
 use Rattle.decode.specs.declared.rows.RowEnd.the-variants.{At, Short}
 use Rattle.decode.specs.Answers.{Held, Parses}
 use Rattle.decode.specs.Decode.{Taken, changed, takeTarget, takeRow, takeRows, whole, decoded}
 use Rattle.decode.specs.Storing.{Fits, Stored, Took, TookLinks, TookRow, rowBetween}
-use Rattle.decode.specs.Word.{wordOf, takeWord}
+use Rattle.decode.specs.Word.{takeWord}
 use Rattle.decode.proofs.Decoded.{are-bytes, decoded-says, decoded-orderly}
+use Rattle.decode.proofs.Labels.{label-known}
 use Rattle.decode.proofs.Reading.{after, after-none, after-more, no-room, no-bytes, one-target, untaken, row-is, Counted, rows-one, decoded-rows}
-use Rattle.decode.proofs.Steps.{ByteTaken, MapTaken}
+use Rattle.decode.proofs.Steps.{ByteTaken, LabelTaken, MapTaken}
 use Rattle.decode.proofs.Word.{first-digit, word-none}
 
 -- Links.
@@ -43,8 +44,8 @@ pub record Linking (read : Option (Taken (List (ℕ × ℕ)))) (bytes : List ℕ
   pub inside : next ≤ length bytes
   pub before : Same ws₀ ws 0 at
   pub long : length ws ≡ length ws₀
-  pub full : length ws₀ ≡ 2560
-  pub few : limit ≤ 2560
+  pub full : length ws₀ ≡ longest
+  pub few : limit ≤ longest
 
 pub link-begin : (bytes : List ℕ) (word start at limit : ℕ) (ws : List ℕ) → word < 2 ^ 64 → Fits bytes start at limit ws →
     Linking (takeWord 64 0 word (limit - at) (drop start bytes)) bytes at limit ws ws word start at
@@ -164,13 +165,13 @@ module _ {X : Type 0} {found : List ℕ → ℕ → ℕ → X} {least : ℕ} {re
 
 -- A row.
 
--- the row whose links were stored behind its header, or not
-row-took : (bytes : List ℕ) (start at limit word : ℕ) (ws : List ℕ) (answer : RowEnd) (ws′ : List ℕ) → ((i : ℕ) → getD bytes i 0 < 256) →
-    9 ≤ length bytes - start → word ≡ wordOf 8 (drop (start + 1) bytes) → at < length ws →
-    Took linksBetween 0 (takeWord 64 0 word (limit - (at + header)) (drop (start + 9) bytes)) bytes (at + header) limit
-    (set ws at (getD bytes start 0)) answer ws′ →
+-- the row whose label and map the reader took, and whose links were stored behind its label, or not
+pub row-read : (bytes : List ℕ) (start at limit : ℕ) (ws : List ℕ) {opened : List ℕ} {answer : RowEnd} {ws′ : List ℕ} {l : Label}
+    {behind word first : ℕ} → ((i : ℕ) → getD bytes i 0 < 256) → at + header ≤ length ws → LabelTaken bytes start l behind →
+    MapTaken bytes behind word first → opened ≡ putLabel ws at l →
+    Took linksBetween 0 (takeWord 64 0 word (limit - (at + header)) (drop first bytes)) bytes (at + header) limit opened answer ws′ →
     Took rowBetween header (takeRow (limit - (at + header)) (drop start bytes)) bytes at limit ws answer ws′
-row-took bytes start at limit word ws answer ws′ small enough word-is inside t =
+row-read bytes start at limit ws {opened} {answer} {ws′} {l} {behind} {word} {first} small inside labelled mapped put t =
     record {
       short-stands = λ q. same ∙ ap (Option·map (changed more)) (t .short-stands q);
       at-stands = λ next end q.
@@ -180,45 +181,35 @@ row-took bytes start at limit word ws answer ws′ small enough word-is inside t
               read-is =
                   same
                   ∙ ap (Option·map (changed more)) (s .read-is)
-                  ∙ ap (λ (l : Label). some
-                  (record { value = (l, linksBetween ws′ (at + header) end); room = limit - end; rest = drop next bytes })) (sym label);
+                  ∙ ap (λ (x : Label). some
+                  (record { value = (x, linksBetween ws′ (at + header) end); room = limit - end; rest = drop next bytes })) (sym label);
               room = s .room;
               inside = s .inside;
             },
           );
       before =
-          same-trans ws headed ws′ (same-before ws at (getD bytes start 0) 0 at (omega arith)) (λ k low high. t .before k low (omega arith));
-      long = t .long ∙ length-set ws at (getD bytes start 0);
+          same-trans ws opened ws′ (subst (λ (new : List ℕ). Same ws new 0 at) (sym put) (put-before ws at l 0 at (omega arith)))
+          (λ k low high. t .before k low (omega arith));
+      long = t .long ∙ ap length put ∙ length-put ws at l;
     }
   where
-    headed : List ℕ
-    headed = set ws at (getD bytes start 0)
-
     more : List (ℕ × ℕ) → Row Label
-    more ls = (getD bytes start 0, ls)
+    more ls = (l, ls)
 
-    label : labelFrom ws′ at ≡ getD bytes start 0
+    highest : l .highest ≤ 255
+    highest =
+        subst (λ (x : Label). x .highest ≤ 255) (sym (labelled .label-is))
+        (label-known (drop start bytes) (λ i. rw getD-drop (small (start + i))) .highest)
+
+    label : labelFrom ws′ at ≡ l
     label =
-        label-same headed ws′ at (λ k low high. t .before k (omega arith) high) ∙ getD-set-same ws at (getD bytes start 0) 0 inside
+        label-same opened ws′ at (λ k low high. t .before k (omega arith) high)
+        ∙ ap (λ (new : List ℕ). labelFrom new at) put
+        ∙ label-put ws at l inside highest
 
     same : takeRow (limit - (at + header)) (drop start bytes)
-        ≡ Option·map (changed more) (takeWord 64 0 word (limit - (at + header)) (drop (start + 9) bytes))
-    same =
-        row-is bytes start (limit - (at + header)) small enough
-        ∙ ap (λ (w : ℕ). Option·map (changed more) (takeWord 64 0 w (limit - (at + header)) (drop (start + 9) bytes))) (sym word-is)
-
--- the same, where the reader took the label and the map
-pub row-read : (bytes : List ℕ) (start at limit word : ℕ) (ws : List ℕ) (answer : RowEnd) (ws′ : List ℕ) →
-    {b behind first : ℕ} → ((i : ℕ) → getD bytes i 0 < 256) → at < length ws → ByteTaken bytes start b behind →
-    MapTaken bytes behind word first →
-    Took linksBetween 0 (takeWord 64 0 word (limit - (at + header)) (drop first bytes)) bytes (at + header) limit (set ws at b) answer ws′ →
-    Took rowBetween header (takeRow (limit - (at + header)) (drop start bytes)) bytes at limit ws answer ws′
-row-read bytes start at limit word ws answer ws′ {first = first} small inside t m took =
-    let place : first ≡ start + 9 = omega (arith, t .next-is, m .next-is) in
-    row-took bytes start at limit word ws answer ws′ small (omega (arith, t .next-is, m .inside))
-    (m .word-is ∙ ap (λ (k : ℕ). wordOf 8 (drop k bytes)) (t .next-is)) inside
-    (subst₂ (λ (k b : ℕ). Took linksBetween 0 (takeWord 64 0 word (limit - (at + header)) (drop k bytes)) bytes (at + header) limit
-    (set ws at b) answer ws′) place (t .byte-is) took)
+        ≡ Option·map (changed more) (takeWord 64 0 word (limit - (at + header)) (drop first bytes))
+    same = row-is bytes start (limit - (at + header)) small labelled mapped
 
 -- A record.
 
@@ -232,13 +223,13 @@ pub record Filling (bytes : List ℕ) (nodes : ℕ) (ws : List ℕ) (at limit ne
   pub room : at ≤ limit
   pub built : Built ws (nodes + 2) v at
   pub sized : size ws ≡ nodes
-  pub long : length ws ≡ 2560
+  pub long : length ws ≡ longest
 
-pub fill-begin : (bytes : List ℕ) (nodes next : ℕ) (ws : List ℕ) → Counted bytes nodes next → length ws ≡ 2560 →
+pub fill-begin : (bytes : List ℕ) (nodes next : ℕ) (ws : List ℕ) → Counted bytes nodes next → length ws ≡ longest →
     Filling bytes nodes (set (set ws 0 nodes) 1 (nodes + 2)) (nodes + 2) (nodes + 2 + 2048) next 0
 unfolding rowsFrom
 fill-begin bytes nodes next ws n long =
-    let longer : length (set ws 0 nodes) ≡ 2560 = length-set ws 0 nodes ∙ long in
+    let longer : length (set ws 0 nodes) ≡ longest = length-set ws 0 nodes ∙ long in
     let room : nodes + 2 + 2048 - (nodes + 2) ≡ 2048 = omega arith in
     record {
       todo = nodes;
@@ -260,7 +251,7 @@ parse-none bytes ws e = record { refuses = λ q. refl; holds = λ rows q. none-s
 
 module _ {bytes : List ℕ} {nodes : ℕ} {ws : List ℕ} {at limit next v : ℕ} (s : Filling bytes nodes ws at limit next v) where
   -- a header has room, and so have all links
-  pub fill-room : nodes ≤ 255 → v < nodes → limit + header ≤ 2560
+  pub fill-room : nodes ≤ 255 → v < nodes → limit + header ≤ longest
   fill-room small h = omega (arith, s .limited)
 
   row-room : limit + header - (at + header) ≡ limit - at

@@ -1,12 +1,13 @@
--- A record's bytes as rows (document 01, "Graph record"): what they state, or nothing where refusal 4 is due.
+-- A record's bytes as rows (document 01, "Graph record"; ranges of levels by document 02, Paper 7): what they state, or nothing
+-- where refusal 4 is due.
 use mathlib.Core.Bool.{Bool, cond}
 use mathlib.Core.List.{List, [], _∷_}
 use mathlib.Core.Option.{Option, none, some, Option·map, bind}
-use Prim.Native.Nat.{ℕ, zero, suc, _/_, _%_, _^_}
+use Prim.Native.Nat.{ℕ, zero, suc, _+_, _/_, _%_, _^_}
 use lib.Dec.{eqb, leb}
 use lib.ListN.{length, getD, drop}
 use Rattle.graphs.specs.Rows.{Row, features}
-use Rattle.lattice.specs.Label.{Label}
+use Rattle.lattice.specs.Label.{Label, plain}
 
 -- "feature f, 0 to 63, is bit f mod 8 of byte f div 8"
 unfoldable pub bitOf : List ℕ → ℕ → Bool
@@ -32,11 +33,28 @@ unfoldable pub takeLinks : (ℕ → Bool) → List ℕ → ℕ → List ℕ → 
 takeLinks stands [] room rest = some (record { value = []; room = room; rest = rest })
 takeLinks stands (f ∷ fs) room rest = cond (stands f) (takeTarget f (takeLinks stands fs) room rest) (takeLinks stands fs room rest)
 
--- "for each node in turn: one type byte, 8 bytes of feature map .., then one target byte for each standing bit"
+-- "bit 7 says that two bytes follow it, lowest and highest level" (document 02, Paper 7): whether bit 7 of a type byte is set
+abbrev pub isRanged : ℕ → Bool
+isRanged b = leb 128 b
+
+-- the length of the label that bytes begin with
+unfoldable pub labelLength : List ℕ → ℕ
+labelLength rest = cond (isRanged (getD rest 0 0)) 3 1
+
+-- the label: "Bits 0 to 6 of the type byte are the type .. without the bit the range is 0 to 255"
+unfoldable pub labelOf : List ℕ → Label
+labelOf rest =
+    cond (isRanged (getD rest 0 0))
+    (record { type = getD rest 0 0 % 128; lowest = getD rest 1 0; highest = getD rest 2 0 })
+    (plain (getD rest 0 0 % 128))
+
+-- "for each node in turn: one type byte, 8 bytes of feature map .., then one target byte for each standing bit", the two levels
+-- "before the feature map"
 unfoldable pub takeRow : ℕ → List ℕ → Option (Taken (Row Label))
 takeRow room rest =
-    cond (leb 9 (length rest))
-    (Option·map (changed λ ls. (getD rest 0 0, ls)) (takeLinks (bitOf (drop 1 rest)) features room (drop 9 rest)))
+    cond (leb (labelLength rest + 8) (length rest))
+    (Option·map (changed λ ls. (labelOf rest, ls))
+    (takeLinks (bitOf (drop (labelLength rest) rest)) features room (drop (labelLength rest + 8) rest)))
     none
 
 unfoldable pub takeRows : ℕ → ℕ → List ℕ → Option (Taken (List (Row Label)))

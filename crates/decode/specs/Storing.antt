@@ -6,7 +6,7 @@ use Prim.Native.Nat.{ℕ, _+_, _-_, _≤_}
 use lib.ListN.{length, drop}
 use Rattle.graphs.specs.Rows.{Row}
 use Rattle.lattice.specs.Label.{Label}
-use Rattle.layout.specs.Layout.{header, labelFrom, linksBetween}
+use Rattle.layout.specs.Layout.{header, longest, labelFrom, linksBetween}
 use Rattle.layout.specs.Builder.{Same}
 use Rattle.decode.specs.declared.rows.RowEnd.{RowEnd}
 use Rattle.decode.specs.declared.rows.RowEnd.the-variants.{At, Short}
@@ -17,8 +17,8 @@ use Rattle.decode.specs.Word.{takeWord}
 pub record Fits (bytes : List ℕ) (start at limit : ℕ) (ws : List ℕ) : Type 0 where
   pub inside : start ≤ length bytes
   pub room : at ≤ limit
-  pub few : limit ≤ 2560
-  pub full : length ws ≡ 2560
+  pub few : limit ≤ longest
+  pub full : length ws ≡ longest
 
 -- `value` was read up to the byte `next` and stands in front of the place `end`, behind which links have room up to `limit`.
 pub record Stored {X : Type 0} (value : X) (read : Option (Taken X)) (bytes : List ℕ) (limit next end : ℕ) : Type 0 where

@@ -4,11 +4,13 @@ use crate::reader::MapStep;
 use crate::reader::Step;
 use crate::reader::byte_from;
 use crate::reader::map_from;
+use layout::Label;
 ghost use mathlib.Core.Path.{_≡_};
 ghost use Prim.Native.Nat.{_+_};
 ghost use lib.ListN.{length};
-ghost use Rattle.layout.specs.Layout.{header};
+ghost use Rattle.layout.specs.Layout.{header, longest};
 ghost use Rattle.decode.specs.Answers.{Parses};
+ghost use Rattle.decode.specs.Reader.{labelStep};
 ghost use Rattle.decode.specs.Storing.{Fits, TookLinks, TookRow};
 
 // The most links of a record.
@@ -20,12 +22,50 @@ pub enum RowEnd {
     Short,
 }
 
+// A label and the position behind it; or the record ends.
+pub enum LabelStep {
+    Found(Label, usize),
+    Cut,
+}
+
+// Takes the label at a byte: the type, and where its bit 7 is set the lowest and the highest level.
+pub fn take_label(bytes: &[u8], start: usize) -> LabelStep
+    ensures { λ r. ⌜ r ≡ labelStep (now (bytes .entry)) start ⌝ }
+{
+    let step = byte_from(bytes, start);
+    let Step::Byte(kind, behind) = step else {
+        return LabelStep::Cut;
+    };
+    if kind < 128 {
+        let label = Label {
+            kind,
+            lowest: 0,
+            highest: 255,
+        };
+        return LabelStep::Found(label, behind);
+    }
+    let low_step = byte_from(bytes, behind);
+    let Step::Byte(lowest, after) = low_step else {
+        return LabelStep::Cut;
+    };
+    let high_step = byte_from(bytes, after);
+    let Step::Byte(highest, next) = high_step else {
+        return LabelStep::Cut;
+    };
+    let label = Label {
+        kind: kind - 128,
+        lowest,
+        highest,
+    };
+    LabelStep::Found(label, next)
+}
+
 // Takes a target byte for each set bit of the map, lowest first, and stores the links from a place on, below a limit.
 pub fn take_links(
     bytes: &[u8],
     map: u64,
     start: usize,
-    graph: &mut [u16; 2560],
+    graph: &mut [u16; layout::LONGEST],
     at: usize,
     limit: usize,
 ) -> RowEnd
@@ -55,31 +95,31 @@ pub fn take_links(
 pub fn take_row(
     bytes: &[u8],
     start: usize,
-    graph: &mut [u16; 2560],
+    graph: &mut [u16; layout::LONGEST],
     at: usize,
     limit: usize,
 ) -> RowEnd
     requires { ⌜ Fits (now bytes) start (at + header) limit (now graph) ⌝ }
     ensures { λ r. ⌜ TookRow (now (bytes .entry)) start at limit (now (graph .entry)) r (now (graph .exit)) ⌝ }
 {
-    let step = byte_from(bytes, start);
-    let Step::Byte(label, behind) = step else {
+    let label_step = take_label(bytes, start);
+    let LabelStep::Found(label, behind) = label_step else {
         return RowEnd::Short;
     };
     let map_step = map_from(bytes, behind);
     let MapStep::Map(map, first) = map_step else {
         return RowEnd::Short;
     };
-    graph[at] = label as u16;
+    layout::put_label(graph, at, label);
     take_links(bytes, map, first, graph, at + layout::HEADER, limit)
 }
 
 // Whether the bytes are a record; if so the words hold its graph. The first row stands behind the places where rows begin. The
 // limit of links lies as many places further, and moves by a header with each row.
-pub fn parse(bytes: &[u8], graph: &mut [u16; 2560]) -> bool
-    requires { ⌜ length (now graph) ≡ 2560 ⌝ }
+pub fn parse(bytes: &[u8], graph: &mut [u16; layout::LONGEST]) -> bool
+    requires { ⌜ length (now graph) ≡ longest ⌝ }
     ensures { λ r. ⌜ Parses (now (bytes .entry)) r (now (graph .exit)) ⌝ }
-    ensures { λ r. ⌜ length (now (graph .exit)) ≡ 2560 ⌝ }
+    ensures { λ r. ⌜ length (now (graph .exit)) ≡ longest ⌝ }
 {
     let step = byte_from(bytes, 0);
     let Step::Byte(count, start) = step else {

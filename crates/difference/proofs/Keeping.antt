@@ -4,7 +4,7 @@ use mathlib.Core.Path.{_≡_, refl, sym, _∙_, ap, subst}
 use mathlib.Core.Bool.{Bool, true, false}
 use mathlib.Core.List.{List, [], _∷_, List·Memᴰ, List·Memᴰ·not-nil, List·Memᴰ·cases-cons}
 use mathlib.Core.Logic.{_⊎_, inl, inr, ⊎-elim}
-use Prim.Native.Nat.{ℕ, zero, suc, _+_, _-_, _≤_, _<_}
+use Prim.Native.Nat.{ℕ, zero, suc, _+_, _*_, _≤_, _<_}
 use native.Mathlib.Decide.{ℕ-discrete}
 use native.Mathlib.Omega.{arith}
 use lib.ListN.{length, getD, set, length-set}
@@ -13,8 +13,8 @@ use Rattle.graphs.specs.Rows.{from}
 use Rattle.graphs.specs.Large.{Distinct}
 use Rattle.graphs.proofs.Lists.{distinct-bound, from-member}
 use Rattle.graphs.proofs.Search.{true-false}
-use Rattle.lattice.specs.Table.{below}
-use Rattle.layout.specs.Layout.{size, rowFrom, linksFrom, rowEnd, targetAt, Node, Shaped, Place, rowsEnd}
+use Rattle.lattice.specs.Labels.{tableLabels}
+use Rattle.layout.specs.Layout.{longest, labelFrom, size, rowFrom, linksFrom, rowEnd, targetAt, Node, Shaped, Place, rowsEnd}
 use Rattle.layout.proofs.Order.{next-row, place-from, no-header}
 use Rattle.visits.specs.Walks.{Leads as Linking, Reaches, TargetsFirst, Sorts}
 use Rattle.difference.specs.Keeping.{Grown, Leads, Cause, several, alone, Entering, Enters, Untop, Stays, Onward, Ready, Sorted, Settled, Why, isRoot, caused, untop, onward, Keeps}
@@ -236,7 +236,7 @@ pub record InRow (s marks : List ℕ) (v k : ℕ) (keep₀ entered₀ keep enter
 -- what is read at a place of a row
 pub record PlaceKnown (s : List ℕ) (v k : ℕ) : Type 0 where
   pub link : Place s v k
-  pub few : k < 2560
+  pub few : k < longest
   pub within : k < length s
   pub target : targetAt s k < 255
 
@@ -320,34 +320,34 @@ module _ {s marks : List ℕ} where
   entering-done v {keep₀} {keep} e h l =
       subst (λ (i : ℕ). Grown (Cause s marks (rowFrom s i)) keep₀ keep) (omega arith) (e .grown)
 
--- Wanted types.
+-- Labels that are not top.
 
-module _ (n : ℕ) (t types : List ℕ) (k : ℕ) {keep₀ keep : List ℕ} (g : Grown (Untop n t types k) keep₀ keep) where
-  untop-more : (v : ℕ) → Untop n t types k v → Untop n t types (k + 1) v
+module _ (n : ℕ) (t labels : List ℕ) (k : ℕ) {keep₀ keep : List ℕ} (g : Grown (Untop n t labels k) keep₀ keep) where
+  untop-more : (v : ℕ) → Untop n t labels k v → Untop n t labels (k + 1) v
   untop-more v (h, e) = (omega arith, e)
 
-  pub untop-yes : k < 255 → below t (n - 1) (getD types k 0) ≡ false → Grown (Untop n t types (k + 1)) keep₀ (set keep k 1)
+  pub untop-yes : k < 255 → tableLabels n t .le (tableLabels n t .top) (labelFrom labels (2 * k)) ≡ false → Grown (Untop n t labels (k + 1)) keep₀ (set keep k 1)
   untop-yes h e = grown-more g untop-more k h (omega arith, e) (λ v x. go v x (ℕ-discrete v k))
     where
-      go : (v : ℕ) → Untop n t types (k + 1) v → Dec (v ≡ k) → Untop n t types k v ⊎ (v ≡ k)
+      go : (v : ℕ) → Untop n t labels (k + 1) v → Dec (v ≡ k) → Untop n t labels k v ⊎ (v ≡ k)
       go v x (yes d) = inr d
       go v (l, x) (no d) = inl (omega arith, x)
 
-  pub untop-no : below t (n - 1) (getD types k 0) ≡ true → Grown (Untop n t types (k + 1)) keep₀ keep
+  pub untop-no : tableLabels n t .le (tableLabels n t .top) (labelFrom labels (2 * k)) ≡ true → Grown (Untop n t labels (k + 1)) keep₀ keep
   untop-no e = grown-stay g untop-more (λ v x. go v x (ℕ-discrete v k))
     where
-      go : (v : ℕ) → Untop n t types (k + 1) v → Dec (v ≡ k) → Untop n t types k v
-      go v (l, x) (yes d) = true-false (ap (λ (i : ℕ). below t (n - 1) (getD types i 0)) d ∙ e) x
+      go : (v : ℕ) → Untop n t labels (k + 1) v → Dec (v ≡ k) → Untop n t labels k v
+      go v (l, x) (yes d) = true-false (ap (λ (i : ℕ). tableLabels n t .le (tableLabels n t .top) (labelFrom labels (2 * i))) d ∙ e) x
       go v (l, x) (no d) = (omega arith, x)
 
-pub untop-start : (n : ℕ) (t types : List ℕ) {keep : List ℕ} → length keep ≡ 255 → Grown (Untop n t types 0) keep keep
-untop-start n t types long = grown-start long (λ v x. omega (arith, x .0))
+pub untop-start : (n : ℕ) (t labels : List ℕ) {keep : List ℕ} → length keep ≡ 255 → Grown (Untop n t labels 0) keep keep
+untop-start n t labels long = grown-start long (λ v x. omega (arith, x .0))
 
-pub untop-done : (n : ℕ) (t types : List ℕ) (k nodes : ℕ) {keep₀ keep : List ℕ} → Grown (Untop n t types k) keep₀ keep → k ≤ nodes → nodes ≤ k →
-    Grown (Untop n t types nodes) keep₀ keep
-untop-done n t types k nodes {keep₀} {keep} g h l =
+pub untop-done : (n : ℕ) (t labels : List ℕ) (k nodes : ℕ) {keep₀ keep : List ℕ} → Grown (Untop n t labels k) keep₀ keep → k ≤ nodes → nodes ≤ k →
+    Grown (Untop n t labels nodes) keep₀ keep
+untop-done n t labels k nodes {keep₀} {keep} g h l =
     let z : k ≡ nodes = omega arith in
-    subst (λ (i : ℕ). Grown (Untop n t types i) keep₀ keep) z g
+    subst (λ (i : ℕ). Grown (Untop n t labels i) keep₀ keep) z g
 
 -- Kept links between two places.
 
@@ -557,7 +557,7 @@ left {s} {order} {marks} {before} {keep₀} {keep} {keep′} i e h r sorted new 
 pub record NodeKnown (s : List ℕ) (v : ℕ) : Type 0 where
   pub small : v < 255
   pub node : Node s v
-  pub ended : rowEnd s v ≤ 2560
+  pub ended : rowEnd s v ≤ longest
   pub within : (k : ℕ) → linksFrom s v ≤ k → k < rowEnd s v → targetAt s k < 255
 
 pub node-known : {s marks keep : List ℕ} → Ready s marks keep → (v : ℕ) → v < size s → NodeKnown s v
@@ -584,14 +584,14 @@ settled-done s g h =
     }
 
 -- All together: just the nodes with a reason.
-pub keeps-all : (n : ℕ) (t s marks types start : List ℕ) {caused′ typed′ keep : List ℕ} → size s ≤ 255 → length start ≡ 255 → ((v : ℕ) → v < 255 → getD start v 0 ≡ 0) →
-    Grown (Cause s marks (rowsEnd s)) (set start 0 1) caused′ → Grown (Untop n t types (size s)) caused′ typed′ →
-    Settled (λ _. Unit {0}) s marks typed′ keep → Keeps n t s marks types keep
-keeps-all n t s marks types start {caused′} {typed′} {keep} small long clear a b c =
+pub keeps-all : (n : ℕ) (t s marks labels start : List ℕ) {caused′ labelled′ keep : List ℕ} → size s ≤ 255 → length start ≡ 255 → ((v : ℕ) → v < 255 → getD start v 0 ≡ 0) →
+    Grown (Cause s marks (rowsEnd s)) (set start 0 1) caused′ → Grown (Untop n t labels (size s)) caused′ labelled′ →
+    Settled (λ _. Unit {0}) s marks labelled′ keep → Keeps n t s marks labels keep
+keeps-all n t s marks labels start {caused′} {labelled′} {keep} small long clear a b c =
     record { long = c .long; why = why; found = found }
   where
     Reason : ℕ → Type 0
-    Reason v = Why n t s marks types keep v
+    Reason v = Why n t s marks labels keep v
 
     wide : (v : ℕ) → v < size s → v < 255
     wide v h = omega arith
@@ -605,10 +605,10 @@ keeps-all n t s marks types start {caused′} {typed′} {keep} small long clear
 
     why : (v : ℕ) → v < size s → getD keep v 0 ≡ 1 → Reason v
     why v h e =
-        ⊎-elim (λ (x : getD typed′ v 0 ≡ 1).
+        ⊎-elim (λ (x : getD labelled′ v 0 ≡ 1).
         ⊎-elim (λ (y : getD caused′ v 0 ≡ 1).
         ⊎-elim (λ (z : getD (set start 0 1) v 0 ≡ 1). isRoot (rooted v (wide v h) z)) caused (a .why v (wide v h) y))
-        (λ (y : Untop n t types (size s) v). untop (y .1)) (b .why v (wide v h) x)) onward (c .why v h e)
+        (λ (y : Untop n t labels (size s) v). untop (y .1)) (b .why v (wide v h) x)) onward (c .why v h e)
 
     found : (v : ℕ) → v < size s → Reason v → getD keep v 0 ≡ 1
     found v h (isRoot e) =

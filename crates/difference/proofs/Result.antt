@@ -4,8 +4,8 @@ use mathlib.Core.Path.{_≡_, refl, sym, _∙_, ap, ap₂, subst}
 use mathlib.Core.Bool.{Bool, true, false}
 use mathlib.Core.List.{List, [], _∷_}
 use mathlib.Core.Logic.{_↔_}
-use mathlib.Core.Option.{Option, none, some}
-use Prim.Native.Nat.{ℕ, _-_, _≤_, _<_}
+use mathlib.Core.Option.{Option, none, some, Option·getD}
+use Prim.Native.Nat.{ℕ, _*_, _≤_, _<_}
 use native.Mathlib.Decide.{decLt}
 use native.Mathlib.Omega.{arith}
 use lib.Dec.{eqb}
@@ -24,12 +24,13 @@ use Rattle.graphs.proofs.Unification.Beside.{Operands}
 use Rattle.graphs.proofs.Difference.Induct.{children-first}
 use Rattle.graphs.proofs.Difference.Laws.{Leader, Enters, Reason, atRoot, twoGroups, bareGroup, ownLabel, keptBelow, Idle}
 use Rattle.graphs.proofs.Difference.Keeps.{keep, kept, root-kept, keep-reason, keep-idle, kept-links}
-use Rattle.lattice.specs.Table.{every, found, below, cell, wanted}
-use Rattle.lattice.specs.Label.{Label}
+use Rattle.lattice.specs.Table.{every, found}
+use Rattle.lattice.specs.Label.{Label, noLabel}
 use Rattle.lattice.proofs.Every.{every-same}
 use Rattle.lattice.proofs.Laws.{accepted-size}
-use Rattle.lattice.specs.Labels.{typeLabels}
-use Rattle.layout.specs.Layout.{size, labelAt, featureAt, targetAt, rowsOf, graphIn, Sound, Place}
+use Rattle.lattice.proofs.Lawful.{known-more}
+use Rattle.lattice.specs.Labels.{tableLabels, wantedLabel}
+use Rattle.layout.specs.Layout.{longest, labelFrom, size, labelAt, featureAt, targetAt, rowsOf, graphIn, Sound, Place}
 use Rattle.layout.proofs.Rows.{length-rows}
 use Rattle.layout.proofs.Places.{label-at, link-at, link-place, link-known}
 use Rattle.layout.proofs.Reaching.{reached-inside}
@@ -39,11 +40,11 @@ use Rattle.groups.specs.Cover.{Lying}
 use Rattle.groups.specs.Marks.{Marked}
 use Rattle.groups.proofs.Leading.{At, at-one, one-at, at-link, link-stands, Says, follows-it, leads-covered, leads-bare, mark-says}
 use Rattle.difference.specs.Promise.{wantedAlong, differenceAlong, allWantedAlong}
-use Rattle.difference.specs.Wanted.{TypesOver, wantedAt, Wants, WantsAll, metFrom}
+use Rattle.difference.specs.Wanted.{LabelsOver, wantedAt, Wants, WantsAll, metFrom}
 use Rattle.difference.specs.Keeping.{Leads, several, alone, Stays, Why, isRoot, caused, untop, onward, Keeps, Ready}
 use Rattle.difference.specs.Thinning.{Kept}
 use Rattle.difference.specs.Asked.{Asked}
-use Rattle.difference.proofs.Wanting.{wants-types, meetWhere-same}
+use Rattle.difference.proofs.Wanting.{wants-known, meetWhere-same}
 use Rattle.difference.proofs.Thinning.{rows-sound, copied-feature, copied-target}
 
 -- Links lead along a path.
@@ -64,7 +65,7 @@ module _ {ws : List ℕ} (sound : Sound ws) where
   reaches-inside (one l) = l .inside
   reaches-inside (more l r) = l .inside
 
-  acyclic-words : (n : ℕ) (t : List ℕ) → AnySize (typeLabels n t) (graphIn ws) → ((v : ℕ) → v < size ws → Reached (graphIn ws) v) →
+  acyclic-words : (n : ℕ) (t : List ℕ) → AnySize (tableLabels n t) (graphIn ws) → ((v : ℕ) → v < size ws → Reached (graphIn ws) v) →
       (v : ℕ) → Reaches ws v v → ⊥
   acyclic-words n t any reached v r =
       let (f, p, e) = reaches-path r in
@@ -113,9 +114,9 @@ module _ {n : ℕ} {t gw sw map : List ℕ} (asked : Asked n t gw sw map) where
       let r = asked .upper-reached y h in
       reached-inside s-sound (over y) (r .0, walk-map (asked .lies) (r .0) y (r .1))
 
-  -- what meeting the types of g asks
-  pub asked-typed : TypesOver n (size sw) gw map
-  asked-typed =
+  -- what meeting the labels of g asks
+  pub asked-labels : LabelsOver n (size sw) gw map
+  asked-labels =
       let size = accepted-size n t (asked .ok) in
       record {
         two = size .0;
@@ -142,46 +143,46 @@ module _ {n : ℕ} {t gw sw map : List ℕ} (asked : Asked n t gw sw map) where
           (link-at g-sound y i (p .inside) (p .low) (p .high))) in
           (j, record { inside = over-inside y (p .inside); low = a; high = b }, e)
 
-  pub ready-words : {marks keep : List ℕ} → length marks ≡ 2560 → length keep ≡ 255 → Ready sw marks keep
+  pub ready-words : {marks keep : List ℕ} → length marks ≡ longest → length keep ≡ 255 → Ready sw marks keep
   ready-words a b =
       record { sound = s-sound; small = asked .lower .small; short = asked .short; marks-long = a; keep-long = b }
 
-  -- the wanted type, by the numbers of nodes
-  abbrev want : ℕ → ℕ
-  want v = cell (wanted n t (s .label v) (meetOver (typeLabels n t) eqb g (from 0 (size gw)) over v))
+  -- the wanted label, by the numbers of nodes
+  abbrev want : ℕ → Label
+  want v = Option·getD (wantedLabel n t (s .label v) (meetOver (tableLabels n t) eqb g (from 0 (size gw)) over v)) noLabel
 
   at-label : (v : ℕ) → v < size sw → wantedAt n t sw gw map v ≡
-      wanted n t (s .label v) (meetOver (typeLabels n t) eqb g (from 0 (size gw)) over v)
+      wantedLabel n t (s .label v) (meetOver (tableLabels n t) eqb g (from 0 (size gw)) over v)
   unfolding meetOver metFrom
   at-label v h =
-      ap₂ (wanted n t) (sym (label-at sw v h))
-      (meetWhere-same (typeLabels n t) (λ y. eqb (over y) v) (λ y. labelAt gw y) (g .label) (from 0 (size gw))
+      ap₂ (wantedLabel n t) (sym (label-at sw v h))
+      (meetWhere-same (tableLabels n t) (λ y. eqb (over y) v) (λ y. labelAt gw y) (g .label) (from 0 (size gw))
       (λ y m. sym (label-at gw y (omega (arith, from-range 0 (size gw) y m)))))
 
-  wants-labels : {types : List ℕ} → Wants n t sw gw map (size sw) types → (v : ℕ) → v < size sw → getD types v 0 ≡ want v
-  wants-labels w v h = ap cell (sym (w .each v h) ∙ at-label v h)
+  wants-labels : {labels : List ℕ} → Wants n t sw gw map (size sw) labels → (v : ℕ) → v < size sw → labelFrom labels (2 * v) ≡ want v
+  wants-labels w v h = ap (λ o. Option·getD o noLabel) (sym (w .each v h) ∙ at-label v h)
 
   abbrev first : ℕ → Link ℕ → Link ℕ
   first v l = lead eqb eqb s (from 0 (size sw)) g (from 0 (size gw)) over byNumber v l
 
-  -- whether every node has a wanted type, as it is defined, with the length of the list of rows for the number of nodes
-  pub answers-wanted : {answer : Bool} {types : List ℕ} → WantsAll n t sw gw map answer types →
+  -- whether every node has a wanted label, as it is defined, with the length of the list of rows for the number of nodes
+  pub answers-wanted : {answer : Bool} {labels : List ℕ} → WantsAll n t sw gw map answer labels →
       answer ≡ allWantedAlong n t (rowsOf sw) (rowsOf gw) (λ y. getD map y 0)
   unfolding allWantedAlong wantedAlong
   answers-wanted all =
       all .answers ∙
       every-same (λ v. found (wantedAt n t sw gw map v))
-      (λ v. found (wanted n t (s .label v) (meetOver (typeLabels n t) eqb g (from 0 (size gw)) over v))) (size sw)
+      (λ v. found (wantedLabel n t (s .label v) (meetOver (tableLabels n t) eqb g (from 0 (size gw)) over v))) (size sw)
       (λ v h. ap found (at-label v h)) ∙
       sym
-      (ap₂ (λ (a b : ℕ). every a λ v. found (wanted n t (s .label v) (meetOver (typeLabels n t) eqb g (from 0 b) over v)))
+      (ap₂ (λ (a b : ℕ). every a λ v. found (wantedLabel n t (s .label v) (meetOver (tableLabels n t) eqb g (from 0 b) over v)))
       (length-rows sw 0 (size sw)) (length-rows gw 0 (size gw)))
 
-  abbrev any : AnySize (typeLabels n t) s
+  abbrev any : AnySize (tableLabels n t) s
   any = asked .any-size
 
-  module _ {marks types keeps : List ℕ} (marked : Marked sw gw map marks) (wants : Wants n t sw gw map (size sw) types)
-      (code : Keeps n t sw marks types keeps) where
+  module _ {marks labels keeps : List ℕ} (marked : Marked sw gw map marks) (wants : Wants n t sw gw map (size sw) labels)
+      (code : Keeps n t sw marks labels keeps) where
     abbrev isKept : ℕ → Bool
     isKept v = keep operands over any byNumber want v
 
@@ -233,7 +234,7 @@ module _ {n : ℕ} {t gw sw map : List ℕ} (asked : Asked n t gw sw map) where
     Same v = (getD keeps v 0 ≡ 1) ↔ (isKept v ≡ true)
 
     idle-why : (v : ℕ) → Reached s v → ((f w : ℕ) → s .link v f ≡ some w → Same w) → isKept v ≡ false →
-        Idle (typeLabels n t) s g over first isKept want v → Why n t sw marks types keeps v → ⊥
+        Idle (tableLabels n t) s g over first isKept want v → Why n t sw marks labels keeps v → ⊥
     unfolding Same
     idle-why v r later e idle (isRoot q) = true-false (root-kept operands over any byNumber want) (ap isKept (sym q) ∙ e)
     idle-why v r later e idle (caused (several a b)) =
@@ -256,7 +257,7 @@ module _ {n : ℕ} {t gw sw map : List ℕ} (asked : Asked n t gw sw map) where
         go x at (leads-bare q y c) = let (z, d) = idle .covered x (subst (λ u. Leader s first u x) (a .enters) y) in c z d
     idle-why v r later e idle (untop q) =
         true-false (idle .noLabel)
-        (ap (below t (n - 1)) (sym (wants-labels wants v (reached-inside s-sound v r))) ∙ q)
+        (ap (tableLabels n t .le (tableLabels n t .top)) (sym (wants-labels wants v (reached-inside s-sound v r))) ∙ q)
     idle-why v r later e idle (onward (k, low, high, x)) =
         let h = reached-inside s-sound v r in
         let at = at-row v k (record { inside = h; low = low; high = high }) in
@@ -266,7 +267,7 @@ module _ {n : ℕ} {t gw sw map : List ℕ} (asked : Asked n t gw sw map) where
         (idle .noneBelow f w (marked-leads k (v, f) at (x .leads)))
 
     reason-why : (v : ℕ) → Reached s v → ((f w : ℕ) → s .link v f ≡ some w → Same w) →
-        Reason (typeLabels n t) s g over first isKept want v → Why n t sw marks types keeps v
+        Reason (tableLabels n t) s g over first isKept want v → Why n t sw marks labels keeps v
     unfolding Same
     reason-why v r later (atRoot e) = isRoot e
     reason-why v r later (twoGroups l m a b apart) =
@@ -279,7 +280,7 @@ module _ {n : ℕ} {t gw sw map : List ℕ} (asked : Asked n t gw sw map) where
         standing {l = l} i at h x q = record { node = l .0; place = i; link = at .place; before = h; leading = x; enters = q }
 
         go : (j : ℕ) → At sw j l → targetAt sw j ≡ v → (getD marks j 0 ≡ 0 → ⊥) → (i : ℕ) → At sw i m → targetAt sw i ≡ v →
-            (getD marks i 0 ≡ 0 → ⊥) → Dec (j < i) → Dec (i < j) → Why n t sw marks types keeps v
+            (getD marks i 0 ≡ 0 → ⊥) → Dec (j < i) → Dec (i < j) → Why n t sw marks labels keeps v
         go j atj p x i ati q y (yes h) d =
             caused (several (standing i ati (place-before (s-sound .shaped) (ati .place)) y q) (standing j atj h x p))
         go j atj p x i ati q y (no h) (yes d) =
@@ -304,7 +305,7 @@ module _ {n : ℕ} {t gw sw map : List ℕ} (asked : Asked n t gw sw map) where
         })
         m)
     reason-why v r later (ownLabel e) =
-        untop (ap (below t (n - 1)) (wants-labels wants v (reached-inside s-sound v r)) ∙ e)
+        untop (ap (tableLabels n t .le (tableLabels n t .top)) (wants-labels wants v (reached-inside s-sound v r)) ∙ e)
     reason-why v r later (keptBelow f w a e) =
         let (k, at, p, m) = leads-marked w (v, f) a in
         onward (
@@ -335,9 +336,9 @@ module _ {n : ℕ} {t gw sw map : List ℕ} (asked : Asked n t gw sw map) where
 
     -- Kept links.
 
-    module _ {ws : List ℕ} (ready : Ready sw marks keeps) (few : n ≤ 64) (rows : Kept sw marks keeps types ws) where
+    module _ {ws : List ℕ} (ready : Ready sw marks keeps) (few : n ≤ 64) (rows : Kept sw marks keeps labels ws) where
       sound′ : Sound ws
-      sound′ = rows-sound ready (λ v h. omega (arith, wants-types wants .known v h)) rows
+      sound′ = rows-sound ready (λ v h. known-more (omega arith) (wants-known asked wants .known v h)) rows
 
       inside′ : (v : ℕ) → v < size sw → v < size ws
       inside′ v h = omega (arith, rows .1 .sized)
@@ -387,7 +388,7 @@ module _ {n : ℕ} {t gw sw map : List ℕ} (asked : Asked n t gw sw map) where
               present (reached-link s f r (l .0 .1), some-unique (backward v f w r e) d)
 
       abbrev made : Graph Label ℕ
-      made = difference (typeLabels n t) eqb eqb byNumber s (from 0 (size sw)) g (from 0 (size gw)) over want
+      made = difference (tableLabels n t) eqb eqb byNumber s (from 0 (size sw)) g (from 0 (size gw)) over want
 
       made-alike : Bisimilar (λ x y. Reached s x × (x ≡ y)) made result
       unfolding difference follow
@@ -396,7 +397,7 @@ module _ {n : ℕ} {t gw sw map : List ℕ} (asked : Asked n t gw sw map) where
             root = (([], refl), refl);
             labels = λ v w x.
                 let h = reached-inside s-sound v (x .0) in
-                sym (wants-labels wants v h) ∙ sym (label-at ws v (inside′ v h) ∙ rows .1 .labels v h) ∙ ap (result .label) (x .1);
+                sym (wants-labels wants v h) ∙ sym (label-at ws v (inside′ v h) ∙ rows .1 .labelled v h) ∙ ap (result .label) (x .1);
             links = λ v w f x. subst (λ u. Alike (λ x y. Reached s x × (x ≡ y)) (keptAt v f) (result .link u f)) (x .1) (alike v f (x .0));
             forth = λ v v′ w w′ x y e. sym (x .1) ∙ e ∙ y .1;
             back = λ v v′ w w′ x y e. x .1 ∙ e ∙ sym (y .1);
@@ -406,8 +407,8 @@ module _ {n : ℕ} {t gw sw map : List ℕ} (asked : Asked n t gw sw map) where
       named : differenceAlong n t (rowsOf sw) (rowsOf gw) (λ y. getD map y 0) ≡ made
       unfolding differenceAlong wantedAlong
       named =
-          ap₂ (λ (a b : ℕ). difference (typeLabels n t) eqb eqb byNumber s (from 0 a) g (from 0 b) over
-          (λ v. cell (wanted n t (s .label v) (meetOver (typeLabels n t) eqb g (from 0 b) over v))))
+          ap₂ (λ (a b : ℕ). difference (tableLabels n t) eqb eqb byNumber s (from 0 a) g (from 0 b) over
+          (λ v. Option·getD (wantedLabel n t (s .label v) (meetOver (tableLabels n t) eqb g (from 0 b) over v)) noLabel))
           (length-rows sw 0 (size sw)) (length-rows gw 0 (size gw))
 
       -- The rows are those of the difference.

@@ -1,14 +1,15 @@
 -- Rows with the kept links alone: adding one link or passing it over, one row after another, and the graph that comes of it.
 use mathlib.Core.Path.{_≡_, refl, sym, _∙_, ap, subst}
 use mathlib.Core.List.{List}
-use Prim.Native.Nat.{ℕ, _+_, _/_, _%_, _≤_, _<_}
+use Prim.Native.Nat.{ℕ, _+_, _*_, _/_, _%_, _≤_, _<_}
 use native.Mathlib.Decide.{ℕ-discrete}
 use native.Mathlib.Omega.{arith}
 use lib.ListN.{length, getD, set, length-set}
 use lib.Seq.{getD-set-same, getD-set-other}
-use Rattle.layout.specs.Layout.{header, scale, size, rowFrom, linksFrom, rowEnd, labelAt, labelFrom, featureAt, Sound, Place}
-use Rattle.layout.specs.Builder.{Open}
-use Rattle.layout.proofs.Builder.{built-begin, built-kept, row-closes, built-node}
+use Rattle.lattice.specs.Labels.{Known}
+use Rattle.layout.specs.Layout.{longest, header, scale, size, rowFrom, linksFrom, rowEnd, labelAt, labelFrom, featureAt, Sound, Place}
+use Rattle.layout.specs.Builder.{Open, putLabel}
+use Rattle.layout.proofs.Builder.{label-same, put-before, label-put, built-begin, built-kept, row-closes, built-node}
 use Rattle.layout.proofs.Order.{next-row, place-rises}
 use Rattle.difference.specs.Keeping.{Stays, Ready}
 use Rattle.difference.specs.Thinning.{Thinned, Rows, Kept}
@@ -34,7 +35,7 @@ pub record Thinning (s marks keep : List ℕ) (v k : ℕ) (ws₀ : List ℕ) (st
   pub thinned : Thinned s marks keep v k ws₀ start ws end
 
 module _ {s marks keep : List ℕ} {v : ℕ} where
-  pub thin-start : {ws : List ℕ} {start : ℕ} → Ready s marks keep → v < size s → length ws ≡ 2560 → start ≤ linksFrom s v →
+  pub thin-start : {ws : List ℕ} {start : ℕ} → Ready s marks keep → v < size s → length ws ≡ longest → start ≤ linksFrom s v →
       Thinning s marks keep v (linksFrom s v) ws start ws start
   thin-start r h long low =
       record {
@@ -61,7 +62,7 @@ module _ {s marks keep : List ℕ} {v : ℕ} where
     step : {ws′ : List ℕ} {end′ : ℕ} → Thinned s marks keep v (k + 1) ws₀ start ws′ end′ → Thinning s marks keep v (k + 1) ws₀ start ws′ end′
     step new = record { ready = t .ready; inside = t .inside; low = omega (arith, t .low); high = omega arith; thinned = new }
 
-    pub thin-room : end < 2560
+    pub thin-room : end < longest
     thin-room =
         omega (arith, t .thinned .short, t .ready .sound .shaped .node v (t .inside) .ended, t .ready .short)
 
@@ -148,34 +149,34 @@ module _ {s marks keep : List ℕ} {v : ℕ} where
 -- what the code asks at the next row
 pub record RowKnown (s : List ℕ) (v at : ℕ) : Type 0 where
   pub small : v < 255
-  pub room : at < 2560
+  pub room : at + header ≤ longest
   pub before : at + header ≤ linksFrom s v
-  pub ended : rowEnd s v ≤ 2560
+  pub ended : rowEnd s v ≤ longest
 
-module _ {s marks keep types : List ℕ} where
-  pub rows-start : (ws : List ℕ) → Ready s marks keep → length ws ≡ 2560 →
-      Rows s marks keep types 0 (set (set ws 0 (size s)) 1 (rowFrom s 0)) (rowFrom s 0)
+module _ {s marks keep labels : List ℕ} where
+  pub rows-start : (ws : List ℕ) → Ready s marks keep → length ws ≡ longest →
+      Rows s marks keep labels 0 (set (set ws 0 (size s)) 1 (rowFrom s 0)) (rowFrom s 0)
   rows-start ws r long =
       record {
         long = length-set (set ws 0 (size s)) 1 (rowFrom s 0) ∙ first-long;
         sized = getD-set-other (set ws 0 (size s)) 1 0 (rowFrom s 0) 0 (λ e. omega arith) ∙ getD-set-same ws 0 (size s) 0 (omega arith);
         built = built-begin (set ws 0 (size s)) (rowFrom s 0) (omega (arith, r .sound .shaped .behind)) (omega (arith, first-long, room));
         short = omega arith;
-        labels = λ u h. absurd (omega arith);
+        labelled = λ u h. absurd (omega arith);
         each = λ u i h. absurd (omega arith);
         all = λ u j h. absurd (omega arith);
         ascending = λ u i h. absurd (omega arith);
       }
     where
-      first-long : length (set ws 0 (size s)) ≡ 2560
+      first-long : length (set ws 0 (size s)) ≡ longest
       first-long = length-set ws 0 (size s) ∙ long
 
-      room : rowFrom s 0 ≤ 2560
+      room : rowFrom s 0 ≤ longest
       room =
           let node = r .sound .shaped .node 0 (r .sound .shaped .nonempty) in
           omega (arith, node .begun, node .ended, r .short)
 
-  module _ {v at : ℕ} {ws : List ℕ} (ready : Ready s marks keep) (inside : v < size s) (r : Rows s marks keep types v ws at) where
+  module _ {v at : ℕ} {ws : List ℕ} (ready : Ready s marks keep) (inside : v < size s) (r : Rows s marks keep labels v ws at) where
     pub row-known : RowKnown s v at
     row-known =
         let node = ready .sound .shaped .node v inside in
@@ -186,7 +187,12 @@ module _ {s marks keep types : List ℕ} where
           ended = omega (arith, node .ended, ready .short);
         }
 
-    module _ {end : ℕ} {ws′ : List ℕ} (t : Thinned s marks keep v (rowEnd s v) (set ws at (getD types v 0)) (at + header) ws′ end) where
+    -- the row is opened with its label, and given its links
+    module _ {end : ℕ} {begun ws′ : List ℕ} (put : begun ≡ putLabel ws at (labelFrom labels (2 * v)))
+        (given : Thinned s marks keep v (rowEnd s v) begun (at + header) ws′ end) where
+      t : Thinned s marks keep v (rowEnd s v) (putLabel ws at (labelFrom labels (2 * v))) (at + header) ws′ end
+      t = subst (λ (l : List ℕ). Thinned s marks keep v (rowEnd s v) l (at + header) ws′ end) put given
+
       new : List ℕ
       new = set ws′ (v + 2) end
 
@@ -196,7 +202,7 @@ module _ {s marks keep types : List ℕ} where
       -- nothing before the row has moved
       kept : (i : ℕ) → i < at → getD ws′ i 0 ≡ getD ws i 0
       kept i h =
-          t .same i (omega arith) (omega arith) ∙ getD-set-other ws at i (getD types v 0) 0 (λ e. omega arith)
+          t .same i (omega arith) (omega arith) ∙ put-before ws at (labelFrom labels (2 * v)) 0 at (omega arith) i (omega arith) h
 
       other : (i : ℕ) → (i ≡ v + 2 → ⊥) → getD new i 0 ≡ getD ws′ i 0
       unfolding new
@@ -233,7 +239,7 @@ module _ {s marks keep types : List ℕ} where
             inside = omega (arith, t .long, t .short, row-known .ended);
           }
 
-      pub rows-next : Rows s marks keep types (v + 1) (set ws′ (v + 2) end) end
+      pub rows-next : Rows s marks keep labels (v + 1) (set ws′ (v + 2) end) end
       unfolding new
       rows-next =
           record {
@@ -241,20 +247,22 @@ module _ {s marks keep types : List ℕ} where
             sized = still 0 (omega (arith, listed, r .built .low)) (λ e. omega arith) ∙ r .sized;
             built = row-closes opened listed;
             short = omega (arith, t .short, next-row s v (v + 1) (omega arith));
-            labels = λ u h. labels u h (ℕ-discrete u v);
+            labelled = λ u h. labelled u h (ℕ-discrete u v);
             each = λ u i h low high. each u i h low high (ℕ-discrete u v);
             all = λ u j h p x. all u j h p x (ℕ-discrete u v);
             ascending = λ u i h low high. ascending u i h low high (ℕ-discrete u v);
           }
         where
-          labels : (u : ℕ) → u < v + 1 → Dec (u ≡ v) → labelAt new u ≡ getD types u 0
-          labels u h (yes e) =
-              ap (labelAt new) e ∙ ap (labelFrom new) begins ∙ place-new at (omega arith) ∙ t .same at (omega arith) (omega arith) ∙
-              getD-set-same ws at (getD types v 0) 0 (omega (arith, r .long, row-known .room)) ∙ ap (λ (x : ℕ). getD types x 0) (sym e)
-          labels u h (no d) =
+          labelled : (u : ℕ) → u < v + 1 → Dec (u ≡ v) → labelAt new u ≡ labelFrom labels (2 * u)
+          labelled u h (yes e) =
+              ap (labelAt new) e ∙ ap (labelFrom new) begins ∙
+              label-same (putLabel ws at (labelFrom labels (2 * v))) new at (λ i low high. place-new i low ∙ t .same i (omega arith) high) ∙
+              label-put ws at (labelFrom labels (2 * v)) (omega (arith, r .long, row-known .room)) (omega arith) ∙
+              ap (λ (x : ℕ). labelFrom labels (2 * x)) (sym e)
+          labelled u h (no d) =
               let l : u < v = omega arith in
               ap (labelFrom new) (starts u h) ∙
-              place-kept u (rowFrom ws u) l (omega arith) (omega (arith, r .built .begun u l)) ∙ r .labels u l
+              label-same ws new (rowFrom ws u) (λ i low high. place-kept u i l low (omega (arith, r .built .begun u l))) ∙ r .labelled u l
 
           each : (u i : ℕ) → u < v + 1 → linksFrom new u ≤ i → i < rowEnd new u → Dec (u ≡ v) →
               (j : ℕ) × Place s u j × Stays s marks keep j × (getD new i 0 ≡ getD s j 0)
@@ -300,12 +308,12 @@ module _ {s marks keep types : List ℕ} where
               (copied-feature (place-kept u (i + 1) l (omega (arith, a)) (omega (arith, b))))
               (r .ascending u i l (omega (arith, a)) (omega (arith, b)))
 
-  pub rows-done : {v at : ℕ} {ws : List ℕ} → Rows s marks keep types v ws at → v ≤ size s → size s ≤ v → Kept s marks keep types ws
-  rows-done {v} {at} {ws} r h l = (at, subst (λ (x : ℕ). Rows s marks keep types x ws at) (omega arith) r)
+  pub rows-done : {v at : ℕ} {ws : List ℕ} → Rows s marks keep labels v ws at → v ≤ size s → size s ≤ v → Kept s marks keep labels ws
+  rows-done {v} {at} {ws} r h l = (at, subst (λ (x : ℕ). Rows s marks keep labels x ws at) (omega arith) r)
 
   -- The words hold a graph.
-  pub rows-sound : {ws : List ℕ} → Ready s marks keep → ((v : ℕ) → v < size s → getD types v 0 < 256) → Kept s marks keep types ws → Sound ws
-  rows-sound {ws} ready low (at, r) =
+  pub rows-sound : {ws : List ℕ} → Ready s marks keep → ((v : ℕ) → v < size s → Known 128 (labelFrom labels (2 * v))) → Kept s marks keep labels ws → Sound ws
+  rows-sound {ws} ready known (at, r) =
       record {
         shaped =
             record {
@@ -313,7 +321,7 @@ module _ {s marks keep types : List ℕ} where
               few = omega (arith, r .sized, ready .small);
               behind = omega (arith, r .sized, ready .sound .shaped .behind, r .built .lower 0 (ready .sound .shaped .nonempty));
               node = built-node (r .built) (r .sized);
-              labelled = λ v h. subst (λ (x : ℕ). x < 256) (sym (r .labels v (in-s h))) (low v (in-s h));
+              labelled = λ v h. subst (Known 128) (sym (r .labelled v (in-s h))) (known v (in-s h));
               known = λ v i h a b.
                   let (j, p, x, c) = r .each v i (in-s h) a b in
                   subst (λ (f : ℕ). f < 64) (sym (copied-feature c))

@@ -1,9 +1,9 @@
--- Wanted types: meeting the types of g's nodes from the last to the first, and one search for each node of s.
-use mathlib.Core.Path.{_≡_, refl, sym, _∙_, ap, ap₂}
+-- Wanted labels: meeting the labels of g's nodes from the last to the first, and one search for each node of s.
+use mathlib.Core.Path.{_≡_, refl, sym, _∙_, ap, ap₂, subst}
 use mathlib.Core.Bool.{Bool, true, false, cond}
 use mathlib.Core.List.{List, [], _∷_, List·Memᴰ, List·Memᴰ·head, List·Memᴰ·tail}
-use mathlib.Core.Option.{Option, none, some}
-use Prim.Native.Nat.{ℕ, zero, suc, _+_, _-_, _≤_, _<_}
+use mathlib.Core.Option.{Option, none, some, Option·map, map-eq-some-iff}
+use Prim.Native.Nat.{ℕ, zero, suc, _+_, _-_, _*_, _≤_, _<_, min, max}
 use native.Mathlib.Decide.{ℕ-discrete}
 use native.Mathlib.Omega.{arith}
 use borrow.Author.Tests.{eq-eqb, ne-eqb}
@@ -14,14 +14,19 @@ use lib.Seq.{getD-set-same, getD-set-other}
 use Rattle.graphs.specs.Label.{Labels}
 use Rattle.graphs.specs.Rows.{from}
 use Rattle.graphs.specs.Difference.{meetWhere}
-use Rattle.lattice.specs.Table.{accepted, found, cell, meet, wanted}
+use Rattle.lattice.specs.Label.{Label}
+use Rattle.lattice.specs.Labels.{tableLabels, Known, wantedLevel, wantedLabel}
+use Rattle.lattice.specs.Table.{accepted, found, cell, wanted}
+use Rattle.lattice.specs.Words.{Words}
 use Rattle.lattice.proofs.Every.{every-all, every-fails}
-use Rattle.lattice.specs.Words.{Words, WantedOver}
-use Rattle.lattice.proofs.Laws.{accepted-size, top-type, meet-exists, wanted-type}
+use Rattle.lattice.proofs.Laws.{accepted-size, top-type, wanted-type}
+use Rattle.lattice.proofs.Lawful.{label-parts, plain-known, meet-known}
 use Rattle.lattice.proofs.Restoring.{meet-word}
-use Rattle.layout.specs.Layout.{size, rowFrom, labelAt, Node, Shaped}
+use Rattle.layout.specs.Layout.{header, labelFrom, size, labelAt, Shaped}
+use Rattle.layout.specs.Builder.{putLabel}
+use Rattle.layout.proofs.Builder.{label-same, length-put, put-before, label-put}
 use Rattle.difference.specs.Asked.{Asked}
-use Rattle.difference.specs.Wanted.{TypesOver, Types, Met, wantedAt, Wants, WantsAll, metFrom}
+use Rattle.difference.specs.Wanted.{LabelsOver, NodeLabels, MetLong, MetPart, wordOf, Met, MetBy, Tells, WantedLabelOver, wantedAt, Wants, WantsAll, metFrom}
 
 -- The loop that fills with one value.
 pub record Filling (value k : ℕ) (types : List ℕ) : Type 0 where
@@ -36,165 +41,227 @@ filling-next {value} {k} {types} f h =
     go v l (yes e) = ap (λ (i : ℕ). getD (set types k value) i 0) e ∙ getD-set-same types k value 0 (omega (arith, f .long))
     go v l (no d) = getD-set-other types k v value 0 d ∙ f .each v (omega arith)
 
+-- Meeting.
+
 -- one node more, before the others
 met-cons : (n : ℕ) (t g map : List ℕ) (y c v : ℕ) → metFrom n t g map y (suc c) v ≡
-    cond (eqb (getD map y 0) v) (cell (meet n t (labelAt g y) (metFrom n t g map (suc y) c v))) (metFrom n t g map (suc y) c v)
+    cond (eqb (getD map y 0) v) (tableLabels n t .meet (labelAt g y) (metFrom n t g map (suc y) c v)) (metFrom n t g map (suc y) c v)
 unfolding metFrom meetWhere from
 met-cons n t g map y c v = refl
 
--- a meet of types is a type
-met-type : (n : ℕ) (t g map : List ℕ) → accepted n t ≡ true → (y c v : ℕ) → ((x : ℕ) → x < y + c → labelAt g x < n) → metFrom n t g map y c v < n
+-- a meet of labels of the table is one
+met-known : (n : ℕ) (t g map : List ℕ) → accepted n t ≡ true → (y c v : ℕ) → ((x : ℕ) → x < y + c → Known n (labelAt g x)) →
+    Known n (metFrom n t g map y c v)
 unfolding metFrom meetWhere from
-met-type n t g map ok y zero v known = top-type n t ok
-met-type n t g map ok y (suc c) v known =
-    go (eqb (getD map y 0) v) (met-type n t g map ok (suc y) c v (λ x l. known x (omega arith)))
+met-known n t g map ok y zero v known = plain-known n (n - 1) (top-type n t ok)
+met-known n t g map ok y (suc c) v known =
+    go (eqb (getD map y 0) v) (met-known n t g map ok (suc y) c v (λ x l. known x (omega arith)))
   where
-    go : (b : Bool) → metFrom n t g map (suc y) c v < n →
-        cond b (cell (meet n t (labelAt g y) (metFrom n t g map (suc y) c v))) (metFrom n t g map (suc y) c v) < n
-    go true later =
-        let r = meet-exists n t ok (labelAt g y) (metFrom n t g map (suc y) c v) (known y (omega arith)) later in
-        let e : cell (meet n t (labelAt g y) (metFrom n t g map (suc y) c v)) ≡ r .0 = ap cell (r .1 .is) in
-        omega (arith, r .1 .type)
+    go : (b : Bool) → Known n (metFrom n t g map (suc y) c v) →
+        Known n (cond b (tableLabels n t .meet (labelAt g y) (metFrom n t g map (suc y) c v)) (metFrom n t g map (suc y) c v))
+    go true later = meet-known n t ok (labelAt g y) (metFrom n t g map (suc y) c v) (known y (omega arith)) later
     go false later = later
 
--- What is met over the nodes from y on: by each accepted table that has the words, the words of the meets.
-pub record Meeting (n : ℕ) (ws : List ℕ) (nodes : ℕ) (g map : List ℕ) (y : ℕ) (met : List ℕ) : Type 0 where
-  pub typed : TypesOver n nodes g map
+-- An array with a part of what is met of the labels behind y; the part of a meet is made of those of both.
+module _ (part : Label → ℕ) (op : ℕ → ℕ → ℕ) (n : ℕ) (t : List ℕ) (nodes : ℕ) (g map : List ℕ) (y c : ℕ) where
+  abbrev rest : ℕ → Label
+  rest v = metFrom n t g map (suc y) c v
+
+  -- the label of y is met at its node of s
+  part-met : (values : List ℕ) → ((v : ℕ) → part (tableLabels n t .meet (labelAt g y) (rest v)) ≡ op (part (labelAt g y)) (part (rest v))) →
+      getD map y 0 < length values → getD map y 0 < nodes → MetPart part n t nodes g map (suc y) c values →
+      MetPart part n t nodes g map y (suc c) (set values (getD map y 0) (op (part (labelAt g y)) (getD values (getD map y 0) 0)))
+  part-met values law room inside before v l = go (ℕ-discrete v u) ∙ ap part (sym (met-cons n t g map y c v))
+    where
+      u : ℕ
+      u = getD map y 0
+
+      a : Label
+      a = labelAt g y
+
+      new : ℕ
+      new = op (part a) (getD values u 0)
+
+      go : Dec (v ≡ u) → getD (set values u new) v 0 ≡ part (cond (eqb u v) (tableLabels n t .meet a (rest v)) (rest v))
+      go (yes e) =
+          ap (λ (i : ℕ). getD (set values u new) i 0) e ∙ getD-set-same values u new 0 room ∙
+          ap (op (part a)) (before u inside ∙ ap (λ (i : ℕ). part (rest i)) (sym e)) ∙ sym (law v) ∙
+          ap (λ (b : Bool). part (cond b (tableLabels n t .meet a (rest v)) (rest v))) (sym (eq-eqb u v (sym e)))
+      go (no d) =
+          getD-set-other values u v new 0 d ∙ before v l ∙
+          ap (λ (b : Bool). part (cond b (tableLabels n t .meet a (rest v)) (rest v))) (sym (ne-eqb u v (λ e. d (sym e))))
+
+-- What is met over the nodes from y on, by each accepted table that has the words.
+pub record Meeting (n : ℕ) (ws : List ℕ) (nodes : ℕ) (g map : List ℕ) (y : ℕ) (over lowest highest : List ℕ) : Type 0 where
+  pub labelled : LabelsOver n nodes g map
   pub left : y ≤ size g
-  pub long : length met ≡ 255
-  pub each : (t : List ℕ) → accepted n t ≡ true → Words n t false ws → Met n t ws nodes g map y (size g - y) met
+  pub long : MetLong over lowest highest
+  pub each : (t : List ℕ) → accepted n t ≡ true → Words n t false ws → Met n t ws nodes g map y (size g - y) over lowest highest
 
 -- what is read at node y of g, and stored at its node of s
 pub record Turn (n : ℕ) (g map : List ℕ) (y : ℕ) : Type 0 where
   pub few : n ≤ 64
   pub small : y < 255
-  pub node : Node g y
-  pub from : rowFrom g y < length g
+  pub inside : y < size g
   pub stored : getD map y 0 < 255
-  pub known : labelAt g y < n
+  pub known : Known n (labelAt g y)
 
 module _ {n : ℕ} {ws : List ℕ} {nodes : ℕ} {g map : List ℕ} where
-  pub met-start : {met : List ℕ} → TypesOver n nodes g map → length met ≡ 255 → ((v : ℕ) → v < nodes → getD met v 0 ≡ getD ws (n - 1) 0) →
-      Meeting n ws nodes g map (size g) met
+  pub met-start : {over lowest highest : List ℕ} → LabelsOver n nodes g map → MetLong over lowest highest →
+      ((v : ℕ) → v < nodes → getD over v 0 ≡ getD ws (n - 1) 0) → ((v : ℕ) → v < nodes → getD lowest v 0 ≡ 0) →
+      ((v : ℕ) → v < nodes → getD highest v 0 ≡ 255) → Meeting n ws nodes g map (size g) over lowest highest
   unfolding metFrom meetWhere from
-  met-start {met} typed long top =
+  met-start labelled long top low high =
       let z : size g - size g ≡ 0 = omega arith in
-      record { typed = typed; left = omega arith; long = long; each = λ t ok words. rw z top }
+      record {
+        labelled = labelled;
+        left = omega arith;
+        long = long;
+        each = λ t ok words. rw z (record { types = top; lows = low; highs = high });
+      }
 
-  module _ {y : ℕ} {met : List ℕ} (m : Meeting n ws nodes g map y met) (h : 0 < y) where
+  module _ {y : ℕ} {over lowest highest : List ℕ} (m : Meeting n ws nodes g map y over lowest highest) (h : 0 < y) where
     lower : y - 1 < size g
     lower = omega (arith, m .left)
 
     pub turn-known : Turn n g map (y - 1)
     turn-known =
-        let node = m .typed .sound .shaped .node (y - 1) lower in
         record {
-          few = m .typed .few;
-          small = omega (arith, lower, m .typed .upper-small);
-          node = node;
-          from = omega (arith, node .begun, node .ended);
-          stored = omega (arith, m .typed .mapped (y - 1) lower, m .typed .small);
-          known = m .typed .known (y - 1) lower;
+          few = m .labelled .few;
+          small = omega (arith, lower, m .labelled .upper-small);
+          inside = lower;
+          stored = omega (arith, m .labelled .mapped (y - 1) lower, m .labelled .small);
+          known = m .labelled .known (y - 1) lower;
         }
+
+    abbrev u : ℕ
+    u = getD map (y - 1) 0
+
+    abbrev a : Label
+    a = labelAt g (y - 1)
 
     -- the loop goes down
-    pub met-down : Meeting n ws nodes g map (y - 1)
-        (set met (getD map (y - 1) 0) (bitAnd (getD ws (labelAt g (y - 1)) 0) (getD met (getD map (y - 1) 0) 0)))
+    pub met-down : Meeting n ws nodes g map (y - 1) (set over u (bitAnd (wordOf ws a) (getD over u 0)))
+        (set lowest u (max (a .lowest) (getD lowest u 0))) (set highest u (min (a .highest) (getD highest u 0)))
     met-down =
         record {
-          typed = m .typed;
+          labelled = m .labelled;
           left = omega (arith, m .left);
-          long = length-set met u new ∙ m .long;
-          each = λ t ok words v l. each t ok words v l (ℕ-discrete v u);
+          long = record {
+            types = length-set over u (bitAnd (wordOf ws a) (getD over u 0)) ∙ m .long .types;
+            lows = length-set lowest u (max (a .lowest) (getD lowest u 0)) ∙ m .long .lows;
+            highs = length-set highest u (min (a .highest) (getD highest u 0)) ∙ m .long .highs;
+          };
+          each = each;
         }
       where
-        u : ℕ
-        u = getD map (y - 1) 0
-
-        a : ℕ
-        a = labelAt g (y - 1)
-
-        new : ℕ
-        new = bitAnd (getD ws a 0) (getD met u 0)
-
         inside : u < nodes
-        inside = m .typed .mapped (y - 1) lower
+        inside = m .labelled .mapped (y - 1) lower
 
-        here : getD (set met u new) u 0 ≡ new
-        here = getD-set-same met u new 0 (omega (arith, m .long, inside, m .typed .small))
+        each : (t : List ℕ) → accepted n t ≡ true → Words n t false ws →
+            Met n t ws nodes g map (y - 1) (size g - (y - 1)) (set over u (bitAnd (wordOf ws a) (getD over u 0)))
+            (set lowest u (max (a .lowest) (getD lowest u 0))) (set highest u (min (a .highest) (getD highest u 0)))
+        each t ok words =
+            let met = m .each t ok words in
+            record {
+              types = next (wordOf ws) bitAnd over law (m .long .types) (met .types);
+              lows = next (λ l. l .lowest) max lowest (λ v. refl) (m .long .lows) (met .lows);
+              highs = next (λ l. l .highest) min highest (λ v. refl) (m .long .highs) (met .highs);
+            }
+          where
+            behind : ℕ → Label
+            behind v = metFrom n t g map (suc (y - 1)) (size g - y) v
 
-        rest : List ℕ → ℕ → ℕ
-        rest t v = metFrom n t g map (suc (y - 1)) (size g - y) v
+            law : (v : ℕ) → wordOf ws (tableLabels n t .meet a (behind v)) ≡ bitAnd (wordOf ws a) (wordOf ws (behind v))
+            law v =
+                sym (meet-word n t ws ok words (a .type) (behind v .type) (m .labelled .known (y - 1) lower .type)
+                (met-known n t g map ok (suc (y - 1)) (size g - y) v (λ x l. m .labelled .known x (omega (arith, m .left))) .type))
 
-        rest-type : (t : List ℕ) → accepted n t ≡ true → (v : ℕ) → rest t v < n
-        rest-type t ok v = met-type n t g map ok (suc (y - 1)) (size g - y) v (λ x l. m .typed .known x (omega (arith, m .left)))
+            next : (part : Label → ℕ) (op : ℕ → ℕ → ℕ) (values : List ℕ) →
+                ((v : ℕ) → part (tableLabels n t .meet a (behind v)) ≡ op (part a) (part (behind v))) → length values ≡ 255 →
+                MetPart part n t nodes g map y (size g - y) values →
+                MetPart part n t nodes g map (y - 1) (size g - (y - 1)) (set values u (op (part a) (getD values u 0)))
+            next part op values law long before =
+                let first : y ≡ suc (y - 1) = omega arith in
+                let more : suc (size g - y) ≡ size g - (y - 1) = omega (arith, m .left) in
+                subst (λ (c : ℕ). MetPart part n t nodes g map (y - 1) c (set values u (op (part a) (getD values u 0)))) more
+                (part-met part op n t nodes g map (y - 1) (size g - y) values law (omega (arith, long, turn-known .stored)) inside
+                (subst (λ (i : ℕ). MetPart part n t nodes g map i (size g - y) values) first before))
 
-        before : (t : List ℕ) → accepted n t ≡ true → Words n t false ws → (v : ℕ) → v < nodes → getD met v 0 ≡ getD ws (rest t v) 0
-        before t ok words v l =
-            let e : y ≡ suc (y - 1) = omega arith in
-            m .each t ok words v l ∙ ap (λ (i : ℕ). getD ws (metFrom n t g map i (size g - y) v) 0) e
+    -- the same, of a label and levels that are equal
+    pub met-down-as : {label : Label} {low high : ℕ} → label ≡ labelAt g (y - 1) → low ≡ max (label .lowest) (getD lowest (getD map (y - 1) 0) 0) →
+        high ≡ min (label .highest) (getD highest (getD map (y - 1) 0) 0) →
+        Meeting n ws nodes g map (y - 1) (set over (getD map (y - 1) 0) (bitAnd (wordOf ws label) (getD over (getD map (y - 1) 0) 0)))
+        (set lowest (getD map (y - 1) 0) low) (set highest (getD map (y - 1) 0) high)
+    met-down-as e p q = rw (p, q, e) met-down
 
-        more : (t : List ℕ) (v : ℕ) → metFrom n t g map (y - 1) (size g - (y - 1)) v ≡
-            cond (eqb u v) (cell (meet n t a (rest t v))) (rest t v)
-        more t v =
-            let d : size g - (y - 1) ≡ suc (size g - y) = omega (arith, m .left) in
-            ap (λ (c : ℕ). metFrom n t g map (y - 1) c v) d ∙ met-cons n t g map (y - 1) (size g - y) v
-
-        each : (t : List ℕ) → accepted n t ≡ true → Words n t false ws → (v : ℕ) → v < nodes → Dec (v ≡ u) →
-            getD (set met u new) v 0 ≡ getD ws (metFrom n t g map (y - 1) (size g - (y - 1)) v) 0
-        each t ok words v l (yes e) =
-            ap (λ (i : ℕ). getD (set met u new) i 0) e ∙ here ∙
-            ap (bitAnd (getD ws a 0)) (before t ok words u inside ∙ ap (λ (i : ℕ). getD ws (rest t i) 0) (sym e)) ∙
-            meet-word n t ws ok words a (rest t v) (m .typed .known (y - 1) lower) (rest-type t ok v) ∙
-            ap (λ (i : ℕ). getD ws i 0)
-            (sym (more t v ∙ ap (λ (b : Bool). cond b (cell (meet n t a (rest t v))) (rest t v)) (eq-eqb u v (sym e))))
-        each t ok words v l (no d) =
-            getD-set-other met u v new 0 d ∙ before t ok words v l ∙
-            ap (λ (i : ℕ). getD ws i 0)
-            (sym (more t v ∙ ap (λ (b : Bool). cond b (cell (meet n t a (rest t v))) (rest t v)) (ne-eqb u v (λ e. d (sym e)))))
-
-  pub met-done : {y : ℕ} {met : List ℕ} → Meeting n ws nodes g map y met → y ≤ 0 → (t : List ℕ) → accepted n t ≡ true → Words n t false ws →
-      Met n t ws nodes g map 0 (size g) met
-  met-done {y} {met} m h t ok words v l =
+  pub met-done : {y : ℕ} {over lowest highest : List ℕ} → Meeting n ws nodes g map y over lowest highest → y ≤ 0 →
+      MetBy n ws nodes g map over lowest highest
+  met-done {y} {over} {lowest} {highest} m h t ok words =
       let e : y ≡ 0 = omega arith in
-      let d : size g - 0 ≡ size g = omega arith in
-      m .each t ok words v l ∙ ap (λ (i : ℕ). getD ws (metFrom n t g map i (size g - i) v) 0) e ∙
-      ap (λ (c : ℕ). getD ws (metFrom n t g map 0 c v) 0) d
+      let d : size g - y ≡ size g = omega arith in
+      subst (λ (i : ℕ). Met n t ws nodes g map i (size g) over lowest highest) e
+      (subst (λ (c : ℕ). Met n t ws nodes g map y c over lowest highest) d (m .each t ok words))
 
--- Wanted types.
+-- Wanted labels.
 
--- the wanted types of the nodes before k
-pub record Wanting (n : ℕ) (t ws s g map met : List ℕ) (k : ℕ) (types : List ℕ) : Type 0 where
+-- the wanted label of p over q, for a type
+abbrev wantedOf : Label → Label → ℕ → Label
+wantedOf p q c =
+    record { type = c; lowest = wantedLevel 0 (p .lowest) (q .lowest); highest = wantedLevel 255 (p .highest) (q .highest) }
+
+-- what the search for a wanted type answers, with the wanted levels, tells the wanted label
+pub wanted-tells : (n : ℕ) (t : List ℕ) (p q label : Label) → n ≤ 64 → label .type ≡ cell (wanted n t (p .type) (q .type)) →
+    label .lowest ≡ wantedLevel 0 (p .lowest) (q .lowest) → label .highest ≡ wantedLevel 255 (p .highest) (q .highest) →
+    Tells (wantedLabel n t p q) label
+unfolding wantedLabel
+wanted-tells n t p q label few e low high = go (wanted n t (p .type) (q .type)) refl
+  where
+    go : (o : Option ℕ) → wanted n t (p .type) (q .type) ≡ o → Tells (Option·map (wantedOf p q) o) label
+    go none d = let z : label .type ≡ 64 = e ∙ ap cell d in record { some-stands = λ h. absurd (omega arith); none-stands = λ h. refl }
+    go (some c) d =
+        let z : label .type ≡ c = e ∙ ap cell d in
+        record {
+          some-stands = λ h. ap some (label-parts (sym z) (sym low) (sym high));
+          none-stands = λ h. absurd (omega (arith, wanted-type n t (p .type) (q .type) c d));
+        }
+
+-- a wanted level is a level
+level-most : (widest p q : ℕ) → widest ≤ 255 → p ≤ 255 → wantedLevel widest p q ≤ 255
+level-most widest p q a b = go (eqb p q)
+  where
+    go : (b : Bool) → cond b widest p ≤ 255
+    go true = a
+    go false = b
+
+-- a wanted label is a label of the table
+wanted-known : (n : ℕ) (t : List ℕ) (p q c : Label) → Known n p → wantedLabel n t p q ≡ some c → Known n c
+unfolding wantedLabel
+wanted-known n t p q c k e =
+    let (a, d, f) = map-eq-some-iff (wantedOf p q) (wanted n t (p .type) (q .type)) .0 e in
+    subst (Known n) f
+    (record {
+      type = wanted-type n t (p .type) (q .type) a d;
+      lowest = level-most 0 (p .lowest) (q .lowest) (omega arith) (k .lowest);
+      highest = level-most 255 (p .highest) (q .highest) (omega arith) (k .highest);
+    })
+
+-- the wanted labels of the nodes before k
+pub record Wanting (n : ℕ) (t ws s g map over lowest highest : List ℕ) (k : ℕ) (labels : List ℕ) : Type 0 where
   pub ok : accepted n t ≡ true
   pub words : Words n t false ws
   pub few : n ≤ 64
   pub shaped : Shaped s
   pub small : size s ≤ 255
-  pub typed : (v : ℕ) → v < size s → labelAt s v < n
-  pub upper-typed : (y : ℕ) → y < size g → labelAt g y < n
-  pub met-each : Met n t ws (size s) g map 0 (size g) met
+  pub known : (v : ℕ) → v < size s → Known n (labelAt s v)
+  pub upper-known : (y : ℕ) → y < size g → Known n (labelAt g y)
+  pub met-each : Met n t ws (size s) g map 0 (size g) over lowest highest
   pub left : k ≤ size s
-  pub wants : Wants n t s g map k types
+  pub wants : Wants n t s g map k labels
 
--- what the search for a wanted type answers, as the type or none
-module _ (n : ℕ) (t : List ℕ) (p q r : ℕ) (e : r ≡ cell (wanted n t p q)) where
-  cell-some : r < 64 → wanted n t p q ≡ some r
-  cell-some h = go (wanted n t p q) refl
-    where
-      go : (o : Option ℕ) → wanted n t p q ≡ o → wanted n t p q ≡ some r
-      go none d = let z : r ≡ 64 = e ∙ ap cell d in absurd (omega arith)
-      go (some c) d = d ∙ ap some (sym (e ∙ ap cell d))
-
-  cell-none : n ≤ 64 → 64 ≤ r → found (wanted n t p q) ≡ false
-  cell-none few h = go (wanted n t p q) refl
-    where
-      go : (o : Option ℕ) → wanted n t p q ≡ o → found o ≡ false
-      go none d = refl
-      go (some c) d = let z : r ≡ c = e ∙ ap cell d in absurd (omega (arith, wanted-type n t p q c d))
-
-module _ {n : ℕ} {t ws s g map met : List ℕ} where
-  pub wants-start : {types : List ℕ} → Asked n t g s map → length types ≡ 255 → Words n t false ws →
-      Met n t ws (size s) g map 0 (size g) met → Wanting n t ws s g map met 0 types
+module _ {n : ℕ} {t ws s g map over lowest highest : List ℕ} where
+  pub wants-start : {labels : List ℕ} → Asked n t g s map → length labels ≡ 510 → Words n t false ws →
+      Met n t ws (size s) g map 0 (size g) over lowest highest → Wanting n t ws s g map over lowest highest 0 labels
   wants-start asked long words each =
       record {
         ok = asked .ok;
@@ -202,68 +269,79 @@ module _ {n : ℕ} {t ws s g map met : List ℕ} where
         few = accepted-size n t (asked .ok) .1;
         shaped = asked .lower .sound .shaped;
         small = asked .lower .small;
-        typed = asked .lower-typed;
-        upper-typed = asked .upper-typed;
+        known = asked .lower-typed;
+        upper-known = asked .upper-typed;
         met-each = each;
         left = omega arith;
         wants = record { long = long; each = λ v h. absurd (omega arith) };
       }
 
-  module _ {k r : ℕ} {types : List ℕ} (w : Wanting n t ws s g map met k types) (h : k < size s)
-      (answer : WantedOver n t ws (labelAt s k) (getD met k 0) r) where
-    e : r ≡ cell (wantedAt n t s g map k)
-    e =
-        answer (metFrom n t g map 0 (size g) k) (met-type n t g map (w .ok) 0 (size g) k (λ x l. w .upper-typed x (omega arith)))
-        (w .met-each k h)
+  module _ {k : ℕ} {p label : Label} {labels : List ℕ} (w : Wanting n t ws s g map over lowest highest k labels) (h : k < size s)
+      (own : p ≡ labelAt s k) (answer : WantedLabelOver n ws p (getD over k 0) (getD lowest k 0) (getD highest k 0) label) where
+    told : Tells (wantedAt n t s g map k) label
+    told =
+        subst (λ (l : Label). WantedLabelOver n ws l (getD over k 0) (getD lowest k 0) (getD highest k 0) label) own answer t (w .ok)
+        (w .words) (metFrom n t g map 0 (size g) k)
+        (met-known n t g map (w .ok) 0 (size g) k (λ x l. w .upper-known x (omega arith)))
+        (w .met-each .types k h) (w .met-each .lows k h) (w .met-each .highs k h)
 
-    pub wants-next : r < 64 → Wanting n t ws s g map met (k + 1) (set types k r)
-    wants-next low =
+    pub wants-next : {labels′ : List ℕ} → label .type < 64 → labels′ ≡ putLabel labels (2 * k) label →
+        Wanting n t ws s g map over lowest highest (k + 1) labels′
+    wants-next {labels′} low e =
         record {
           ok = w .ok;
           words = w .words;
           few = w .few;
           shaped = w .shaped;
           small = w .small;
-          typed = w .typed;
-          upper-typed = w .upper-typed;
+          known = w .known;
+          upper-known = w .upper-known;
           met-each = w .met-each;
           left = omega arith;
-          wants = record { long = length-set types k r ∙ w .wants .long; each = λ v l. each v l (ℕ-discrete v k) };
+          wants = subst (Wants n t s g map (k + 1)) (sym e)
+              (record { long = length-put labels (2 * k) label ∙ w .wants .long; each = λ v l. each v l (ℕ-discrete v k) });
         }
       where
-        here : getD (set types k r) k 0 ≡ r
-        here = getD-set-same types k r 0 (omega (arith, w .wants .long, w .small))
+        is : wantedAt n t s g map k ≡ some label
+        is = told .some-stands low
 
-        each : (v : ℕ) → v < k + 1 → Dec (v ≡ k) → wantedAt n t s g map v ≡ some (getD (set types k r) v 0)
+        here : labelFrom (putLabel labels (2 * k) label) (2 * k) ≡ label
+        here =
+            label-put labels (2 * k) label (omega (arith, w .wants .long, w .small))
+            (wanted-known n t (labelAt s k) (metFrom n t g map 0 (size g) k) label (w .known k h) is .highest)
+
+        each : (v : ℕ) → v < k + 1 → Dec (v ≡ k) → wantedAt n t s g map v ≡ some (labelFrom (putLabel labels (2 * k) label) (2 * v))
         each v l (yes d) =
-            ap (wantedAt n t s g map) d ∙ cell-some n t (labelAt s k) (metFrom n t g map 0 (size g) k) r e low ∙
-            ap some (sym (ap (λ (i : ℕ). getD (set types k r) i 0) d ∙ here))
-        each v l (no d) = w .wants .each v (omega arith) ∙ ap some (sym (getD-set-other types k v r 0 d))
+            ap (wantedAt n t s g map) d ∙ is ∙
+            ap some (sym (ap (λ (i : ℕ). labelFrom (putLabel labels (2 * k) label) (2 * i)) d ∙ here))
+        each v l (no d) =
+            w .wants .each v (omega arith) ∙
+            ap some
+            (sym (label-same labels (putLabel labels (2 * k) label) (2 * v) (put-before labels (2 * k) label (2 * v) (2 * v + header) (omega arith))))
 
     -- node k has none
-    pub wants-none : 64 ≤ r → (types′ : List ℕ) → WantsAll n t s g map false types′
-    wants-none high types′ =
+    pub wants-none : 64 ≤ label .type → (labels′ : List ℕ) → WantsAll n t s g map false labels′
+    wants-none high labels′ =
         record {
-          answers =
-              sym
-              (every-fails (λ v. found (wantedAt n t s g map v)) (size s) k h
-              (cell-none n t (labelAt s k) (metFrom n t g map 0 (size g) k) r e (w .few) high));
+          answers = sym (every-fails (λ v. found (wantedAt n t s g map v)) (size s) k h (told .none-stands high));
           wants = λ q. let z : _≡_ {A = ℕ} 0 1 = cc in absurd (omega arith);
         }
 
-  pub wants-done : {k : ℕ} {types : List ℕ} → Wanting n t ws s g map met k types → size s ≤ k → WantsAll n t s g map true types
-  wants-done {k} {types} w h =
+  pub wants-done : {k : ℕ} {labels : List ℕ} → Wanting n t ws s g map over lowest highest k labels → size s ≤ k →
+      WantsAll n t s g map true labels
+  wants-done {k} {labels} w h =
       record {
         answers = sym (every-all (λ v. found (wantedAt n t s g map v)) (size s) λ v l. ap found (w .wants .each v (omega arith)));
         wants = λ q. record { long = w .wants .long; each = λ v l. w .wants .each v (omega arith) };
       }
 
--- wanted types are types
-pub wants-types : {n : ℕ} {t s g map types : List ℕ} → Wants n t s g map (size s) types → Types n (size s) types
-wants-types {n} {t} {s} {g} {map} {types} w =
+-- wanted labels are labels of the table
+pub wants-known : {n : ℕ} {t s g map labels : List ℕ} → Asked n t g s map → Wants n t s g map (size s) labels → NodeLabels n (size s) labels
+wants-known {n} {t} {s} {g} {map} {labels} asked w =
     record {
       long = w .long;
-      known = λ v h. wanted-type n t (labelAt s v) (metFrom n t g map 0 (size g) v) (getD types v 0) (w .each v h);
+      known = λ v h.
+          wanted-known n t (labelAt s v) (metFrom n t g map 0 (size g) v) (labelFrom labels (2 * v)) (asked .lower-typed v h) (w .each v h);
     }
 
 -- what is met depends on the labels listed alone

@@ -7,18 +7,18 @@ use Prim.Native.Nat.{ℕ, _≤_, _<_}
 use lib.ListN.{length, getD}
 use Rattle.graphs.specs.Graph.{AnySize, Reached}
 use Rattle.graphs.specs.Map.{NodeMap}
-use Rattle.lattice.specs.Labels.{typeLabels}
+use Rattle.lattice.specs.Labels.{tableLabels, Known}
 use Rattle.lattice.specs.Table.{accepted}
-use Rattle.layout.specs.Layout.{size, labelAt, graphIn, Recorded}
+use Rattle.layout.specs.Layout.{longest, size, labelAt, graphIn, Recorded}
 
 pub record Asked (n : ℕ) (t g s map : List ℕ) : Type 0 where
   pub ok : accepted n t ≡ true
   pub upper : Recorded g
   pub lower : Recorded s
-  pub short : length s ≤ 2560
-  pub upper-typed : (y : ℕ) → y < size g → labelAt g y < n
-  pub lower-typed : (v : ℕ) → v < size s → labelAt s v < n
+  pub short : length s ≤ longest
+  pub upper-typed : (y : ℕ) → y < size g → Known n (labelAt g y)
+  pub lower-typed : (v : ℕ) → v < size s → Known n (labelAt s v)
   pub upper-reached : (y : ℕ) → y < size g → Reached (graphIn g) y
   pub lower-reached : (v : ℕ) → v < size s → Reached (graphIn s) v
-  pub any-size : AnySize (typeLabels n t) (graphIn s)
-  pub lies : NodeMap (typeLabels n t) (graphIn s) (graphIn g) (λ y. getD map y 0)
+  pub any-size : AnySize (tableLabels n t) (graphIn s)
+  pub lies : NodeMap (tableLabels n t) (graphIn s) (graphIn g) (λ y. getD map y 0)

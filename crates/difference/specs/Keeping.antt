@@ -4,10 +4,10 @@ use mathlib.Core.Path.{_≡_}
 use mathlib.Core.Bool.{Bool, true, false}
 use mathlib.Core.List.{List}
 use mathlib.Core.Logic.{_⊎_}
-use Prim.Native.Nat.{ℕ, _+_, _-_, _≤_, _<_}
+use Prim.Native.Nat.{ℕ, _+_, _*_, _≤_, _<_}
 use lib.ListN.{length, getD}
-use Rattle.lattice.specs.Table.{below}
-use Rattle.layout.specs.Layout.{size, linksFrom, rowEnd, targetAt, Sound, Place, rowsEnd}
+use Rattle.lattice.specs.Labels.{tableLabels}
+use Rattle.layout.specs.Layout.{longest, labelFrom, size, linksFrom, rowEnd, targetAt, Sound, Place, rowsEnd}
 use Rattle.visits.specs.Walks.{TargetsFirst}
 
 -- the nodes that Q tells are kept in addition
@@ -43,9 +43,9 @@ abbrev pub Enters : List ℕ → List ℕ → ℕ → List ℕ → List ℕ → 
 Enters s marks k keep entered keep′ entered′ =
     (keep₀ : List ℕ) → Entering s marks k keep₀ keep entered → Entering s marks (k + 1) keep₀ keep′ entered′
 
--- the wanted type of one of the first k nodes is not top
+-- the label of one of the first k nodes is not top
 abbrev pub Untop : ℕ → List ℕ → List ℕ → ℕ → ℕ → Type 0
-Untop n t types k v = (v < k) × (below t (n - 1) (getD types v 0) ≡ false)
+Untop n t labels k v = (v < k) × (tableLabels n t .le (tableLabels n t .top) (labelFrom labels (2 * v)) ≡ false)
 
 -- the link at place k is kept: it leads its group and enters a kept node
 pub record Stays (s marks keep : List ℕ) (k : ℕ) : Type 0 where
@@ -65,8 +65,8 @@ pub record Decides (P : Type 0) (answer : Bool) : Type 0 where
 pub record Ready (s marks keep : List ℕ) : Type 0 where
   pub sound : Sound s
   pub small : size s ≤ 255
-  pub short : length s ≤ 2560
-  pub marks-long : length marks ≡ 2560
+  pub short : length s ≤ longest
+  pub marks-long : length marks ≡ longest
   pub keep-long : length keep ≡ 255
 
 -- an order of the nodes with targets first, each node at one place
@@ -82,16 +82,16 @@ pub record Settled (done : ℕ → Type 0) (s marks keep keep′ : List ℕ) : T
   pub found : (v : ℕ) → v < size s → done v → Onward s marks keep′ (linksFrom s v) (rowEnd s v) → getD keep′ v 0 ≡ 1
   pub why : (v : ℕ) → v < size s → getD keep′ v 0 ≡ 1 → (getD keep v 0 ≡ 1) ⊎ Onward s marks keep′ (linksFrom s v) (rowEnd s v)
 
--- Why a node is kept: it is the root; two groups enter it, or one with nothing of g over it; its wanted type is not top; or a kept
+-- Why a node is kept: it is the root; two groups enter it, or one with nothing of g over it; its wanted label is not top; or a kept
 -- link leaves it.
-pub data Why (n : ℕ) (t s marks types keep : List ℕ) (v : ℕ) : Type 0 where
-  isRoot : v ≡ 0 → Why n t s marks types keep v
-  caused : Cause s marks (rowsEnd s) v → Why n t s marks types keep v
-  untop : below t (n - 1) (getD types v 0) ≡ false → Why n t s marks types keep v
-  onward : Onward s marks keep (linksFrom s v) (rowEnd s v) → Why n t s marks types keep v
+pub data Why (n : ℕ) (t s marks labels keep : List ℕ) (v : ℕ) : Type 0 where
+  isRoot : v ≡ 0 → Why n t s marks labels keep v
+  caused : Cause s marks (rowsEnd s) v → Why n t s marks labels keep v
+  untop : tableLabels n t .le (tableLabels n t .top) (labelFrom labels (2 * v)) ≡ false → Why n t s marks labels keep v
+  onward : Onward s marks keep (linksFrom s v) (rowEnd s v) → Why n t s marks labels keep v
 
 -- just the nodes with a reason are kept
-pub record Keeps (n : ℕ) (t s marks types keep : List ℕ) : Type 0 where
+pub record Keeps (n : ℕ) (t s marks labels keep : List ℕ) : Type 0 where
   pub long : length keep ≡ 255
-  pub why : (v : ℕ) → v < size s → getD keep v 0 ≡ 1 → Why n t s marks types keep v
-  pub found : (v : ℕ) → v < size s → Why n t s marks types keep v → getD keep v 0 ≡ 1
+  pub why : (v : ℕ) → v < size s → getD keep v 0 ≡ 1 → Why n t s marks labels keep v
+  pub found : (v : ℕ) → v < size s → Why n t s marks labels keep v → getD keep v 0 ≡ 1

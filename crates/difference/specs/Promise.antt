@@ -2,7 +2,7 @@
 -- s that each node of g leads to (document 01, "Difference": "Each path of g leads to one node of s").
 use mathlib.Core.Bool.{Bool}
 use mathlib.Core.List.{List}
-use mathlib.Core.Option.{Option}
+use mathlib.Core.Option.{Option, Option·getD}
 use Prim.Native.Nat.{ℕ}
 use lib.Dec.{eqb}
 use lib.ListN.{length, getD}
@@ -10,26 +10,26 @@ use Rattle.graphs.specs.Graph.{Graph}
 use Rattle.graphs.specs.Rows.{Row, from}
 use Rattle.graphs.specs.Number.{Canonical, canonical}
 use Rattle.graphs.specs.Difference.{difference, meetOver, byNumber}
-use Rattle.lattice.specs.Table.{every, found, cell, wanted}
-use Rattle.lattice.specs.Label.{Label}
-use Rattle.lattice.specs.Labels.{typeLabels}
+use Rattle.lattice.specs.Table.{every, found}
+use Rattle.lattice.specs.Label.{Label, noLabel}
+use Rattle.lattice.specs.Labels.{tableLabels, wantedLabel}
 use Rattle.layout.specs.Layout.{graphOfRows, rowsOf}
 
 module _ (n : ℕ) (t : List ℕ) (s g : List (Row Label)) (over : ℕ → ℕ) where
-  -- "The wanted type is the greatest type whose meet with the meet of all g types over this node (top if none) equals the type in s"; none
-  -- where "none is the greatest"
-  unfoldable pub wantedAlong : ℕ → Option ℕ
+  -- "The wanted type is the greatest type whose meet with the meet of all g types over this node (top if none) equals the type in s", and
+  -- with it the wanted range (document 02, Paper 7); none where "none is the greatest"
+  unfoldable pub wantedAlong : ℕ → Option Label
   wantedAlong v =
-      wanted n t (graphOfRows s .label v)
-      (meetOver (typeLabels n t) eqb (graphOfRows g) (from 0 (length g)) over v)
+      wantedLabel n t (graphOfRows s .label v)
+      (meetOver (tableLabels n t) eqb (graphOfRows g) (from 0 (length g)) over v)
 
   -- the difference, its links ordered "by parent number, then feature"
   unfoldable pub differenceAlong : Graph Label ℕ
   differenceAlong =
-      difference (typeLabels n t) eqb eqb byNumber (graphOfRows s) (from 0 (length s)) (graphOfRows g) (from 0 (length g))
-      over (λ v. cell (wantedAlong v))
+      difference (tableLabels n t) eqb eqb byNumber (graphOfRows s) (from 0 (length s)) (graphOfRows g) (from 0 (length g))
+      over (λ v. Option·getD (wantedAlong v) noLabel)
 
-  -- every node of s, kept or not, has a wanted type
+  -- every node of s, kept or not, has a wanted label
   unfoldable pub allWantedAlong : Bool
   allWantedAlong = every (length s) λ v. found (wantedAlong v)
 

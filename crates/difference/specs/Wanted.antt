@@ -1,56 +1,85 @@
--- Wanted types, in arrays beside the graphs.
+-- Wanted labels, in arrays beside the graphs. An array of labels has a header for each node, that of node v at 2 * v.
 use mathlib.Core.Path.{_≡_}
 use mathlib.Core.Bool.{Bool, true, false}
 use mathlib.Core.List.{List}
 use mathlib.Core.Option.{Option, some}
-use Prim.Native.Nat.{ℕ, _≤_, _<_}
+use Prim.Native.Nat.{ℕ, _*_, _≤_, _<_}
 use lib.Dec.{eqb}
 use lib.ListN.{length, getD}
 use Rattle.graphs.specs.Rows.{from}
 use Rattle.graphs.specs.Difference.{meetWhere}
 use Rattle.lattice.specs.Label.{Label}
-use Rattle.lattice.specs.Table.{every, found, accepted, wanted}
+use Rattle.lattice.specs.Table.{every, found, accepted}
 use Rattle.lattice.specs.Words.{Words}
-use Rattle.lattice.specs.Labels.{typeLabels}
-use Rattle.layout.specs.Layout.{size, labelAt, Sound}
+use Rattle.lattice.specs.Labels.{tableLabels, Known, wantedLabel}
+use Rattle.layout.specs.Layout.{labelFrom, size, labelAt, Sound}
 
 -- the meet of the labels of `count` nodes of g from y on, those that lie over v
 unfoldable pub metFrom : ℕ → List ℕ → List ℕ → List ℕ → ℕ → ℕ → ℕ → Label
-metFrom n t g map y count v = meetWhere (typeLabels n t) (λ y. eqb (getD map y 0) v) (λ y. labelAt g y) (from y count)
+metFrom n t g map y count v = meetWhere (tableLabels n t) (λ y. eqb (getD map y 0) v) (λ y. labelAt g y) (from y count)
 
--- The types of g's nodes, n types in all, and a map of these nodes to `nodes` nodes.
-pub record TypesOver (n nodes : ℕ) (g map : List ℕ) : Type 0 where
+-- The labels of g's nodes, over n types, and a map of these nodes to `nodes` nodes.
+pub record LabelsOver (n nodes : ℕ) (g map : List ℕ) : Type 0 where
   pub two : 2 ≤ n
   pub few : n ≤ 64
   pub small : nodes ≤ 255
   pub sound : Sound g
   pub upper-small : size g ≤ 255
   pub mapped : (y : ℕ) → y < size g → getD map y 0 < nodes
-  pub known : (y : ℕ) → y < size g → labelAt g y < n
+  pub known : (y : ℕ) → y < size g → Known n (labelAt g y)
 
--- types for `nodes` nodes
-pub record Types (n nodes : ℕ) (types : List ℕ) : Type 0 where
-  pub long : length types ≡ 255
-  pub known : (v : ℕ) → v < nodes → getD types v 0 < n
+-- labels of a table with n types, for `nodes` nodes
+pub record NodeLabels (n nodes : ℕ) (labels : List ℕ) : Type 0 where
+  pub long : length labels ≡ 510
+  pub known : (v : ℕ) → v < nodes → Known n (labelFrom labels (2 * v))
 
--- the words of the meets of the types from y on, over each node of s
-abbrev pub Met : ℕ → List ℕ → List ℕ → ℕ → List ℕ → List ℕ → ℕ → ℕ → List ℕ → Type 0
-Met n t ws nodes g map y count met = (v : ℕ) → v < nodes → getD met v 0 ≡ getD ws (metFrom n t g map y count v) 0
+-- Arrays for what is met over each node of s: the word of the types below the type, the lowest and the highest level.
+pub record MetLong (over lowest highest : List ℕ) : Type 0 where
+  pub types : length over ≡ 255
+  pub lows : length lowest ≡ 255
+  pub highs : length highest ≡ 255
 
--- the words of the meets of all types of g over each node of s, by each accepted table that has the words
-abbrev pub MetBy : ℕ → List ℕ → ℕ → List ℕ → List ℕ → List ℕ → Type 0
-MetBy n ws nodes g map met = (t : List ℕ) → accepted n t ≡ true → Words n t false ws → Met n t ws nodes g map 0 (size g) met
+-- Each of the first `nodes` values is `part` of what is met of the labels from y on, over its node of s.
+abbrev pub MetPart : (Label → ℕ) → ℕ → List ℕ → ℕ → List ℕ → List ℕ → ℕ → ℕ → List ℕ → Type 0
+MetPart part n t nodes g map y count values = (v : ℕ) → v < nodes → getD values v 0 ≡ part (metFrom n t g map y count v)
 
--- the wanted type of the node v of s
-abbrev pub wantedAt : ℕ → List ℕ → List ℕ → List ℕ → List ℕ → ℕ → Option ℕ
-wantedAt n t s g map v = wanted n t (labelAt s v) (metFrom n t g map 0 (size g) v)
+-- the word of a label's type
+abbrev pub wordOf : List ℕ → Label → ℕ
+wordOf ws l = getD ws (l .type) 0
 
--- the wanted types of the first k nodes of s
-pub record Wants (n : ℕ) (t s g map : List ℕ) (k : ℕ) (types : List ℕ) : Type 0 where
-  pub long : length types ≡ 255
-  pub each : (v : ℕ) → v < k → wantedAt n t s g map v ≡ some (getD types v 0)
+-- what is met of the labels from y on, over each node of s
+pub record Met (n : ℕ) (t ws : List ℕ) (nodes : ℕ) (g map : List ℕ) (y count : ℕ) (over lowest highest : List ℕ) : Type 0 where
+  pub types : MetPart (wordOf ws) n t nodes g map y count over
+  pub lows : MetPart (λ l. l .lowest) n t nodes g map y count lowest
+  pub highs : MetPart (λ l. l .highest) n t nodes g map y count highest
 
--- whether every node of s has a wanted type, and where so, their wanted types
-pub record WantsAll (n : ℕ) (t s g map : List ℕ) (answer : Bool) (types : List ℕ) : Type 0 where
+-- what is met of all labels of g, by each accepted table that has the words
+abbrev pub MetBy : ℕ → List ℕ → ℕ → List ℕ → List ℕ → List ℕ → List ℕ → List ℕ → Type 0
+MetBy n ws nodes g map over lowest highest =
+    (t : List ℕ) → accepted n t ≡ true → Words n t false ws → Met n t ws nodes g map 0 (size g) over lowest highest
+
+-- a label that tells a wanted one: its type is 64 where there is none
+pub record Tells (wanted : Option Label) (label : Label) : Type 0 where
+  pub some-stands : label .type < 64 → wanted ≡ some label
+  pub none-stands : 64 ≤ label .type → found wanted ≡ false
+
+-- `label` tells the wanted label of p over a label of which the word of the type and the levels are given, by each accepted table
+-- that has the words
+abbrev pub WantedLabelOver : ℕ → List ℕ → Label → ℕ → ℕ → ℕ → Label → Type 0
+WantedLabelOver n ws p over lowest highest label =
+    (t : List ℕ) → accepted n t ≡ true → Words n t false ws → (q : Label) → Known n q → over ≡ wordOf ws q → lowest ≡ q .lowest →
+    highest ≡ q .highest → Tells (wantedLabel n t p q) label
+
+-- the wanted label of the node v of s
+abbrev pub wantedAt : ℕ → List ℕ → List ℕ → List ℕ → List ℕ → ℕ → Option Label
+wantedAt n t s g map v = wantedLabel n t (labelAt s v) (metFrom n t g map 0 (size g) v)
+
+-- the wanted labels of the first k nodes of s
+pub record Wants (n : ℕ) (t s g map : List ℕ) (k : ℕ) (labels : List ℕ) : Type 0 where
+  pub long : length labels ≡ 510
+  pub each : (v : ℕ) → v < k → wantedAt n t s g map v ≡ some (labelFrom labels (2 * v))
+
+-- whether every node of s has a wanted label, and where so, their wanted labels
+pub record WantsAll (n : ℕ) (t s g map : List ℕ) (answer : Bool) (labels : List ℕ) : Type 0 where
   pub answers : answer ≡ every (size s) λ v. found (wantedAt n t s g map v)
-  pub wants : answer ≡ true → Wants n t s g map (size s) types
+  pub wants : answer ≡ true → Wants n t s g map (size s) labels

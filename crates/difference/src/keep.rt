@@ -1,24 +1,25 @@
 // The nodes that the difference keeps: 1 for a kept one, else 0.
 
+use layout::Label;
 ghost use mathlib.Core.Path.{_≡_};
 ghost use Prim.Native.Nat.{ℕ, _≤_, _<_};
 ghost use lib.ListN.{length, getD};
-ghost use Rattle.layout.specs.Layout.{Place, rowsEnd, size, targetAt};
+ghost use Rattle.layout.specs.Layout.{Place, longest, rowsEnd, size, targetAt};
 ghost use Rattle.visits.specs.Walks.{Reaches};
 ghost use Rattle.difference.specs.Keeping.{Cause, Decides, Enters, Grown, Keeps, Onward, Ready, Settled, Sorted, Stays, Untop};
-ghost use Rattle.difference.specs.Wanted.{Types};
+ghost use Rattle.difference.specs.Wanted.{NodeLabels};
 
 // Where the link at place k leads its group: keeps the node that it enters, if nothing of g lies over the link or an earlier link that
 // leads its group enters the node too. `entered` has 1 at the nodes that such earlier links enter.
 fn keep_one<'a>(
     s: &'a [u16],
-    marks: &'a [u8; 2560],
+    marks: &'a [u8; layout::LONGEST],
     k: usize,
     entered: &mut [u8; 255],
     keep: &mut [u8; 255],
 )
     requires { ⌜ ((u : ℕ) × Place (now s) u k) × (k < length (now s)) × (targetAt (now s) k < 255) ⌝ }
-    requires { ⌜ (k < 2560) × (length (now marks) ≡ 2560) × (length (now entered) ≡ 255) × (length (now keep) ≡ 255) ⌝ }
+    requires { ⌜ (k < longest) × (length (now marks) ≡ longest) × (length (now entered) ≡ 255) × (length (now keep) ≡ 255) ⌝ }
     ensures { λ _. ⌜ Enters (now (s .entry)) (now (marks .entry)) k (now (keep .entry)) (now (entered .entry)) (now (keep .exit)) (now (entered .exit)) ⌝ }
 {
     let mark = marks[k];
@@ -38,7 +39,7 @@ fn keep_one<'a>(
 }
 
 // Keeps the nodes that two links lead to, or one with nothing of g over it.
-pub fn keep_entered<'a>(s: &'a [u16], marks: &'a [u8; 2560], keep: &mut [u8; 255])
+pub fn keep_entered<'a>(s: &'a [u16], marks: &'a [u8; layout::LONGEST], keep: &mut [u8; 255])
     requires { ⌜ Ready (now s) (now marks) (now keep) ⌝ }
     ensures { λ _. ⌜ Grown (Cause (now (s .entry)) (now (marks .entry)) (rowsEnd (now (s .entry)))) (now (keep .entry)) (now (keep .exit)) ⌝ }
 {
@@ -56,21 +57,26 @@ pub fn keep_entered<'a>(s: &'a [u16], marks: &'a [u8; 2560], keep: &mut [u8; 255
     }
 }
 
-// Keeps the nodes whose wanted type is not top.
-pub fn keep_typed<'a>(
+// Keeps the nodes whose wanted label is not top.
+pub fn keep_labelled<'a>(
     n: usize,
     table: &'a [u8],
     nodes: usize,
-    types: &'a [u8; 255],
+    labels: &'a [u16; 510],
     keep: &mut [u8; 255],
 )
-    requires { ⌜ (2 ≤ n) × (n ≤ 64) × (nodes ≤ 255) × Types n nodes (now types) × (length (now keep) ≡ 255) ⌝ }
-    ensures { λ _. ⌜ Grown (Untop n (now (table .entry)) (now (types .entry)) nodes) (now (keep .entry)) (now (keep .exit)) ⌝ }
+    requires { ⌜ (2 ≤ n) × (n ≤ 64) × (nodes ≤ 255) × NodeLabels n nodes (now labels) × (length (now keep) ≡ 255) ⌝ }
+    ensures { λ _. ⌜ Grown (Untop n (now (table .entry)) (now (labels .entry)) nodes) (now (keep .entry)) (now (keep .exit)) ⌝ }
 {
+    let top = Label {
+        kind: (n - 1) as u8,
+        lowest: 0,
+        highest: 255,
+    };
     let mut v = 0;
     while v < nodes {
-        let c = types[v] as usize;
-        if !lattice::words::is_below(table, n - 1, c) {
+        let label = layout::label_from(labels, 2 * v);
+        if !subsume::is_label_below(table, top, label) {
             keep[v] = 1;
         }
         v += 1;
@@ -78,9 +84,14 @@ pub fn keep_typed<'a>(
 }
 
 // Whether the link at place k leads its group and enters a kept node.
-pub fn is_kept<'a>(s: &'a [u16], marks: &'a [u8; 2560], keep: &'a [u8; 255], k: usize) -> bool
-    requires { ⌜ (length (now marks) ≡ 2560) × (length (now keep) ≡ 255) ⌝ }
-    requires { ⌜ (k < 2560) × (k < length (now s)) × (targetAt (now s) k < 255) ⌝ }
+pub fn is_kept<'a>(
+    s: &'a [u16],
+    marks: &'a [u8; layout::LONGEST],
+    keep: &'a [u8; 255],
+    k: usize,
+) -> bool
+    requires { ⌜ (length (now marks) ≡ longest) × (length (now keep) ≡ 255) ⌝ }
+    requires { ⌜ (k < longest) × (k < length (now s)) × (targetAt (now s) k < 255) ⌝ }
     ensures { λ r. ⌜ Decides (Stays (now (s .entry)) (now (marks .entry)) (now (keep .entry)) k) r ⌝ }
 {
     if marks[k] == groups::FOLLOWS {
@@ -92,12 +103,12 @@ pub fn is_kept<'a>(s: &'a [u16], marks: &'a [u8; 2560], keep: &'a [u8; 255], k: 
 // Whether a link between two places is kept.
 pub fn is_left<'a>(
     s: &'a [u16],
-    marks: &'a [u8; 2560],
+    marks: &'a [u8; layout::LONGEST],
     keep: &'a [u8; 255],
     start: usize,
     end: usize,
 ) -> bool
-    requires { ⌜ (length (now marks) ≡ 2560) × (length (now keep) ≡ 255) × (end ≤ 2560) × (end ≤ length (now s)) ⌝ }
+    requires { ⌜ (length (now marks) ≡ longest) × (length (now keep) ≡ 255) × (end ≤ longest) × (end ≤ length (now s)) ⌝ }
     requires { ⌜ ((k : ℕ) → start ≤ k → k < end → targetAt (now s) k < 255) ⌝ }
     ensures { λ r. ⌜ Decides (Onward (now (s .entry)) (now (marks .entry)) (now (keep .entry)) start end) r ⌝ }
 {
@@ -114,7 +125,7 @@ pub fn is_left<'a>(
 // Keeps the nodes that a kept link leaves, going through them with targets first.
 pub fn keep_below<'a>(
     s: &'a [u16],
-    marks: &'a [u8; 2560],
+    marks: &'a [u8; layout::LONGEST],
     order: &'a [u16; 510],
     keep: &mut [u8; 255],
 )
@@ -139,18 +150,18 @@ pub fn kept_nodes<'a>(
     n: usize,
     table: &'a [u8],
     s: &'a [u16],
-    marks: &'a [u8; 2560],
-    types: &'a [u8; 255],
+    marks: &'a [u8; layout::LONGEST],
+    labels: &'a [u16; 510],
     keep: &mut [u8; 255],
 )
-    requires { ⌜ (2 ≤ n) × (n ≤ 64) × Types n (size (now s)) (now types) ⌝ }
+    requires { ⌜ (2 ≤ n) × (n ≤ 64) × NodeLabels n (size (now s)) (now labels) ⌝ }
     requires { ⌜ Ready (now s) (now marks) (now keep) × ((v : ℕ) → v < 255 → getD (now keep) v 0 ≡ 0) ⌝ }
     requires { ⌜ ((v : ℕ) → Reaches (now s) v v → ⊥) ⌝ }
-    ensures { λ _. ⌜ Keeps n (now (table .entry)) (now (s .entry)) (now (marks .entry)) (now (types .entry)) (now (keep .exit)) ⌝ }
+    ensures { λ _. ⌜ Keeps n (now (table .entry)) (now (s .entry)) (now (marks .entry)) (now (labels .entry)) (now (keep .exit)) ⌝ }
 {
     keep[0] = 1;
     keep_entered(s, marks, keep);
-    keep_typed(n, table, s[0] as usize, types, keep);
+    keep_labelled(n, table, s[0] as usize, labels, keep);
     // there is no cycle: only the order is needed
     let mut order = [0u16; 510];
     visits::cycle::has_cycle(s, &mut order);

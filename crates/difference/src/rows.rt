@@ -1,23 +1,24 @@
-// The rows of the difference: wanted types, and the links that lead their group and enter a kept node.
+// The rows of the difference: wanted labels, and the links that lead their group and enter a kept node.
 
 ghost use mathlib.Core.Path.{_≡_};
-ghost use Prim.Native.Nat.{ℕ, _≤_, _<_};
-ghost use lib.ListN.{length, getD};
-ghost use Rattle.layout.specs.Layout.{linksFrom, rowEnd, size};
+ghost use Prim.Native.Nat.{ℕ, _*_, _≤_, _<_};
+ghost use lib.ListN.{length};
+ghost use Rattle.lattice.specs.Labels.{Known};
+ghost use Rattle.layout.specs.Layout.{labelFrom, linksFrom, longest, rowEnd, size};
 ghost use Rattle.difference.specs.Keeping.{Ready};
 ghost use Rattle.difference.specs.Thinning.{Kept, Thinned};
 
 // Copies the kept links of node v to the words from `at` on. Answers the next place.
 pub fn keep_row<'a>(
     s: &'a [u16],
-    marks: &'a [u8; 2560],
+    marks: &'a [u8; layout::LONGEST],
     keep: &'a [u8; 255],
     v: usize,
     at: usize,
-    words: &mut [u16; 2560],
+    words: &mut [u16; layout::LONGEST],
 ) -> usize
     requires { ⌜ Ready (now s) (now marks) (now keep) × (v < size (now s)) ⌝ }
-    requires { ⌜ (length (now words) ≡ 2560) × (at ≤ linksFrom (now s) v) ⌝ }
+    requires { ⌜ (length (now words) ≡ longest) × (at ≤ linksFrom (now s) v) ⌝ }
     ensures { λ r. ⌜ Thinned (now (s .entry)) (now (marks .entry)) (now (keep .entry)) v (rowEnd (now (s .entry)) v) (now (words .entry)) at (now (words .exit)) r ⌝ }
 {
     let end = s[v + 2] as usize;
@@ -36,15 +37,15 @@ pub fn keep_row<'a>(
 // Fills words with the rows of the difference.
 pub fn kept_links<'a>(
     s: &'a [u16],
-    marks: &'a [u8; 2560],
+    marks: &'a [u8; layout::LONGEST],
     keep: &'a [u8; 255],
-    types: &'a [u8; 255],
-    words: &mut [u16; 2560],
+    labels: &'a [u16; 510],
+    words: &mut [u16; layout::LONGEST],
 )
     requires { ⌜ Ready (now s) (now marks) (now keep) ⌝ }
-    requires { ⌜ (length (now types) ≡ 255) × ((v : ℕ) → v < size (now s) → getD (now types) v 0 < 256) ⌝ }
-    requires { ⌜ length (now words) ≡ 2560 ⌝ }
-    ensures { λ _. ⌜ Kept (now (s .entry)) (now (marks .entry)) (now (keep .entry)) (now (types .entry)) (now (words .exit)) ⌝ }
+    requires { ⌜ (length (now labels) ≡ 510) × ((v : ℕ) → v < size (now s) → Known 128 (labelFrom (now labels) (2 * v))) ⌝ }
+    requires { ⌜ length (now words) ≡ longest ⌝ }
+    ensures { λ _. ⌜ Kept (now (s .entry)) (now (marks .entry)) (now (keep .entry)) (now (labels .entry)) (now (words .exit)) ⌝ }
 {
     let nodes = s[0] as usize;
     let mut at = s[1] as usize;
@@ -52,7 +53,7 @@ pub fn kept_links<'a>(
     words[1] = at as u16;
     let mut v = 0;
     while v < nodes {
-        words[at] = types[v] as u16;
+        layout::put_label(words, at, layout::label_from(labels, 2 * v));
         at = keep_row(s, marks, keep, v, at + layout::HEADER, words);
         words[v + 2] = at as u16;
         v += 1;

@@ -1,10 +1,13 @@
-// The wanted types: of each node of s the greatest type whose meet with the meet of all g types over the node is its own.
+// The wanted labels: of each node of s the greatest label whose meet with the meet of all g labels over the node is its own.
 
+use layout::Label;
 ghost use mathlib.Core.Path.{_≡_};
 ghost use Prim.Native.Nat.{ℕ, _≤_, _<_};
 ghost use lib.ListN.{length, getD};
+ghost use Rattle.lattice.specs.Labels.{wantedLevel};
+ghost use Rattle.layout.specs.Builder.{stated};
 ghost use Rattle.difference.specs.Asked.{Asked};
-ghost use Rattle.difference.specs.Wanted.{MetBy, TypesOver, WantsAll};
+ghost use Rattle.difference.specs.Wanted.{LabelsOver, MetBy, MetLong, WantedLabelOver, WantsAll};
 
 // Fills the first `nodes` words with one.
 fn clear(value: u64, nodes: usize, words: &mut [u64; 255])
@@ -19,7 +22,8 @@ fn clear(value: u64, nodes: usize, words: &mut [u64; 255])
     }
 }
 
-// The word of the meet of all g types over each of the `nodes` nodes of s, top if none: what is below all of them.
+// What is met of all g labels over each of the `nodes` nodes of s, top if none: the word of what is below all types, and the overlap of
+// the ranges.
 pub fn meet_over<'a>(
     n: usize,
     down: &'a [u64; 64],
@@ -27,48 +31,81 @@ pub fn meet_over<'a>(
     g: &'a [u16],
     map: &'a [u16; 255],
     over: &mut [u64; 255],
+    lowest: &mut [u8; 255],
+    highest: &mut [u8; 255],
 )
-    requires { ⌜ TypesOver n nodes (now g) (now map) × (length (now over) ≡ 255) ⌝ }
-    ensures { λ _. ⌜ length (now (over .exit)) ≡ 255 ⌝ }
-    ensures { λ _. ⌜ MetBy n (now (down .entry)) nodes (now (g .entry)) (now (map .entry)) (now (over .exit)) ⌝ }
+    requires { ⌜ LabelsOver n nodes (now g) (now map) × MetLong (now over) (now lowest) (now highest) ⌝ }
+    requires { ⌜ ((v : ℕ) → v < nodes → getD (now lowest) v 0 ≡ 0) × ((v : ℕ) → v < nodes → getD (now highest) v 0 ≡ 255) ⌝ }
+    ensures { λ _. ⌜ MetBy n (now (down .entry)) nodes (now (g .entry)) (now (map .entry)) (now (over .exit)) (now (lowest .exit)) (now (highest .exit)) ⌝ }
 {
     clear(down[n - 1], nodes, over);
     let mut y = g[0] as usize;
     while 0 < y {
         y -= 1;
         let v = map[y] as usize;
-        let row = g[y + 1] as usize;
-        let a = g[row] as usize;
+        let a = layout::label_at(g, y);
         let word = over[v];
-        over[v] = down[a] & word;
+        over[v] = down[a.kind as usize] & word;
+        lowest[v] = layout::greater(a.lowest, lowest[v]);
+        highest[v] = layout::lesser(a.highest, highest[v]);
     }
 }
 
-// The wanted type of each node of s; whether every node, the root too, has one.
-pub fn wanted_types<'a>(
+// The wanted level of p over q: the widest where they are one, else p.
+fn wanted_level(widest: u8, p: u8, q: u8) -> u8
+    ensures { λ r. ⌜ r ≡ wantedLevel widest p q ⌝ }
+{
+    if p == q { widest } else { p }
+}
+
+// The wanted label for the label p in s and the meet of all g labels, of which the word of the type and the levels are given; of type 64
+// where there is none.
+fn wanted_label(n: usize, down: &[u64; 64], p: Label, over: u64, lowest: u8, highest: u8) -> Label
+    requires { ⌜ (n ≤ 64) × (p .kind < n) ⌝ }
+    ensures { λ r. ⌜ WantedLabelOver n (now (down .entry)) (stated p) over lowest highest (stated r) ⌝ }
+{
+    Label {
+        kind: lattice::wanted::wanted(n, down, p.kind as usize, over),
+        lowest: wanted_level(0, p.lowest, lowest),
+        highest: wanted_level(255, p.highest, highest),
+    }
+}
+
+// The wanted label of each node of s; whether every node, the root too, has one.
+pub fn wanted_labels<'a>(
     n: usize,
     table: &'a [u8],
     g: &'a [u16],
     s: &'a [u16],
     map: &'a [u16; 255],
-    types: &mut [u8; 255],
+    labels: &mut [u16; 510],
 ) -> bool
-    requires { ⌜ Asked n (now table) (now g) (now s) (now map) × (length (now types) ≡ 255) ⌝ }
-    ensures { λ r. ⌜ WantsAll n (now (table .entry)) (now (s .entry)) (now (g .entry)) (now (map .entry)) r (now (types .exit)) ⌝ }
+    requires { ⌜ Asked n (now table) (now g) (now s) (now map) × (length (now labels) ≡ 510) ⌝ }
+    ensures { λ r. ⌜ WantsAll n (now (table .entry)) (now (s .entry)) (now (g .entry)) (now (map .entry)) r (now (labels .exit)) ⌝ }
 {
     let nodes = s[0] as usize;
     let down = lattice::words::read_words(n, table);
     let mut over = [0u64; 255];
-    meet_over(n, &down, nodes, g, map, &mut over);
+    let mut lowest = [0u8; 255];
+    let mut highest = [255u8; 255];
+    meet_over(
+        n,
+        &down,
+        nodes,
+        g,
+        map,
+        &mut over,
+        &mut lowest,
+        &mut highest,
+    );
     let mut v = 0;
     while v < nodes {
-        let row = s[v + 1] as usize;
-        let p = s[row] as usize;
-        let c = lattice::wanted::wanted(n, &down, p, over[v]);
-        if 64 <= c {
+        let p = layout::label_at(s, v);
+        let label = wanted_label(n, &down, p, over[v], lowest[v], highest[v]);
+        if 64 <= label.kind {
             return false;
         }
-        types[v] = c;
+        layout::put_label(labels, 2 * v, label);
         v += 1;
     }
     true

@@ -9,25 +9,26 @@ use native.Mathlib.Numerals.{add-one}
 use native.Mathlib.Omega.{arith}
 use lib.Dec.{eqb}
 use lib.ListN.{length, getD, set, take, length-set}
-use lib.Seq.{take-suc, getD-set-same}
+use lib.Seq.{take-suc}
 use Rattle.graphs.specs.Graph.{Reached}
 use Rattle.graphs.specs.Rows.{Row}
 use Rattle.graphs.specs.Number.{Canonical, canonical, manyNodes, manyLinks, written}
 use Rattle.graphs.proofs.Lists.{tells-eqb}
 use Rattle.graphs.proofs.Form.Rules.{form-ascending, form-features, form-labels, form-nonempty, form-short, form-targets}
 use Rattle.lattice.specs.Label.{Label}
-use Rattle.layout.specs.Layout.{Sound, graphIn, header, size, linksFrom, rowEnd, labelAt, labelFrom, featureAt, targetAt, linkWord, linksBetween, rowsFrom, rowsOf}
-use Rattle.layout.specs.Builder.{Built, Open, Same}
+use Rattle.lattice.specs.Labels.{Known}
+use Rattle.layout.specs.Layout.{longest, Sound, graphIn, header, size, linksFrom, rowEnd, labelAt, labelFrom, featureAt, targetAt, linkWord, linksBetween, rowsFrom, rowsOf}
+use Rattle.layout.specs.Builder.{Built, Open, Same, putLabel}
 use Rattle.layout.proofs.Spans.{linkAt, links-none, links-more}
 use Rattle.layout.proofs.Rows.{length-rows}
 use Rattle.layout.proofs.Places.{label-at, link-known}
 use Rattle.layout.proofs.Reaching.{reached-inside}
-use Rattle.layout.proofs.Builder.{Aimed, Orderly, built-begin, built-kept, built-shaped, built-sound, closed-rows, label-same, links-put, row-closes, rows-kept, same-before, same-trans, size-is, size-kept, size-rows}
+use Rattle.layout.proofs.Builder.{length-put, label-put, put-before, Aimed, Orderly, built-begin, built-kept, built-shaped, built-sound, closed-rows, label-same, links-put, row-closes, rows-kept, same-before, same-trans, size-is, size-kept, size-rows}
 use Rattle.visits.specs.Walks.{Numbers}
 use Rattle.encode.specs.NumberedRows.{degree, degrees, numberByte, numberedRow, numberedRows}
 use Rattle.encode.specs.Copies.{Closed, Numbered, Renumbers, RowCopied, RowsCopied}
 use Rattle.encode.proofs.RowBytes.{map-snoc}
-use Rattle.encode.proofs.WrittenRows.{degrees-more, degrees-none, degrees-upto}
+use Rattle.encode.proofs.WrittenRows.{sum-more, sum-none, sum-upto}
 use Rattle.encode.proofs.WrittenForm.{visited-closed, visited-nodes, written-rows}
 
 -- One row.
@@ -39,30 +40,31 @@ byNumber numbers l = (l .0, numberByte numbers (l .1))
 -- How far a row is copied: the links of the places up to k.
 pub record Turn (ws numbers : List ℕ) (v at : ℕ) (old new : List ℕ) (next k : ℕ) : Type 0 where
   pub numbered : Numbered ws numbers v
-  pub room : at + header + degree ws v ≤ 2560
+  pub room : at + header + degree ws v ≤ longest
   pub low : linksFrom ws v ≤ k
   pub high : k ≤ rowEnd ws v
   pub next-is : next ≡ at + header + (k - linksFrom ws v)
-  pub long : length new ≡ 2560
+  pub long : length new ≡ longest
   pub kept : Same old new 0 at
   pub label : labelFrom new at ≡ labelAt ws v
   pub links : linksBetween new (at + header) next ≡ map (byNumber numbers) (linksBetween ws (linksFrom ws v) k)
 
 module _ {ws numbers : List ℕ} {v at : ℕ} where
-  pub turn-start : (old : List ℕ) → Numbered ws numbers v → at + header + degree ws v ≤ 2560 → length old ≡ 2560 →
-      Turn ws numbers v at (set old at (labelAt ws v)) (set old at (labelAt ws v)) (at + header) (linksFrom ws v)
-  turn-start old n room long =
+  pub turn-start : (old : List ℕ) {opened : List ℕ} → Numbered ws numbers v → at + header + degree ws v ≤ longest → length old ≡ longest →
+      opened ≡ putLabel old at (labelAt ws v) → Turn ws numbers v at opened opened (at + header) (linksFrom ws v)
+  turn-start old n room long e =
+      subst (λ (l : List ℕ). Turn ws numbers v at l l (at + header) (linksFrom ws v)) (sym e)
       record {
         numbered = n;
         room = room;
         low = omega arith;
         high = n .sound .shaped .node v (n .inside) .begun;
         next-is = omega arith;
-        long = length-set old at (labelAt ws v) ∙ long;
+        long = length-put old at (labelAt ws v) ∙ long;
         kept = λ k low high. refl;
-        label = getD-set-same old at (labelAt ws v) 0 (omega arith);
+        label = label-put old at (labelAt ws v) (omega arith) (n .sound .shaped .labelled v (n .inside) .highest);
         links =
-            links-none (set old at (labelAt ws v)) (at + header)
+            links-none (putLabel old at (labelAt ws v)) (at + header)
             ∙ ap (map (byNumber numbers)) (sym (links-none ws (linksFrom ws v)));
       }
 
@@ -80,7 +82,7 @@ module _ {ws numbers : List ℕ} {v at : ℕ} where
     pub turn-number : k < rowEnd ws v → getD numbers (targetAt ws k) 0 < 256
     turn-number h = t .numbered .low k (t .low) h
 
-    pub turn-room : k < rowEnd ws v → next < 2560
+    pub turn-room : k < rowEnd ws v → next < longest
     turn-room h = omega (arith, t .room, t .low, t .next-is)
 
     pub turn-step : {w : ℕ} → k < rowEnd ws v → w ≡ linkWord (featureAt ws k, getD numbers (targetAt ws k) 0) →
@@ -108,16 +110,17 @@ module _ {ws numbers : List ℕ} {v at : ℕ} where
               ∙ ap (map (byNumber numbers)) (sym (links-more ws (linksFrom ws v) k (t .low) (omega (arith, turn-ended))));
         }
 
-  pub turn-done : (old : List ℕ) {new : List ℕ} {next k : ℕ} → Turn ws numbers v at (set old at (labelAt ws v)) new next k →
-      rowEnd ws v ≤ k → RowCopied ws numbers v old at new next
+  pub turn-done : (old : List ℕ) {opened new : List ℕ} {next k : ℕ} → opened ≡ putLabel old at (labelAt ws v) →
+      Turn ws numbers v at opened new next k → rowEnd ws v ≤ k → RowCopied ws numbers v old at new next
   unfolding numberedRow
-  turn-done old {new} {next} {k} t h =
+  turn-done old {opened} {new} {next} {k} is t h =
       let e : k ≡ rowEnd ws v = omega (arith, t .high) in
       record {
         long = t .long;
         next-is = t .next-is ∙ ap (λ (j : ℕ). at + header + (j - linksFrom ws v)) e;
         kept =
-            same-trans old (set old at (labelAt ws v)) new (same-before old at (labelAt ws v) 0 at (omega arith)) (t .kept);
+            same-trans old opened new
+            (subst (λ (l : List ℕ). Same old l 0 at) (sym is) (put-before old at (labelAt ws v) 0 at (omega arith))) (t .kept);
         row =
             ap₂ {C = Row Label} (λ (x : Label) (ls : List (ℕ × ℕ)). (x, ls)) (t .label)
             (t .links ∙ ap (λ (j : ℕ). map (byNumber numbers) (linksBetween ws (linksFrom ws v) j)) e);
@@ -129,13 +132,13 @@ module _ {ws numbers : List ℕ} {v at : ℕ} where
 pub record Copying (ws numbers vs : List ℕ) (count : ℕ) (new : List ℕ) (at i : ℕ) : Type 0 where
   pub closed : Closed ws numbers vs count
   pub high : i ≤ count
-  pub long : length new ≡ 2560
+  pub long : length new ≡ longest
   pub at-is : at ≡ count + 2 + header * i + degrees ws (take i vs)
   pub built : Built new (count + 2) i at
   pub rows : rowsFrom new 0 i ≡ numberedRows ws numbers (take i vs)
 
 module _ {ws numbers vs : List ℕ} {count : ℕ} where
-  pub copying-start : (new : List ℕ) → Closed ws numbers vs count → length new ≡ 2560 →
+  pub copying-start : (new : List ℕ) → Closed ws numbers vs count → length new ≡ longest →
       Copying ws numbers vs count (set new 1 (count + 2)) (count + 2) 0
   unfolding rowsFrom
   copying-start new c long =
@@ -143,7 +146,7 @@ module _ {ws numbers vs : List ℕ} {count : ℕ} where
         closed = c;
         high = omega arith;
         long = length-set new 1 (count + 2) ∙ long;
-        at-is = omega (arith, degrees-none ws vs);
+        at-is = omega (arith, sum-none (degree ws) vs);
         built = built-begin new (count + 2) (omega arith) (omega (arith, c .nodes .few));
         rows = refl;
       }
@@ -160,15 +163,15 @@ module _ {ws numbers vs : List ℕ} {count : ℕ} where
           low = λ k low high. omega (arith, c .closed .low i k h low high, c .closed .nodes .few);
         }
 
-    pub copying-room : at + header + degree ws (getD vs i 0) ≤ 2560
+    pub copying-room : at + header + degree ws (getD vs i 0) ≤ longest
     copying-room =
         omega (
           arith,
           c .at-is,
           c .closed .nodes .few,
           c .closed .links,
-          degrees-more ws vs i inside,
-          degrees-upto ws vs (i + 1) count (omega arith),
+          sum-more (degree ws) vs i inside,
+          sum-upto (degree ws) vs (i + 1) count (omega arith),
         )
 
     along : numberedRows ws numbers (take (i + 1) vs) ≡ numberedRows ws numbers (take i vs) ++ (numberedRow ws numbers (getD vs i 0) ∷ [])
@@ -178,7 +181,7 @@ module _ {ws numbers vs : List ℕ} {count : ℕ} where
         ∙ map-snoc (numberedRow ws numbers) (take i vs) (getD vs i 0)
 
     module _ {new′ : List ℕ} {next : ℕ} (r : RowCopied ws numbers (getD vs i 0) new at new′ next) where
-      pub next-low : next ≤ 2560
+      pub next-low : next ≤ longest
       next-low = omega (arith, r .next-is, copying-room)
 
       same-length : length new′ ≡ length new
@@ -201,7 +204,7 @@ module _ {ws numbers vs : List ℕ} {count : ℕ} where
             closed = c .closed;
             high = omega arith;
             long = length-set new′ (i + 2) next ∙ r .long;
-            at-is = omega (arith, c .at-is, r .next-is, degrees-more ws vs i inside);
+            at-is = omega (arith, c .at-is, r .next-is, sum-more (degree ws) vs i inside);
             built = row-closes opened (omega arith);
             rows =
                 closed-rows opened (omega arith)
@@ -240,7 +243,7 @@ module _ {ws : List ℕ} (sound : Sound ws) {rows : List (Row Label)} (form : ca
             λ r m.
             let (v, reached, e) = form-labels eqb tells-eqb (graphIn ws) narrow rows form r m in
             let h : v < size ws = reached-inside sound v reached in
-            omega (arith, e, label-at ws v h, sound .shaped .labelled v h);
+            subst (Known 128) (sym (e ∙ label-at ws v h)) (sound .shaped .labelled v h);
         ascends = form-ascending eqb tells-eqb (graphIn ws) narrow rows form;
         features = form-features eqb tells-eqb (graphIn ws) narrow rows form;
       }

@@ -2,6 +2,7 @@
 pub mod Stores
 pub mod FeatureMap
 pub mod Links
+pub mod LabelBytes
 pub mod RowBytes
 pub mod Outcomes
 pub mod Lengths

@@ -49,17 +49,17 @@ map-alike {Y = Y} e (x ∷ xs) = ap₂ (λ (y : Y) (ys : List Y). y ∷ ys) (e x
 
 -- A row, and rows.
 
--- the type, the targets behind nine bytes, and then the map between
-pub row-stored : (out : List ℕ) (at type : ℕ) (bytes numbers : List ℕ) → length bytes ≡ 8 →
-    sets (sets (set out at type) (at + 9) numbers) (at + 1) bytes ≡ sets out at (type ∷ bytes ++ numbers)
-row-stored out at type bytes numbers e =
-    let o : List ℕ = set out at type in
-    let d : at + 1 ≡ suc at = omega arith in
-    let r : suc at + length bytes ≡ at + 9 = omega arith in
-    sets-comm bytes numbers o (at + 1) (at + 9) (omega arith)
-    ∙ ap (λ (i : ℕ). sets (sets o i bytes) (at + 9) numbers) d
-    ∙ ap (λ (i : ℕ). sets (sets o (suc at) bytes) i numbers) (sym r)
-    ∙ sym (sets-append bytes o (suc at) numbers)
+-- the label, the targets behind the eight bytes of the map, and then the map between
+pub row-stored : (out : List ℕ) (at : ℕ) (label bytes numbers : List ℕ) → length bytes ≡ 8 →
+    sets (sets (sets out at label) (at + length label + 8) numbers) (at + length label) bytes ≡ sets out at (label ++ bytes ++ numbers)
+row-stored out at label bytes numbers e =
+    let o : List ℕ = sets out at label in
+    let mapAt : ℕ = at + length label in
+    sets-comm bytes numbers o mapAt (mapAt + 8) (omega arith)
+    ∙ ap (λ (n : ℕ). sets (sets o mapAt bytes) (mapAt + n) numbers) (sym e)
+    ∙ sym (sets-append bytes o mapAt numbers)
+    ∙ sym (sets-append label out at (bytes ++ numbers))
+    ∙ ap (sets out at) (sym (append-assoc label bytes numbers))
 
 pub rows-more : (rs : List (Row Label)) (r : Row Label) → encodedRows (rs ++ (r ∷ [])) ≡ encodedRows rs ++ encodedRow r
 unfolding encodedRows

@@ -26,10 +26,10 @@ use Rattle.visits.specs.Walks.{Numbers, foundIn}
 use Rattle.visits.proofs.GraphVisit.{visit-rows}
 use Rattle.encode.specs.declared.Written.the-variants as outcome
 use Rattle.encode.specs.Encode.{encoded, yielding, writtenOut}
-use Rattle.encode.specs.NumberedRows.{Visited, degree, degrees, numberByte, numberedRow, numberedRows}
+use Rattle.encode.specs.NumberedRows.{Visited, degree, degrees, numberByte, numberedRow, numberedRows, ranges, sumAlong}
 use Rattle.encode.proofs.Links.{linksOf-links, target-member}
 use Rattle.encode.proofs.Outcomes.{map-listed, getD-member, fitted-short, fitted-room}
-use Rattle.encode.proofs.WrittenRows.{degrees-reverse, row-ascending, row-degree, row-within, rows-length}
+use Rattle.encode.proofs.WrittenRows.{ranges-upto, sum-reverse, row-ascending, row-degree, row-within, rows-length}
 
 module _ {ws : List ℕ} (sound : Sound ws) where
   abbrev g : Graph Label ℕ
@@ -53,7 +53,7 @@ module _ {ws : List ℕ} (sound : Sound ws) where
 
   -- as many links as places
   links-counted : (vs : List ℕ) → ((v : ℕ) → List·Memᴰ v vs → Inside v) → linkCount (g .link) vs ≡ degrees ws vs
-  unfolding linkCount degrees
+  unfolding linkCount sumAlong
   links-counted [] inside = refl
   links-counted (v ∷ vs) inside =
       ap₂ (λ (m n : ℕ). m + n) (one (inside v (List·Memᴰ·head refl))) (links-counted vs (λ w m. inside w (List·Memᴰ·tail m)))
@@ -141,7 +141,7 @@ module _ {ws : List ℕ} (sound : Sound ws) where
           map-listed (reverse seen) (λ v m. row-is v (mem-unreverse m)) ∙ ap (numberedRows ws numbers) (sym visited-is)
 
       links-all : linkCount (g .link) seen ≡ degrees ws (take count visited)
-      links-all = links-counted seen seen-inside ∙ sym (degrees-reverse ws seen) ∙ ap (degrees ws) (sym visited-is)
+      links-all = links-counted seen seen-inside ∙ sym (sum-reverse (degree ws) seen) ∙ ap (degrees ws) (sym visited-is)
 
       seen-links : 2048 < degrees ws (take count visited) → canonical eqb g ≡ manyLinks
       unfolding canonical
@@ -208,7 +208,10 @@ module _ {ws : List ℕ} (sound : Sound ws) where
       pub written-rows : degrees ws (take count visited) ≤ 2048 → canonical eqb g ≡ written (numberedRows ws numbers (take count visited))
       written-rows h = let (seen, e) = found in seen-written seen e h
 
-      bytes-length : length (encoded (numberedRows ws numbers (take count visited))) ≡ 1 + 9 * count + degrees ws (take count visited)
+      abbrev rows : List (Row Label)
+      rows = numberedRows ws numbers (take count visited)
+
+      bytes-length : length (encoded rows) ≡ 1 + 9 * count + 2 * ranges ws (take count visited) + degrees ws (take count visited)
       unfolding encoded
       bytes-length =
           let n : length (take count visited) ≡ count = length-take-le count visited (omega arith) in
@@ -220,21 +223,27 @@ module _ {ws : List ℕ} (sound : Sound ws) where
                 subst (λ (v : ℕ). Inside v) (sym (getD-take count visited i 0 (omega (arith, n)))) (visited-nodes .nodes i (omega (arith, n)))),
           )
 
-      module _ (old : List ℕ) {links : ℕ} (sum : links ≡ degrees ws (take count visited)) (fits : links ≤ 2048) where
-        pub too-short : length old < 1 + 9 * count + links →
-            writtenOut (canonical eqb g) old ≡ yielding outcome.NoRoom old
-        unfolding writtenOut
-        too-short short =
-            ap (λ (form : Canonical Label). writtenOut form old) (written-rows (omega arith))
-            ∙ fitted-short (encoded (numberedRows ws numbers (take count visited))) old (omega (arith, bytes-length))
+      module _ {links ranged : ℕ} (sums : (links ≡ degrees ws (take count visited)) × (ranged ≡ ranges ws (take count visited))) where
+        abbrev size-written : ℕ
+        size-written = 1 + 9 * count + 2 * ranged + links
 
-        pub written-whole : 1 + 9 * count + links ≤ length old →
-            writtenOut (canonical eqb g) old
-            ≡ yielding (outcome.Length (1 + 9 * count + links)) (sets old 0 (encoded (numberedRows ws numbers (take count visited))))
-        unfolding writtenOut
-        written-whole room =
-            let bytes : List ℕ = encoded (numberedRows ws numbers (take count visited)) in
-            let long : length bytes ≡ 1 + 9 * count + links = omega (arith, bytes-length) in
-            ap (λ (form : Canonical Label). writtenOut form old) (written-rows (omega arith))
-            ∙ fitted-room bytes old (omega arith)
-            ∙ ap (λ (n : ℕ). yielding (outcome.Length n) (sets old 0 bytes)) long
+        pub ranges-few : ranged ≤ 255
+        ranges-few = omega (arith, sums .1, ranges-upto ws visited count (omega arith))
+
+        pub length-is : length (encoded rows) ≡ size-written
+        length-is = omega (arith, bytes-length, sums .0, sums .1)
+
+        module _ (fits : links ≤ 2048) (old : List ℕ) where
+          pub too-short : length old < size-written → writtenOut (canonical eqb g) old ≡ yielding outcome.NoRoom old
+          unfolding writtenOut
+          too-short short =
+              ap (λ (form : Canonical Label). writtenOut form old) (written-rows (omega (arith, sums .0)))
+              ∙ fitted-short (encoded rows) old (omega (arith, length-is))
+
+          pub written-whole : size-written ≤ length old →
+              writtenOut (canonical eqb g) old ≡ yielding (outcome.Length size-written) (sets old 0 (encoded rows))
+          unfolding writtenOut
+          written-whole room =
+              ap (λ (form : Canonical Label). writtenOut form old) (written-rows (omega (arith, sums .0)))
+              ∙ fitted-room (encoded rows) old (omega (arith, length-is))
+              ∙ ap (λ (n : ℕ). yielding (outcome.Length n) (sets old 0 (encoded rows))) length-is

@@ -7,6 +7,7 @@ use lib.ListN.{length, drop}
 use Rattle.graphs.specs.Rows.{Row, from, target}
 use Rattle.graphs.specs.Number.{Canonical, manyNodes, manyLinks, written, countSome}
 use Rattle.lattice.specs.Label.{Label}
+unfoldable pub use Rattle.lattice.specs.Label.{isFull}
 use Rattle.encode.specs.declared.Written.{Written}
 use Rattle.encode.specs.declared.Written.the-variants as outcome
 
@@ -15,9 +16,14 @@ unfoldable pub bitsFrom : List (ℕ × ℕ) → ℕ → ℕ → ℕ
 bitsFrom links f zero = 0
 bitsFrom links f (suc k) = countSome (target links f) + 2 * bitsFrom links (suc f) k
 
--- "one type byte, 8 bytes of feature map .., then one target byte for each standing bit, lowest feature first"
+-- the type byte; with another range than the full one, which "a written record never writes" (document 02, Paper 7), "bit 7 says that two bytes follow it, lowest and highest level"
+unfoldable pub encodedLabel : Label → List ℕ
+encodedLabel l = cond (isFull l) (l .type ∷ []) ((128 + l .type) ∷ l .lowest ∷ l .highest ∷ [])
+
+-- "one type byte, 8 bytes of feature map .., then one target byte for each standing bit, lowest feature first"; the levels stand
+-- "before the feature map"
 unfoldable pub encodedRow : Row Label → List ℕ
-encodedRow r = r .0 ∷ map (λ k. bitsFrom (r .1) (8 * k) 8) (from 0 8) ++ map (λ l. l .1) (r .1)
+encodedRow r = encodedLabel (r .0) ++ map (λ k. bitsFrom (r .1) (8 * k) 8) (from 0 8) ++ map (λ l. l .1) (r .1)
 
 unfoldable pub encodedRows : List (Row Label) → List ℕ
 encodedRows [] = []

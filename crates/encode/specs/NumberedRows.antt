@@ -1,10 +1,11 @@
 -- What the encoder asks and promises: the nodes visited, and the row that is written for one.
 use mathlib.Core.Path.{_≡_}
+use mathlib.Core.Bool.{cond}
 use mathlib.Core.List.{List, [], _∷_, map}
 use Prim.Native.Nat.{ℕ, zero, suc, _+_, _-_, _%_, _/_, _≤_, _<_}
 use lib.ListN.{length, getD}
 use Rattle.graphs.specs.Rows.{Row}
-use Rattle.lattice.specs.Label.{Label}
+use Rattle.lattice.specs.Label.{Label, isFull}
 use Rattle.layout.specs.Layout.{Sound, size, linksFrom, rowEnd, labelAt, linksAt}
 
 -- The first `count` visited are nodes.
@@ -18,10 +19,22 @@ pub record Visited (ws visited : List ℕ) (count : ℕ) : Type 0 where
 abbrev pub degree : List ℕ → ℕ → ℕ
 degree ws v = rowEnd ws v - linksFrom ws v
 
+-- 1 where a label's range is written, else 0
+unfoldable pub rangeCount : Label → ℕ
+rangeCount l = cond (isFull l) 0 1
+
+-- a number of each node, summed along a list
+unfoldable pub sumAlong : (ℕ → ℕ) → List ℕ → ℕ
+sumAlong number [] = 0
+sumAlong number (v ∷ vs) = number v + sumAlong number vs
+
 -- the number of links of the nodes along a list
-unfoldable pub degrees : List ℕ → List ℕ → ℕ
-degrees ws [] = 0
-degrees ws (v ∷ vs) = degree ws v + degrees ws vs
+abbrev pub degrees : List ℕ → List ℕ → ℕ
+degrees ws vs = sumAlong (degree ws) vs
+
+-- how many of them have a range that is written
+abbrev pub ranges : List ℕ → List ℕ → ℕ
+ranges ws vs = sumAlong (λ v. rangeCount (labelAt ws v)) vs
 
 -- the byte that stands for a target
 abbrev pub numberByte : List ℕ → ℕ → ℕ

@@ -19,11 +19,11 @@ pub fn write(graph: &[u16], out: &mut [u8]) -> Written
     if 255 < count {
         return Written::TooLarge;
     }
-    let links = encoder::link_count(graph, &visited, count);
-    if 2048 < links {
+    let extent = encoder::extent_of(graph, &visited, count);
+    if 2048 < extent.links {
         return Written::TooLarge;
     }
-    let length = 1 + 9 * count + links;
+    let length = 1 + 9 * count + 2 * extent.ranges + extent.links;
     if out.len() < length {
         return Written::NoRoom;
     }

@@ -7,7 +7,7 @@ ghost use Prim.Native.Nat.{_+_, _≤_};
 ghost use lib.Dec.{eqb};
 ghost use lib.ListN.{length};
 ghost use Rattle.graphs.specs.Number.{canonical};
-ghost use Rattle.layout.specs.Layout.{Sound, graphIn, header};
+ghost use Rattle.layout.specs.Layout.{Sound, graphIn, header, longest};
 ghost use Rattle.encode.specs.NumberedRows.{degree};
 ghost use Rattle.encode.specs.Copies.{Closed, Numbered, Renumbers, RowCopied, RowsCopied};
 
@@ -17,16 +17,17 @@ fn copy_row<'a>(
     numbers: &'a [u16; 510],
     v: usize,
     at: usize,
-    new: &mut [u16; 2560],
+    new: &mut [u16; layout::LONGEST],
 ) -> usize
     requires { ⌜ Numbered (now graph) (now numbers) v ⌝ }
-    requires { ⌜ at + header + degree (now graph) v ≤ 2560 ⌝ }
-    requires { ⌜ length (now new) ≡ 2560 ⌝ }
+    requires { ⌜ at + header + degree (now graph) v ≤ longest ⌝ }
+    requires { ⌜ length (now new) ≡ longest ⌝ }
     ensures { λ r. ⌜ RowCopied (now (graph .entry)) (now (numbers .entry)) v (now (new .entry)) at (now (new .exit)) r ⌝ }
 {
     let row = graph[v + 1] as usize;
     let end = graph[v + 2] as usize;
-    new[at] = graph[row];
+    let label = layout::label_at(graph, v);
+    layout::put_label(new, at, label);
     let mut next = at + layout::HEADER;
     let mut k = row + layout::HEADER;
     while k < end {
@@ -46,10 +47,10 @@ fn copy_rows<'a>(
     numbers: &'a [u16; 510],
     visited: &'a [u16; 255],
     count: usize,
-    new: &mut [u16; 2560],
+    new: &mut [u16; layout::LONGEST],
 )
     requires { ⌜ Closed (now graph) (now numbers) (now visited) count ⌝ }
-    requires { ⌜ length (now new) ≡ 2560 ⌝ }
+    requires { ⌜ length (now new) ≡ longest ⌝ }
     ensures { λ r. ⌜ RowsCopied (now (graph .entry)) (now (numbers .entry)) (now (visited .entry)) count (now (new .exit)) ⌝ }
 {
     let mut at = count + 2;
@@ -65,11 +66,11 @@ fn copy_rows<'a>(
 }
 
 // Numbers a graph as written: its rows by number, with the targets' numbers. Answers whether it can be written.
-pub fn renumber(graph: &[u16], new: &mut [u16; 2560]) -> bool
+pub fn renumber(graph: &[u16], new: &mut [u16; layout::LONGEST]) -> bool
     requires { ⌜ Sound (now graph) ⌝ }
-    requires { ⌜ length (now new) ≡ 2560 ⌝ }
+    requires { ⌜ length (now new) ≡ longest ⌝ }
     ensures { λ r. ⌜ Renumbers (canonical eqb (graphIn (now (graph .entry)))) r (now (new .exit)) ⌝ }
-    ensures { λ r. ⌜ length (now (new .exit)) ≡ 2560 ⌝ }
+    ensures { λ r. ⌜ length (now (new .exit)) ≡ longest ⌝ }
 {
     let mut numbers = [0u16; 510];
     let mut visited = [0u16; 255];
@@ -77,8 +78,8 @@ pub fn renumber(graph: &[u16], new: &mut [u16; 2560]) -> bool
     if 255 < count {
         return false;
     }
-    let links = encoder::link_count(graph, &visited, count);
-    if 2048 < links {
+    let extent = encoder::extent_of(graph, &visited, count);
+    if 2048 < extent.links {
         return false;
     }
     copy_rows(graph, &numbers, &visited, count, new);

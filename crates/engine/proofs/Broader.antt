@@ -10,7 +10,7 @@ use Rattle.graphs.specs.Rows.{Row}
 use Rattle.lattice.specs.Label.{Label}
 use Rattle.lattice.specs.declared.Opened.the-variants.{Accepted}
 use Rattle.lattice.specs.Reply.{opened}
-use Rattle.lattice.specs.Labels.{typeLabels, OfAnySize}
+use Rattle.lattice.specs.Labels.{tableLabels, OfAnySize}
 use Rattle.lattice.proofs.AnySize.{below-broader, greatest-monotone, least-monotone}
 use Rattle.record.specs.Read.{reading, accepted, graphOfRows}
 use Rattle.record.proofs.Theorems.{accepted-of-any-size}
@@ -27,7 +27,7 @@ pub record RecordBelow (n : ℕ) (t x y : List ℕ) : Type 0 where
   pub lower : List (Row Label)
   pub upper : List (Row Label)
   pub given : Given n t x y lower upper
-  pub below : Below (typeLabels n t) (graphOfRows lower) (graphOfRows upper)
+  pub below : Below (tableLabels n t) (graphOfRows lower) (graphOfRows upper)
 
 module _ (n : ℕ) (t x y : List ℕ) where
   pub answer-below : AnswersBelow n t x y → RecordBelow n t x y
@@ -36,7 +36,7 @@ module _ (n : ℕ) (t x y : List ℕ) where
       record { lower = s; upper = g; given = given; below = order-exact n t x y s g given .0 .0 q }
 
   pub rows-below : (s g : List (Row Label)) → opened n t ≡ Accepted → reading n x ≡ accepted s → reading n y ≡ accepted g →
-      Below (typeLabels n t) (graphOfRows s) (graphOfRows g) → RecordBelow n t x y
+      Below (tableLabels n t) (graphOfRows s) (graphOfRows g) → RecordBelow n t x y
   rows-below s g opens i j below =
       record { lower = s; upper = g; given = record { opens = opens; first = i; second = j }; below = below }
 
@@ -46,7 +46,7 @@ module _ (n : ℕ) (t x y : List ℕ) where
 
     -- whichever rows they are read as
     pub below-paths : (s g : List (Row Label)) → reading n x ≡ accepted s → reading n y ≡ accepted g →
-        Below (typeLabels n t) (graphOfRows s) (graphOfRows g)
+        Below (tableLabels n t) (graphOfRows s) (graphOfRows g)
     below-paths s g i j =
         order-exact n t x y s g (record { opens = r .given .opens; first = i; second = j }) .0 .0 below-answer
 

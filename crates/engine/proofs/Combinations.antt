@@ -1,47 +1,28 @@
--- From the combination by a table of meets to what the call replies. Combinations over an accepted table are one where their meets
--- agree on its types, and its filled meets are its meets.
-use mathlib.Core.Path.{_≡_, refl, sym, _∙_, ap, ap₂, fun-ext}
-use mathlib.Core.Bool.{Bool, true, false, cond}
-use mathlib.Core.List.{List, [], _∷_, foldr}
-use mathlib.Core.Logic.{_⊎_, inl, inr}
-use Prim.Native.Nat.{ℕ, _-_, _≤_, _<_}
-use native.Mathlib.Omega.{arith}
+-- From the combination by a table of meets to what the call replies: an accepted table's filled meets are its meets.
+use mathlib.Core.Path.{_≡_, refl, sym, _∙_, ap, ap₂}
+use mathlib.Core.Bool.{true}
+use mathlib.Core.List.{List}
+use mathlib.Core.Logic.{_⊎_}
+use Prim.Native.Nat.{ℕ, _≤_, _<_}
 use lib.Dec.{eqb}
-use lib.ListN.{length, getD}
-use Rattle.graphs.specs.Label.{Labels}
-use Rattle.graphs.specs.Graph.{Graph}
+use lib.ListN.{length}
 use Rattle.graphs.specs.Rows.{Row, from}
 use Rattle.lattice.specs.Label.{Label}
-use Rattle.graphs.specs.Unify.{
-  anyOf,
-  Unified,
-  labelBeside,
-  sameBeside,
-  nodesBeside,
-  classLabel,
-  className,
-  classGraph,
-  hasCycle,
-  hasClash,
-  cycle,
-  clash,
-  unified,
-  unification,
-}
+use Rattle.graphs.specs.Unify.{Unified, cycle, clash, unified, unification}
 use Rattle.layout.specs.Layout.{size, graphOfRows, graphIn}
 use Rattle.layout.proofs.Rows.{length-rows}
 use Rattle.lattice.specs.declared.TableFault.{TableFault}
 use Rattle.lattice.specs.declared.Opened.the-variants as opened
-use Rattle.lattice.specs.Table.{accepted, meet, cell, filled}
+use Rattle.lattice.specs.Table.{accepted, meet, filled}
 use Rattle.lattice.specs.Reply as table
-use Rattle.lattice.specs.Labels.{typeLabels}
-use Rattle.lattice.proofs.Laws.{Meet, accepted-size, zero-type, top-type, meet-exists}
+use Rattle.lattice.proofs.Laws.{accepted-size, zero-type}
+use Rattle.lattice.proofs.Transfer.{same-unification}
 use Rattle.lattice.proofs.Residuals.{opened-accepted}
 use Rattle.encode.specs.Encode.{Yield, yielding}
 use Rattle.record.specs.Read.{reading}
 use Rattle.record.proofs.Accepted.{Rules}
 use Rattle.unify.specs.declared.Combined.{Combined}
-use Rattle.unify.specs.Lowered.{MeetsBelow}
+use Rattle.unify.specs.Lowered.{MeetsBelow, meetIn}
 use Rattle.unify.specs.Outcome.{meetsOf, unifiedOut}
 use Rattle.unify.specs.Rows.{Operand}
 use Rattle.engine.specs.declared.Reply.{Reply}
@@ -52,77 +33,6 @@ use Rattle.engine.specs.Pair.{met, meeting, combinedReply}
 use Rattle.engine.proofs.Replies.{table-refused, table-accepted}
 use Rattle.engine.proofs.Readings.{Accepts, accepts-reached, accepts-recorded, both-next, both-same}
 use Rattle.engine.proofs.Tables.{label-known, meets-known}
-
-module _ (n : ℕ) (t : List ℕ) (ok : accepted n t ≡ true) (le : ℕ → ℕ → Bool) (meets joins : ℕ → ℕ → ℕ)
-    (are : (i j : ℕ) → i < n → j < n → meets i j ≡ cell (meet n t i j)) where
-  -- type numbers with meets that are the table's
-  abbrev agreeing : Labels
-  agreeing = record { L = ℕ; le = le; meet = meets; join = joins; top = n - 1; contradiction = λ a. eqb a 0 }
-
-  meet-type : (i j : ℕ) → i < n → j < n → cell (meet n t i j) < n
-  meet-type i j l s =
-      let r : (m : ℕ) × Meet n t i j m = meet-exists n t ok i j l s in
-      let e : cell (meet n t i j) ≡ r .0 = ap cell (r .1 .is) in
-      omega (arith, r .1 .type)
-
-  -- the meet of picked types is one, and a type
-  picked : {N : Type 0} (pick : N → Bool) (label : N → ℕ) → ((x : N) → label x < n) → (xs : List N) →
-      (foldr (λ x a. cond (pick x) (meets (label x) a) a) (n - 1) xs ≡
-      foldr (λ x a. cond (pick x) (cell (meet n t (label x) a)) a) (n - 1) xs) ×
-      (foldr (λ x a. cond (pick x) (cell (meet n t (label x) a)) a) (n - 1) xs < n)
-  picked pick label known [] = (refl, top-type n t ok)
-  picked pick label known (x ∷ xs) =
-      go (pick x)
-      (foldr (λ x a. cond (pick x) (meets (label x) a) a) (n - 1) xs)
-      (foldr (λ x a. cond (pick x) (cell (meet n t (label x) a)) a) (n - 1) xs)
-      (picked pick label known xs)
-    where
-      go : (b : Bool) (a c : ℕ) → (a ≡ c) × (c < n) →
-          (cond b (meets (label x) a) a ≡ cond b (cell (meet n t (label x) c)) c) × (cond b (cell (meet n t (label x) c)) c < n)
-      go true a c (e, l) = (ap (meets (label x)) e ∙ are (label x) c (known x) l, meet-type (label x) c (known x) l)
-      go false a c (e, l) = (e, l)
-
-  module _ {A B : Type 0} (sameA : A → A → Bool) (sameB : B → B → Bool) (g : Graph Label A) (gs : List A) (h : Graph Label B) (hs : List B)
-      (left : (v : A) → g .label v < n) (right : (w : B) → h .label w < n) where
-    known-beside : (x : A ⊎ B) → labelBeside (g .label) (h .label) x < n
-    known-beside (inl v) = left v
-    known-beside (inr w) = right w
-
-    class-label : (c : A ⊎ B) →
-        classGraph agreeing sameA sameB g gs h hs .label c ≡ classGraph (typeLabels n t) sameA sameB g gs h hs .label c
-    unfolding classGraph classLabel
-    class-label c =
-        picked (λ x. sameBeside sameA sameB (className sameA sameB g gs h hs x) c) (labelBeside (g .label) (h .label)) known-beside
-        (nodesBeside gs hs) .0
-
-    class-graph : classGraph agreeing sameA sameB g gs h hs ≡ classGraph (typeLabels n t) sameA sameB g gs h hs
-    unfolding classGraph
-    class-graph =
-        ap (λ (label : A ⊎ B → ℕ). record {
-          root = classGraph agreeing sameA sameB g gs h hs .root;
-          label = label;
-          link = classGraph agreeing sameA sameB g gs h hs .link;
-        }) (fun-ext class-label)
-
-    same-cycle : hasCycle agreeing sameA sameB g gs h hs ≡ hasCycle (typeLabels n t) sameA sameB g gs h hs
-    unfolding hasCycle classGraph
-    same-cycle = refl
-
-    same-clash : hasClash agreeing sameA sameB g gs h hs ≡ hasClash (typeLabels n t) sameA sameB g gs h hs
-    unfolding hasClash
-    same-clash =
-        ap (λ (label : A ⊎ B → ℕ). anyOf (nodesBeside gs hs) λ x. eqb (label (className sameA sameB g gs h hs x)) 0)
-        (fun-ext class-label)
-
-    -- combinations by meets that agree on the table's types are one
-    pub same-unification : unification agreeing sameA sameB g gs h hs ≡ unification (typeLabels n t) sameA sameB g gs h hs
-    unfolding unification
-    same-unification =
-        ap₂ (λ (b c : Bool). cond b cycle (cond c clash (unified (classGraph agreeing sameA sameB g gs h hs)))) same-cycle same-clash ∙
-        ap (λ (u : Graph Label (A ⊎ B)).
-        cond (hasCycle (typeLabels n t) sameA sameB g gs h hs) cycle
-        (cond (hasClash (typeLabels n t) sameA sameB g gs h hs) clash (unified u)))
-        class-graph
 
 -- what combining yields, as a result
 abbrev combinedResult : Yield Combined → Result
@@ -167,9 +77,9 @@ module _ (n : ℕ) (t : List ℕ) (rows : List (List ℕ)) {meets : List (List �
   unfolding met unifiedRows
   met-unified out g h left right =
       ap (λ (u : Unified Label (ℕ ⊎ ℕ)). combined u out)
-      (same-unification n t ok eqb (meetsOf n meets .meet) (meetsOf n meets .join)
-      (λ i j l s. meets-known n t rows ok long filling i j l s .0) eqb eqb (graphOfRows g) (from 0 (length g)) (graphOfRows h)
-      (from 0 (length h)) (label-known (zero-type n t ok) left) (label-known (zero-type n t ok) right))
+      (same-unification n t ok eqb (meetIn meets) (λ a b. a) (λ i j l s. meets-known n t rows ok long filling i j l s .0) eqb eqb
+      (graphOfRows g) (from 0 (length g)) (graphOfRows h) (from 0 (length h)) (λ v _. label-known (zero-type n t ok) left v)
+      (λ w _. label-known (zero-type n t ok) right w))
 
   -- what combining asks of the table
   pub combinable : ((0 < n) × (n ≤ 64)) × MeetsBelow n meets

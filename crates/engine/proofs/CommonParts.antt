@@ -2,33 +2,45 @@
 use mathlib.Core.Path.{_≡_, refl, sym, _∙_, ap}
 use mathlib.Core.Bool.{true}
 use mathlib.Core.List.{List}
-use Prim.Native.Nat.{ℕ}
+use Prim.Native.Nat.{ℕ, _≤_}
 use lib.ListN.{length}
 use Rattle.graphs.specs.Rows.{Row}
 use Rattle.graphs.specs.Number.{Canonical, canonical}
 use Rattle.graphs.specs.Generalize.{generalization}
 use Rattle.lattice.specs.Label.{Label}
-use Rattle.layout.specs.Layout.{graphOfRows, graphIn}
+use Rattle.layout.specs.Layout.{Recorded, graphOfRows, graphIn}
 use Rattle.lattice.specs.declared.TableFault.{TableFault}
 use Rattle.lattice.specs.declared.Opened.the-variants as opened
 use Rattle.lattice.specs.Table.{accepted, join, filled}
 use Rattle.lattice.specs.Reply as table
-use Rattle.lattice.specs.Labels.{typeLabels}
-use Rattle.lattice.proofs.Laws.{zero-type}
+use Rattle.lattice.specs.Labels.{tableLabels}
+use Rattle.lattice.proofs.Laws.{accepted-size, zero-type}
+use Rattle.lattice.proofs.Lawful.{label-parts}
 use Rattle.lattice.proofs.Residuals.{opened-accepted}
 use Rattle.encode.specs.declared.Written.{Written}
 use Rattle.encode.specs.Encode.{yielding, writtenOut}
 use Rattle.record.specs.Read.{reading}
 use Rattle.record.proofs.Accepted.{Rules}
-use Rattle.generalize.specs.Pairs.{joinsOf, samePair}
+use Rattle.generalize.specs.Pairs.{Joinable, JoinsBelow, joinsOf, samePair}
 use Rattle.generalize.proofs.Sides.{tells-pair}
 use Rattle.engine.specs.declared.Reply.{Reply}
 use Rattle.engine.specs.declared.Reply.the-variants.{Table}
 use Rattle.engine.specs.Reply.{resulting, resultOf, replyOf, refusing, readBoth, generalized, generalizing}
 use Rattle.engine.specs.Pair.{joined, joining}
 use Rattle.engine.proofs.Replies.{replied-as, table-refused, table-accepted}
-use Rattle.engine.proofs.Readings.{Accepts, both-next, both-same}
+use Rattle.engine.proofs.Readings.{Accepts, accepts-recorded, both-next, both-same}
 use Rattle.engine.proofs.Tables.{label-known, joins-known, canonical-same}
+
+-- What the common part asks of two accepted graphs.
+pub ready-to-join : {n : ℕ} {a b g h : List ℕ} (joins : List (List ℕ)) → (n ≤ 64) × JoinsBelow n joins → Accepts n a g × Accepts n b h →
+    Recorded g × (Recorded h × ((m : ℕ) × Joinable m joins g h))
+ready-to-join {n} joins (few, below) (one, other) = (
+  accepts-recorded few one,
+  (
+    accepts-recorded few other,
+    (n, record { few = few; joins-below = below; left = one .typed; right = other .typed }),
+  ),
+)
 
 -- the common part by a table of joins, written
 pub joined-as : (n : ℕ) (a b out : List ℕ) (joins : List (List ℕ)) {g h : List ℕ} → Accepts n a g × Accepts n b h →
@@ -47,9 +59,16 @@ module _ (n : ℕ) (t : List ℕ) (rows : List (List ℕ)) {joins : List (List �
   joined-generalized out g h left right =
       ap (λ (c : Canonical Label). resultOf (writtenOut c out))
       (canonical-same tells-pair (generalization (joinsOf joins) (graphOfRows g) (graphOfRows h))
-      (generalization (typeLabels n t) (graphOfRows g) (graphOfRows h)) refl
-      (λ x. joins-known n t rows ok long filling _ _ (label-known (zero-type n t ok) left (x .0)) (label-known (zero-type n t ok) right (x .1)))
+      (generalization (tableLabels n t) (graphOfRows g) (graphOfRows h)) refl
+      (λ x.
+      label-parts
+      (joins-known n t rows ok long filling _ _ (label-known (zero-type n t ok) left (x .0) .type)
+      (label-known (zero-type n t ok) right (x .1) .type) .0) refl refl)
       (λ x f. refl))
+
+  -- what the common part asks of the table
+  pub joinable : (n ≤ 64) × JoinsBelow n joins
+  joinable = (accepted-size n t ok .1, λ i j l s. joins-known n t rows ok long filling i j l s .1)
 
 module _ (n : ℕ) (t a b out : List ℕ) where
   pub generalizing-refused : (fault : TableFault) → table.opened n t ≡ opened.Refused fault →

@@ -15,7 +15,7 @@ use Rattle.graphs.specs.Unify as unify
 use Rattle.lattice.specs.Label.{Label}
 use Rattle.lattice.specs.declared.Opened.the-variants.{Accepted}
 use Rattle.lattice.specs.Reply.{opened}
-use Rattle.lattice.specs.Labels.{typeLabels, OfAnySize, LeastOfAnySize, GreatestOfAnySize, IsCombination, TypeClash, SomeUnwanted}
+use Rattle.lattice.specs.Labels.{tableLabels, OfAnySize, LeastOfAnySize, GreatestOfAnySize, IsCombination, LabelClash, SomeUnwanted}
 use Rattle.lattice.proofs.Residuals.{opened-accepted}
 use Rattle.lattice.proofs.AnySize.{combination-greatest}
 use Rattle.encode.specs.Encode.{fitted}
@@ -65,8 +65,8 @@ module _ (n : ℕ) (t out : List ℕ) where
   pub differing-leaves : (a b : List ℕ) → Leaves n out (differing n t a b out)
   differing-leaves a b = Output.differing-leaves n t out a b
 
-  -- "the longest 4,344": a length is at most that, so it is told apart from every other reply's code.
-  pub length-bounded : (r : Result) → Leaves n out r → (l : ℕ) → r .reply ≡ Length l → l ≤ 4344
+  -- "The longest record becomes 4,854 bytes": a length is at most that, so it is told apart from every other reply's code.
+  pub length-bounded : (r : Result) → Leaves n out r → (l : ℕ) → r .reply ≡ Length l → l ≤ 4854
   length-bounded = Output.length-bounded n out
 
   -- 11 is no reply of rewriting or of the difference: what they write is no larger than an accepted record.
@@ -90,17 +90,17 @@ module _ (n : ℕ) (t a : List ℕ) (rows : List (Row Label)) (opens : opened n 
 module _ (n : ℕ) (t a b : List ℕ) (s g : List (Row Label)) (given : Given n t a b s g) where
   -- Two accepted records mean the same exactly when rewriting gives equal bytes,
   pub meaning-bytes : (out : List ℕ) (l m : ℕ) → rewriting n t a out .reply ≡ Length l → rewriting n t b out .reply ≡ Length m →
-      SameMeaning (typeLabels n t) (graphOfRows s) (graphOfRows g) ↔
+      SameMeaning (tableLabels n t) (graphOfRows s) (graphOfRows g) ↔
       (take l (rewriting n t a out .output) ≡ take m (rewriting n t b out .output))
   meaning-bytes = Meaning.bytes-exact n t a b s g given
 
   -- exactly when it gives the same reply and output, whatever is lent,
-  pub meaning-rewriting : SameMeaning (typeLabels n t) (graphOfRows s) (graphOfRows g) ↔
+  pub meaning-rewriting : SameMeaning (tableLabels n t) (graphOfRows s) (graphOfRows g) ↔
       ((out : List ℕ) → rewriting n t a out ≡ rewriting n t b out)
   meaning-rewriting = Meaning.meaning-exact n t a b s g given
 
   -- and exactly when the order answers same.
-  pub meaning-order : (ordering n t a b ≡ Same) ↔ SameMeaning (typeLabels n t) (graphOfRows s) (graphOfRows g)
+  pub meaning-order : (ordering n t a b ≡ Same) ↔ SameMeaning (tableLabels n t) (graphOfRows s) (graphOfRows g)
   meaning-order = Meaning.order-same n t a b s g given
 
 -- One form: every record that a call wrote is a `WrittenRecord`, as its `Leaves` says.
@@ -111,14 +111,14 @@ module _ (n : ℕ) (t a : List ℕ) (one : WrittenRecord n a) where
 
   -- Two such records mean the same exactly when they are equal bytes.
   pub written-one-form : (b : List ℕ) (other : WrittenRecord n b) →
-      SameMeaning (typeLabels n t) (graphOfRows (one .form)) (graphOfRows (other .form)) ↔ (a ≡ b)
+      SameMeaning (tableLabels n t) (graphOfRows (one .form)) (graphOfRows (other .form)) ↔ (a ≡ b)
   written-one-form = Meaning.one-form n t a one
 
 -- Demand 3, the order: same or under exactly where the first graph is below the second, and above or neither exactly where it is not.
 
 module _ (n : ℕ) (t a b : List ℕ) (s g : List (Row Label)) (given : Given n t a b s g) where
-  pub order-exact : (AnswersBelow n t a b ↔ Below (typeLabels n t) (graphOfRows s) (graphOfRows g)) ×
-      (AnswersNotBelow n t a b ↔ (Below (typeLabels n t) (graphOfRows s) (graphOfRows g) → ⊥))
+  pub order-exact : (AnswersBelow n t a b ↔ Below (tableLabels n t) (graphOfRows s) (graphOfRows g)) ×
+      (AnswersNotBelow n t a b ↔ (Below (tableLabels n t) (graphOfRows s) (graphOfRows g) → ⊥))
   order-exact = Order.order-exact n t a b s g given
 
 -- Demand 3, the common part.
@@ -126,7 +126,7 @@ module _ (n : ℕ) (t a b : List ℕ) (s g : List (Row Label)) (given : Given n 
 module _ (n : ℕ) (t a b : List ℕ) (g h : List (Row Label)) (given : Given n t a b g h) where
   -- The common part, also where it is too large to be written, has "the paths in both, each with the join of its two types, two sharing
   -- exactly when they share in both",
-  pub common-part-paths : IsGeneralization (typeLabels n t) (graphOfRows g) (graphOfRows h) (common n t g h)
+  pub common-part-paths : IsGeneralization (tableLabels n t) (graphOfRows g) (graphOfRows h) (common n t g h)
   common-part-paths = Common.common-part-paths n t a b g h given
 
   -- and is the least graph of any size above both: there always is one.
@@ -153,12 +153,12 @@ combination-over-paths n t opens g h u a b =
 
 module _ (n : ℕ) (t a b : List ℕ) (g h : List (Row Label)) (given : Given n t a b g h) (out : List ℕ) where
   -- 9 exactly where a class reaches itself,
-  pub combination-cycle : (unifying n t a b out .reply ≡ Cycle) ↔ unify.Cycle (typeLabels n t) (graphOfRows g) (graphOfRows h)
+  pub combination-cycle : (unifying n t a b out .reply ≡ Cycle) ↔ unify.Cycle (tableLabels n t) (graphOfRows g) (graphOfRows h)
   combination-cycle = Combined.cycle-exact n t a b g h given out
 
   -- 10 exactly where none does and the meet of a class is type 0,
   pub combination-clash : (unifying n t a b out .reply ≡ Clash) ↔
-      ((unify.Cycle (typeLabels n t) (graphOfRows g) (graphOfRows h) → ⊥) × TypeClash n t (graphOfRows g) (graphOfRows h))
+      ((unify.Cycle (tableLabels n t) (graphOfRows g) (graphOfRows h) → ⊥) × LabelClash n t (graphOfRows g) (graphOfRows h))
   combination-clash = Combined.clash-exact n t a b g h given out
 
   -- and one of them exactly where no graph of any size lies below both.
@@ -183,22 +183,22 @@ module _ (n : ℕ) (t a b : List ℕ) (g h : List (Row Label)) (given : Given n 
 
 module _ (n : ℕ) (t a b : List ℕ) (g s : List (Row Label)) (given : Given n t a b g s) where
   -- Where s is below g and no node of s is without a wanted type, the difference restores s with g and nothing more general does.
-  pub difference-restores : Below (typeLabels n t) (graphOfRows s) (graphOfRows g) →
+  pub difference-restores : Below (tableLabels n t) (graphOfRows s) (graphOfRows g) →
       (SomeUnwanted n t (graphOfRows s) (graphOfRows g) → ⊥) → Restores n t (remainder n t g s) (graphOfRows g) (graphOfRows s)
   difference-restores below all = Differed.remainder-restores n t a b g s given below (Differed.all-wanted n t a b g s given below all)
 
   module _ (out : List ℕ) where
     -- 12 exactly where s is not below g,
-    pub difference-not-below : (differing n t a b out .reply ≡ NotBelow) ↔ (Below (typeLabels n t) (graphOfRows s) (graphOfRows g) → ⊥)
+    pub difference-not-below : (differing n t a b out .reply ≡ NotBelow) ↔ (Below (tableLabels n t) (graphOfRows s) (graphOfRows g) → ⊥)
     difference-not-below = Differed.not-below-exact n t a b g s given out
 
     -- 13 exactly where it is and some node of s has no wanted type,
     pub difference-not-wanted : (differing n t a b out .reply ≡ NoWantedType) ↔
-        (Below (typeLabels n t) (graphOfRows s) (graphOfRows g) × SomeUnwanted n t (graphOfRows s) (graphOfRows g))
+        (Below (tableLabels n t) (graphOfRows s) (graphOfRows g) × SomeUnwanted n t (graphOfRows s) (graphOfRows g))
     difference-not-wanted = Differed.unwanted-reply-exact n t a b g s given out
 
     -- and else 8 exactly where it is due, and the call writes the difference.
-    pub difference-written : Below (typeLabels n t) (graphOfRows s) (graphOfRows g) →
+    pub difference-written : Below (tableLabels n t) (graphOfRows s) (graphOfRows g) →
         (SomeUnwanted n t (graphOfRows s) (graphOfRows g) → ⊥) → Writes n t eqb (remainder n t g s) out (differing n t a b out)
     difference-written below all = Differed.remainder-writes n t a b g s given out below (Differed.all-wanted n t a b g s given below all)
 

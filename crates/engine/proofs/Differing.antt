@@ -3,6 +3,7 @@
 use mathlib.Core.Path.{_≡_, refl, sym, _∙_, ap, subst}
 use mathlib.Core.Bool.{Bool, true, false, cond}
 use mathlib.Core.List.{List, [], List·Memᴰ}
+use mathlib.Core.Option.{Option, Option·getD}
 use Prim.Native.Nat.{ℕ, _<_}
 use native.Mathlib.Omega.{arith}
 use lib.Dec.{eqb}
@@ -15,21 +16,21 @@ use Rattle.graphs.specs.Difference.{byNumber}
 use Rattle.graphs.proofs.Lists.{from-range, tells-eqb}
 use Rattle.graphs.proofs.Below.{map-below}
 use Rattle.graphs.proofs.Difference.Agree.{meetOver-agree, difference-agree}
-use Rattle.lattice.specs.Label.{Label}
+use Rattle.lattice.specs.Label.{Label, noLabel}
 use Rattle.layout.specs.Layout.{size, labelAt, linksAt, graphOfRows, rowsOf, graphIn}
 use Rattle.layout.proofs.Rows.{rows-member}
 use Rattle.lattice.specs.declared.TableFault.{TableFault}
 use Rattle.lattice.specs.declared.Opened.the-variants as opened
 use Rattle.lattice.specs.Table as types
 use Rattle.lattice.specs.Reply as table
-use Rattle.lattice.specs.Labels.{typeLabels}
+use Rattle.lattice.specs.Labels.{Known, tableLabels, wantedLabel}
 use Rattle.lattice.proofs.Every.{every-same}
 use Rattle.lattice.proofs.Laws.{accepted-size}
 use Rattle.encode.specs.declared.Written.{Written}
 use Rattle.encode.specs.Encode.{encoded, writtenOut, yielding}
 use Rattle.encode.specs.Copies.{Renumbers}
 use Rattle.record.specs.declared.GraphFault.{GraphFault}
-use Rattle.record.proofs.Accepted.{Rules, accepted-rules, rules-of-any-size, rules-fit}
+use Rattle.record.proofs.Accepted.{Rules, accepted-rules, rules-of-any-size, rules-types, rules-fit}
 use Rattle.record.proofs.Rewritten.{form-rules, rules-read}
 use Rattle.subsume.specs.declared.Order.{Order}
 use Rattle.subsume.specs.declared.Order.the-variants as order
@@ -42,7 +43,7 @@ use Rattle.engine.specs.declared.PairVerdict.the-variants as pair
 use Rattle.engine.specs.declared.Reply.{Reply}
 use Rattle.engine.specs.declared.Reply.the-variants.{Table, Graph, NotBelow, NoWantedType}
 use Rattle.engine.specs.Reply.{Result, resulting, resultOf, replyOf, refusing}
-use Rattle.engine.specs.Difference.{over, wantedType, allWanted, differenceRows, differed, numbered, differedRows, differing}
+use Rattle.engine.specs.Difference.{over, wantedAt, allWanted, differenceRows, differed, numbered, differedRows, differing}
 use Rattle.engine.specs.Pair.{ReadsBoth, parting}
 use Rattle.engine.specs.Renumbering.{Acceptable, Loaded, Comparable}
 use Rattle.engine.proofs.Readings.{Accepts, accepts-rules, accepts-reached, accepts-recorded, both-refused, both-next}
@@ -71,12 +72,12 @@ pub record Renumbered (n : ℕ) (rows : List (Row Label)) (ws : List ℕ) : Type
   pub loaded : Loaded n ws
   pub rows-are : rowsOf ws ≡ numbered (canonical eqb (graphOfRows rows))
 
--- the labels of words that hold rows are types
-rows-typed : {n : ℕ} {form : List (Row Label)} (ws : List ℕ) → Rules n form → rowsOf ws ≡ form → (v : ℕ) → v < size ws → labelAt ws v < n
+-- the labels of words that hold rows are those of the table
+rows-typed : {n : ℕ} {form : List (Row Label)} (ws : List ℕ) → Rules n form → rowsOf ws ≡ form → (v : ℕ) → v < size ws → Known n (labelAt ws v)
 rows-typed ws rules same v h =
     rules .ranged (labelAt ws v, linksAt ws v)
     (subst (λ (rs : List (Row Label)). List·Memᴰ {A = Row Label} (labelAt ws v, linksAt ws v) rs) same
-    (rows-member ws (size ws) 0 v v (omega arith) h)) .1
+    (rows-member ws (size ws) 0 v v (omega arith) h)) .0 .1
 
 pub renumbered : (n : ℕ) (g : List ℕ) → Loaded n g → {answer : Bool} {ws : List ℕ} →
     Renumbers (canonical eqb (graphIn g)) answer ws → Renumbered n (rowsOf g) ws
@@ -84,7 +85,8 @@ renumbered n g given {ws = ws} holds =
     let rules = accepted-rules n (encoded (rowsOf g)) (rowsOf g) (given .acceptable) in
     let (form, fits) = rules-fit n (rowsOf g) rules in
     let is : Acceptable n form =
-    rules-read n form (form-rules n [] eqb tells-eqb (graphIn g) (rules-of-any-size n (rowsOf g) rules []) form fits) in
+    rules-read n form (form-rules n [] eqb tells-eqb (graphIn g) (rules-of-any-size n (rowsOf g) rules []) form fits
+    (rules-types n (rowsOf g) rules)) in
     let same = holds .rows-are form fits in
     record {
       loaded =
@@ -100,31 +102,32 @@ renumbered n g given {ws = ws} holds =
 -- The difference along a node map.
 
 module _ (n : ℕ) (t : List ℕ) (s g : List (Row Label)) (map : List ℕ) (general : Rules n g)
-    (along : NodeMap (typeLabels n t) (graphOfRows s) (graphOfRows g) (λ y. getD map y 0)) where
+    (along : NodeMap (tableLabels n t) (graphOfRows s) (graphOfRows g) (λ y. getD map y 0)) where
   lies : (y : ℕ) → y < length g → getD map y 0 ≡ over s g y
   lies y h = sym (over-only n t g s general (map-below along) (λ y. getD map y 0) along y h)
 
-  -- the wanted types along it are the wanted types
-  wanted-along : (v : ℕ) → wantedAlong n t s g (λ y. getD map y 0) v ≡ wantedType n t s g v
+  -- the wanted labels along it are the wanted labels
+  wanted-along : (v : ℕ) → wantedAlong n t s g (λ y. getD map y 0) v ≡ wantedAt n t s g v
   unfolding wantedAlong
   wanted-along v =
-      ap (types.wanted n t (graphOfRows s .label v))
-      (meetOver-agree (typeLabels n t) eqb (graphOfRows g) (from 0 (length g)) (λ y. getD map y 0) (over s g)
+      ap (wantedLabel n t (graphOfRows s .label v))
+      (meetOver-agree (tableLabels n t) eqb (graphOfRows g) (from 0 (length g)) (λ y. getD map y 0) (over s g)
       (λ y m. lies y (omega (arith, from-range 0 (length g) y m))) v)
 
   all-along : allWantedAlong n t s g (λ y. getD map y 0) ≡ allWanted n t s g
   unfolding allWantedAlong
   all-along =
-      every-same (λ v. types.found (wantedAlong n t s g (λ y. getD map y 0) v)) (λ v. types.found (wantedType n t s g v)) (length s)
+      every-same (λ v. types.found (wantedAlong n t s g (λ y. getD map y 0) v)) (λ v. types.found (wantedAt n t s g v)) (length s)
       (λ v _. ap types.found (wanted-along v))
 
   -- and the difference along it is the difference
   difference-along : differenceAlong n t s g (λ y. getD map y 0) ≡ differenceRows n t g s
   unfolding differenceAlong
   difference-along =
-      difference-agree (typeLabels n t) eqb eqb byNumber (graphOfRows s) (from 0 (length s)) (graphOfRows g) (from 0 (length g))
-      (λ y. getD map y 0) (over s g) (λ v. types.cell (wantedAlong n t s g (λ y. getD map y 0) v)) (λ v. types.cell (wantedType n t s g v))
-      (λ y m. lies y (omega (arith, from-range 0 (length g) y m))) (λ v. ap types.cell (wanted-along v))
+      difference-agree (tableLabels n t) eqb eqb byNumber (graphOfRows s) (from 0 (length s)) (graphOfRows g) (from 0 (length g))
+      (λ y. getD map y 0) (over s g) (λ v. Option·getD (wantedAlong n t s g (λ y. getD map y 0) v) noLabel)
+      (λ v. Option·getD (wantedAt n t s g v) noLabel) (λ y m. lies y (omega (arith, from-range 0 (length g) y m)))
+      (λ v. ap (λ (o : Option Label). Option·getD o noLabel) (wanted-along v))
 
 -- what the difference asks
 pub ready-below : (n : ℕ) (t g s : List ℕ) {answer : Order} {map : List ℕ} → Comparable n t g s →
@@ -149,7 +152,7 @@ ready-below n t g s given orders below =
 module _ (n : ℕ) (t out : List ℕ) {a : List ℕ} (g s : List ℕ) (given : Accepts n a g) {answer : Order} {map : List ℕ}
     (orders : Orders n t (rowsOf s) (rowsOf g) answer map) where
   abbrev below : Bool
-  below = subsumes (typeLabels n t) eqb eqb (graphIn s) (graphIn g) (length (rowsOf g))
+  below = subsumes (tableLabels n t) eqb eqb (graphIn s) (graphIn g) (length (rowsOf g))
 
   abbrev written : Result
   written = resultOf (writtenOut (canonical eqb (differenceRows n t (rowsOf g) (rowsOf s))) out)

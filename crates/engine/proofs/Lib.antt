@@ -12,4 +12,5 @@ pub mod Results
 pub mod Demanded
 pub mod Demands
 pub mod Broader
+pub mod Unranged
 pub mod Requests

@@ -21,7 +21,7 @@ use Rattle.layout.specs.Layout.{graphOfRows, rowsOf}
 use Rattle.lattice.specs.declared.TableFault.{TableFault}
 use Rattle.lattice.specs.declared.Opened.the-variants as opened
 use Rattle.lattice.specs.Reply as table
-use Rattle.lattice.specs.Labels.{typeLabels}
+use Rattle.lattice.specs.Labels.{tableLabels}
 use Rattle.record.specs.Read.{reading}
 use Rattle.record.proofs.Nodes.{length-from, reached-listed}
 use Rattle.record.proofs.Accepted.{Rules, rules-linked, rules-of-any-size}
@@ -45,9 +45,9 @@ module _ (n : ℕ) (t : List ℕ) (s g : List (Row Label)) (rules : Rules n g) w
       )
 
   -- "is the first below the second": the computed order is the order over paths
-  pub order-test : (rowsBelow n t s g ≡ true) ↔ Below (typeLabels n t) (graphOfRows s) (graphOfRows g)
+  pub order-test : (rowsBelow n t s g ≡ true) ↔ Below (tableLabels n t) (graphOfRows s) (graphOfRows g)
   order-test =
-      subsumes-exact (typeLabels n t) eqb eqb tells-eqb tells-eqb (graphOfRows s) (graphOfRows g)
+      subsumes-exact (tableLabels n t) eqb eqb tells-eqb tells-eqb (graphOfRows s) (graphOfRows g)
       (rules-of-any-size n g rules t .any-size .features) (length g) short
 
   -- what the walk answers

@@ -19,7 +19,7 @@ use Rattle.graphs.proofs.Search.{true-false}
 use Rattle.graphs.proofs.Below.{walk-map, carries-map}
 use Rattle.graphs.proofs.Order.{listed-together, together-listed}
 use Rattle.lattice.specs.Label.{Label}
-use Rattle.lattice.specs.Labels.{typeLabels}
+use Rattle.lattice.specs.Labels.{tableLabels}
 use Rattle.record.specs.Read.{graphOfRows}
 use Rattle.record.proofs.Accepted.{Rules, rules-of-any-size}
 use Rattle.engine.specs.Difference.{firstAt, over}
@@ -40,7 +40,7 @@ first-listed y (z ∷ xs) x m = go (eqb (z .1) y) refl (first-listed y xs x)
         (λ i. List·Memᴰ·tail (later i)) (List·Memᴰ·cases-cons m)
 
 module _ (n : ℕ) (t : List ℕ) (g s : List (Row Label)) (general : Rules n g)
-    (below : Below (typeLabels n t) (graphOfRows s) (graphOfRows g)) where
+    (below : Below (tableLabels n t) (graphOfRows s) (graphOfRows g)) where
   -- "Each path of g leads to one node of s"
   over-carries : (p : List ℕ) (y : ℕ) → walk (graphOfRows g) p ≡ some y → walk (graphOfRows s) p ≡ some (over s g y)
   unfolding over
@@ -48,19 +48,19 @@ module _ (n : ℕ) (t : List ℕ) (g s : List (Row Label)) (general : Rules n g)
       let small = rules-of-any-size n g general t .any-size .features in
       let (x, d, _) = below .paths p y e in
       let listed : List·Memᴰ (x, y) (meetings (graphOfRows s) (graphOfRows g) (length g)) =
-      together-listed (typeLabels n t) eqb eqb tells-eqb tells-eqb (graphOfRows s) (graphOfRows g) small (length g) (short n t s g general)
+      together-listed (tableLabels n t) eqb eqb tells-eqb tells-eqb (graphOfRows s) (graphOfRows g) small (length g) (short n t s g general)
       (x, y) (p, d, e) in
       let (q, c, i) =
-      listed-together (typeLabels n t) eqb eqb tells-eqb tells-eqb (graphOfRows s) (graphOfRows g) small (length g) (short n t s g general)
+      listed-together (tableLabels n t) eqb eqb tells-eqb tells-eqb (graphOfRows s) (graphOfRows g) small (length g) (short n t s g general)
       (over s g y, y) (first-listed y (meetings (graphOfRows s) (graphOfRows g) (length g)) x listed) in
       let (_, j, k) = below .corefers p q (y, e, i) in
       j ∙ sym k ∙ c
 
-  pub over-map : NodeMap (typeLabels n t) (graphOfRows s) (graphOfRows g) (over s g)
+  pub over-map : NodeMap (tableLabels n t) (graphOfRows s) (graphOfRows g) (over s g)
   over-map = carries-map below (over s g) over-carries
 
   -- two walks along one path end at one node
-  pub over-only : (to : ℕ → ℕ) → NodeMap (typeLabels n t) (graphOfRows s) (graphOfRows g) to → (y : ℕ) → y < length g → over s g y ≡ to y
+  pub over-only : (to : ℕ → ℕ) → NodeMap (tableLabels n t) (graphOfRows s) (graphOfRows g) to → (y : ℕ) → y < length g → over s g y ≡ to y
   over-only to map y h =
       let (p, e) = general .reached y h in
       some-unique (over-carries p y e) (walk-map map p y e)

@@ -8,6 +8,8 @@ use lib.ListN.{length}
 use Rattle.graphs.specs.Graph.{Reached}
 use Rattle.graphs.specs.Rows.{Row}
 use Rattle.lattice.specs.Label.{Label}
+use Rattle.lattice.specs.Labels.{Known}
+use Rattle.lattice.proofs.Lawful.{known-more}
 use Rattle.layout.specs.Layout.{Sound, Recorded, size, labelAt, rowsOf, graphIn}
 use Rattle.layout.proofs.Rows.{length-rows}
 use Rattle.record.specs.declared.GraphFault.{GraphFault}
@@ -29,7 +31,7 @@ pub record Accepts (n : ℕ) (bytes ws : List ℕ) : Type 0 where
   pub is : reading n bytes ≡ accepted (rowsOf ws)
   pub sound : Sound ws
   pub small : size ws ≤ 255
-  pub typed : (v : ℕ) → v < size ws → labelAt ws v < n
+  pub typed : (v : ℕ) → v < size ws → Known n (labelAt ws v)
 
 -- the words that a record was read into
 accepts-held : {n : ℕ} {bytes ws : List ℕ} {rows : List (Row Label)} → reading n bytes ≡ accepted rows → Holds n rows ws → Accepts n bytes ws
@@ -50,7 +52,7 @@ accepts-recorded few given =
       sound = given .sound;
       small = given .small;
       short = accepts-rules given .links;
-      typed = λ v h. omega (arith, given .typed v h);
+      typed = λ v h. known-more few (given .typed v h);
     }
 
 -- One record.

@@ -1,9 +1,9 @@
 -- The change requests, one section for each paper and one theorem for each sentence, about the definitions that the calls are proved equal
--- to. The definitions that the statements use stand in `Reply`, `Unification`, `Difference`, `Before` and `Demand`; the proofs are cited.
--- n and t are the table, out and out′ are the outputs lent; a, b, c and d are the records.
+-- to. The definitions that the statements use stand in `Reply`, `Unification`, `Difference`, `Before`, `Unranged` and `Demand`; the proofs
+-- are cited. n and t are the table, out and out′ are the outputs lent; a, b, c and d are the records.
 use mathlib.Core.Path.{_≡_, refl}
 use mathlib.Core.Bool.{Bool, true, false}
-use mathlib.Core.List.{List, []}
+use mathlib.Core.List.{List, [], _∷_}
 use mathlib.Core.Option.{some}
 use mathlib.Core.Logic.{_↔_, _⊎_}
 use Prim.Native.Nat.{ℕ, _+_, _*_, _<_}
@@ -12,24 +12,35 @@ use lib.ListN.{length, getD, take}
 use Rattle.graphs.specs.Graph.{Graph, Tells, Below, SameMeaning}
 use Rattle.graphs.specs.Rows.{Row}
 use Rattle.graphs.specs.Generalize.{generalization}
-use Rattle.lattice.specs.Label.{Label}
+use Rattle.lattice.specs.Label.{Label, plain}
 use Rattle.lattice.specs.declared.Opened.the-variants.{Accepted}
 use Rattle.lattice.specs.Reply.{opened}
-use Rattle.lattice.specs.Labels.{typeLabels, OfAnySize, LeastOfAnySize, GreatestOfAnySize, IsCombination, SomeUnwanted}
+use Rattle.lattice.specs.Labels.{tableLabels, OfAnySize, LeastOfAnySize, GreatestOfAnySize, IsCombination, SomeUnwanted}
 use Rattle.lattice.proofs.Residuals.{opened-accepted}
 use Rattle.lattice.proofs.AnySize.{generalization-least, least-monotone, greatest-monotone, combines-broader, combines-not-refuted}
 use Rattle.lattice.specs.Table as types
 use Rattle.house.specs.House.{lesser, under, meets, houseTable}
 use Rattle.house.proofs.Theorems as house
-use Rattle.encode.specs.Encode.{fitted}
+use Rattle.decode.specs.Decode.{takeRow}
+use Rattle.encode.specs.Encode.{encodedLabel, fitted}
 use Rattle.record.specs.declared.GraphFault.{GraphFault}
 use Rattle.record.specs.Read.{reading, accepted, graphOfRows}
+use Rattle.record.specs.Unranged.{unranged}
+use Rattle.record.proofs.Theorems as records
 use Rattle.engine.specs.declared.Side.the-variants.{First, Second}
 use Rattle.engine.specs.declared.Reply.the-variants.{Length, Same, Under, Above, Neither, Graph as Refusal, Cycle, Clash, NotBelow, NoWantedType}
 use Rattle.engine.specs.Reply.{resultOf, rewriting, ordering, generalizing}
 use Rattle.engine.specs.Unification.{unifying}
 use Rattle.engine.specs.Difference.{differing}
 use Rattle.engine.specs.Before.{differingBefore}
+use Rattle.engine.specs.Unranged.{
+  rewritingTypes,
+  orderingTypes,
+  generalizingTypes,
+  unifyingTypes,
+  differingTypes,
+  WritesUnranged,
+}
 use Rattle.engine.specs.Demand.{Given, Writes, AnswersBelow, AnswersNotBelow, WrittenRecord, loneTop, remainder, Restores, Difference}
 use Rattle.engine.proofs.Broader.{RecordBelow, answer-below, rows-below, below-answer, below-paths}
 use Rattle.engine.proofs.Broader as Broader
@@ -38,6 +49,7 @@ use Rattle.engine.proofs.Demanded.Order as Order
 use Rattle.engine.proofs.Demanded.Difference as Differed
 use Rattle.engine.proofs.Demanded.Before.{differing-before, never-unwanted}
 use Rattle.engine.proofs.Demanded.Itself.{itself}
+use Rattle.engine.proofs.Unranged as Unranged
 
 -- Paper 1: a broader program never clashes anew. Where a is below b and c is below d, b combines with d if a combines with c; what is
 -- written of the narrower pair is below what is written of the broader one, of combinations and of common parts.
@@ -62,7 +74,7 @@ module _ (n : ℕ) (t a b c d : List ℕ) (first : AnswersBelow n t a b) (second
 
 -- Over paths: g, k, h and m are the rows of a, b, c and d, and x and y the rows of what is written.
 module _ (n : ℕ) (t a b c d : List ℕ) (g k h m : List (Row Label)) (narrow : Given n t a c g h) (broad : Given n t b d k m)
-    (first : Below (typeLabels n t) (graphOfRows g) (graphOfRows k)) (second : Below (typeLabels n t) (graphOfRows h) (graphOfRows m))
+    (first : Below (tableLabels n t) (graphOfRows g) (graphOfRows k)) (second : Below (tableLabels n t) (graphOfRows h) (graphOfRows m))
     (out out′ : List ℕ) where
   a-below : RecordBelow n t a b
   a-below = rows-below n t a b g k (narrow .opens) (narrow .first) (broad .first) first
@@ -76,33 +88,33 @@ module _ (n : ℕ) (t a b c d : List ℕ) (g k h m : List (Row Label)) (narrow :
 
   pub paths-combination : (l l′ : ℕ) → unifying n t a c out .reply ≡ Length l → unifying n t b d out′ .reply ≡ Length l′ →
       (x y : List (Row Label)) → reading n (take l (unifying n t a c out .output)) ≡ accepted x →
-      reading n (take l′ (unifying n t b d out′ .output)) ≡ accepted y → Below (typeLabels n t) (graphOfRows x) (graphOfRows y)
+      reading n (take l′ (unifying n t b d out′ .output)) ≡ accepted y → Below (tableLabels n t) (graphOfRows x) (graphOfRows y)
   paths-combination l l′ p q = below-paths n t _ _ (Broader.combination-below n t a b c d a-below c-below out out′ l l′ p q)
 
   pub paths-common-part : (l l′ : ℕ) → generalizing n t a c out .reply ≡ Length l → generalizing n t b d out′ .reply ≡ Length l′ →
       (x y : List (Row Label)) → reading n (take l (generalizing n t a c out .output)) ≡ accepted x →
-      reading n (take l′ (generalizing n t b d out′ .output)) ≡ accepted y → Below (typeLabels n t) (graphOfRows x) (graphOfRows y)
+      reading n (take l′ (generalizing n t b d out′ .output)) ≡ accepted y → Below (tableLabels n t) (graphOfRows x) (graphOfRows y)
   paths-common-part l l′ p q = below-paths n t _ _ (Broader.common-part-below n t a b c d a-below c-below out out′ l l′ p q)
 
 -- Graphs of any size always have a common part.
 pub any-size-common-part-exists : (n : ℕ) (t : List ℕ) → opened n t ≡ Accepted → {A B : Type 0} (g : Graph Label A) (h : Graph Label B) →
-    OfAnySize n t g → OfAnySize n t h → LeastOfAnySize n t g h (generalization (typeLabels n t) g h)
+    OfAnySize n t g → OfAnySize n t h → LeastOfAnySize n t g h (generalization (tableLabels n t) g h)
 any-size-common-part-exists n t opens = generalization-least n t (opened-accepted n t (opened n t) refl opens)
 
 -- Of graphs of any size, on whatever nodes: g below k, and h below m.
 module _ (n : ℕ) (t : List ℕ) (opens : opened n t ≡ Accepted) {A B C D : Type 0} (g : Graph Label A) (k : Graph Label B) (h : Graph Label C)
     (m : Graph Label D) (g-size : OfAnySize n t g) (k-size : OfAnySize n t k) (h-size : OfAnySize n t h) (m-size : OfAnySize n t m)
-    (first : Below (typeLabels n t) g k) (second : Below (typeLabels n t) h m) where
+    (first : Below (tableLabels n t) g k) (second : Below (tableLabels n t) h m) where
   -- A combination of the narrower pair lies below every one of the broader pair.
   pub any-size-combination : {U W : Type 0} (u : Graph Label U) (w : Graph Label W) → GreatestOfAnySize n t g h u → GreatestOfAnySize n t k m w →
-      Below (typeLabels n t) u w
+      Below (tableLabels n t) u w
   any-size-combination = greatest-monotone n t (opened-accepted n t (opened n t) refl opens) g k h m g-size k-size h-size m-size first second
 
   -- Where there is one of the narrower pair, there is one of the broader pair, namely what the classes give, where the nodes of the
   -- broader graphs are told apart;
   pub any-size-combines : (sameB : B → B → Bool) (sameD : D → D → Bool) → Tells sameB → Tells sameD → {U : Type 0} (u : Graph Label U) →
       GreatestOfAnySize n t g h u →
-      (w : Graph Label (B ⊎ D)) × IsCombination n t k m w × GreatestOfAnySize n t k m w × Below (typeLabels n t) u w
+      (w : Graph Label (B ⊎ D)) × IsCombination n t k m w × GreatestOfAnySize n t k m w × Below (tableLabels n t) u w
   any-size-combines = combines-broader n t (opened-accepted n t (opened n t) refl opens) g k h m g-size k-size h-size m-size first second
 
   -- and on whatever nodes, that there is none is refuted.
@@ -112,30 +124,30 @@ module _ (n : ℕ) (t : List ℕ) (opens : opened n t ≡ Accepted) {A B C D : T
 
   -- The common part of the narrower pair lies below that of the broader pair.
   pub any-size-common-part : {U W : Type 0} (u : Graph Label U) (w : Graph Label W) → LeastOfAnySize n t g h u → LeastOfAnySize n t k m w →
-      Below (typeLabels n t) u w
+      Below (tableLabels n t) u w
   any-size-common-part = least-monotone n t (opened-accepted n t (opened n t) refl opens) g k h m g-size k-size h-size m-size first second
 
 -- Paper 3: which of two is the broader. "Order shall tell one of four: same, under, above, neither, seen from the first graph": each
 -- exactly where it is true over paths.
 module _ (n : ℕ) (t a b : List ℕ) (s g : List (Row Label)) (given : Given n t a b s g) where
   pub order-same : (ordering n t a b ≡ Same) ↔
-      (Below (typeLabels n t) (graphOfRows s) (graphOfRows g) × Below (typeLabels n t) (graphOfRows g) (graphOfRows s))
+      (Below (tableLabels n t) (graphOfRows s) (graphOfRows g) × Below (tableLabels n t) (graphOfRows g) (graphOfRows s))
   order-same = Order.same-exact n t a b s g given
 
   pub order-under : (ordering n t a b ≡ Under) ↔
-      (Below (typeLabels n t) (graphOfRows s) (graphOfRows g) × (Below (typeLabels n t) (graphOfRows g) (graphOfRows s) → ⊥))
+      (Below (tableLabels n t) (graphOfRows s) (graphOfRows g) × (Below (tableLabels n t) (graphOfRows g) (graphOfRows s) → ⊥))
   order-under = Order.under-exact n t a b s g given
 
   pub order-above : (ordering n t a b ≡ Above) ↔
-      (Below (typeLabels n t) (graphOfRows g) (graphOfRows s) × (Below (typeLabels n t) (graphOfRows s) (graphOfRows g) → ⊥))
+      (Below (tableLabels n t) (graphOfRows g) (graphOfRows s) × (Below (tableLabels n t) (graphOfRows s) (graphOfRows g) → ⊥))
   order-above = Order.above-exact n t a b s g given
 
   pub order-neither : (ordering n t a b ≡ Neither) ↔
-      ((Below (typeLabels n t) (graphOfRows s) (graphOfRows g) → ⊥) × (Below (typeLabels n t) (graphOfRows g) (graphOfRows s) → ⊥))
+      ((Below (tableLabels n t) (graphOfRows s) (graphOfRows g) → ⊥) × (Below (tableLabels n t) (graphOfRows g) (graphOfRows s) → ⊥))
   order-neither = Order.neither-exact n t a b s g given
 
   -- Same exactly where the meanings are equal,
-  pub same-meaning : (ordering n t a b ≡ Same) ↔ SameMeaning (typeLabels n t) (graphOfRows s) (graphOfRows g)
+  pub same-meaning : (ordering n t a b ≡ Same) ↔ SameMeaning (tableLabels n t) (graphOfRows s) (graphOfRows g)
   same-meaning = meaning-order n t a b s g given
 
   -- so exactly where the written records are equal bytes.
@@ -182,16 +194,16 @@ module _ (n : ℕ) (t a b : List ℕ) where
 module _ (n : ℕ) (t a b : List ℕ) (g s : List (Row Label)) (given : Given n t a b g s) (out : List ℕ) where
   -- 13 is given exactly where s is below g and some node of s has no wanted type;
   pub unwanted-exact : (differing n t a b out .reply ≡ NoWantedType) ↔
-      (Below (typeLabels n t) (graphOfRows s) (graphOfRows g) × SomeUnwanted n t (graphOfRows s) (graphOfRows g))
+      (Below (tableLabels n t) (graphOfRows s) (graphOfRows g) × SomeUnwanted n t (graphOfRows s) (graphOfRows g))
   unwanted-exact = Differed.unwanted-reply-exact n t a b g s given out
 
   -- 12 is checked before it: it is given wherever s is not below g.
-  pub unwanted-after-below : (differing n t a b out .reply ≡ NotBelow) ↔ (Below (typeLabels n t) (graphOfRows s) (graphOfRows g) → ⊥)
+  pub unwanted-after-below : (differing n t a b out .reply ≡ NotBelow) ↔ (Below (tableLabels n t) (graphOfRows s) (graphOfRows g) → ⊥)
   unwanted-after-below = Differed.not-below-exact n t a b g s given out
 
   -- Over every accepted table, where s is below g: 13 for that reason, or the difference restores s and nothing more general of any size
   -- does, and it is what the call writes;
-  pub restored-or-unwanted : Below (typeLabels n t) (graphOfRows s) (graphOfRows g) →
+  pub restored-or-unwanted : Below (tableLabels n t) (graphOfRows s) (graphOfRows g) →
       ((differing n t a b out .reply ≡ NoWantedType) × SomeUnwanted n t (graphOfRows s) (graphOfRows g)) ⊎
       (Restores n t (remainder n t g s) (graphOfRows g) (graphOfRows s) × Writes n t eqb (remainder n t g s) out (differing n t a b out))
   restored-or-unwanted = Differed.unwanted-or-restored n t a b g s given out
@@ -214,6 +226,61 @@ admitted-wanted n t differ a b out = never-unwanted n t differ out a b
 pub itself-lone-top : (n : ℕ) (t a : List ℕ) (s : List (Row Label)) → opened n t ≡ Accepted → reading n a ≡ accepted s → (out : List ℕ) →
     differing n t a a out ≡ resultOf (fitted (loneTop n) out)
 itself-lone-top = itself
+
+-- Paper 7. Level ranges on a node. "Records without ranges must give the bytes they gave before": a record is without ranges where no type
+-- byte has bit 7; what a call gave before is what it gives over types alone, without ranges in labels and rows.
+pub unranged-rewriting : (n : ℕ) (t a : List ℕ) → unranged a ≡ true → (out : List ℕ) → rewriting n t a out ≡ rewritingTypes n t a out
+unranged-rewriting = Unranged.rewriting-unranged
+
+module _ (n : ℕ) (t a b : List ℕ) (first : unranged a ≡ true) (second : unranged b ≡ true) where
+  pub unranged-order : ordering n t a b ≡ orderingTypes n t a b
+  unranged-order = Unranged.ordering-unranged n t a b first second
+
+  module _ (out : List ℕ) where
+    pub unranged-common-part : generalizing n t a b out ≡ generalizingTypes n t a b out
+    unranged-common-part = Unranged.generalizing-unranged n t a b first second out
+
+    pub unranged-combination : unifying n t a b out ≡ unifyingTypes n t a b out
+    unranged-combination = Unranged.unifying-unranged n t a b first second out
+
+    pub unranged-difference : differing n t a b out ≡ differingTypes n t a b out
+    unranged-difference = Unranged.differing-unranged n t a b first second out
+
+    -- What is written of them is without ranges too.
+    pub unranged-results : WritesUnranged (rewriting n t a out) ×
+        WritesUnranged (generalizing n t a b out) ×
+        WritesUnranged (unifying n t a b out) ×
+        WritesUnranged (differing n t a b out)
+    unranged-results = (
+      Unranged.rewritten-unranged n t out a first,
+      Unranged.generalized-unranged n t out a b first second,
+      Unranged.unified-unranged n t out a b first second,
+      Unranged.differed-unranged n t out a b first second,
+    )
+
+-- "A written record never writes the full range, and a read one may": written, a label with it is the type byte alone;
+pub full-range-dropped : (a : ℕ) → encodedLabel (plain a) ≡ a ∷ []
+full-range-dropped = records.full-range-dropped
+
+-- read, a row that spells it out is the row without it;
+pub spelled-out : (a : ℕ) → a < 128 → (room : ℕ) (rest : List ℕ) → takeRow room ((128 + a) ∷ 0 ∷ 255 ∷ rest) ≡ takeRow room (a ∷ rest)
+spelled-out = records.spelled-out
+
+-- and records that are read alike give the same replies and outputs: one that spells full ranges out gives what the one without them gives
+-- that is read alike.
+pub spelled-out-same : (n : ℕ) (t a a′ b b′ : List ℕ) → reading n a ≡ reading n a′ → reading n b ≡ reading n b′ → (out : List ℕ) →
+    (rewriting n t a out ≡ rewriting n t a′ out) ×
+    (ordering n t a b ≡ ordering n t a′ b′) ×
+    (generalizing n t a b out ≡ generalizing n t a′ b′ out) ×
+    (unifying n t a b out ≡ unifying n t a′ b′ out) ×
+    (differing n t a b out ≡ differing n t a′ b′ out)
+spelled-out-same n t a a′ b b′ first second out = (
+  Unranged.rewriting-alike n t a a′ first out,
+  Unranged.ordering-alike n t a a′ b b′ first second,
+  Unranged.generalizing-alike n t a a′ b b′ first second out,
+  Unranged.unifying-alike n t a a′ b b′ first second out,
+  Unranged.differing-alike n t a a′ b b′ first second out,
+)
 
 -- Paper 8: the house types as a constant. Entry 64 a + b of the constant has in each grade the lesser of a's and b's;
 pub house-rule : (a b : ℕ) → a < 64 → b < 64 → getD meets (64 * a + b) 0 ≡ lesser a b

@@ -17,7 +17,9 @@ use Rattle.graphs.specs.Number.{Canonical, canonical, manyNodes, manyLinks, wri
 use Rattle.graphs.proofs.Form.Large.{canonical-many-nodes, canonical-many-links, canonical-fits}
 use Rattle.lattice.specs.Label.{Label}
 use Rattle.lattice.specs.declared.Opened.the-variants.{Accepted}
+use Rattle.lattice.specs.Table as table
 use Rattle.lattice.specs.Reply.{opened}
+use Rattle.lattice.proofs.Laws.{accepted-size}
 use Rattle.lattice.specs.Labels.{OfAnySize}
 use Rattle.encode.specs.declared.Written.the-variants as outcome
 use Rattle.encode.specs.Encode.{encoded, fitted, writtenOut}
@@ -28,6 +30,11 @@ use Rattle.engine.specs.declared.Reply.{Reply}
 use Rattle.engine.specs.declared.Reply.the-variants.{Length, NoRoom, TooLarge}
 use Rattle.engine.specs.Reply.{Result, refusing, resultOf, rewriting}
 use Rattle.engine.specs.Demand.{Large, Wrote, Writes}
+
+-- the types of a graph of any size over an accepted table have seven bits
+pub seven-bits : (n : ℕ) (t : List ℕ) → table.accepted n t ≡ true → {C : Type 0} (k : Graph Label C) → OfAnySize n t k → (v : C) → Reached k v →
+    k .label v .type < 128
+seven-bits n t ok k size v r = omega (arith, size .typed v r .type, accepted-size n t ok .1)
 
 -- a graph as a call's result
 abbrev pub resultFor : {C : Type 0} → (C → C → Bool) → Graph Label C → List ℕ → Result
@@ -53,7 +60,8 @@ module _ {C : Type 0} (same : C → C → Bool) (k : Graph Label C) (out : List 
     short : (form : List (Row Label)) → canonical same k ≡ written form → length out < length (encoded form) → Told (refusing NoRoom out)
     held : (form : List (Row Label)) → canonical same k ≡ written form → length (encoded form) ≤ length out → Told (holding (encoded form) out)
 
-module _ (n : ℕ) (t : List ℕ) {C : Type 0} (same : C → C → Bool) (tells : Tells same) (k : Graph Label C) (size : OfAnySize n t k) (out : List ℕ) where
+module _ (n : ℕ) (t : List ℕ) {C : Type 0} (same : C → C → Bool) (tells : Tells same) (k : Graph Label C) (size : OfAnySize n t k)
+    (types : (v : C) → Reached k v → k .label v .type < 128) (out : List ℕ) where
   told : Told same k out (resultFor same k out)
   unfolding writtenOut fitted
   told = go (canonical same k) refl
@@ -92,7 +100,7 @@ module _ (n : ℕ) (t : List ℕ) {C : Type 0} (same : C → C → Bool) (tells 
       let output : List ℕ = holding (encoded form) out .output in
       let bytes : take l output ≡ encoded form =
       ap (λ (m : ℕ). take m output) (sym is) ∙ take-append-seam (encoded form) (drop (length (encoded form)) out) in
-      let (reads, means) = written-reads n t same tells k size form e in
+      let (reads, means) = written-reads n t same tells k size form e types in
       record {
         form = form;
         fits = e;

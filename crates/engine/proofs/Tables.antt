@@ -1,4 +1,4 @@
--- What an accepted table lets graphs go by: labels are types below n, and the filled tables give the meets and joins of the types.
+-- What an accepted table lets graphs go by: labels are those of the table, and the filled tables give the meets and joins of the types.
 -- Graphs that differ in nothing have one written form, whichever labels they were computed with.
 use mathlib.Core.Path.{_≡_, refl, sym, _∙_, ap, subst}
 use mathlib.Core.Bool.{Bool, true}
@@ -13,13 +13,15 @@ use Rattle.graphs.specs.Rows.{Row}
 use Rattle.graphs.specs.Number.{canonical}
 use Rattle.graphs.proofs.Form.Bisimilar.{Alike, absent, present}
 use Rattle.graphs.proofs.Form.Invariant.{bisimilar-canonical}
-use Rattle.lattice.specs.Label.{Label}
+use Rattle.lattice.specs.Label.{Label, noLabel}
+use Rattle.lattice.specs.Labels.{Known}
 use Rattle.layout.specs.Layout.{graphOfRows}
 use Rattle.lattice.specs.Table.{accepted, meet, join, cell, filled}
 use Rattle.lattice.specs.declared.Opened.{Opened}
 use Rattle.lattice.specs.declared.Opened.the-variants.{Accepted}
 use Rattle.lattice.specs.Reply.{opened}
-use Rattle.lattice.proofs.Laws.{Meet, accepted-size, meets-cell, joins-cell}
+use Rattle.lattice.proofs.Lawful.{plain-known}
+use Rattle.lattice.proofs.Laws.{Meet, Join, accepted-size, meets-cell, joins-cell}
 use Rattle.lattice.proofs.Residuals.{opened-accepted}
 use Rattle.record.proofs.Nodes.{node-row}
 use Rattle.record.proofs.Accepted.{Rules}
@@ -28,15 +30,14 @@ use Rattle.record.proofs.Accepted.{Rules}
 pub few-types : (n : ℕ) (t : List ℕ) (answer : Opened) → answer ≡ opened n t → answer ≡ Accepted → n ≤ 64
 few-types n t answer e told = accepted-size n t (opened-accepted n t answer e told) .1
 
--- every label of accepted rows is a type, also the one past their end
-pub label-known : {n : ℕ} {rows : List (Row Label)} → 0 < n → Rules n rows → (v : ℕ) → graphOfRows rows .label v < n
+-- every label of accepted rows is one of the table, also the one past their end
+pub label-known : {n : ℕ} {rows : List (Row Label)} → 0 < n → Rules n rows → (v : ℕ) → Known n (graphOfRows rows .label v)
 label-known {n} {rows} types rules v = go (decLe (length rows) v)
   where
-    go : Dec (length rows ≤ v) → graphOfRows rows .label v < n
+    go : Dec (length rows ≤ v) → Known n (graphOfRows rows .label v)
     go (yes past) =
-        let e : graphOfRows rows .label v ≡ 0 = ap (λ (r : Row Label). r .0) (List·getD-eq-default rows (0, []) past) in
-        omega arith
-    go (no inside) = rules .ranged (getD rows v (0, [])) (node-row rows v (omega arith)) .1
+        subst (Known n) (sym (ap (λ (r : Row Label). r .0) (List·getD-eq-default rows (noLabel, []) past))) (plain-known n 0 types)
+    go (no inside) = rules .ranged (getD rows v (noLabel, [])) (node-row rows v (omega arith)) .0 .1
 
 -- a cell of the filled meets is the meet of its types, and a type
 pub meets-known : (n : ℕ) (t : List ℕ) (rows : List (List ℕ)) {meets : List (List ℕ)} → accepted n t ≡ true → length rows ≡ 64 →
@@ -47,11 +48,14 @@ meets-known n t rows {meets} ok long filling a b known other =
     subst (λ (table : List (List ℕ)). Meet n t a b (getD (getD table a []) b 0)) (sym filling) (meets-cell n t ok rows long a b known other) in
     (sym (ap cell (m .is)), m .type)
 
--- a cell of the filled joins is the join of its types
+-- a cell of the filled joins is the join of its types, and a type
 pub joins-known : (n : ℕ) (t : List ℕ) (rows : List (List ℕ)) {joins : List (List ℕ)} → accepted n t ≡ true → length rows ≡ 64 →
-    joins ≡ filled n t (join n t) rows → (a b : ℕ) → a < n → b < n → getD (getD joins a []) b 0 ≡ cell (join n t a b)
-joins-known n t rows ok long filling a b known other =
-    ap (λ (table : List (List ℕ)). getD (getD table a []) b 0) filling ∙ sym (ap cell (joins-cell n t ok rows long a b known other .is))
+    joins ≡ filled n t (join n t) rows → (a b : ℕ) → a < n → b < n →
+    (getD (getD joins a []) b 0 ≡ cell (join n t a b)) × (getD (getD joins a []) b 0 < n)
+joins-known n t rows {joins} ok long filling a b known other =
+    let m : Join n t a b (getD (getD joins a []) b 0) =
+    subst (λ (table : List (List ℕ)). Join n t a b (getD (getD table a []) b 0)) (sym filling) (joins-cell n t ok rows long a b known other) in
+    (sym (ap cell (m .is)), m .type)
 
 alike-self : {A : Type 0} (x : Option A) → Alike (λ v w. v ≡ w) x x
 alike-self none = absent

@@ -2,6 +2,7 @@
 -- before 12. What is said of it is that a table that admits differences gives what it gave.
 use mathlib.Core.Bool.{cond}
 use mathlib.Core.List.{List}
+use mathlib.Core.Option.{Option, Option·map, Option·getD}
 use Prim.Native.Nat.{ℕ}
 use lib.Dec.{eqb}
 use lib.ListN.{length}
@@ -9,22 +10,26 @@ use Rattle.graphs.specs.Graph.{Graph}
 use Rattle.graphs.specs.Rows.{Row, from}
 use Rattle.graphs.specs.Number.{canonical}
 use Rattle.graphs.specs.Difference.{byNumber, meetOver, difference}
-use Rattle.lattice.specs.Label.{Label}
-use Rattle.lattice.specs.Table.{cell, residual, admits}
+use Rattle.lattice.specs.Label.{Label, noLabel}
+use Rattle.lattice.specs.Table.{residual, admits}
 use Rattle.lattice.specs.Reply.{opened}
-use Rattle.lattice.specs.Labels.{typeLabels}
+use Rattle.lattice.specs.Labels.{tableLabels, wantedRange}
 use Rattle.encode.specs.Encode.{writtenOut}
 use Rattle.record.specs.Read.{graphOfRows, reading}
 use Rattle.engine.specs.declared.Reply.the-variants.{NotBelow, NoWantedType}
 use Rattle.engine.specs.Reply.{Result, resultOf, refusing, checked, readBoth, rowsBelow}
 use Rattle.engine.specs.Difference.{over, numbered}
 
--- the difference by residuals: "a greatest type c whose meet with q is below or equal to p"
+-- the residual of the types, "a greatest type c whose meet with q is below or equal to p", with the wanted range: ranges have none
+abbrev pub residualLabel : ℕ → List ℕ → Label → Label → Option Label
+residualLabel n t p q = Option·map (wantedRange p q) (residual n t (p .type) (q .type))
+
+-- the difference by residuals
 unfoldable pub residualRows : ℕ → List ℕ → List (Row Label) → List (Row Label) → Graph Label ℕ
 residualRows n t g s =
-    difference (typeLabels n t) eqb eqb byNumber (graphOfRows s) (from 0 (length s)) (graphOfRows g) (from 0 (length g)) (over s g)
-    (λ v. cell (residual n t (graphOfRows s .label v)
-    (meetOver (typeLabels n t) eqb (graphOfRows g) (from 0 (length g)) (over s g) v)))
+    difference (tableLabels n t) eqb eqb byNumber (graphOfRows s) (from 0 (length s)) (graphOfRows g) (from 0 (length g)) (over s g)
+    (λ v. Option·getD (residualLabel n t (graphOfRows s .label v)
+    (meetOver (tableLabels n t) eqb (graphOfRows g) (from 0 (length g)) (over s g) v)) noLabel)
 
 -- 13, then 12, else the difference
 unfoldable pub differedBefore : ℕ → List ℕ → List ℕ → List (Row Label) → List (Row Label) → Result

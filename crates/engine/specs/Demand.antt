@@ -16,7 +16,7 @@ use Rattle.graphs.specs.Generalize.{IsGeneralization, generalization}
 use Rattle.lattice.specs.Label.{Label}
 use Rattle.lattice.specs.declared.Opened.the-variants.{Accepted}
 use Rattle.lattice.specs.Reply.{opened}
-use Rattle.lattice.specs.Labels.{typeLabels, OfAnySize, LeastOfAnySize, GreatestOfAnySize, IsCombination}
+use Rattle.lattice.specs.Labels.{tableLabels, OfAnySize, LeastOfAnySize, GreatestOfAnySize, IsCombination}
 use Rattle.encode.specs.Encode.{encoded}
 use Rattle.record.specs.Read.{reading, accepted, graphOfRows}
 use Rattle.engine.specs.declared.Reply.the-variants.{Length, Same, Under, Above, Neither, NoRoom, TooLarge}
@@ -62,7 +62,7 @@ pub record Wrote (n : ℕ) (t : List ℕ) {C : Type 0} (same : C → C → Bool)
   pub bytes : take l output ≡ encoded form
   pub others : drop l output ≡ drop l out
   pub reads : reading n (take l output) ≡ accepted form
-  pub means : SameMeaning (typeLabels n t) k (graphOfRows form)
+  pub means : SameMeaning (tableLabels n t) k (graphOfRows form)
 
 -- "result over 255 nodes or 2,048 links"
 abbrev pub Large : {C : Type 0} → Graph Label C → Type 0
@@ -87,12 +87,12 @@ pub record Writes (n : ℕ) (t : List ℕ) {C : Type 0} (same : C → C → Bool
 -- that rewriting it gives what rewriting a gives.
 pub record Rewritten (n : ℕ) (t a : List ℕ) (rows : List (Row Label)) (bytes : List ℕ) : Type 0 where
   pub is-written : WrittenRecord n bytes
-  pub means : SameMeaning (typeLabels n t) (graphOfRows rows) (graphOfRows (is-written .form))
+  pub means : SameMeaning (tableLabels n t) (graphOfRows rows) (graphOfRows (is-written .form))
   pub again : (room : List ℕ) → rewriting n t bytes room ≡ rewriting n t a room
 
 -- the common part of two graphs, of whatever size
 abbrev pub common : ℕ → List ℕ → List (Row Label) → List (Row Label) → Graph Label (ℕ × ℕ)
-common n t s g = generalization (typeLabels n t) (graphOfRows s) (graphOfRows g)
+common n t s g = generalization (tableLabels n t) (graphOfRows s) (graphOfRows g)
 
 -- What stands in the output beside a length of the common part: a record that is read as "the paths in both, each with the join of its two
 -- types, two sharing exactly when they share in both", and this is the least graph of any size above both. The order's own answers agree:
@@ -100,7 +100,7 @@ common n t s g = generalization (typeLabels n t) (graphOfRows s) (graphOfRows g)
 pub record CommonPart (n : ℕ) (t a b : List ℕ) (s g : List (Row Label)) (bytes : List ℕ) : Type 1 where
   pub form : List (Row Label)
   pub reads : reading n bytes ≡ accepted form
-  pub paths : IsGeneralization (typeLabels n t) (graphOfRows s) (graphOfRows g) (graphOfRows form)
+  pub paths : IsGeneralization (tableLabels n t) (graphOfRows s) (graphOfRows g) (graphOfRows form)
   pub least : LeastOfAnySize n t (graphOfRows s) (graphOfRows g) (graphOfRows form)
   pub first-below : AnswersBelow n t a bytes
   pub second-below : AnswersBelow n t b bytes
@@ -110,7 +110,7 @@ pub record CommonPart (n : ℕ) (t a b : List ℕ) (s g : List (Row Label)) (byt
 -- no graph of any size lies below both
 abbrev pub NoneBelow : ℕ → List ℕ → List (Row Label) → List (Row Label) → Type 1
 NoneBelow n t g h =
-    (C : Type 0) (k : Graph Label C) → OfAnySize n t k → Below (typeLabels n t) k (graphOfRows g) → Below (typeLabels n t) k (graphOfRows h) → ⊥
+    (C : Type 0) (k : Graph Label C) → OfAnySize n t k → Below (tableLabels n t) k (graphOfRows g) → Below (tableLabels n t) k (graphOfRows h) → ⊥
 
 -- What stands in the output beside a length of the combination: a record that is read as what the classes of paths give, and this is the
 -- greatest graph of any size below both. The order's own answers agree: it is below both records, and above every accepted record that
@@ -127,7 +127,7 @@ pub record Combination (n : ℕ) (t a b : List ℕ) (g h : List (Row Label)) (by
 
 -- "strictly more general when s is not above g": e lies above d, and d not above e
 abbrev pub MoreGeneral : ℕ → List ℕ → {A B : Type 0} → Graph Label A → Graph Label B → Type 0
-MoreGeneral n t e d = Below (typeLabels n t) d e × (Below (typeLabels n t) e d → ⊥)
+MoreGeneral n t e d = Below (tableLabels n t) d e × (Below (tableLabels n t) e d → ⊥)
 
 -- the record of "a lone top": one node of type n - 1, no link
 abbrev pub loneTop : ℕ → List ℕ

@@ -26,15 +26,15 @@ firstAt y (x ∷ xs) = cond (eqb (x .1) y) (x .0) (firstAt y xs)
 unfoldable pub over : List (Row Label) → List (Row Label) → ℕ → ℕ
 over s g y = firstAt y (meetings (graphOfRows s) (graphOfRows g) (length g))
 
--- the wanted type of the node v of s, where it has one
-abbrev pub wantedType : ℕ → List ℕ → List (Row Label) → List (Row Label) → ℕ → Option ℕ
-wantedType n t s g v = wantedAlong n t s g (over s g) v
+-- the wanted label of the node v of s, where it has one
+abbrev pub wantedAt : ℕ → List ℕ → List (Row Label) → List (Row Label) → ℕ → Option Label
+wantedAt n t s g v = wantedAlong n t s g (over s g) v
 
--- every node of s has a wanted type
+-- every node of s has a wanted label; a wanted range it always has, so what may be missing is a wanted type
 abbrev pub allWanted : ℕ → List ℕ → List (Row Label) → List (Row Label) → Bool
 allWanted n t s g = allWantedAlong n t s g (over s g)
 
--- the difference of g and s, for s below g where every node of s has a wanted type
+-- the difference of g and s, for s below g where every node of s has a wanted label
 abbrev pub differenceRows : ℕ → List ℕ → List (Row Label) → List (Row Label) → Graph Label ℕ
 differenceRows n t g s = differenceAlong n t s g (over s g)
 

@@ -6,3 +6,4 @@ pub mod Demand
 pub mod Difference
 pub mod Before
 pub mod Renumbering
+pub mod Unranged

@@ -10,7 +10,7 @@ use Rattle.graphs.specs.Number.{canonical}
 use Rattle.graphs.specs.Generalize.{generalization}
 use Rattle.graphs.specs.Unify.{unification}
 use Rattle.lattice.specs.Label.{Label}
-use Rattle.layout.specs.Layout.{graphOfRows}
+use Rattle.layout.specs.Layout.{graphOfRows, longest}
 use Rattle.encode.specs.Encode.{writtenOut}
 use Rattle.record.specs.declared.reading.Verdict.{Verdict}
 use Rattle.record.specs.declared.reading.Verdict.the-variants.{Accepted, Refused}
@@ -40,8 +40,8 @@ pub record ReadsBoth (n : ℕ) (a b : List ℕ) (v : PairVerdict) (ws ws₂ : Li
   pub verdict : v ≡ jointVerdict (verdictOf (reading n a)) (verdictOf (reading n b))
   pub one : (rows : List (Row Label)) → reading n a ≡ accepted rows → Holds n rows ws
   pub other : (rows : List (Row Label)) → reading n b ≡ accepted rows → Holds n rows ws₂
-  pub one-long : length ws ≡ 2560
-  pub other-long : length ws₂ ≡ 2560
+  pub one-long : length ws ≡ longest
+  pub other-long : length ws₂ ≡ longest
 
 -- the common part of two graphs in written form, by a table of joins
 unfoldable pub joined : List (List ℕ) → List ℕ → List (Row Label) → List (Row Label) → Result

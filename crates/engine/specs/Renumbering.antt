@@ -6,8 +6,9 @@ use Prim.Native.Nat.{ℕ, _≤_, _<_}
 use lib.ListN.{length}
 use Rattle.graphs.specs.Rows.{Row}
 use Rattle.lattice.specs.Label.{Label}
+use Rattle.lattice.specs.Labels.{Known}
 use Rattle.lattice.specs.Table as types
-use Rattle.layout.specs.Layout.{Sound, labelAt, rowsOf, size}
+use Rattle.layout.specs.Layout.{Sound, labelAt, longest, rowsOf, size}
 use Rattle.encode.specs.Encode.{encoded}
 use Rattle.record.specs.Read.{accepted, reading}
 
@@ -20,11 +21,11 @@ pub record Loaded (n : ℕ) (ws : List ℕ) : Type 0 where
   pub acceptable : Acceptable n (rowsOf ws)
   pub sound : Sound ws
   pub small : size ws ≤ 255
-  pub typed : (v : ℕ) → v < size ws → labelAt ws v < n
+  pub typed : (v : ℕ) → v < size ws → Known n (labelAt ws v)
 
 -- two graphs over an accepted table
 pub record Comparable (n : ℕ) (t g s : List ℕ) : Type 0 where
   pub accepts : types.accepted n t ≡ true
   pub general : Loaded n g
   pub specific : Loaded n s
-  pub short : length s ≤ 2560
+  pub short : length s ≤ longest

@@ -14,7 +14,7 @@ use Rattle.lattice.specs.Label.{Label}
 use Rattle.lattice.specs.declared.Opened.{Opened}
 use Rattle.lattice.specs.declared.Opened.the-variants as opened
 use Rattle.lattice.specs.Reply as table
-use Rattle.lattice.specs.Labels.{typeLabels}
+use Rattle.lattice.specs.Labels.{tableLabels}
 use Rattle.encode.specs.declared.Written.{Written}
 use Rattle.encode.specs.declared.Written.the-variants as written
 use Rattle.encode.specs.Encode.{Outcome, writtenOut}
@@ -104,7 +104,7 @@ rewriting n t bytes out = checked (λ r. refusing r out) (table.opened n t) (rew
 
 -- whether the first of two graphs is below the second
 abbrev pub rowsBelow : ℕ → List ℕ → List (Row Label) → List (Row Label) → Bool
-rowsBelow n t s g = subsumes (typeLabels n t) eqb eqb (graph.graphOfRows s) (graph.graphOfRows g) (length g)
+rowsBelow n t s g = subsumes (tableLabels n t) eqb eqb (graph.graphOfRows s) (graph.graphOfRows g) (length g)
 
 -- the same, as a walk answers it
 abbrev pub isBelow : Order → Bool
@@ -129,7 +129,7 @@ ordering n t a b = checked (λ r. r) (table.opened n t) (readBoth (λ r. r) (gra
 -- the common part of two graphs in written form
 unfoldable pub generalized : ℕ → List ℕ → List ℕ → List (Row Label) → List (Row Label) → Result
 generalized n t out g h =
-    resultOf (writtenOut (canonical samePair (generalization (typeLabels n t) (graph.graphOfRows g) (graph.graphOfRows h))) out)
+    resultOf (writtenOut (canonical samePair (generalization (tableLabels n t) (graph.graphOfRows g) (graph.graphOfRows h))) out)
 
 -- the common part: then 11, 8
 unfoldable pub generalizing : ℕ → List ℕ → List ℕ → List ℕ → List ℕ → Result

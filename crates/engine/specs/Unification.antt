@@ -9,7 +9,7 @@ use Rattle.graphs.specs.Number.{canonical}
 use Rattle.graphs.specs.Unify.{Unified, cycle, clash, unified, unification}
 use Rattle.lattice.specs.Label.{Label}
 use Rattle.lattice.specs.Reply.{opened}
-use Rattle.lattice.specs.Labels.{typeLabels}
+use Rattle.lattice.specs.Labels.{tableLabels}
 use Rattle.encode.specs.Encode.{writtenOut}
 use Rattle.record.specs.Read.{graphOfRows, reading}
 pub use Rattle.unify.specs.Outcome.{sameEither}
@@ -26,7 +26,7 @@ combined (unified u) out = resultOf (writtenOut (canonical sameEither u) out)
 unfoldable pub unifiedRows : ℕ → List ℕ → List ℕ → List (Row Label) → List (Row Label) → Result
 unifiedRows n t out g h =
     combined
-    (unification (typeLabels n t) eqb eqb (graphOfRows g) (from 0 (length g)) (graphOfRows h) (from 0 (length h)))
+    (unification (tableLabels n t) eqb eqb (graphOfRows g) (from 0 (length g)) (graphOfRows h) (from 0 (length h)))
     out
 
 -- the combination: then 9, 10, 11, 8

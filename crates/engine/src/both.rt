@@ -5,6 +5,7 @@ use crate::Side;
 use record::reading::Verdict;
 ghost use mathlib.Core.Path.{_≡_};
 ghost use lib.ListN.{length};
+ghost use Rattle.layout.specs.Layout.{longest};
 ghost use Rattle.engine.specs.Pair.{ReadsBoth, jointVerdict};
 
 // Reads two records over a table with n types, each into lent words.
@@ -12,10 +13,10 @@ pub fn read_both(
     n: usize,
     first: &[u8],
     second: &[u8],
-    a: &mut [u16; 2560],
-    b: &mut [u16; 2560],
+    a: &mut [u16; layout::LONGEST],
+    b: &mut [u16; layout::LONGEST],
 ) -> PairVerdict
-    requires { ⌜ (length (now a) ≡ 2560) × (length (now b) ≡ 2560) ⌝ }
+    requires { ⌜ (length (now a) ≡ longest) × (length (now b) ≡ longest) ⌝ }
     ensures { λ r. ⌜ ReadsBoth n (now (first .entry)) (now (second .entry)) r (now (a .exit)) (now (b .exit)) ⌝ }
 {
     let first_verdict = record::reading::read(n, first, a);

@@ -8,7 +8,7 @@ ghost use mathlib.Core.Path.{_≡_};
 ghost use mathlib.Core.Bool.{true};
 ghost use lib.ListN.{length};
 ghost use Rattle.lattice.specs.Table.{accepted};
-ghost use Rattle.layout.specs.Layout.{rowsOf};
+ghost use Rattle.layout.specs.Layout.{longest, rowsOf};
 ghost use Rattle.engine.specs.Difference.{differed};
 ghost use Rattle.engine.specs.Reply.{resulting};
 ghost use Rattle.engine.specs.Pair.{parting};
@@ -25,14 +25,14 @@ pub fn difference_over<'a>(
     requires { ⌜ accepted n (now table) ≡ true ⌝ }
     ensures { λ r. ⌜ resulting r (now (out .exit)) ≡ parting n (now (table .entry)) (now (first .entry)) (now (second .entry)) (now (out .entry)) ⌝ }
 {
-    let mut g = [layout::BLANK; 2560];
-    let mut given = [layout::BLANK; 2560];
+    let mut g = [layout::BLANK; layout::LONGEST];
+    let mut given = [layout::BLANK; layout::LONGEST];
     let verdict = crate::both::read_both(n, first, second, &mut g, &mut given);
     match verdict {
         PairVerdict::Refused(fault, side) => Reply::Graph(fault, side),
         PairVerdict::Both => {
             // an accepted graph can be written: the words alone are wanted
-            let mut s = [layout::BLANK; 2560];
+            let mut s = [layout::BLANK; layout::LONGEST];
             encode::numbered::renumber(&given, &mut s);
             difference_below(n, table, &g, &s, &mut given, out)
         }
@@ -45,10 +45,10 @@ fn difference_below<'a>(
     table: &'a [u8],
     g: &'a [u16],
     s: &'a [u16],
-    words: &mut [u16; 2560],
+    words: &mut [u16; layout::LONGEST],
     out: &mut [u8],
 ) -> Reply
-    requires { ⌜ Comparable n (now table) (now g) (now s) × (length (now words) ≡ 2560) ⌝ }
+    requires { ⌜ Comparable n (now table) (now g) (now s) × (length (now words) ≡ longest) ⌝ }
     ensures { λ r. ⌜ resulting r (now (out .exit)) ≡ differed n (now (table .entry)) (now (out .entry)) (rowsOf (now (g .entry))) (rowsOf (now (s .entry))) ⌝ }
 {
     let ordered = subsume::subsume(table, s, g);
@@ -57,9 +57,9 @@ fn difference_below<'a>(
         return Reply::NotBelow;
     };
     let map = ordered.map;
-    let mut types = [0u8; 255];
-    if !difference::wanted::wanted_types(n, table, g, s, &map, &mut types) {
+    let mut labels = [0u16; 510];
+    if !difference::wanted::wanted_labels(n, table, g, s, &map, &mut labels) {
         return Reply::NoWantedType;
     }
-    crate::reply_of(difference::difference(n, table, g, s, &map, &types, words, out))
+    crate::reply_of(difference::difference(n, table, g, s, &map, &labels, words, out))
 }

@@ -11,6 +11,7 @@ use unify::Combined;
 ghost use mathlib.Core.Path.{_≡_};
 ghost use Prim.Native.Nat.{_≤_, _<_};
 ghost use Rattle.record.specs.Read.{reading};
+ghost use Rattle.generalize.specs.Pairs.{JoinsBelow};
 ghost use Rattle.unify.specs.Lowered.{MeetsBelow};
 ghost use Rattle.engine.specs.Reply.{resulting, replyOf, readBoth, rewriting, rewritten, isBelow, compared, ordering, ordered, generalizing};
 ghost use Rattle.engine.specs.Unification.{unifying};
@@ -65,7 +66,7 @@ pub fn rewrite(n: usize, table: &[u8], bytes: &[u8], out: &mut [u8]) -> Reply
 fn rewrite_over(n: usize, bytes: &[u8], out: &mut [u8]) -> Reply
     ensures { λ r. ⌜ resulting r (now (out .exit)) ≡ rewritten (reading n (now (bytes .entry))) (now (out .entry)) ⌝ }
 {
-    let mut graph = [layout::BLANK; 2560];
+    let mut graph = [layout::BLANK; layout::LONGEST];
     let verdict = record::reading::read(n, bytes, &mut graph);
     match verdict {
         Verdict::Refused(fault) => Reply::Graph(fault, Side::First),
@@ -100,8 +101,8 @@ fn order_over(n: usize, table: &[u8], first: &[u8], second: &[u8]) -> Reply
     requires { ⌜ n ≤ 64 ⌝ }
     ensures { λ r. ⌜ r ≡ readBoth (λ q. q) (reading n (now (first .entry))) (reading n (now (second .entry))) (ordered n (now (table .entry))) ⌝ }
 {
-    let mut s = [layout::BLANK; 2560];
-    let mut g = [layout::BLANK; 2560];
+    let mut s = [layout::BLANK; layout::LONGEST];
+    let mut g = [layout::BLANK; layout::LONGEST];
     let verdict = both::read_both(n, first, second, &mut s, &mut g);
     match verdict {
         PairVerdict::Refused(fault, side) => Reply::Graph(fault, side),
@@ -151,11 +152,11 @@ fn generalize_over(
     second: &[u8],
     out: &mut [u8],
 ) -> Reply
-    requires { ⌜ n ≤ 64 ⌝ }
+    requires { ⌜ (n ≤ 64) × JoinsBelow n (now joins) ⌝ }
     ensures { λ r. ⌜ resulting r (now (out .exit)) ≡ joining n (now (joins .entry)) (now (first .entry)) (now (second .entry)) (now (out .entry)) ⌝ }
 {
-    let mut a = [layout::BLANK; 2560];
-    let mut b = [layout::BLANK; 2560];
+    let mut a = [layout::BLANK; layout::LONGEST];
+    let mut b = [layout::BLANK; layout::LONGEST];
     let verdict = both::read_both(n, first, second, &mut a, &mut b);
     match verdict {
         PairVerdict::Refused(fault, side) => Reply::Graph(fault, side),
@@ -187,8 +188,8 @@ fn unify_over(
     requires { ⌜ MeetsBelow n (now meets) ⌝ }
     ensures { λ r. ⌜ resulting r (now (out .exit)) ≡ meeting n (now (meets .entry)) (now (first .entry)) (now (second .entry)) (now (out .entry)) ⌝ }
 {
-    let mut a = [layout::BLANK; 2560];
-    let mut b = [layout::BLANK; 2560];
+    let mut a = [layout::BLANK; layout::LONGEST];
+    let mut b = [layout::BLANK; layout::LONGEST];
     let verdict = both::read_both(n, first, second, &mut a, &mut b);
     match verdict {
         PairVerdict::Refused(fault, side) => Reply::Graph(fault, side),

@@ -11,14 +11,15 @@ use Rattle.graphs.specs.Graph.{Reached}
 use Rattle.graphs.specs.Rows.{Row}
 use Rattle.graphs.proofs.Walk.{reached-root, reached-link}
 use Rattle.lattice.specs.Label.{Label, noLabel}
+use Rattle.lattice.specs.Labels.{Known}
 use Rattle.layout.specs.Layout.{Recorded, Node, header, size, labelFrom, labelAt, linksBetween, linksAt, rowsFrom}
-use Rattle.layout.specs.Builder.{Built, Open, Same}
+use Rattle.layout.specs.Builder.{Built, Open, Same, putLabel}
 use Rattle.layout.proofs.Rows.{row-at, length-rows}
-use Rattle.layout.proofs.Builder.{same-before, built-begin, built-kept, rows-kept, row-closes, closed-rows}
+use Rattle.layout.proofs.Builder.{put-before, label-put, label-same, length-put, built-begin, built-kept, rows-kept, row-closes, closed-rows}
 use Rattle.generalize.specs.declared.Spread.{Spread}
-use Rattle.generalize.specs.Pairs.{joinIn}
+use Rattle.generalize.specs.Pairs.{Joinable, joinsOf}
 use Rattle.generalize.specs.Product.{product}
-use Rattle.generalize.specs.Queue.{clear, common, Marked, Matched, Numbered, Adds}
+use Rattle.generalize.specs.Queue.{clear, common, room, Marked, Matched, Numbered, Adds}
 use Rattle.generalize.proofs.Marking.{mark-root}
 use Rattle.generalize.proofs.Merging.{matched-on}
 use Rattle.generalize.proofs.Sides.{pairOf, product-root, product-link, common-known}
@@ -41,32 +42,35 @@ pair-numbered {queue} x i n =
 
 -- the join of the labels of a pair
 abbrev pub joined : List (List ℕ) → List ℕ → List ℕ → ℕ × ℕ → Label
-joined joins a b x = joinIn joins (labelAt a (x .0)) (labelAt b (x .1))
+joined joins a b x = joinsOf joins .join (labelAt a (x .0)) (labelAt b (x .1))
 
 pub record Building (joins : List (List ℕ)) (a b : List ℕ) (head count at : ℕ) (marks queue words : List ℕ) : Type 0 where
   pub left : Recorded a
   pub right : Recorded b
+  pub types : ℕ
+  pub joinable : Joinable types joins a b
   pub marked : Marked marks queue count
   pub begun : 0 < count
   pub behind : head ≤ count
   pub root : getD queue 0 0 ≡ 0
   pub inside : (i : ℕ) → i < count → (getD queue i 0 / 255 < size a) × (getD queue i 0 % 255 < size b)
   pub reached : (i : ℕ) → i < count → Reached (product joins a b) (pairOf (getD queue i 0))
-  pub long : length words ≡ 2624
+  pub long : length words ≡ room
   pub built : Built words base head at
   pub first : getD words 1 0 ≡ base
-  pub bytes : (i : ℕ) → i < head → labelAt words i < 256
   pub labels : (i : ℕ) → i < head → labelAt words i ≡ joined joins a b (pairOf (getD queue i 0))
   pub rows : (i : ℕ) → i < head → Matched (common a b (pairOf (getD queue i 0))) queue count 64 (linksAt words i)
 
 -- The root's pair is known, and has no row yet.
-pub build-start : (joins : List (List ℕ)) {a b : List ℕ} → Recorded a → Recorded b → (marks queue words : List ℕ) →
+pub build-start : (joins : List (List ℕ)) {a b : List ℕ} → Recorded a → Recorded b → ((n : ℕ) × Joinable n joins a b) → (marks queue words : List ℕ) →
     length marks ≡ 65025 → ((p : ℕ) → p < 65025 → getD marks p 0 ≡ clear) → length queue ≡ 255 → getD queue 0 0 ≡ 0 →
-    length words ≡ 2624 → Building joins a b 0 1 base (set marks 0 0) queue (set words 1 base)
-build-start joins {a} {b} left right marks queue words marks-long none queue-long root long =
+    length words ≡ room → Building joins a b 0 1 base (set marks 0 0) queue (set words 1 base)
+build-start joins {a} {b} left right (n, able) marks queue words marks-long none queue-long root long =
     record {
       left = left;
       right = right;
+      types = n;
+      joinable = able;
       marked = mark-root marks queue marks-long queue-long root none;
       begun = omega arith;
       behind = omega arith;
@@ -80,13 +84,24 @@ build-start joins {a} {b} left right marks queue words marks-long none queue-lon
       long = length-set words 1 base ∙ long;
       built = built-begin words base (omega arith) (omega arith);
       first = getD-set-same words 1 base 0 (omega arith);
-      bytes = λ i h. absurd (omega arith);
       labels = λ i h. absurd (omega arith);
       rows = λ i h. absurd (omega arith);
     }
   where
     first-pair : (i : ℕ) → i < 1 → getD queue i 0 ≡ 0
     first-pair i h = let e : i ≡ 0 = omega arith in ap (λ (n : ℕ). getD queue n 0) e ∙ root
+
+-- the label of a pair is one that a record can state
+pub joined-known : {joins : List (List ℕ)} {a b : List ℕ} {head count at : ℕ} {marks queue words : List ℕ} →
+    (s : Building joins a b head count at marks queue words) (i : ℕ) → i < count → Known 128 (joined joins a b (pairOf (getD queue i 0)))
+joined-known {joins} {a} {b} {queue = queue} s i h =
+    let x : Known (s .types) (labelAt a (getD queue i 0 / 255)) = s .joinable .left (getD queue i 0 / 255) (s .inside i h .0) in
+    let y : Known (s .types) (labelAt b (getD queue i 0 % 255)) = s .joinable .right (getD queue i 0 % 255) (s .inside i h .1) in
+    record {
+      type = omega (arith, s .joinable .joins-below _ _ (x .type) (y .type), s .joinable .few);
+      lowest = omega (arith, x .lowest, y .lowest);
+      highest = omega (arith, x .highest, y .highest);
+    }
 
 module _ {joins : List (List ℕ)} {a b : List ℕ} {head count at : ℕ} {marks queue words : List ℕ}
     (s : Building joins a b head count at marks queue words) (next : head < count) where
@@ -97,7 +112,7 @@ module _ {joins : List (List ℕ)} {a b : List ℕ} {head count at : ℕ} {marks
   pub right-node : Node b (getD queue head 0 % 255)
   right-node = s .right .sound .shaped .node (getD queue head 0 % 255) (s .inside head next .1)
 
-  pub types-known : (labelAt a (getD queue head 0 / 255) < 64) × (labelAt b (getD queue head 0 % 255) < 64)
+  pub types-known : Known 64 (labelAt a (getD queue head 0 / 255)) × Known 64 (labelAt b (getD queue head 0 % 255))
   types-known = (
     s .left .typed (getD queue head 0 / 255) (s .inside head next .0),
     s .right .typed (getD queue head 0 % 255) (s .inside head next .1),
@@ -127,19 +142,20 @@ module _ {joins : List (List ℕ)} {a b : List ℕ} {head count at : ℕ} {marks
     (s : Building joins a b head count at marks queue words) (next : head < count)
     (short : at ≤ base + head * header + 2048) where
   -- The next pair gets its row.
-  module _ (label : Label) (is : label ≡ joined joins a b (pairOf (getD queue head 0))) (byte : label < 256)
-      (marks′ queue′ words′ : List ℕ) (now : Spread)
-      (added : Adds (common a b (pairOf (getD queue head 0))) queue (set words at label) (record { at = at + header; count = count }) 64
+  module _ (label : Label) (is : label ≡ joined joins a b (pairOf (getD queue head 0))) (opened : List ℕ)
+      (opens : opened ≡ putLabel words at label) (marks′ queue′ words′ : List ℕ) (now : Spread)
+      (added : Adds (common a b (pairOf (getD queue head 0))) queue opened (record { at = at + header; count = count }) 64
       marks′ queue′ words′ now) where
     low : head + 2 ≤ at
     low = omega (arith, s .built .listed, s .built .low)
 
     -- what stands before the row is kept
     kept : Same words words′ 0 at
-    kept k l h = added .kept k l (omega arith) ∙ same-before words at label 0 at (omega arith) k l h
+    kept k l h =
+        added .kept k l (omega arith) ∙ ap (λ (ws : List ℕ). getD ws k 0) opens ∙ put-before words at label 0 at (omega arith) k l h
 
     long-now : length words′ ≡ length words
-    long-now = added .long ∙ length-set words at label
+    long-now = added .long ∙ ap length opens ∙ length-put words at label
 
     filled : Open words′ base head at (now .at)
     filled =
@@ -149,18 +165,20 @@ module _ {joins : List (List ℕ)} {a b : List ℕ} {head count at : ℕ} {marks
           inside = omega (arith, added .short, long-now, s .long);
         }
 
-    room : head + 2 < base
-    room = omega (arith, s .marked .few)
+    listed : head + 2 < base
+    listed = omega (arith, s .marked .few)
 
     abbrev new : List ℕ
     new = set words′ (head + 2) (now .at)
 
     label-now : labelFrom words′ at ≡ label
-    label-now = added .kept at (omega arith) (omega arith) ∙ getD-set-same words at label 0 (omega (arith, s .long))
+    label-now =
+        label-same opened words′ at (λ k l h. added .kept k (omega arith) h) ∙ ap (λ (ws : List ℕ). labelFrom ws at) opens ∙
+        label-put words at label (omega (arith, s .long)) (subst (λ (l : Label). l .highest ≤ 255) (sym is) (joined-known s head next .highest))
 
     rows-are : rowsFrom new 0 (head + 1) ≡ rowsFrom words 0 head ++ ((label, linksBetween words′ (at + header) (now .at)) ∷ [])
     rows-are =
-        closed-rows filled room ∙
+        closed-rows filled listed ∙
         ap₂ (λ (rs : List (Row Label)) (l : Label). rs ++ ((l, linksBetween words′ (at + header) (now .at)) ∷ []))
         (rows-kept (s .built) words′ long-now (λ k l h. kept k (omega arith) (omega (arith, low))) (λ k l h. kept k (omega arith) h)) label-now
 
@@ -196,12 +214,6 @@ module _ {joins : List (List ℕ)} {a b : List ℕ} {head count at : ℕ} {marks
     same-pair : (i j : ℕ) → i ≡ j → j < count → pairOf (getD queue j 0) ≡ pairOf (getD queue′ i 0)
     same-pair i j e h = ap pairOf (sym (added .queue-kept j h) ∙ ap (λ (n : ℕ). getD queue′ n 0) (sym e))
 
-    bytes : (i : ℕ) → i < head + 1 → Dec (i < head) → labelAt new i < 256
-    bytes i h (yes l) =
-        subst (λ (x : Label). x < 256) (sym (ap (λ (r : Row Label). r .0) (row-kept i l))) (s .bytes i l)
-    bytes i h (no n) =
-        subst (λ (x : Label). x < 256) (sym (ap (λ (r : Row Label). r .0) (row-last i (omega arith)))) byte
-
     labels : (i : ℕ) → i < head + 1 → Dec (i < head) → labelAt new i ≡ joined joins a b (pairOf (getD queue′ i 0))
     labels i h (yes l) =
         ap (λ (r : Row Label). r .0) (row-kept i l) ∙ s .labels i l ∙ ap (joined joins a b) (same-pair i i refl (omega arith))
@@ -227,6 +239,8 @@ module _ {joins : List (List ℕ)} {a b : List ℕ} {head count at : ℕ} {marks
         record {
           left = s .left;
           right = s .right;
+          types = s .types;
+          joinable = s .joinable;
           marked = added .after;
           begun = omega (arith, s .begun, added .grows);
           behind = omega (arith, added .grows);
@@ -234,11 +248,10 @@ module _ {joins : List (List ℕ)} {a b : List ℕ} {head count at : ℕ} {marks
           inside = λ i h. inside i h (decLt i count);
           reached = pairs-reached s next added;
           long = length-set words′ (head + 2) (now .at) ∙ long-now ∙ s .long;
-          built = row-closes filled room;
+          built = row-closes filled listed;
           first =
               getD-set-other words′ (head + 2) 1 (now .at) 0 (λ (e : 1 ≡ head + 2). omega arith) ∙ kept 1 (omega arith) (omega (arith, low)) ∙
               s .first;
-          bytes = λ i h. bytes i h (decLt i head);
           labels = λ i h. labels i h (decLt i head);
           rows = λ i h. rows i h (decLt i head);
         }

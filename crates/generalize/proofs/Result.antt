@@ -18,6 +18,7 @@ use Rattle.graphs.proofs.Form.Large.{canonical-fits}
 use Rattle.graphs.proofs.Lists.{tells-eqb, distinct-append}
 use Rattle.graphs.proofs.Walk.{none-some, some-injective}
 use Rattle.lattice.specs.Label.{Label, noLabel}
+use Rattle.lattice.specs.Labels.{Known}
 use Rattle.layout.specs.Layout.{Recorded, Sound, header, size, labelAt, linksFrom, rowEnd, targetAt, linksAt, rowsFrom, rowsOf, graphIn}
 use Rattle.layout.specs.Builder.{Built}
 use Rattle.layout.proofs.Spans.{linkAt, length-links, links-at, links-member}
@@ -30,7 +31,7 @@ use Rattle.generalize.specs.Pairs.{samePair}
 use Rattle.generalize.specs.Product.{product, productOut}
 use Rattle.generalize.specs.Queue.{clear, codeOf, common, Marked, Numbered, Full}
 use Rattle.generalize.proofs.Sides.{pairOf, product-root, product-link, product-label, common-known, tells-pair}
-use Rattle.generalize.proofs.Building.{Building, base, pair-numbered, link-reached, pairs-reached}
+use Rattle.generalize.proofs.Building.{Building, base, joined-known, pair-numbered, link-reached, pairs-reached}
 
 -- A graph with too many nodes or links is not written.
 pub too-large : (joins : List (List ℕ)) {a b : List ℕ} → Recorded a → Recorded b → (old : List ℕ) →
@@ -217,7 +218,7 @@ module _ {joins : List (List ℕ)} {a b : List ℕ} {head count at : ℕ} {marks
     orderly : Orderly (rowsOf result)
     orderly =
         record {
-          labels = λ r m. let (i, h, e) = row-of r m in subst (λ (x : Label). x < 256) (sym (ap (λ (q : Row Label). q .0) e)) (s .bytes i h);
+          labels = λ r m. let (i, h, e) = row-of r m in subst (Known 128) (sym (ap (λ (q : Row Label). q .0) e ∙ s .labels i h)) (joined-known s i (omega (arith, s .behind)));
           ascends = λ r m. let (i, h, e) = row-of r m in subst Ascending (sym (ap (λ (q : Row Label). q .1) e)) (s .rows i h .ascends);
           features = λ r m l n.
               let (i, h, e) = row-of r m in

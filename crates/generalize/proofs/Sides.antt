@@ -12,7 +12,7 @@ use Rattle.graphs.proofs.Product.{both-some}
 use Rattle.graphs.proofs.Search.{both-true}
 use Rattle.layout.specs.Layout.{Recorded, size, labelAt, graphIn}
 use Rattle.layout.proofs.Places.{label-at, link-inside}
-use Rattle.generalize.specs.Pairs.{joinIn, samePair}
+use Rattle.generalize.specs.Pairs.{joinsOf, samePair}
 use Rattle.generalize.specs.Product.{product}
 use Rattle.generalize.specs.Queue.{common}
 
@@ -29,9 +29,9 @@ module _ (joins : List (List ℕ)) (a b : List ℕ) where
   unfolding generalization
   product-link x f = refl
 
-  pub product-label : (u v : ℕ) → u < size a → v < size b → product joins a b .label (u, v) ≡ joinIn joins (labelAt a u) (labelAt b v)
+  pub product-label : (u v : ℕ) → u < size a → v < size b → product joins a b .label (u, v) ≡ joinsOf joins .join (labelAt a u) (labelAt b v)
   unfolding generalization
-  product-label u v i j = ap₂ (joinIn joins) (label-at a u i) (label-at b v j)
+  product-label u v i j = ap₂ (joinsOf joins .join) (label-at a u i) (label-at b v j)
 
 pub common-known : {a b : List ℕ} → Recorded a → Recorded b → (x y : ℕ × ℕ) (f : ℕ) → common a b x f ≡ some y →
     (f < 64) × (y .0 < size a) × (y .1 < size b)

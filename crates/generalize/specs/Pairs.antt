@@ -1,19 +1,32 @@
--- The labels of a generalization: labels with their joins as a table of 64 rows gives them. Nothing else of the labels is used.
+-- The labels of a generalization: types with their joins as a table of 64 rows gives them, and ranges. Nothing else of the types is
+-- used.
 use mathlib.Core.Bool.{Bool, _&&_}
 use mathlib.Core.List.{List, []}
-use Prim.Native.Nat.{ℕ}
+use Prim.Native.Nat.{ℕ, _≤_, _<_}
 use lib.Dec.{eqb}
 use lib.ListN.{getD}
 use Rattle.graphs.specs.Label.{Labels}
-use Rattle.lattice.specs.Label.{Label, noLabel}
+use Rattle.lattice.specs.Labels.{Known, withRanges}
+use Rattle.layout.specs.Layout.{size, labelAt}
 
--- the join of two labels
-abbrev pub joinIn : List (List ℕ) → Label → Label → Label
+-- the join of two types
+abbrev pub joinIn : List (List ℕ) → ℕ → ℕ → ℕ
 joinIn joins x y = getD (getD joins x []) y 0
 
 abbrev pub joinsOf : List (List ℕ) → Labels
 joinsOf joins =
-    record { L = Label; le = eqb; meet = λ a b. a; join = joinIn joins; top = noLabel; contradiction = λ a. eqb a noLabel }
+    withRanges (record { L = ℕ; le = eqb; meet = λ a b. a; join = joinIn joins; top = 0; contradiction = λ a. eqb a 0 })
+
+-- joins of types below n are types below n
+abbrev pub JoinsBelow : ℕ → List (List ℕ) → Type 0
+JoinsBelow n joins = (i j : ℕ) → i < n → j < n → joinIn joins i j < n
+
+-- Two graphs over n types, whose joins the table gives.
+pub record Joinable (n : ℕ) (joins : List (List ℕ)) (a b : List ℕ) : Type 0 where
+  pub few : n ≤ 64
+  pub joins-below : JoinsBelow n joins
+  pub left : (v : ℕ) → v < size a → Known n (labelAt a v)
+  pub right : (v : ℕ) → v < size b → Known n (labelAt b v)
 
 -- whether two pairs of node numbers are one
 unfoldable pub samePair : ℕ × ℕ → ℕ × ℕ → Bool

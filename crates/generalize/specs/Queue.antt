@@ -6,13 +6,17 @@ use Prim.Native.Nat.{ℕ, _+_, _*_, _≤_, _<_}
 use lib.ListN.{length, getD}
 use Rattle.graphs.specs.Generalize.{both}
 use Rattle.graphs.specs.Large.{Ascending}
-use Rattle.layout.specs.Layout.{graphIn, linksBetween}
+use Rattle.layout.specs.Layout.{graphIn, linksBetween, longest}
 use Rattle.layout.specs.Builder.{Same}
 use Rattle.generalize.specs.declared.Spread.{Spread}
 
 -- a pair of nodes as one number
 abbrev pub codeOf : ℕ × ℕ → ℕ
 codeOf x = x .0 * 255 + x .1
+
+-- the number of words that a result is built in
+abbrev pub room : ℕ
+room = longest + 64
 
 -- the mark of a pair that has no number
 abbrev pub clear : ℕ

@@ -2,14 +2,16 @@
 // mark for each pair.
 
 use encode::Written;
+use layout::Label;
 ghost use mathlib.Core.Path.{_≡_};
-ghost use Prim.Native.Nat.{_≤_, _<_};
+ghost use Prim.Native.Nat.{ℕ, _≤_, _<_};
 ghost use lib.ListN.{length};
-ghost use Rattle.layout.specs.Layout.{Recorded, size};
+ghost use Rattle.layout.specs.Builder.{stated};
+ghost use Rattle.layout.specs.Layout.{Recorded, longest, size};
 ghost use Rattle.encode.specs.Encode.{yielding};
-ghost use Rattle.generalize.specs.Pairs.{joinIn};
+ghost use Rattle.generalize.specs.Pairs.{Joinable, joinsOf};
 ghost use Rattle.generalize.specs.Product.{productOut};
-ghost use Rattle.generalize.specs.Queue.{Marked, Offered, Spreads, common};
+ghost use Rattle.generalize.specs.Queue.{Marked, Offered, Spreads, common, room};
 
 // The mark of a pair that has no number yet. Numbers are below it.
 pub const CLEAR: u8 = 255;
@@ -19,6 +21,9 @@ const FULL: usize = 256;
 
 // Where the rows of a result begin: behind the number of nodes and 256 places, since how many nodes there are is known at the end.
 const BASE: usize = 257;
+
+// The words of a result: as many as a record's graph has, and the most links that one pair adds before they are counted.
+const ROOM: usize = layout::LONGEST + 64;
 
 // Gives a pair that has no number yet the next one. Answers how many pairs then have one, FULL where the numbers are used up.
 fn enlist(marks: &mut [u8; 65025], queue: &mut [u16; 255], pair: usize, count: usize) -> usize
@@ -52,14 +57,14 @@ pub fn pair_links<'a>(
     v: usize,
     marks: &mut [u8; 65025],
     queue: &mut [u16; 255],
-    words: &mut [u16; 2624],
+    words: &mut [u16; ROOM],
     known: Spread,
 ) -> Spread
     requires { ⌜ Recorded (now a) ⌝ }
     requires { ⌜ Recorded (now b) ⌝ }
     requires { ⌜ (u < size (now a)) × (v < size (now b)) ⌝ }
     requires { ⌜ Marked (now marks) (now queue) (known .count) ⌝ }
-    requires { ⌜ (length (now words) ≡ 2624) × (known .at ≤ 2560) ⌝ }
+    requires { ⌜ (length (now words) ≡ room) × (known .at ≤ longest) ⌝ }
     ensures { λ r. ⌜ Spreads (common (now (a .entry)) (now (b .entry)) (u, v)) (now (queue .entry)) (now (words .entry)) known (now (marks .exit)) (now (queue .exit)) (now (words .exit)) r ⌝ }
 {
     let a_end = a[u + 2] as usize;
@@ -96,12 +101,18 @@ pub fn pair_links<'a>(
     Spread { at, count }
 }
 
-// The join of two labels.
-fn join(joins: &[[u8; 64]; 64], i: usize, j: usize) -> u8
-    requires { ⌜ (i < 64) × (j < 64) ⌝ }
-    ensures { λ r. ⌜ r ≡ joinIn (now (joins .entry)) i j ⌝ }
+// The join of two labels: the join of their types, and the smallest range that holds both of theirs.
+fn join(joins: &[[u8; 64]; 64], a: Label, b: Label) -> Label
+    requires { ⌜ (a .kind < 64) × (b .kind < 64) ⌝ }
+    ensures { λ r. ⌜ stated r ≡ joinsOf (now (joins .entry)) .join (stated a) (stated b) ⌝ }
 {
-    joins[i][j]
+    let i = a.kind as usize;
+    let j = b.kind as usize;
+    Label {
+        kind: joins[i][j],
+        lowest: layout::lesser(a.lowest, b.lowest),
+        highest: layout::greater(a.highest, b.highest),
+    }
 }
 
 // Writes the generalization of two graphs.
@@ -113,12 +124,12 @@ pub fn generalize<'a>(
 ) -> Written
     requires { ⌜ Recorded (now a) ⌝ }
     requires { ⌜ Recorded (now b) ⌝ }
+    requires { ⌜ ((n : ℕ) × Joinable n (now joins) (now a) (now b)) ⌝ }
     ensures { λ r. ⌜ yielding r (now (out .exit)) ≡ productOut (now (joins .entry)) (now (a .entry)) (now (b .entry)) (now (out .entry)) ⌝ }
 {
     let mut marks = [CLEAR; 65025];
     let mut queue = [0u16; 255];
-    // the words have room for the most links that one pair adds before they are counted: 257 words, 255 headers and 2,048 + 64 links
-    let mut words = [0u16; 2624];
+    let mut words = [0u16; ROOM];
     marks[0] = 0;
     words[1] = BASE as u16;
     let mut at: usize = BASE;
@@ -128,12 +139,8 @@ pub fn generalize<'a>(
         let pair = queue[head] as usize;
         let u = pair / 255;
         let v = pair % 255;
-        let s = a[u + 1] as usize;
-        let t = b[v + 1] as usize;
-        let i = a[s] as usize;
-        let j = b[t] as usize;
-        let label = join(joins, i, j);
-        words[at] = label as u16;
+        let label = join(joins, layout::label_at(a, u), layout::label_at(b, v));
+        layout::put_label(&mut words, at, label);
         let known = Spread {
             at: at + layout::HEADER,
             count,

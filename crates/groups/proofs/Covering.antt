@@ -9,7 +9,7 @@ use native.Mathlib.Nat.{lt-trans}
 use native.Mathlib.Omega.{arith}
 use lib.ListN.{length, getD, set, length-set}
 use lib.Seq.{getD-set-same, getD-set-other}
-use Rattle.layout.specs.Layout.{size, rowFrom, linksFrom, rowEnd, featureAt, targetAt, Node, Place, rowsEnd}
+use Rattle.layout.specs.Layout.{longest, size, rowFrom, linksFrom, rowEnd, featureAt, targetAt, Node, Place, rowsEnd}
 use Rattle.layout.proofs.Order.{next-row, place-from, place-before, one-row, no-header, place-rises, one-feature}
 use Rattle.subsume.specs.Following.{Sought}
 use Rattle.classes.specs.Forest.{Forest, SameRoots, United, Flat, rootOf}
@@ -54,7 +54,7 @@ module _ {s g map : List ℕ} (lying : Lying s g map) where
   over-in : {k j : ℕ} → Over s g map k j → k < rowsEnd g
   over-in o = place-before (lying .upper .sound .shaped) (o .place)
 
-  over-within : {k j : ℕ} → Over s g map k j → j < 2560
+  over-within : {k j : ℕ} → Over s g map k j → j < longest
   over-within {k} {j} o =
       omega (arith, o .under .high, lying .lower .sound .shaped .node (getD map (o .node) 0) (o .under .inside) .ended, lying .short)
 
@@ -67,7 +67,7 @@ module _ {s g map : List ℕ} (lying : Lying s g map) where
         lying .upper .small,
       )
 
-  pub owner-low : {bound : ℕ} {owner parent : List ℕ} → Grouping s g map bound owner parent → (j : ℕ) → j < 2560 →
+  pub owner-low : {bound : ℕ} {owner parent : List ℕ} → Grouping s g map bound owner parent → (j : ℕ) → j < longest →
       (getD owner j 0 ≡ 65535 → ⊥) → getD owner j 0 < 255
   owner-low group j h d = entered-low (group .owned j h d)
 
@@ -96,7 +96,7 @@ module _ {s g map : List ℕ} (lying : Lying s g map) where
       }
 
   -- no place yet
-  pub grouping-start : {owner parent : List ℕ} → length owner ≡ 2560 → ((j : ℕ) → j < 2560 → getD owner j 0 ≡ 65535) →
+  pub grouping-start : {owner parent : List ℕ} → length owner ≡ longest → ((j : ℕ) → j < longest → getD owner j 0 ≡ 65535) →
       length parent ≡ 510 → ((x : ℕ) → x < 510 → getD parent x 0 ≡ x) → Grouping s g map (rowFrom g 0) owner parent
   grouping-start {owner} {parent} long free parent-long apart =
       record {
@@ -140,7 +140,7 @@ module _ {s g map : List ℕ} (lying : Lying s g map) where
         here : getD new j 0 ≡ z₀
         here = getD-set-same owner j z₀ 0 (omega (arith, group .owner-long, over-within o))
 
-        owned : (i : ℕ) → i < 2560 → (getD new i 0 ≡ 65535 → ⊥) → Dec (i ≡ j) → Covers s g map (rowsEnd g) i (getD new i 0)
+        owned : (i : ℕ) → i < longest → (getD new i 0 ≡ 65535 → ⊥) → Dec (i ≡ j) → Covers s g map (rowsEnd g) i (getD new i 0)
         owned i h d (yes e) = rw (e, here) enters
         owned i h d (no n) =
             let same : getD new i 0 ≡ getD owner i 0 = getD-set-other owner j i z₀ 0 n in
@@ -266,7 +266,7 @@ module _ {s g map : List ℕ} {y k j place : ℕ} {owner parent : List ℕ} (c :
           absurd (above (place-rises (c .lying .lower .sound .shaped) first at l) (sought .found (first .high)) e)
       go p at e (no h) (no l) = omega arith
 
-  pub place-within : place < 2560
+  pub place-within : place < longest
   place-within = over-within (c .lying) sought-over
 
   pub target-low : targetAt g k < 255

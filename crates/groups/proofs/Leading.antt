@@ -23,9 +23,9 @@ use Rattle.graphs.proofs.Difference.Laws.{Into, Leader, Enters, Grouped, touchi
 use Rattle.graphs.proofs.Difference.Kept.{enters-into}
 use Rattle.graphs.proofs.Difference.Lead.{grouped-into, lead-least, lead-unique}
 use Rattle.graphs.proofs.Difference.ByNumber.{Before, by-number, by-number-order}
-use Rattle.lattice.specs.Labels.{typeLabels}
+use Rattle.lattice.specs.Labels.{tableLabels}
 use Rattle.lattice.specs.Label.{Label}
-use Rattle.layout.specs.Layout.{size, featureAt, targetAt, graphIn, Sound, Place, rowsEnd}
+use Rattle.layout.specs.Layout.{longest, size, featureAt, targetAt, graphIn, Sound, Place, rowsEnd}
 use Rattle.layout.proofs.Places.{link-at, link-place}
 use Rattle.layout.proofs.Order.{earlier-row, place-before, one-row, place-rises, one-feature}
 use Rattle.groups.specs.Cover.{Lying, Covers, Tied, same, shared, back, next, Grouping}
@@ -95,7 +95,7 @@ module _ {ws : List ℕ} (sound : Sound ws) where
 -- A link of a place, and the place of a link, in two graphs.
 module _ (n : ℕ) (t : List ℕ) {sw gw map : List ℕ} (lying : Lying sw gw map)
     (operands : Operands eqb eqb (graphIn sw) (from 0 (size sw)) (graphIn gw) (from 0 (size gw)))
-    (lies : NodeMap (typeLabels n t) (graphIn sw) (graphIn gw) (λ y. getD map y 0)) where
+    (lies : NodeMap (tableLabels n t) (graphIn sw) (graphIn gw) (λ y. getD map y 0)) where
   abbrev s : Graph Label ℕ
   s = graphIn sw
 
@@ -207,7 +207,7 @@ module _ (n : ℕ) (t : List ℕ) {sw gw map : List ℕ} (lying : Lying sw gw ma
     abbrev Beside : ℕ → ℕ → Type 0
     Beside j k = Together owner parent j k
 
-    within : (k : ℕ) (l : Link ℕ) → At sw k l → k < 2560
+    within : (k : ℕ) (l : Link ℕ) → At sw k l → k < longest
     within k l a =
         omega (arith, a .place .high, s-sound .shaped .node (l .0) (a .place .inside) .ended, lying .short)
 

@@ -6,7 +6,7 @@ use native.Mathlib.Decide.{ℕ-discrete}
 use native.Mathlib.Omega.{arith}
 use lib.ListN.{length, getD, set, length-set}
 use lib.Seq.{getD-set-same, getD-set-other}
-use Rattle.layout.specs.Layout.{size, rowFrom, linksFrom, rowEnd, Place, rowsEnd}
+use Rattle.layout.specs.Layout.{longest, size, rowFrom, linksFrom, rowEnd, Place, rowsEnd}
 use Rattle.layout.proofs.Order.{next-row, place-from, no-header}
 use Rattle.classes.specs.Forest.{Flat, rootOf}
 use Rattle.groups.specs.Marks.{Together, Mark, follows, leads, bare, Seen, Marks, Owned}
@@ -89,7 +89,7 @@ pub record Marking (s owner parent : List ℕ) (k : ℕ) (marks seen : List ℕ)
 
 module _ {s owner parent : List ℕ} where
   -- what is said up to one place is said up to another where no link stands between
-  moved : {k l : ℕ} {marks seen : List ℕ} → Marking s owner parent k marks seen → k ≤ 2560 → k ≤ l → l ≤ 2560 →
+  moved : {k l : ℕ} {marks seen : List ℕ} → Marking s owner parent k marks seen → k ≤ longest → k ≤ l → l ≤ longest →
       ((v j : ℕ) → Place s v j → j < l → j < k) → Marking s owner parent l marks seen
   moved m few low high none =
       record {
@@ -103,10 +103,10 @@ module _ {s owner parent : List ℕ} where
             };
       }
 
-  within : {v : ℕ} → Owned s owner parent → v < size s → rowEnd s v ≤ 2560
+  within : {v : ℕ} → Owned s owner parent → v < size s → rowEnd s v ≤ longest
   within {v} o h = omega (arith, o .shaped .node v h .ended, o .short)
 
-  pub marking-start : {marks seen : List ℕ} → Owned s owner parent → length marks ≡ 2560 → length seen ≡ 255 →
+  pub marking-start : {marks seen : List ℕ} → Owned s owner parent → length marks ≡ longest → length seen ≡ 255 →
       ((c : ℕ) → c < 255 → getD seen c 0 ≡ 0) → Marking s owner parent (rowFrom s 0) marks seen
   marking-start o long room clear =
       moved {k = 0}
@@ -126,7 +126,7 @@ module _ {s owner parent : List ℕ} where
       (omega (arith, m .owned .shaped .node v h .begun, within (m .owned) h))
       (λ u j p below. no-header (m .owned .shaped) v h p below)
 
-  pub marking-next : {k mark : ℕ} {marks seen seen′ : List ℕ} → Marking s owner parent k marks seen → k < 2560 →
+  pub marking-next : {k mark : ℕ} {marks seen seen′ : List ℕ} → Marking s owner parent k marks seen → k < longest →
       Mark owner parent k mark → Seen owner parent (k + 1) seen′ → Marking s owner parent (k + 1) (set marks k mark) seen′
   marking-next {k} {mark} {marks} m h new seen =
       record {
@@ -162,7 +162,7 @@ module _ {s owner parent : List ℕ} where
   row-start v m h = record { inside = h; high = m .owned .shaped .node v h .begun; marking = marking-row v m h }
 
   module _ {v k : ℕ} {marks seen : List ℕ} (r : InRow s owner parent v k marks seen) where
-    pub row-within : k < rowEnd s v → k < 2560
+    pub row-within : k < rowEnd s v → k < longest
     row-within h = omega (arith, r .marking .owned .shaped .node v (r .inside) .ended, r .marking .owned .short)
 
     pub row-next : {mark : ℕ} {seen′ : List ℕ} → k < rowEnd s v → Mark owner parent k mark → Seen owner parent (k + 1) seen′ →

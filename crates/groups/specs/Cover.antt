@@ -3,7 +3,7 @@ use mathlib.Core.Path.{_≡_}
 use mathlib.Core.List.{List}
 use Prim.Native.Nat.{ℕ, _≤_, _<_}
 use lib.ListN.{length, getD, set}
-use Rattle.layout.specs.Layout.{size, featureAt, targetAt, Recorded, Place, rowsEnd}
+use Rattle.layout.specs.Layout.{longest, size, featureAt, targetAt, Recorded, Place, rowsEnd}
 use Rattle.classes.specs.Forest.{Forest, United, rootOf}
 
 module _ (s g map : List ℕ) where
@@ -11,7 +11,7 @@ module _ (s g map : List ℕ) where
   pub record Lying : Type 0 where
     pub lower : Recorded s
     pub upper : Recorded g
-    pub short : length s ≤ 2560
+    pub short : length s ≤ longest
     pub mapped : (y : ℕ) → y < size g → getD map y 0 < size s
     pub found : (y i : ℕ) → Place g y i → (j : ℕ) × Place s (getD map y 0) j × (featureAt s j ≡ featureAt g i)
 
@@ -36,9 +36,9 @@ module _ (s g map : List ℕ) where
   -- Owners and classes by the places of g before `bound`: an owner is a node that a place over the link enters, 65535 where there is
   -- none; nodes that places over one link enter are in one class, and nodes of one class are tied.
   pub record Grouping (bound : ℕ) (owner parent : List ℕ) : Type 0 where
-    pub owner-long : length owner ≡ 2560
+    pub owner-long : length owner ≡ longest
     pub forest : Forest parent
-    pub owned : (j : ℕ) → j < 2560 → (getD owner j 0 ≡ 65535 → ⊥) → Covers (rowsEnd g) j (getD owner j 0)
+    pub owned : (j : ℕ) → j < longest → (getD owner j 0 ≡ 65535 → ⊥) → Covers (rowsEnd g) j (getD owner j 0)
     pub covered : (j z : ℕ) → Covers bound j z → (getD owner j 0 ≡ 65535 → ⊥) × (rootOf parent (getD owner j 0) ≡ rootOf parent z)
     pub tied : (x y : ℕ) → x < 255 → y < 255 → rootOf parent x ≡ rootOf parent y → Tied x y
 

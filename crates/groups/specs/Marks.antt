@@ -4,18 +4,18 @@ use mathlib.Core.Path.{_≡_}
 use mathlib.Core.List.{List}
 use Prim.Native.Nat.{ℕ, _≤_, _<_}
 use lib.ListN.{length, getD}
-use Rattle.layout.specs.Layout.{Shaped, Place, rowsEnd}
+use Rattle.layout.specs.Layout.{longest, Shaped, Place, rowsEnd}
 use Rattle.classes.specs.Forest.{Flat, rootOf}
 use Rattle.groups.specs.Cover.{Grouping}
 
 -- Owners of links of s, and the classes of the owners.
 pub record Owned (s owner parent : List ℕ) : Type 0 where
   pub shaped : Shaped s
-  pub short : length s ≤ 2560
-  pub long : length owner ≡ 2560
+  pub short : length s ≤ longest
+  pub long : length owner ≡ longest
   pub flat : Flat parent
-  pub low : (j : ℕ) → j < 2560 → (getD owner j 0 ≡ 65535 → ⊥) → getD owner j 0 < 255
-  pub linked : (j : ℕ) → j < 2560 → (getD owner j 0 ≡ 65535 → ⊥) → (u : ℕ) × Place s u j
+  pub low : (j : ℕ) → j < longest → (getD owner j 0 ≡ 65535 → ⊥) → getD owner j 0 < 255
+  pub linked : (j : ℕ) → j < longest → (getD owner j 0 ≡ 65535 → ⊥) → (u : ℕ) × Place s u j
 
 module _ (owner parent : List ℕ) where
   -- places j and k have owners of one class
@@ -39,7 +39,7 @@ module _ (owner parent : List ℕ) where
 
 -- the links of s before place `bound` are marked
 pub record Marks (s owner parent : List ℕ) (bound : ℕ) (marks : List ℕ) : Type 0 where
-  pub long : length marks ≡ 2560
+  pub long : length marks ≡ longest
   pub each : (v k : ℕ) → Place s v k → k < bound → Mark owner parent k (getD marks k 0)
 
 -- all links of s are marked, by owners and classes that all places of g have part in

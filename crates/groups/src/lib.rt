@@ -7,7 +7,7 @@ use classes::forest;
 ghost use mathlib.Core.Path.{_≡_};
 ghost use Prim.Native.Nat.{_+_, _<_};
 ghost use lib.ListN.{length, getD};
-ghost use Rattle.layout.specs.Layout.{rowsEnd};
+ghost use Rattle.layout.specs.Layout.{longest, rowsEnd};
 ghost use Rattle.classes.specs.Forest.{Flat};
 ghost use Rattle.groups.specs.Cover.{Lying};
 ghost use Rattle.groups.specs.Marks.{Mark, Marked, Marks, Owned, Seen};
@@ -21,9 +21,14 @@ pub const LEADS: u8 = 1;
 pub const BARE: u8 = 2;
 
 // The mark of place k; `seen` has 1 for each class that an earlier place is in.
-fn mark_of<'a>(owner: &'a [u16; 2560], parent: &'a [u16; 510], k: usize, seen: &mut [u8; 255]) -> u8
-    requires { ⌜ (k < 2560) × ((getD (now owner) k 0 ≡ 65535 → ⊥) → getD (now owner) k 0 < 255) ⌝ }
-    requires { ⌜ (length (now owner) ≡ 2560) × Flat (now parent) ⌝ }
+fn mark_of<'a>(
+    owner: &'a [u16; layout::LONGEST],
+    parent: &'a [u16; 510],
+    k: usize,
+    seen: &mut [u8; 255],
+) -> u8
+    requires { ⌜ (k < longest) × ((getD (now owner) k 0 ≡ 65535 → ⊥) → getD (now owner) k 0 < 255) ⌝ }
+    requires { ⌜ (length (now owner) ≡ longest) × Flat (now parent) ⌝ }
     requires { ⌜ Seen (now owner) (now parent) k (now seen) ⌝ }
     ensures { λ r. ⌜ Mark (now (owner .entry)) (now (parent .entry)) k r ⌝ }
     ensures { λ _. ⌜ Seen (now (owner .entry)) (now (parent .entry)) (k + 1) (now (seen .exit)) ⌝ }
@@ -43,11 +48,11 @@ fn mark_of<'a>(owner: &'a [u16; 2560], parent: &'a [u16; 510], k: usize, seen: &
 // Marks the links of s, by their owners and the classes of those.
 pub fn mark<'a>(
     s: &'a [u16],
-    owner: &'a [u16; 2560],
+    owner: &'a [u16; layout::LONGEST],
     parent: &'a [u16; 510],
-    marks: &mut [u8; 2560],
+    marks: &mut [u8; layout::LONGEST],
 )
-    requires { ⌜ Owned (now s) (now owner) (now parent) × (length (now marks) ≡ 2560) ⌝ }
+    requires { ⌜ Owned (now s) (now owner) (now parent) × (length (now marks) ≡ longest) ⌝ }
     ensures { λ _. ⌜ Marks (now (s .entry)) (now (owner .entry)) (now (parent .entry)) (rowsEnd (now (s .entry))) (now (marks .exit)) ⌝ }
 {
     let mut seen = [0u8; 255];
@@ -65,11 +70,16 @@ pub fn mark<'a>(
 }
 
 // Marks the links of s.
-pub fn mark_links<'a>(s: &'a [u16], g: &'a [u16], map: &'a [u16; 255], marks: &mut [u8; 2560])
-    requires { ⌜ Lying (now s) (now g) (now map) × (length (now marks) ≡ 2560) ⌝ }
+pub fn mark_links<'a>(
+    s: &'a [u16],
+    g: &'a [u16],
+    map: &'a [u16; 255],
+    marks: &mut [u8; layout::LONGEST],
+)
+    requires { ⌜ Lying (now s) (now g) (now map) × (length (now marks) ≡ longest) ⌝ }
     ensures { λ _. ⌜ Marked (now (s .entry)) (now (g .entry)) (now (map .entry)) (now (marks .exit)) ⌝ }
 {
-    let mut owner = [cover::NONE; 2560];
+    let mut owner = [cover::NONE; layout::LONGEST];
     let mut parent = [0u16; 510];
     forest::separate(&mut parent);
     let nodes = g[0] as usize;

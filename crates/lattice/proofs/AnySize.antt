@@ -1,6 +1,6 @@
--- Bounds among the graphs of any size over an accepted table, whose labels are type numbers. The generalization is the least of
+-- Bounds among the graphs of any size over an accepted table, whose labels are those of the table. The generalization is the least of
 -- those above both graphs. The unification is the greatest of those below both, and where it answers a cycle or a clash there is
--- none. The difference restores, and nothing more general does. Each is the theorem over the table's lattice of types, carried over.
+-- none. The difference restores, and nothing more general does. Each is the theorem over the table's lattice of labels, carried over.
 use Prim.Native.Nat.{ℕ}
 use mathlib.Core.Path.{_≡_, refl, sym, ap, subst, _∙_}
 use mathlib.Core.Bool.{Bool, true}
@@ -9,7 +9,6 @@ use mathlib.Core.Logic.{_↔_, _⊎_, inl, inr, ⊎-elim, Iff·trans}
 use mathlib.Core.Option.{some}
 use native.Mathlib.Omega.{arith}
 use lib.Dec.{eqb}
-use borrow.Author.Tests.{eqb-true}
 use Rattle.graphs.specs.Label.{Labels}
 use Rattle.graphs.specs.Graph.{Graph, Tells, Reached, Below, SameMeaning}
 use Rattle.graphs.specs.Generalize.{generalization}
@@ -27,9 +26,8 @@ use Rattle.graphs.proofs.Difference.Computed.{Setting}
 use Rattle.graphs.proofs.Difference.Computed as Computed
 use Rattle.graphs.proofs.Theorems as Theorems
 use Rattle.lattice.specs.Label.{Label}
-use Rattle.lattice.specs.Table.{below, accepted}
-use Rattle.lattice.specs.Labels.{typeLabels, OfAnySize, LeastOfAnySize, GreatestOfAnySize, TypesMeet, TypeClash, IsCombination}
-use Rattle.lattice.proofs.Laws.{zero-type}
+use Rattle.lattice.specs.Table.{accepted}
+use Rattle.lattice.specs.Labels.{tableLabels, OfAnySize, LeastOfAnySize, GreatestOfAnySize, LabelsMeet, LabelClash, IsCombination}
 use Rattle.lattice.proofs.Relabel.{
   relabelUnified,
   relabel-cycle,
@@ -38,7 +36,7 @@ use Rattle.lattice.proofs.Relabel.{
   same-below-left,
   same-below-right,
 }
-use Rattle.lattice.proofs.Lawful.{TypeBelow, typed, lawful, lawful-lattice}
+use Rattle.lattice.proofs.Lawful.{KnownLabel, known, lawful, lawful-lattice}
 use Rattle.lattice.proofs.Transfer.{
   lower,
   lift,
@@ -58,7 +56,7 @@ use Rattle.lattice.proofs.Transfer.{
 
 module _ (n : ℕ) (t : List ℕ) (ok : accepted n t ≡ true) where
   abbrev raw : Labels
-  raw = typeLabels n t
+  raw = tableLabels n t
 
   abbrev law : Labels
   law = lawful n t ok
@@ -149,34 +147,34 @@ module _ (n : ℕ) (t : List ℕ) (ok : accepted n t ≡ true) where
         best .greatest m (other .of-any-size) (other .left) (other .right),
       )
 
-  -- Classes of paths, of numbers and of types.
+  -- Classes of paths, over labels and over labels of the table.
   module _ {A B : Type 0} (g : Graph Label A) (h : Graph Label B) (a : OfAnySize n t g) (b : OfAnySize n t h) where
-    under-lift : (p : List ℕ) (x : TypeBelow n) → UnderClass raw g h p (x .0) ↔ UnderClass law (lift n t ok g) (lift n t ok h) p x
+    under-lift : (p : List ℕ) (x : KnownLabel n) → UnderClass raw g h p (x .0) ↔ UnderClass law (lift n t ok g) (lift n t ok h) p x
     under-lift p x = (
       λ u.
           record {
             first = λ q v j e.
-                ap (below t (x .0)) (lifted-label n t ok g (a .typed) v (q, e)) ∙
+                ap (raw .le (x .0)) (lifted-label n t ok g (a .typed) v (q, e)) ∙
                 u .first q v (joined-carried (lift n t ok g) (lift n t ok h) g h (λ p q c. c) (λ p q c. c) j) e;
             second = λ q w j e.
-                ap (below t (x .0)) (lifted-label n t ok h (b .typed) w (q, e)) ∙
+                ap (raw .le (x .0)) (lifted-label n t ok h (b .typed) w (q, e)) ∙
                 u .second q w (joined-carried (lift n t ok g) (lift n t ok h) g h (λ p q c. c) (λ p q c. c) j) e;
           },
       λ u.
           record {
             first = λ q v j e.
-                sym (ap (below t (x .0)) (lifted-label n t ok g (a .typed) v (q, e))) ∙
+                sym (ap (raw .le (x .0)) (lifted-label n t ok g (a .typed) v (q, e))) ∙
                 u .first q v (joined-carried g h (lift n t ok g) (lift n t ok h) (λ p q c. c) (λ p q c. c) j) e;
             second = λ q w j e.
-                sym (ap (below t (x .0)) (lifted-label n t ok h (b .typed) w (q, e))) ∙
+                sym (ap (raw .le (x .0)) (lifted-label n t ok h (b .typed) w (q, e))) ∙
                 u .second q w (joined-carried g h (lift n t ok g) (lift n t ok h) (λ p q c. c) (λ p q c. c) j) e;
           },
     )
 
-    meet-lift : (p : List ℕ) (x : TypeBelow n) → TypesMeet n t g h p (x .0) ↔ ClassMeet law (lift n t ok g) (lift n t ok h) p x
+    meet-lift : (p : List ℕ) (x : KnownLabel n) → LabelsMeet n t g h p (x .0) ↔ ClassMeet law (lift n t ok g) (lift n t ok h) p x
     meet-lift p x = (
       λ m. record { under = under-lift p x .0 (m .under); greatest = λ c u. m .greatest (c .0) (c .1) (under-lift p c .1 u) },
-      λ m. record { under = under-lift p x .1 (m .under); greatest = λ c l u. m .greatest (c, l) (under-lift p (c, l) .0 u) },
+      λ m. record { known = x .1; under = under-lift p x .1 (m .under); greatest = λ c l u. m .greatest (c, l) (under-lift p (c, l) .0 u) },
     )
 
     -- What the classes give is the greatest graph of any size below both.
@@ -200,8 +198,8 @@ module _ (n : ℕ) (t : List ℕ) (ok : accepted n t ≡ true) where
                 λ j. is .corefers p q .1 (joined-carried (lift n t ok g) (lift n t ok h) g h (λ p q c. c) (λ p q c. c) j),
               );
               labels = λ p x e.
-                  meet-lift p (typed n t ok (u .label x)) .0
-                  (subst (TypesMeet n t g h p) (sym (lifted-label n t ok u (size .typed) x (p, e))) (is .types p x e));
+                  meet-lift p (known n t ok (u .label x)) .0
+                  (subst (LabelsMeet n t g h p) (sym (lifted-label n t ok u (size .typed) x (p, e))) (is .labels p x e));
             }
 
     -- what means the same as what the classes give is given by them
@@ -209,17 +207,17 @@ module _ (n : ℕ) (t : List ℕ) (ok : accepted n t ≡ true) where
     same-combination u w same is =
         record {
           corefers = λ p q. Iff·trans (same .corefers p q .1, same .corefers p q .0) (is .corefers p q);
-          types = λ p x e. let (v, d, l) = same .back p x e in subst (TypesMeet n t g h p) l (is .types p v d);
+          labels = λ p x e. let (v, d, l) = same .back p x e in subst (LabelsMeet n t g h p) l (is .labels p v d);
         }
 
   -- "Combination", of two graphs of any size.
   module _ {A B : Type 0} (sameA : A → A → Bool) (sameB : B → B → Bool) (tellsA : Tells sameA) (tellsB : Tells sameB) (g : Graph Label A)
       (h : Graph Label B) (a : OfAnySize n t g) (b : OfAnySize n t h) where
-    -- what unification answers, over numbers and over types
+    -- what unification answers, over labels and over labels of the table
     abbrev pub answer : Unified Label (A ⊎ B)
     answer = unification raw sameA sameB g (a .any-size .nodes) h (b .any-size .nodes)
 
-    abbrev answers : Unified (TypeBelow n) (A ⊎ B)
+    abbrev answers : Unified (KnownLabel n) (A ⊎ B)
     answers = unification law sameA sameB (lift n t ok g) (a .any-size .nodes) (lift n t ok h) (b .any-size .nodes)
 
     answer-lower : answer ≡ relabelUnified (λ x. x .0) answers
@@ -231,7 +229,7 @@ module _ (n : ℕ) (t : List ℕ) (ok : accepted n t ≡ true) where
     abbrev pub NoneBelow : Type 1
     NoneBelow = (C : Type 0) (k : Graph Label C) → OfAnySize n t k → Below raw k g → Below raw k h → ⊥
 
-    unified-combination : (w : Graph (TypeBelow n) (A ⊎ B)) → answers ≡ unified w → OfAnySize n t (lower w) × IsCombination n t g h (lower w)
+    unified-combination : (w : Graph (KnownLabel n) (A ⊎ B)) → answers ≡ unified w → OfAnySize n t (lower w) × IsCombination n t g h (lower w)
     unfolding any-size-lift lift-any-size
     unified-combination w e =
         let (is, size, _) =
@@ -243,7 +241,7 @@ module _ (n : ℕ) (t : List ℕ) (ok : accepted n t ≡ true) where
               λ c. joined-carried (lift n t ok g) (lift n t ok h) g h (λ p q c. c) (λ p q c. c) (is .corefers p q .0 c),
               λ j. is .corefers p q .1 (joined-carried g h (lift n t ok g) (lift n t ok h) (λ p q c. c) (λ p q c. c) j),
             );
-            types = λ p x d. meet-lift g h a b p (w .label x) .1 (is .labels p x d);
+            labels = λ p x d. meet-lift g h a b p (w .label x) .1 (is .labels p x d);
           },
         )
 
@@ -251,7 +249,7 @@ module _ (n : ℕ) (t : List ℕ) (ok : accepted n t ≡ true) where
     pub unification-combination : (u : Graph Label (A ⊎ B)) → answer ≡ unified u → OfAnySize n t u × IsCombination n t g h u
     unification-combination u e = go answers refl (sym answer-lower ∙ e)
       where
-        go : (o : Unified (TypeBelow n) (A ⊎ B)) → answers ≡ o → relabelUnified (λ x. x .0) o ≡ unified u → OfAnySize n t u × IsCombination n t g h u
+        go : (o : Unified (KnownLabel n) (A ⊎ B)) → answers ≡ o → relabelUnified (λ x. x .0) o ≡ unified u → OfAnySize n t u × IsCombination n t g h u
         go cycle q r = let z : _≡_ {A = ℕ} 0 1 = cc in absurd (omega arith)
         go clash q r = let z : _≡_ {A = ℕ} 0 1 = cc in absurd (omega arith)
         go (unified w) q r =
@@ -264,12 +262,12 @@ module _ (n : ℕ) (t : List ℕ) (ok : accepted n t ≡ true) where
 
     answer-cycle : (answer ≡ cycle) ↔ (answers ≡ cycle)
     answer-cycle =
-        let (there, back) = relabel-cycle (λ (x : TypeBelow n). x .0) answers in
+        let (there, back) = relabel-cycle (λ (x : KnownLabel n). x .0) answers in
         (λ e. there (sym answer-lower ∙ e), λ e. answer-lower ∙ back e)
 
     answer-clash : (answer ≡ clash) ↔ (answers ≡ clash)
     answer-clash =
-        let (there, back) = relabel-clash (λ (x : TypeBelow n). x .0) answers in
+        let (there, back) = relabel-clash (λ (x : KnownLabel n). x .0) answers in
         (λ e. there (sym answer-lower ∙ e), λ e. answer-lower ∙ back e)
 
     same-cycle : Cycle raw g h ↔ Cycle law (lift n t ok g) (lift n t ok h)
@@ -288,25 +286,26 @@ module _ (n : ℕ) (t : List ℕ) (ok : accepted n t ≡ true) where
         (lift-any-size n t ok g a) (lift-any-size n t ok h b))
         (same-cycle .1, same-cycle .0))
 
-    same-clash : TypeClash n t g h ↔ Clash law (lift n t ok g) (lift n t ok h)
+    same-clash : LabelClash n t g h ↔ Clash law (lift n t ok g) (lift n t ok h)
     same-clash = (
-      λ (p, j, m).
-          let zero : TypeBelow n = (0, zero-type n t ok) in (
-            p,
-            zero,
-            joined-carried g h (lift n t ok g) (lift n t ok h) (λ p q c. c) (λ p q c. c) j,
-            meet-lift g h a b p zero .0 m,
-            refl,
-          ),
       λ (p, x, j, m, e). (
         p,
+        (x, m .known),
+        joined-carried g h (lift n t ok g) (lift n t ok h) (λ p q c. c) (λ p q c. c) j,
+        meet-lift g h a b p (x, m .known) .0 m,
+        e,
+      ),
+      λ (p, x, j, m, e). (
+        p,
+        x .0,
         joined-carried (lift n t ok g) (lift n t ok h) g h (λ p q c. c) (λ p q c. c) j,
-        subst (TypesMeet n t g h p) (eqb-true (x .0) 0 e) (meet-lift g h a b p x .1 m),
+        meet-lift g h a b p x .1 m,
+        e,
       ),
     )
 
-    -- A clash is answered exactly where there is no cycle, and the meet of the types of a class is 0.
-    pub unification-clash : (answer ≡ clash) ↔ ((Cycle raw g h → ⊥) × TypeClash n t g h)
+    -- A clash is answered exactly where there is no cycle, and the meet of the labels of a class is a contradiction.
+    pub unification-clash : (answer ≡ clash) ↔ ((Cycle raw g h → ⊥) × LabelClash n t g h)
     unfolding any-size-lift lift-any-size
     unification-clash =
         let (there, back) =
@@ -331,7 +330,7 @@ module _ (n : ℕ) (t : List ℕ) (ok : accepted n t ≡ true) where
             (lift-any-size n t ok g a) (lift-any-size n t ok h b) .0 bad C (lift n t ok k) (lift-any-size n t ok k size)
             (below-lift n t ok k g (size .typed) (a .typed) .0 x) (below-lift n t ok k h (size .typed) (b .typed) .0 y)
 
-        found : (o : Unified (TypeBelow n) (A ⊎ B)) → answers ≡ o → NoneBelow → (answer ≡ cycle) ⊎ (answer ≡ clash)
+        found : (o : Unified (KnownLabel n) (A ⊎ B)) → answers ≡ o → NoneBelow → (answer ≡ cycle) ⊎ (answer ≡ clash)
         found cycle q no-graph = inl (answer-cycle .1 q)
         found clash q no-graph = inr (answer-clash .1 q)
         found (unified w) q no-graph =
@@ -394,15 +393,15 @@ module _ (n : ℕ) (t : List ℕ) (ok : accepted n t ≡ true) where
         let second = same-greatest j k w m w (same-sym means) (same-refl w) (greatest-sides k j w first) in
         refuted (ℕ ⊎ ℕ) w (greatest-sides m k w second)
 
-  -- "Difference", of graphs of any size: `set` is what the theory of graphs asks for, over types.
+  -- "Difference", of graphs of any size: `set` is what the theory of graphs asks for, over labels of the table.
   module _ {A B : Type 0} (sameA : A → A → Bool) (sameB : B → B → Bool) (earlier : Link A → Link A → Bool) (s : Graph Label A) (ss : List A)
-      (g : Graph Label B) (gs : List B) (over : B → A) (wanted : A → TypeBelow n) (a : OfAnySize n t s) (b : OfAnySize n t g)
+      (g : Graph Label B) (gs : List B) (over : B → A) (wanted : A → KnownLabel n) (a : OfAnySize n t s) (b : OfAnySize n t g)
       (set : Setting law sameA sameB earlier (lift n t ok s) ss (lift n t ok g) gs over wanted) where
-    -- the difference over numbers and over types
+    -- the difference over labels and over labels of the table
     abbrev pub d : Graph Label A
     d = difference raw sameA sameB earlier s ss g gs over (λ v. wanted v .0)
 
-    abbrev dᴸ : Graph (TypeBelow n) A
+    abbrev dᴸ : Graph (KnownLabel n) A
     dᴸ = difference law sameA sameB earlier (lift n t ok s) ss (lift n t ok g) gs over wanted
 
     d-lower : d ≡ lower dᴸ

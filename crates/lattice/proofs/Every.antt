@@ -115,7 +115,7 @@ last-passes p (suc n) c h = go (last-passes p n c) (p n) refl where
       let r : (c < n) × (p c ≡ true) = before (rw e at h) in
       (omega arith, r .1)
 
-pub found-some : (o : Option ℕ) → found o ≡ true → (c : ℕ) × (o ≡ some c)
+pub found-some : {A : Type 0} (o : Option A) → found o ≡ true → (c : A) × (o ≡ some c)
 found-some none h = let z : _≡_ {A = ℕ} 0 1 = cc in absurd (omega arith)
 found-some (some c) h = (c, refl)
 

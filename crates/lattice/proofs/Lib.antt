@@ -14,6 +14,9 @@ pub mod Residuals
 pub mod Restoring
 pub mod Primes
 pub mod Lawful
+pub mod WantedLabels
 pub mod Relabel
+pub mod Embedding
 pub mod Transfer
 pub mod AnySize
+pub mod Plain

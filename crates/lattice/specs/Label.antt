@@ -1,16 +1,32 @@
--- The label of a node: what a record says of it beside its links. It is the node's type (document 01, "Graph record": "one type
--- byte").
+-- The label of a node: what a record says of it beside its links. It is the node's type and its range of levels (document 02, Paper 7:
+-- "Bits 0 to 6 of the type byte are the type; bit 7 says that two bytes follow it, lowest and highest level, 0 to 255").
+use mathlib.Core.Bool.{Bool, _&&_}
 use mathlib.Core.List.{List}
 use Prim.Native.Nat.{ℕ}
+use lib.Dec.{eqb}
 use Rattle.graphs.specs.Graph.{Graph}
 use Rattle.graphs.specs.Rows.{Row, graphOf}
 
+-- a type with a range of levels
+pub record Ranged (T : Type 0) : Type 0 where
+  pub type : T
+  pub lowest : ℕ
+  pub highest : ℕ
+
 abbrev pub Label : Type 0
-Label = ℕ
+Label = Ranged ℕ
+
+-- a type without a range: "without the bit the range is 0 to 255"
+abbrev pub plain : {T : Type 0} → T → Ranged T
+plain a = record { type = a; lowest = 0; highest = 255 }
+
+-- whether a range is the full one
+unfoldable pub isFull : Label → Bool
+isFull l = eqb (l .lowest) 0 && eqb (l .highest) 255
 
 -- the label past the end of a list of rows
 abbrev pub noLabel : Label
-noLabel = 0
+noLabel = plain 0
 
 -- the graph that rows state
 abbrev pub graphOfRows : List (Row Label) → Graph Label ℕ

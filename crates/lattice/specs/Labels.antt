@@ -1,23 +1,24 @@
--- The types of a table as labels of graphs: numbers below n with the order, meets and joins of the table, n - 1 as top and 0 as the
--- contradiction (document 01, "Type table"); graphs of any size over a table, bounds among them, what combines two of them
--- over paths, and the wanted types of their difference.
-use Prim.Native.Nat.{ℕ, _-_, _<_}
+-- The labels of a table: its types with the order, meets and joins of the table, n - 1 as top and 0 as the contradiction (document 01,
+-- "Type table"), and with each a range of levels (document 02, Paper 7); graphs of any size over a table, bounds among them, what
+-- combines two of them over paths, and the wanted labels of their difference.
+use Prim.Native.Nat.{ℕ, suc, _-_, _<_, _≤_, min, max}
 use mathlib.Core.Path.{_≡_}
-use mathlib.Core.Bool.{true}
+use mathlib.Core.Bool.{true, cond, _&&_, _||_}
 use mathlib.Core.List.{List}
 use mathlib.Core.Logic.{_↔_}
-use mathlib.Core.Option.{some}
-use lib.Dec.{eqb}
+use mathlib.Core.Option.{Option, some, Option·map}
+use lib.Dec.{leb, eqb}
 use Rattle.graphs.specs.Label.{Labels}
 use Rattle.graphs.specs.Graph.{Graph, walk, Reached, Corefer, Below, AnySize}
 use Rattle.graphs.specs.Unify.{Joined, UnderClass}
-use Rattle.lattice.specs.Label.{Label}
-use Rattle.lattice.specs.Table.{below, meet, join, cell}
+use Rattle.lattice.specs.Label.{Ranged, Label, plain}
+use Rattle.lattice.specs.Table.{below, meet, join, cell, wanted}
 
+-- the types of a table alone, without ranges
 abbrev pub typeLabels : ℕ → List ℕ → Labels
 typeLabels n t =
     record {
-      L = Label;
+      L = ℕ;
       le = below t;
       meet = λ a b. cell (meet n t a b);
       join = λ a b. cell (join n t a b);
@@ -25,68 +26,118 @@ typeLabels n t =
       contradiction = λ a. eqb a 0;
     }
 
--- every node has one of the table's n types
+-- Types with ranges. "Below now also asks that the range lies inside; the common part takes the smallest range holding both, the
+-- combination the overlap, and an empty overlap is a clash." A lowest level above the highest is a range like any other here, so
+-- each law holds for type, lowest and highest level alone.
+abbrev pub withRanges : Labels → Labels
+withRanges 𝓣 =
+    record {
+      L = Ranged (𝓣 .L);
+      le = λ x y. 𝓣 .le (x .type) (y .type) && leb (y .lowest) (x .lowest) && leb (x .highest) (y .highest);
+      meet = λ x y.
+          record {
+            type = 𝓣 .meet (x .type) (y .type);
+            lowest = max (x .lowest) (y .lowest);
+            highest = min (x .highest) (y .highest);
+          };
+      join = λ x y.
+          record {
+            type = 𝓣 .join (x .type) (y .type);
+            lowest = min (x .lowest) (y .lowest);
+            highest = max (x .highest) (y .highest);
+          };
+      top = plain (𝓣 .top);
+      contradiction = λ x. 𝓣 .contradiction (x .type) || leb (suc (x .highest)) (x .lowest);
+    }
+
+-- the labels of a table
+abbrev pub tableLabels : ℕ → List ℕ → Labels
+tableLabels n t = withRanges (typeLabels n t)
+
+-- a label of a table: one of its n types, and levels "0 to 255"
+pub record Known (n : ℕ) (x : Label) : Type 0 where
+  pub type : x .type < n
+  pub lowest : x .lowest ≤ 255
+  pub highest : x .highest ≤ 255
+
+-- every node has a label of the table
 abbrev pub Typed : {A : Type 0} → ℕ → Graph Label A → Type 0
-Typed {A} n g = (v : A) → Reached g v → g .label v < n
+Typed {A} n g = (v : A) → Reached g v → Known n (g .label v)
 
 -- "A graph of any size keeps every rule of an accepted record but the counts of nodes and links": with them the rule that no type
 -- is "at least n".
 pub record OfAnySize (n : ℕ) (t : List ℕ) {A : Type 0} (g : Graph Label A) : Type 0 where
-  pub any-size : AnySize (typeLabels n t) g
+  pub any-size : AnySize (tableLabels n t) g
   pub typed : Typed n g
 
 -- k is a graph of any size above both graphs, and below every graph of any size that lies above both.
 pub record LeastOfAnySize (n : ℕ) (t : List ℕ) {A B C : Type 0} (g : Graph Label A) (h : Graph Label B) (k : Graph Label C) : Type 1 where
   pub of-any-size : OfAnySize n t k
-  pub left : Below (typeLabels n t) g k
-  pub right : Below (typeLabels n t) h k
-  pub least : {D : Type 0} (m : Graph Label D) → OfAnySize n t m → Below (typeLabels n t) g m → Below (typeLabels n t) h m →
-      Below (typeLabels n t) k m
+  pub left : Below (tableLabels n t) g k
+  pub right : Below (tableLabels n t) h k
+  pub least : {D : Type 0} (m : Graph Label D) → OfAnySize n t m → Below (tableLabels n t) g m → Below (tableLabels n t) h m →
+      Below (tableLabels n t) k m
 
 -- k is a graph of any size below both graphs, and above every graph of any size that lies below both.
 pub record GreatestOfAnySize (n : ℕ) (t : List ℕ) {A B C : Type 0} (g : Graph Label A) (h : Graph Label B) (k : Graph Label C) : Type 1 where
   pub of-any-size : OfAnySize n t k
-  pub left : Below (typeLabels n t) k g
-  pub right : Below (typeLabels n t) k h
-  pub greatest : {D : Type 0} (m : Graph Label D) → OfAnySize n t m → Below (typeLabels n t) m g → Below (typeLabels n t) m h →
-      Below (typeLabels n t) m k
+  pub left : Below (tableLabels n t) k g
+  pub right : Below (tableLabels n t) k h
+  pub greatest : {D : Type 0} (m : Graph Label D) → OfAnySize n t m → Below (tableLabels n t) m g → Below (tableLabels n t) m h →
+      Below (tableLabels n t) m k
 
 module _ (n : ℕ) (t : List ℕ) {A B : Type 0} (g : Graph Label A) (h : Graph Label B) where
-  -- "A class has the meet of all types in it": the greatest of the table's n types below each.
-  pub record TypesMeet (p : List ℕ) (a : ℕ) : Type 0 where
-    pub under : UnderClass (typeLabels n t) g h p a
-    pub greatest : (b : ℕ) → b < n → UnderClass (typeLabels n t) g h p b → below t b a ≡ true
+  -- "A class has the meet of all types in it", and the overlap of all ranges: the greatest of the table's labels below each.
+  pub record LabelsMeet (p : List ℕ) (a : Label) : Type 0 where
+    pub known : Known n a
+    pub under : UnderClass (tableLabels n t) g h p a
+    pub greatest : (b : Label) → Known n b → UnderClass (tableLabels n t) g h p b → tableLabels n t .le b a ≡ true
 
-  -- "Combination": the paths of u and which of them share are those of the classes, and so are its types.
+  -- "Combination": the paths of u and which of them share are those of the classes, and so are its labels.
   pub record IsCombination {C : Type 0} (u : Graph Label C) : Type 0 where
     pub corefers : (p q : List ℕ) → Corefer u p q ↔ Joined g h p q
-    pub types : (p : List ℕ) (x : C) → walk u p ≡ some x → TypesMeet p (u .label x)
+    pub labels : (p : List ℕ) (x : C) → walk u p ≡ some x → LabelsMeet p (u .label x)
 
-  -- "A clash is a class whose meet is type 0."
-  abbrev pub TypeClash : Type 0
-  TypeClash = (p : List ℕ) × Joined g h p p × TypesMeet p 0
+  -- "A clash is a class whose meet is type 0", "and an empty overlap is a clash".
+  abbrev pub LabelClash : Type 0
+  LabelClash = (p : List ℕ) × (a : Label) × Joined g h p p × LabelsMeet p a × (tableLabels n t .contradiction a ≡ true)
+
+-- A level that is wanted of p over q: the widest where they are one, else that of p.
+abbrev pub wantedLevel : ℕ → ℕ → ℕ → ℕ
+wantedLevel widest p q = cond (eqb p q) widest p
+
+-- a type with the wanted range, "the widest whose overlap with the general side's .. equals that of s": each level is looked for alone
+abbrev pub wantedRange : Label → Label → ℕ → Label
+wantedRange p q c =
+    record { type = c; lowest = wantedLevel 0 (p .lowest) (q .lowest); highest = wantedLevel 255 (p .highest) (q .highest) }
+
+-- The wanted label, for the meet q of all g labels over a node and the label p in s: the wanted type, with the wanted
+-- range; none where there is no wanted type.
+unfoldable pub wantedLabel : ℕ → List ℕ → Label → Label → Option Label
+wantedLabel n t p q = Option·map (wantedRange p q) (wanted n t (p .type) (q .type))
 
 module _ (n : ℕ) (t : List ℕ) {A B : Type 0} (s : Graph Label A) (g : Graph Label B) where
-  -- a type is below each type of g over the node v of s: "Each path of g leads to one node of s, so nodes and links of g lie over
+  -- a label is below each label of g over the node v of s: "Each path of g leads to one node of s, so nodes and links of g lie over
   -- those of s"
-  abbrev pub BelowOver : A → ℕ → Type 0
-  BelowOver v a = (p : List ℕ) (y : B) → walk s p ≡ some v → walk g p ≡ some y → below t a (g .label y) ≡ true
+  abbrev pub BelowOver : A → Label → Type 0
+  BelowOver v a = (p : List ℕ) (y : B) → walk s p ≡ some v → walk g p ≡ some y → tableLabels n t .le a (g .label y) ≡ true
 
-  -- "the meet of all g types over this node (top if none)": the greatest of the table's n types below each
-  pub record MeetOver (v : A) (q : ℕ) : Type 0 where
-    pub type : q < n
+  -- "the meet of all g types over this node (top if none)", and the overlap of their ranges "(full where nothing of g lies over)":
+  -- the greatest of the table's labels below each
+  pub record MeetOver (v : A) (q : Label) : Type 0 where
+    pub known : Known n q
     pub under : BelowOver v q
-    pub greatest : (b : ℕ) → b < n → BelowOver v b → below t b q ≡ true
+    pub greatest : (b : Label) → Known n b → BelowOver v b → tableLabels n t .le b q ≡ true
 
-  -- "The wanted type is the greatest type whose meet with the meet of all g types over this node (top if none) equals the type in s":
-  -- c is that of the node v.
-  pub record WantedAt (v : A) (c : ℕ) : Type 0 where
-    pub over : ℕ
+  -- "The wanted type is the greatest type whose meet with the meet of all g types over this node (top if none) equals the type in s",
+  -- and "the wanted range is the widest whose overlap with the general side's .. equals that of s": c is both of the node v.
+  pub record WantedAt (v : A) (c : Label) : Type 0 where
+    pub over : Label
     pub is-over : MeetOver v over
-    pub type : c < n
-    pub restores : meet n t c over ≡ some (s .label v)
-    pub greatest : (d : ℕ) → d < n → meet n t d over ≡ some (s .label v) → below t d c ≡ true
+    pub known : Known n c
+    pub restores : tableLabels n t .meet c over ≡ s .label v
+    pub greatest : (d : Label) → Known n d → tableLabels n t .meet d over ≡ s .label v → tableLabels n t .le d c ≡ true
 
-  -- "some node of s has no wanted type"
+  -- "some node of s has no wanted type"; a wanted range it always has
   abbrev pub SomeUnwanted : Type 0
-  SomeUnwanted = (v : A) × Reached s v × ((c : ℕ) → WantedAt v c → ⊥)
+  SomeUnwanted = (v : A) × Reached s v × ((c : Label) → WantedAt v c → ⊥)

@@ -29,7 +29,7 @@ implies a b = not a || b
 unfoldable pub below : List ℕ → ℕ → ℕ → Bool
 below t j i = eqb ((getD t (8 * i + j / 8) 0 / 2 ^ (j % 8)) % 2) 1
 
-abbrev pub found : Option ℕ → Bool
+abbrev pub found : {A : Type 0} → Option A → Bool
 found none = false
 found (some c) = true
 

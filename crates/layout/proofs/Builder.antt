@@ -1,5 +1,5 @@
--- The builder's laws: to begin, to put a link behind others, to close a row that has its header and its links; the graph that stands
--- once the number of nodes is stated; and what a store elsewhere keeps.
+-- The builder's laws: to begin, to open a row with its label, to put a link behind others, to close a row that has its header and its
+-- links; the graph that stands once the number of nodes is stated; and what a store elsewhere keeps.
 use mathlib.Core.Path.{_≡_, refl, sym, _∙_, ap, ap₂, subst}
 use mathlib.Core.List.{List, [], _∷_, _++_, map, List·Memᴰ, List·Memᴰ·head, List·Memᴰ·tail}
 use Prim.Native.Nat.{ℕ, zero, suc, _+_, _-_, _*_, _/_, _%_, _≤_, _<_}
@@ -12,8 +12,9 @@ use lib.Seq.{slice, getD-set-same, getD-set-other}
 use Rattle.graphs.specs.Rows.{Row}
 use Rattle.graphs.specs.Large.{Ascending}
 use Rattle.lattice.specs.Label.{Label}
-use Rattle.layout.specs.Layout.{header, scale, labelFrom, linkOf, linkWord, size, rowFrom, linksFrom, rowEnd, labelAt, featureAt, targetAt, linksBetween, linksAt, rowsFrom, rowsOf, Node, Shaped, Sound}
-use Rattle.layout.specs.Builder.{Built, Open, Same}
+use Rattle.lattice.specs.Labels.{Known}
+use Rattle.layout.specs.Layout.{header, levels, scale, labelFrom, linkOf, linkWord, size, rowFrom, linksFrom, rowEnd, labelAt, featureAt, targetAt, linksBetween, linksAt, rowsFrom, rowsOf, Node, Shaped, Sound}
+use Rattle.layout.specs.Builder.{Built, Open, Same, putLabel}
 use Rattle.layout.proofs.Spans.{linkAt, slice-same, links-more, links-at, places-ascending}
 use Rattle.layout.proofs.Rows.{rows-member, rows-more, rows-alike}
 
@@ -31,7 +32,39 @@ same-trans a b c p q k low high = q k low high ∙ p k low high
 
 -- a label depends on its header
 pub label-same : (ws ws′ : List ℕ) (k : ℕ) → Same ws ws′ k (k + header) → labelFrom ws′ k ≡ labelFrom ws k
-label-same ws ws′ k same = same k (omega arith) (omega arith)
+label-same ws ws′ k same =
+    ap₂ {C = Label} (λ (a r : ℕ). record { type = a; lowest = r / levels; highest = r % levels }) (same k (omega arith) (omega arith))
+    (same (k + 1) (omega arith) (omega arith))
+
+-- A label that is put: the words keep their length and the rest, and hold it.
+module _ (ws : List ℕ) (at : ℕ) (l : Label) where
+  abbrev word : ℕ
+  word = l .lowest * levels + l .highest
+
+  pub length-put : length (putLabel ws at l) ≡ length ws
+  unfolding putLabel
+  length-put = length-set (set ws at (l .type)) (at + 1) word ∙ length-set ws at (l .type)
+
+  pub put-before : (a b : ℕ) → b ≤ at → Same ws (putLabel ws at l) a b
+  unfolding putLabel
+  put-before a b h =
+      same-trans ws (set ws at (l .type)) (putLabel ws at l) (same-before ws at (l .type) a b h)
+      (same-before (set ws at (l .type)) (at + 1) word a b (omega arith))
+
+  pub put-behind : (a b : ℕ) → at + header ≤ a → Same ws (putLabel ws at l) a b
+  unfolding putLabel
+  put-behind a b h =
+      same-trans ws (set ws at (l .type)) (putLabel ws at l) (same-behind ws at (l .type) a b (omega arith))
+      (same-behind (set ws at (l .type)) (at + 1) word a b (omega arith))
+
+  pub label-put : at + header ≤ length ws → l .highest ≤ 255 → labelFrom (putLabel ws at l) at ≡ l
+  unfolding putLabel
+  label-put room high =
+      ap₂ {C = Label} (λ (a r : ℕ). record { type = a; lowest = r / levels; highest = r % levels })
+      (getD-set-other (set ws at (l .type)) (at + 1) at word 0 (λ (e : at ≡ at + 1). omega arith)
+      ∙ getD-set-same ws at (l .type) 0 (omega arith))
+      (getD-set-same (set ws at (l .type)) (at + 1) word 0 (omega (arith, length-set ws at (l .type))))
+      ∙ ap₂ {C = Label} (λ (x y : ℕ). record { type = l .type; lowest = x; highest = y }) (omega arith) (omega arith)
 
 pub links-same : (ws ws′ : List ℕ) (a b : ℕ) → a ≤ b → b ≤ length ws → length ws′ ≡ length ws → Same ws ws′ a b →
     linksBetween ws′ a b ≡ linksBetween ws a b
@@ -94,6 +127,23 @@ built-begin ws base low high =
       begun = λ v h. absurd (omega arith);
       ended = λ v h. absurd (omega arith);
     }
+
+-- To open the row: a label is put where it begins. The row has no links yet, and the rows before it are kept.
+module _ {ws : List ℕ} {base i at : ℕ} (b : Built ws base i at) (l : Label) (room : at + header ≤ length ws) where
+  pub row-opens : Open (putLabel ws at l) base i at (at + header)
+  row-opens =
+      record {
+        built =
+            built-kept b (putLabel ws at l) (length-put ws at l)
+            (put-before ws at l 1 (i + 2) (omega (arith, b .listed, b .low)));
+        headed = omega arith;
+        inside = omega (arith, length-put ws at l);
+      }
+
+  pub opened-rows : rowsFrom (putLabel ws at l) 0 i ≡ rowsFrom ws 0 i
+  opened-rows =
+      rows-kept b (putLabel ws at l) (length-put ws at l) (put-before ws at l 1 (i + 2) (omega (arith, b .listed, b .low)))
+      (put-before ws at l base at (omega arith))
 
 -- To close the row: the next one begins where it ends.
 module _ {ws : List ℕ} {base i at end : ℕ} (o : Open ws base i at end) (room : i + 2 < base) where
@@ -170,7 +220,7 @@ module _ {ws : List ℕ} {base i at : ℕ} (b : Built ws base i at) where
 
 -- Rows of a graph: labels that a record can state, and features that ascend below 64.
 pub record Orderly (rows : List (Row Label)) : Type 0 where
-  pub labels : (r : Row Label) → List·Memᴰ r rows → r .0 < 256
+  pub labels : (r : Row Label) → List·Memᴰ r rows → Known 128 (r .0)
   pub ascends : (r : Row Label) → List·Memᴰ r rows → Ascending (r .1)
   pub features : (r : Row Label) → List·Memᴰ r rows → (l : ℕ × ℕ) → List·Memᴰ l (r .1) → l .0 < 64
 

@@ -44,6 +44,6 @@ module _ (ws : List ℕ) where
         shaped .node k (omega arith) .begun,
       )
 
--- a record's rows are at most 2,303 words: 255 headers and 2,048 links
-pub words-few : {ws : List ℕ} → Recorded ws → rowsEnd ws ≤ rowFrom ws 0 + 2303
+-- a record's rows are at most 2,558 words: 255 headers of two and 2,048 links
+pub words-few : {ws : List ℕ} → Recorded ws → rowsEnd ws ≤ rowFrom ws 0 + 2558
 words-few {ws} r = omega (arith, rows-end ws (r .sound .shaped) (size ws) (omega arith), r .small, r .short)

@@ -1,9 +1,23 @@
 -- How words come to hold a graph: row after row, each opened with its header, given its links and closed; the number of nodes last.
 use mathlib.Core.Path.{_≡_}
 use mathlib.Core.List.{List}
-use Prim.Native.Nat.{ℕ, _+_, _≤_, _<_}
-use lib.ListN.{length, getD}
-use Rattle.layout.specs.Layout.{header, rowFrom, linksFrom, rowEnd}
+use Prim.Native.Nat.{ℕ, _+_, _*_, _≤_, _<_}
+use lib.ListN.{length, getD, set}
+use Rattle.lattice.specs.Label.{Ranged}
+use Rattle.layout.specs.declared.Label.{Label}
+use Rattle.layout.specs.Layout.{header, levels, rowFrom, linksFrom, rowEnd}
+
+-- the label that a value of the code states
+abbrev pub stated : Label → Ranged ℕ
+stated l = record { type = l .kind; lowest = l .lowest; highest = l .highest }
+
+-- the value of the code that states a label
+abbrev pub unstated : Ranged ℕ → Label
+unstated l = record { kind = l .type; lowest = l .lowest; highest = l .highest }
+
+-- words with a label stored as the header at a place
+unfoldable pub putLabel : List ℕ → ℕ → Ranged ℕ → List ℕ
+putLabel ws at l = set (set ws at (l .type)) (at + 1) (l .lowest * levels + l .highest)
 
 -- The first i rows stand between `base` and `at`, where the next one is to begin. The places below `base` say where rows begin.
 pub record Built (ws : List ℕ) (base i at : ℕ) : Type 0 where

@@ -1,7 +1,8 @@
 -- A decoded graph as one list of words:
 --   word 0               the number of nodes, N
 --   word 1 + v, v <= N   where the row of node v begins; word 1 + N is where the last row ends
---   a row                its header, which is the label, and one word for each link, features ascending
+--   a row                its header, which holds the label, and one word for each link, features ascending
+--   a header             the type, and lowest * levels + highest
 --   a link's word        feature * scale + target
 -- Rows need not begin right behind the places where they begin.
 use mathlib.Core.List.{List, [], _∷_, map}
@@ -12,15 +13,20 @@ use Rattle.graphs.specs.Graph.{Graph}
 use Rattle.graphs.specs.Rows.{Row}
 use Rattle.graphs.specs.Large.{linksIn}
 use Rattle.lattice.specs.Label.{Label}
+use Rattle.lattice.specs.Labels.{Known}
 pub use Rattle.lattice.specs.Label.{graphOfRows}
 
 -- The header's length, the label that a header holds, and the packing of a link stand here and in the crate's code alone.
 
 abbrev pub header : ℕ
-header = 1
+header = 2
+
+-- 8 bits for each level
+abbrev pub levels : ℕ
+levels = 256
 
 abbrev pub labelFrom : List ℕ → ℕ → Label
-labelFrom ws k = getD ws k 0
+labelFrom ws k = record { type = getD ws k 0; lowest = getD ws (k + 1) 0 / levels; highest = getD ws (k + 1) 0 % levels }
 
 -- 6 bits for the feature, 10 for the target
 abbrev pub scale : ℕ
@@ -92,7 +98,7 @@ pub record Shaped (ws : List ℕ) : Type 0 where
   pub few : size ws ≤ 510
   pub behind : size ws + 2 ≤ rowFrom ws 0
   pub node : (v : ℕ) → v < size ws → Node ws v
-  pub labelled : (v : ℕ) → v < size ws → labelAt ws v < 256
+  pub labelled : (v : ℕ) → v < size ws → Known 128 (labelAt ws v)
   pub known : (v k : ℕ) → v < size ws → linksFrom ws v ≤ k → k < rowEnd ws v → featureAt ws k < 64
   pub ascending : (v k : ℕ) → v < size ws → linksFrom ws v ≤ k → k + 1 < rowEnd ws v → featureAt ws k < featureAt ws (k + 1)
 
@@ -106,13 +112,17 @@ pub record Recorded (ws : List ℕ) : Type 0 where
   pub sound : Sound ws
   pub small : size ws ≤ 255
   pub short : linksIn (rowsOf ws) ≤ 2048
-  pub typed : (v : ℕ) → v < size ws → labelAt ws v < 64
+  pub typed : (v : ℕ) → v < size ws → Known 64 (labelAt ws v)
 
 -- a link of node v stands at place k
 pub record Place (ws : List ℕ) (v k : ℕ) : Type 0 where
   pub inside : v < size ws
   pub low : linksFrom ws v ≤ k
   pub high : k < rowEnd ws v
+
+-- the most words of a record's graph: the number of nodes, 256 places, 255 headers and 2,048 links
+abbrev pub longest : ℕ
+longest = 1 + 256 + 255 * header + 2048
 
 -- where the last row ends
 abbrev pub rowsEnd : List ℕ → ℕ

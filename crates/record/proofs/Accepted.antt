@@ -1,24 +1,28 @@
 -- Accepted records: the rules that their rows keep, stated without bytes; that rows which keep them state a graph of any size, and
 -- one that fits, so that an accepted record can always be written. Nothing here asks that the table's types are a lattice.
 use mathlib.Core.Path.{_≡_, refl}
+use mathlib.Core.Bool.{false}
 use mathlib.Core.List.{List, [], List·Memᴰ}
+use mathlib.Core.Logic.{inl, inr, ⊎-elim}
 use Prim.Native.Nat.{ℕ, _≤_, _<_}
 use native.Mathlib.Omega.{arith}
-use borrow.Author.Tests.{ne-eqb}
+use native.Mathlib.Decide.{ℕ-discrete, decLe}
 use lib.Dec.{eqb}
 use lib.ListN.{length, getD}
-use Rattle.graphs.specs.Graph.{AnySize}
+use Rattle.graphs.specs.Graph.{AnySize, Reached}
 use Rattle.graphs.specs.Rows.{Row, from}
 use Rattle.graphs.specs.Number.{canonical, written}
 use Rattle.graphs.specs.Large.{linksIn}
 use Rattle.graphs.proofs.Lists.{from-range, tells-eqb}
-use Rattle.graphs.proofs.Search.{true-false}
+use Rattle.graphs.proofs.Search.{true-false, not-true}
 use Rattle.graphs.proofs.Form.Large.{canonical-fits}
-use Rattle.lattice.specs.Label.{Label}
-use Rattle.lattice.specs.Labels.{typeLabels, OfAnySize}
+use Rattle.lattice.specs.Label.{Label, noLabel}
+use Rattle.lattice.specs.Labels.{tableLabels, Known, OfAnySize}
+use Rattle.lattice.proofs.Lawful.{contradiction-parts, contradiction-from}
 use Rattle.record.specs.Read.{graphOfRows, reading, accepted}
-use Rattle.record.proofs.Readings.{Stands, InRange, reading-says, in-range}
+use Rattle.record.proofs.Readings.{Stands, LabelInRange, InRange, reading-says, in-range}
 use Rattle.decode.proofs.Decoded.{Proper, decoded-says}
+use Rattle.record.proofs.Labels.{SevenBits, decoded-types}
 use Rattle.record.proofs.Nodes.{Linked, decoded-linked, node-row, reached-inside, reached-listed, narrow, few-nodes, few-links}
 use Rattle.record.proofs.Reaching.{SelfReach, AllReached, cyclic-exact, reaches-exact}
 
@@ -28,6 +32,7 @@ pub record Rules (n : ℕ) (rows : List (Row Label)) : Type 0 where
   pub short : length rows ≤ 255
   pub links : linksIn rows ≤ 2048
   pub ordered : (r : Row Label) → List·Memᴰ r rows → Proper r
+  pub types : SevenBits rows
   pub ranged : InRange n rows
   pub acyclic : SelfReach rows → ⊥
   pub reached : AllReached rows
@@ -37,7 +42,7 @@ rules-linked rules =
     record {
       nonempty = rules .nonempty;
       features = λ r m. rules .ordered r m .1;
-      targets = λ r m. rules .ranged r m .2;
+      targets = λ r m. rules .ranged r m .1;
     }
 
 -- an accepted record keeps the rules
@@ -55,14 +60,38 @@ accepted-rules n bytes rows ok = rules (reading-says n bytes (accepted rows) .0 
           short = short;
           links = says .few-links;
           ordered = says .ordered;
+          types = decoded-types bytes rows parsed;
           ranged = ranged;
           acyclic = λ s. true-false (cyclic-exact rows linked .1 s) acyclic;
           reached = reached;
         }
 
+-- A label of the table is in range exactly where it is no contradiction.
+module _ (n : ℕ) (t : List ℕ) {l : Label} where
+  in-range-consistent : LabelInRange n l → tableLabels n t .contradiction l ≡ false
+  in-range-consistent (nonzero, _, up) =
+      not-true (tableLabels n t .contradiction l)
+      (λ e. ⊎-elim (λ (z : l .type ≡ 0). omega arith) (λ (h : l .highest < l .lowest). omega arith) (contradiction-parts n t l e))
+
+  pub consistent-in-range : Known n l → tableLabels n t .contradiction l ≡ false → LabelInRange n l
+  consistent-in-range known e = (nonzero (ℕ-discrete (l .type) 0), known, up (decLe (l .lowest) (l .highest)))
+    where
+      nonzero : Dec (l .type ≡ 0) → 0 < l .type
+      nonzero (yes z) = true-false (contradiction-from n t l (inl z)) e
+      nonzero (no d) = omega arith
+
+      up : Dec (l .lowest ≤ l .highest) → l .lowest ≤ l .highest
+      up (yes h) = h
+      up (no d) = true-false (contradiction-from n t l (inr (omega arith))) e
+
 module _ (n : ℕ) (rows : List (Row Label)) (rules : Rules n rows) where
+  -- the label of a reached node is that of a row
+  reached-label : (P : Label → Type 0) → ((r : Row Label) → List·Memᴰ r rows → P (r .0)) → (v : ℕ) → Reached (graphOfRows rows) v →
+      P (graphOfRows rows .label v)
+  reached-label P each v r = each (getD rows v (noLabel, [])) (node-row rows v (reached-inside rows (rules-linked rules) v r))
+
   -- "A graph of any size keeps every rule of an accepted record but the counts"
-  rules-any-size : (t : List ℕ) → AnySize (typeLabels n t) (graphOfRows rows)
+  rules-any-size : (t : List ℕ) → AnySize (tableLabels n t) (graphOfRows rows)
   rules-any-size t =
       record {
         nodes = from 0 (length rows);
@@ -71,9 +100,7 @@ module _ (n : ℕ) (rows : List (Row Label)) (rules : Rules n rows) where
           λ m. rules .reached v (omega (arith, from-range 0 (length rows) v m)),
         );
         features = narrow rows (rules-linked rules);
-        consistent = λ v r.
-            let (nonzero, _, _) = rules .ranged (getD rows v (0, [])) (node-row rows v (reached-inside rows (rules-linked rules) v r)) in
-            ne-eqb (graphOfRows rows .label v) 0 (λ e. omega arith);
+        consistent = λ v r. in-range-consistent n t (reached-label (LabelInRange n) (λ x m. rules .ranged x m .0) v r);
         acyclic = λ v f p r e. rules .acyclic (v, reached-inside rows (rules-linked rules) v r, f, p, e);
       }
 
@@ -82,10 +109,12 @@ module _ (n : ℕ) (rows : List (Row Label)) (rules : Rules n rows) where
   rules-of-any-size t =
       record {
         any-size = rules-any-size t;
-        typed = λ v r.
-            let (_, known, _) = rules .ranged (getD rows v (0, [])) (node-row rows v (reached-inside rows (rules-linked rules) v r)) in
-            known;
+        typed = reached-label (Known n) (λ x m. rules .ranged x m .0 .1);
       }
+
+  -- and of seven bits
+  pub rules-types : (v : ℕ) → Reached (graphOfRows rows) v → graphOfRows rows .label v .type < 128
+  rules-types = reached-label (λ l. l .type < 128) (rules .types)
 
   -- its nodes are the numbers of the rows
   pub rules-nodes : (t : List ℕ) → rules-of-any-size t .any-size .nodes ≡ from 0 (length rows)

@@ -14,6 +14,7 @@ use Rattle.graphs.proofs.Search.{true-false}
 use Rattle.layout.specs.Layout.{size, rowFrom, linksFrom, rowEnd, labelAt, targetAt, Shaped}
 use Rattle.visits.specs.Colouring.{whites}
 use Rattle.visits.proofs.Colouring.{whites-bound}
+use Rattle.record.specs.Read.{labelInRange}
 use Rattle.record.specs.Counts.{hit, among, into, entering, Counted, Within, RowCount, Count, Queued, RowDue, RowTaken}
 
 -- A place that counts.
@@ -341,7 +342,7 @@ module _ {ws incoming : List ℕ} {v k : ℕ} (c : Counting ws v incoming k) whe
 
 -- The first v rows are in range and their links counted.
 pub record Passed (n : ℕ) (ws : List ℕ) (v : ℕ) (incoming : List ℕ) : Type 0 where
-  pub labels : (u : ℕ) → u < v → (0 < labelAt ws u) × (labelAt ws u < n)
+  pub labels : (u : ℕ) → u < v → labelInRange n (labelAt ws u) ≡ true
   pub targets : (u : ℕ) → u < v → Within ws u
   pub counted : Counted ws v incoming
 
@@ -349,17 +350,17 @@ pub passed-none : (n : ℕ) {ws incoming : List ℕ} → Counted ws 0 incoming �
 passed-none n c = record { labels = λ u h. absurd (omega arith); targets = λ u h. absurd (omega arith); counted = c }
 
 module _ {n : ℕ} {ws : List ℕ} {v : ℕ} where
-  pub passed-more : {answer : Bool} {before incoming : List ℕ} → Passed n ws v before → 0 < labelAt ws v → labelAt ws v < n →
+  pub passed-more : {answer : Bool} {before incoming : List ℕ} → Passed n ws v before → labelInRange n (labelAt ws v) ≡ true →
       RowCount ws v answer incoming → answer ≡ true → Passed n ws (v + 1) incoming
-  passed-more p some few row yes-row =
+  passed-more p ranged row yes-row =
       record {
         labels = λ u h. label u (ℕ-discrete u v) h;
         targets = λ u h. target u (ℕ-discrete u v) h;
         counted = row .yes-stands yes-row .1;
       }
     where
-      label : (u : ℕ) → Dec (u ≡ v) → u < v + 1 → (0 < labelAt ws u) × (labelAt ws u < n)
-      label u (yes e) h = subst (λ (w : ℕ). (0 < labelAt ws w) × (labelAt ws w < n)) (sym e) (some, few)
+      label : (u : ℕ) → Dec (u ≡ v) → u < v + 1 → labelInRange n (labelAt ws u) ≡ true
+      label u (yes e) h = subst (λ (w : ℕ). labelInRange n (labelAt ws w) ≡ true) (sym e) ranged
       label u (no d) h = p .labels u (omega arith)
 
       target : (u : ℕ) → Dec (u ≡ v) → u < v + 1 → Within ws u
@@ -377,8 +378,8 @@ module _ {n : ℕ} {ws : List ℕ} {v : ℕ} where
       }
 
   -- a row is out of range
-  pub label-out : {incoming : List ℕ} → v < size ws → ((0 < labelAt ws v) × (labelAt ws v < n) → ⊥) → Count n ws false incoming
-  label-out h out = record { yes-stands = λ e. true-false e refl; no-stands = λ e r. out (r .labels v h) }
+  pub label-out : {incoming : List ℕ} → v < size ws → labelInRange n (labelAt ws v) ≡ false → Count n ws false incoming
+  label-out h out = record { yes-stands = λ e. true-false e refl; no-stands = λ e r. true-false (r .labels v h) out }
 
   pub target-out : {answer : Bool} {incoming : List ℕ} → v < size ws → RowCount ws v answer incoming → answer ≡ false → Count n ws false incoming
   target-out h row no-row = record { yes-stands = λ e. true-false e refl; no-stands = λ e r. row .no-stands no-row (r .targets v h) }

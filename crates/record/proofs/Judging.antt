@@ -1,14 +1,18 @@
 -- The answers of `reading::read`, one for each place where it returns: what the parts found gives the verdict of the definition.
-use mathlib.Core.Path.{_≡_, refl, sym, _∙_, ap, subst}
-use mathlib.Core.Bool.{Bool, true, false}
+use mathlib.Core.Path.{_≡_, refl, sym, _∙_, ap}
+use mathlib.Core.Bool.{Bool, true, false, not}
 use mathlib.Core.List.{List}
 use mathlib.Core.Option.{Option, none, some}
 use Prim.Native.Nat.{ℕ, _≤_}
 use native.Mathlib.Omega.{arith}
+use borrow.Author.Tests.{eqb-true, not-false}
+use lib.Dec.{eqb}
+use lib.ListN.{length}
 use Rattle.graphs.specs.Rows.{Row}
 use Rattle.graphs.proofs.Search.{not-true, true-false}
-use Rattle.lattice.specs.Label.{Label}
-use Rattle.layout.specs.Layout.{size, rowsOf, Shaped, Sound}
+use Rattle.lattice.specs.Label.{Label, plain}
+use Rattle.layout.specs.Layout.{size, labelAt, linksAt, rowsOf, Shaped, Sound}
+use Rattle.layout.proofs.Rows.{rows-member}
 use Rattle.decode.specs.Decode.{decoded}
 use Rattle.decode.specs.Answers.{Held, Parses}
 use Rattle.decode.proofs.Decoded.{Decoded, decoded-says}
@@ -18,12 +22,12 @@ use Rattle.record.specs.declared.reading.Verdict.the-variants.{Accepted,
 use Rattle.record.specs.declared.peeling.Shape.{Shape}
 use Rattle.record.specs.declared.peeling.Shape.the-variants as shapes
 use Rattle.record.specs.Read.{refused, accepted, reading, inRange, cyclic, reachesAll}
-use Rattle.record.specs.Counts.{Count, Counted, Peels, Ranged}
-use Rattle.record.specs.Reads.{Holds, Reads, verdictOf}
-use Rattle.record.proofs.Readings.{Stands, reading-says, in-range}
+use Rattle.record.specs.Counts.{Count, Counted, LevelsOrdered, Peels, Ranged, unrangedLength}
+use Rattle.record.specs.Reads.{Reads, verdictOf}
+use Rattle.record.proofs.Readings.{Stands, reading-says, label-in-range, in-range}
 use Rattle.record.proofs.Nodes as rows
 use Rattle.record.proofs.Reaching.{cyclic-exact}
-use Rattle.record.proofs.Words.{ranged-rows, rows-ranged, looped-rows, sorted-rows, apart-unreached, entered-reaches}
+use Rattle.record.proofs.Words.{held-length, ranged-rows, rows-ranged, looped-rows, sorted-rows, apart-unreached, entered-reaches}
 
 module _ (n : ℕ) (bytes : List ℕ) {ws : List ℕ} {parsed : Bool} (parses : Parses bytes parsed ws) where
   refuses : (fault : GraphFault) → Stands n bytes (refused fault) → Reads n bytes (Refused fault) ws
@@ -73,6 +77,15 @@ module _ (n : ℕ) (bytes : List ℕ) {ws : List ℕ} {parsed : Bool} (parses : 
 
     facts : Decoded bytes own
     facts = decoded-says bytes own (given .is)
+
+    -- a record without bytes for levels states labels with the full range
+    pub levels-ordered : {ranged : Bool} → ranged ≡ not (eqb (length bytes) (unrangedLength ws)) → ranged ≡ false → LevelsOrdered ws
+    levels-ordered e unranged v h =
+        let same : length bytes ≡ unrangedLength ws =
+        eqb-true (length bytes) (unrangedLength ws) (not-false (eqb (length bytes) (unrangedLength ws)) (sym e ∙ unranged)) in
+        let full : labelAt ws v ≡ plain (labelAt ws v .type) =
+        facts .unranged (omega (arith, same, held-length ws)) (labelAt ws v, linksAt ws v) (rows-member ws (size ws) 0 v v (omega arith) h) in
+        omega (arith, ap (λ (l : Label). l .lowest) full, ap (λ (l : Label). l .highest) full)
 
     -- 5
     pub out-of-range : {passed : Bool} {incoming : List ℕ} → Count n ws passed incoming → passed ≡ false →
@@ -129,7 +142,12 @@ module _ (n : ℕ) (bytes : List ℕ) {ws : List ℕ} {parsed : Bool} (parses : 
             record {
               verdict = ap verdictOf (sym is);
               graph = λ rows e.
-                  record { rows-are = alike rows e; sound = sound; small = small; typed = λ v h. ranged .labels v h .1 };
+                  record {
+                    rows-are = alike rows e;
+                    sound = sound;
+                    small = small;
+                    typed = λ v h. label-in-range n (labelAt ws v) .0 (ranged .labels v h) .1;
+                  };
             }
           where
             other : shape ≡ shapes.Cyclic → ⊥

@@ -1,6 +1,8 @@
 -- Proofs about records.
 pub mod Readings
+pub mod Labels
 pub mod RoundTrip
+pub mod Unranged
 pub mod Nodes
 pub mod Reaching
 pub mod Accepted

@@ -31,7 +31,7 @@ use Rattle.graphs.specs.Large.{Distinct, ManyNodes, ManyLinks, linksIn}
 use Rattle.graphs.proofs.Walk.{some-injective, none-some, follow-start}
 use Rattle.graphs.proofs.Lists.{from-member, distinct-bound, tells-eqb}
 use Rattle.graphs.proofs.Below.{member-decided}
-use Rattle.lattice.specs.Label.{Label}
+use Rattle.lattice.specs.Label.{Label, noLabel}
 use Rattle.record.specs.Read.{graphOfRows}
 use Rattle.decode.proofs.Decoded.{getD-member, Decoded}
 use Rattle.record.proofs.Readings.{InRange}
@@ -47,7 +47,7 @@ decoded-linked says ranged =
     record {
       nonempty = says .nonempty;
       features = λ r m. says .ordered r m .1;
-      targets = λ r m. ranged r m .2;
+      targets = λ r m. ranged r m .1;
     }
 
 pub length-from : (f k : ℕ) → length (from f k) ≡ k
@@ -92,7 +92,7 @@ link-node rows v w f e = go (leb (suc v) (length rows)) refl
     go true h = leb-true (suc v) (length rows) h
     go false h =
         let past : length rows ≤ v = omega (arith, leb-false (suc v) (length rows) h) in
-        none-some (sym (ap (λ (r : Row Label). target (r .1) f) (List·getD-eq-default rows (0, []) past)) ∙ e)
+        none-some (sym (ap (λ (r : Row Label). target (r .1) f) (List·getD-eq-default rows (noLabel, []) past)) ∙ e)
 
 -- the links of rows that are numbered from k up, each a node and a feature
 linksFrom : ℕ → List (Row Label) → List (ℕ × ℕ)
@@ -110,7 +110,7 @@ linksFrom-length k (r ∷ rs) =
       linksFrom-length (suc k) rs,
     )
 
-linksFrom-member : (rows : List (Row Label)) (k v i f w : ℕ) → i ≡ k + v → target (getD rows v (0, []) .1) f ≡ some w →
+linksFrom-member : (rows : List (Row Label)) (k v i f w : ℕ) → i ≡ k + v → target (getD rows v (noLabel, []) .1) f ≡ some w →
     List·Memᴰ (i, f) (linksFrom k rows)
 unfolding linksFrom target
 linksFrom-member [] k v i f w q e = none-some e
@@ -127,19 +127,19 @@ few-links rows few (ls, d, all, h) =
     (λ l m. let (w, e) = all l m .1 in linksFrom-member rows 0 (l .0) (l .0) (l .1) w (omega arith) e) in
     omega (arith, linksFrom-length 0 rows)
 
-pub node-row : (rows : List (Row Label)) (v : ℕ) → v < length rows → List·Memᴰ (getD rows v (0, [])) rows
-node-row rows v h = getD-member rows v (0, []) h
+pub node-row : (rows : List (Row Label)) (v : ℕ) → v < length rows → List·Memᴰ (getD rows v (noLabel, [])) rows
+node-row rows v h = getD-member rows v (noLabel, []) h
 
 module _ (rows : List (Row Label)) (linked : Linked rows) where
   pub link-small : (v w f : ℕ) → graphOfRows rows .link v f ≡ some w → f < 64
   link-small v w f e =
-      linked .features (getD rows v (0, [])) (node-row rows v (link-node rows v w f e)) (f, w)
-      (target-source (getD rows v (0, []) .1) f w e)
+      linked .features (getD rows v (noLabel, [])) (node-row rows v (link-node rows v w f e)) (f, w)
+      (target-source (getD rows v (noLabel, []) .1) f w e)
 
   link-inside : (v w f : ℕ) → graphOfRows rows .link v f ≡ some w → w < length rows
   link-inside v w f e =
-      linked .targets (getD rows v (0, [])) (node-row rows v (link-node rows v w f e)) (f, w)
-      (target-source (getD rows v (0, []) .1) f w e)
+      linked .targets (getD rows v (noLabel, [])) (node-row rows v (link-node rows v w f e)) (f, w)
+      (target-source (getD rows v (noLabel, []) .1) f w e)
 
   -- a walk from a row ends at a row
   pub follow-inside : (p : List ℕ) (v w : ℕ) → v < length rows → follow (graphOfRows rows .link) (some v) p ≡ some w →

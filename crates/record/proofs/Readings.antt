@@ -1,12 +1,12 @@
 -- What a reading says: for an acceptance and for each refusal, which tests went which way, in the order 4, 5, 6, 7 (document 01,
--- "Returned by a call"); and what the test of ranges says of each row. One statement over all readings, so that both directions
--- are proved once.
-use mathlib.Core.Path.{_≡_, refl, subst, ap}
-use mathlib.Core.Bool.{Bool, true, false, cond, not, _&&_, and-eq-true-iff}
+-- "Returned by a call"); and what the test of ranges says of each label and of each row. One statement over all readings, so that
+-- both directions are proved once.
+use mathlib.Core.Path.{_≡_, refl, sym, subst, ap}
+use mathlib.Core.Bool.{Bool, true, false, cond, not, _&&_}
 use mathlib.Core.List.{List, [], _∷_, List·Memᴰ, List·Memᴰ·head, List·Memᴰ·tail, List·Memᴰ·not-nil, List·Memᴰ·cases-cons}
 use mathlib.Core.Logic.{_↔_, ⊎-elim}
 use mathlib.Core.Option.{Option, none, some}
-use Prim.Native.Nat.{ℕ, suc, _<_}
+use Prim.Native.Nat.{ℕ, suc, _≤_, _<_}
 use native.Mathlib.Omega.{arith}
 use borrow.Author.Tests.{leb-true, le-leb, eqb-false, ne-eqb, not-true}
 use lib.Dec.{eqb, leb}
@@ -15,8 +15,11 @@ use Rattle.graphs.specs.Rows.{Row}
 use Rattle.record.specs.declared.GraphFault.the-variants.{Malformed, OutOfRange, Cyclic, Unreached}
 use Rattle.decode.specs.Decode.{decoded}
 use Rattle.graphs.specs.Order.{allOf}
+use Rattle.graphs.proofs.Search.{both-true, true-both}
 use Rattle.lattice.specs.Label.{Label}
-use Rattle.record.specs.Read.{Reading, refused, accepted, judged, reading, inRange, cyclic, reachesAll}
+use Rattle.lattice.specs.Labels.{Known}
+use Rattle.lattice.proofs.Every.{same-test, not-true-false}
+use Rattle.record.specs.Read.{Reading, refused, accepted, judged, reading, labelInRange, inRange, cyclic, reachesAll}
 
 -- the tests behind each reading
 abbrev pub Stands : ℕ → List ℕ → Reading → Type 0
@@ -77,50 +80,84 @@ module _ {X : Type 0} (test : X → Bool) where
   unfolding allOf
   allOf-true [] e x m = absurd (List·Memᴰ·not-nil m)
   allOf-true (z ∷ xs) e x m =
-      let (here, later) = and-eq-true-iff (test z) (allOf xs test) .0 e in
+      let (here, later) = both-true (test z) (allOf xs test) e in
       ⊎-elim (λ q. rw q here) (allOf-true xs later x) (List·Memᴰ·cases-cons m)
 
   allOf-finds : (xs : List X) → ((x : X) → List·Memᴰ x xs → test x ≡ true) → allOf xs test ≡ true
   unfolding allOf
   allOf-finds [] all = refl
   allOf-finds (x ∷ xs) all =
-      and-eq-true-iff (test x) (allOf xs test) .1
-      (all x (List·Memᴰ·head refl), allOf-finds xs (λ z m. all z (List·Memᴰ·tail m)))
+      true-both (test x) (allOf xs test) (all x (List·Memᴰ·head refl)) (allOf-finds xs (λ z m. all z (List·Memᴰ·tail m)))
 
--- "a type that is 0 or at least n; a target at least N" of no row
+-- not "a type that is 0 or at least n", levels "0 to 255", not "a lowest level above the highest"
+abbrev pub LabelInRange : ℕ → Label → Type 0
+LabelInRange n l = (0 < l .type) × Known n l × (l .lowest ≤ l .highest)
+
+module _ (n : ℕ) (l : Label) where
+  pub label-in-range : (labelInRange n l ≡ true) ↔ LabelInRange n l
+  unfolding labelInRange
+  label-in-range = (
+    λ e.
+        let (typed, small) = both-true (some-type && below && ordered) (leb (l .highest) 255) e in
+        let (named, rising) = both-true (some-type && below) ordered typed in
+        let (positive, known) = both-true some-type below named in
+        let nonzero : (l .type ≡ 0) → ⊥ = eqb-false (l .type) 0 (not-true (eqb (l .type) 0) positive) in
+        let up : l .lowest ≤ l .highest = leb-true (l .lowest) (l .highest) rising in
+        let top : l .highest ≤ 255 = leb-true (l .highest) 255 small in
+        (omega arith, record { type = leb-true (suc (l .type)) n known; lowest = omega arith; highest = top }, up),
+    λ (positive, known, up).
+        true-both (some-type && below && ordered) (leb (l .highest) 255)
+        (true-both (some-type && below) ordered
+        (true-both some-type below (ap not (ne-eqb (l .type) 0 (λ e. omega arith))) (le-leb (suc (l .type)) n (known .type)))
+        (le-leb (l .lowest) (l .highest) up))
+        (le-leb (l .highest) 255 (known .highest)),
+  )
+    where
+      some-type : Bool
+      some-type = not (eqb (l .type) 0)
+
+      below : Bool
+      below = leb (suc (l .type)) n
+
+      ordered : Bool
+      ordered = leb (l .lowest) (l .highest)
+
+  -- The test, step by step.
+
+  pub zero-out : l .type ≡ 0 → false ≡ labelInRange n l
+  zero-out e = sym (not-true-false (labelInRange n l) (λ h. omega (arith, label-in-range .0 h .0)))
+
+  pub over-out : n ≤ l .type → false ≡ labelInRange n l
+  over-out h = sym (not-true-false (labelInRange n l) (λ q. omega (arith, label-in-range .0 q .1 .type)))
+
+  pub levels-decide : (l .type ≡ 0 → ⊥) → l .type < n → l .highest ≤ 255 → leb (l .lowest) (l .highest) ≡ labelInRange n l
+  levels-decide nonzero below top =
+      same-test (leb (l .lowest) (l .highest)) (labelInRange n l)
+      (λ e.
+      let up : l .lowest ≤ l .highest = leb-true (l .lowest) (l .highest) e in
+      label-in-range .1 (omega arith, record { type = below; lowest = omega arith; highest = top }, up))
+      (λ e. le-leb (l .lowest) (l .highest) (label-in-range .0 e .2))
+
+-- every label in range, and not "a target at least N"
 abbrev pub InRange : ℕ → List (Row Label) → Type 0
 InRange n rows = (r : Row Label) → List·Memᴰ r rows →
-    (0 < r .0) × (r .0 < n) × ((l : ℕ × ℕ) → List·Memᴰ l (r .1) → l .1 < length rows)
+    LabelInRange n (r .0) × ((l : ℕ × ℕ) → List·Memᴰ l (r .1) → l .1 < length rows)
 
 pub in-range : (n : ℕ) (rows : List (Row Label)) → (inRange n rows ≡ true) ↔ InRange n rows
 unfolding inRange
-in-range n rows = (there, back)
+in-range n rows = (
+  λ e r m.
+      let (label, targets) = both-true (labelInRange n (r .0)) (allOf (r .1) targeted) (allOf-true tested rows e r m) in
+      (label-in-range n (r .0) .0 label, λ l i. leb-true (suc (l .1)) (length rows) (allOf-true targeted (r .1) targets l i)),
+  λ all.
+      allOf-finds tested rows λ r m.
+      let (label, targets) = all r m in
+      true-both (labelInRange n (r .0)) (allOf (r .1) targeted) (label-in-range n (r .0) .1 label)
+      (allOf-finds targeted (r .1) (λ l i. le-leb (suc (l .1)) (length rows) (targets l i))),
+)
   where
     targeted : ℕ × ℕ → Bool
     targeted l = leb (suc (l .1)) (length rows)
 
     tested : Row Label → Bool
-    tested r = not (eqb (r .0) 0) && leb (suc (r .0)) n && allOf (r .1) targeted
-
-    there : allOf rows tested ≡ true → InRange n rows
-    there e r m =
-        let (typed, targets) = and-eq-true-iff (not (eqb (r .0) 0) && leb (suc (r .0)) n) (allOf (r .1) targeted) .0
-        (allOf-true tested rows e r m) in
-        let (some-type, known) = and-eq-true-iff (not (eqb (r .0) 0)) (leb (suc (r .0)) n) .0 typed in
-        let nonzero : (r .0 ≡ 0) → ⊥ = eqb-false (r .0) 0 (not-true (eqb (r .0) 0) some-type) in (
-          omega arith,
-          leb-true (suc (r .0)) n known,
-          λ l i. leb-true (suc (l .1)) (length rows) (allOf-true targeted (r .1) targets l i),
-        )
-
-    back : InRange n rows → allOf rows tested ≡ true
-    back all =
-        allOf-finds tested rows λ r m.
-        let (some-type, known, targets) = all r m in
-        and-eq-true-iff (not (eqb (r .0) 0) && leb (suc (r .0)) n) (allOf (r .1) targeted) .1 (
-          and-eq-true-iff (not (eqb (r .0) 0)) (leb (suc (r .0)) n) .1 (
-            ap not (ne-eqb (r .0) 0 (λ e. omega arith)),
-            le-leb (suc (r .0)) n known,
-          ),
-          allOf-finds targeted (r .1) (λ l i. le-leb (suc (l .1)) (length rows) (targets l i)),
-        )
+    tested r = labelInRange n (r .0) && allOf (r .1) targeted

@@ -1,14 +1,12 @@
--- Written records. The written form of a graph of any size keeps the rules of a record, since its rows are the reached nodes of
--- that graph and a cycle of one is a cycle of the other; so it is accepted, and is its own written form. Reading undoes writing,
--- so equal bytes are equal forms, and these are equal meanings.
-use mathlib.Core.Path.{_≡_, sym, _∙_, ap}
+-- Written records. The written form of a graph of any size, whose types have seven bits, keeps the rules of a record, since its rows
+-- are the reached nodes of that graph and a cycle of one is a cycle of the other; so it is accepted, and is its own written form.
+-- Reading undoes writing, so equal bytes are equal forms, and these are equal meanings.
+use mathlib.Core.Path.{_≡_, sym, _∙_, ap, subst}
 use mathlib.Core.Bool.{Bool}
 use mathlib.Core.List.{List, _∷_, _++_}
 use mathlib.Core.Logic.{_↔_}
 use mathlib.Core.Option.{some}
 use Prim.Native.Nat.{ℕ, _<_}
-use native.Mathlib.Omega.{arith}
-use borrow.Author.Tests.{eqb-false}
 use lib.Dec.{eqb}
 use lib.ListN.{length}
 use Rattle.graphs.specs.Graph.{Graph, Tells, Reached, SameMeaning}
@@ -18,7 +16,7 @@ use Rattle.graphs.proofs.Walk.{some-injective, walk-append}
 use Rattle.graphs.proofs.Lists.{tells-eqb}
 use Rattle.graphs.proofs.Search.{not-true}
 use Rattle.graphs.proofs.Form.Canonical.{canonical-idempotent, canonical-exact}
-use Rattle.lattice.specs.Label.{Label}
+use Rattle.lattice.specs.Label.{Label, noLabel}
 use Rattle.graphs.proofs.Form.Rules.{
   form-nodes,
   form-short,
@@ -29,22 +27,22 @@ use Rattle.graphs.proofs.Form.Rules.{
   form-features,
   form-targets,
 }
-use Rattle.lattice.specs.Labels.{typeLabels, OfAnySize}
+use Rattle.lattice.specs.Labels.{tableLabels, OfAnySize}
 use Rattle.decode.specs.Decode.{decoded}
 use Rattle.encode.specs.Encode.{encoded}
 use Rattle.record.specs.Read.{graphOfRows, cyclic, reading, accepted}
-use Rattle.record.proofs.Readings.{InRange, reading-says, in-range}
-use Rattle.record.proofs.RoundTrip.{decode-encode}
+use Rattle.record.proofs.Readings.{LabelInRange, InRange, reading-says, in-range}
+use Rattle.record.proofs.RoundTrip.{decode-encode, form-types}
 use Rattle.record.proofs.Nodes.{Linked, full-list, reached-inside, narrow}
 use Rattle.record.proofs.Reaching.{SelfReach, AllReached, cyclic-exact, reaches-exact}
-use Rattle.record.proofs.Accepted.{Rules, rules-linked, rules-of-any-size}
+use Rattle.record.proofs.Accepted.{Rules, rules-linked, consistent-in-range, rules-of-any-size, rules-types}
 
 -- equal forms are written of one list of rows
 pub written-injective : {form other : List (Row Label)} → _≡_ {A = Canonical Label} (written form) (written other) → form ≡ other
 written-injective e = cc
 
 rules-decoded : {n : ℕ} {rows : List (Row Label)} → Rules n rows → decoded (encoded rows) ≡ some rows
-rules-decoded {rows = rows} rules = decode-encode rows (rules .nonempty) (rules .links) (rules .ordered)
+rules-decoded {rows = rows} rules = decode-encode rows (rules .nonempty) (rules .links) (rules .types) (rules .ordered)
 
 -- rows that keep the rules are read from their bytes
 pub rules-read : (n : ℕ) (rows : List (Row Label)) → Rules n rows → reading n (encoded rows) ≡ accepted rows
@@ -71,18 +69,17 @@ module _ (n : ℕ) (t : List ℕ) {A : Type 0} (same : A → A → Bool) (tells 
 
   -- the form, written again, is the form
   pub form-again : canonical eqb (graphOfRows form) ≡ written form
-  form-again = canonical-idempotent same tells g small 0 form e
+  form-again = canonical-idempotent same tells g small noLabel form e
 
-  pub form-meaning : SameMeaning (typeLabels n t) g (graphOfRows form)
+  pub form-meaning : SameMeaning (tableLabels n t) g (graphOfRows form)
   form-meaning =
-      canonical-exact (typeLabels n t) same eqb tells tells-eqb g (graphOfRows form) small (narrow form form-linked) form e .1 form-again
+      canonical-exact (tableLabels n t) same eqb tells tells-eqb g (graphOfRows form) small (narrow form form-linked) form e .1 form-again
 
   form-ranged : InRange n form
   form-ranged r m =
       let (v, reached, label) = form-labels same tells g small form e r m in
-      let nonzero : (g .label v ≡ 0) → ⊥ = eqb-false (g .label v) 0 (size .any-size .consistent v reached) in
-      let known : g .label v < n = size .typed v reached in
-      (omega arith, omega arith, form-linked .targets r m)
+      let ranged = consistent-in-range n t (size .typed v reached) (size .any-size .consistent v reached) in
+      (subst (LabelInRange n) (sym label) ranged, form-linked .targets r m)
 
   -- the form has as many rows as its graph has nodes
   form-reached : AllReached form
@@ -98,22 +95,24 @@ module _ (n : ℕ) (t : List ℕ) {A : Type 0} (same : A → A → Bool) (tells 
       (v, at, walk-append (graphOfRows form) path (f ∷ p) at ∙ loop) in
       size .any-size .acyclic w f p (path, d) (sym (walk-append g path (f ∷ p) d) ∙ c)
 
-  -- what is written keeps the rules
-  pub form-rules : Rules n form
-  form-rules =
-      record {
-        nonempty = form-linked .nonempty;
-        short = form-short same tells g small form e;
-        links = form-links same tells g small form e;
-        ordered = λ r m. (form-ascending same tells g small form e r m, form-linked .features r m);
-        ranged = form-ranged;
-        acyclic = form-acyclic;
-        reached = form-reached;
-      }
+  module _ (types : (v : A) → Reached g v → g .label v .type < 128) where
+    -- what is written keeps the rules
+    pub form-rules : Rules n form
+    form-rules =
+        record {
+          nonempty = form-linked .nonempty;
+          short = form-short same tells g small form e;
+          links = form-links same tells g small form e;
+          ordered = λ r m. (form-ascending same tells g small form e r m, form-linked .features r m);
+          types = form-types same tells g small types form e;
+          ranged = form-ranged;
+          acyclic = form-acyclic;
+          reached = form-reached;
+        }
 
-  -- what is written is accepted when it is read, and means what was written
-  pub written-reads : (reading n (encoded form) ≡ accepted form) × SameMeaning (typeLabels n t) g (graphOfRows form)
-  written-reads = (rules-read n form form-rules, form-meaning)
+    -- what is written is accepted when it is read, and means what was written
+    pub written-reads : (reading n (encoded form) ≡ accepted form) × SameMeaning (tableLabels n t) g (graphOfRows form)
+    written-reads = (rules-read n form form-rules, form-meaning)
 
 -- so their bytes determine them
 encoded-injective : {n : ℕ} (rows other : List (Row Label)) → Rules n rows → Rules n other → encoded rows ≡ encoded other → rows ≡ other
@@ -124,16 +123,19 @@ encoded-injective rows other rules same q =
 pub meaning-by-bytes : (n : ℕ) (t : List ℕ) (rows other : List (Row Label)) → Rules n rows → Rules n other →
     (form form′ : List (Row Label)) → canonical eqb (graphOfRows rows) ≡ written form →
     canonical eqb (graphOfRows other) ≡ written form′ →
-    SameMeaning (typeLabels n t) (graphOfRows rows) (graphOfRows other) ↔ (encoded form ≡ encoded form′)
+    SameMeaning (tableLabels n t) (graphOfRows rows) (graphOfRows other) ↔ (encoded form ≡ encoded form′)
 meaning-by-bytes n t rows other rules same form form′ e e′ = (
   λ m. ap encoded (written-injective (sym (exact .0 m) ∙ e′)),
   λ q.
       exact .1
-      (e′ ∙ ap written (sym (encoded-injective form form′ (form-rules n t eqb tells-eqb (graphOfRows rows) (rules-of-any-size n rows rules t) form e)
-      (form-rules n t eqb tells-eqb (graphOfRows other) (rules-of-any-size n other same t) form′ e′) q))),
+      (e′ ∙ ap written (sym (encoded-injective form form′ (rewritten rows rules form e) (rewritten other same form′ e′) q))),
 )
   where
-    exact : SameMeaning (typeLabels n t) (graphOfRows rows) (graphOfRows other) ↔ (canonical eqb (graphOfRows other) ≡ written form)
+    rewritten : (rows : List (Row Label)) → Rules n rows → (form : List (Row Label)) → canonical eqb (graphOfRows rows) ≡ written form → Rules n form
+    rewritten rows rules form e =
+        form-rules n t eqb tells-eqb (graphOfRows rows) (rules-of-any-size n rows rules t) form e (rules-types n rows rules)
+
+    exact : SameMeaning (tableLabels n t) (graphOfRows rows) (graphOfRows other) ↔ (canonical eqb (graphOfRows other) ≡ written form)
     exact =
-        canonical-exact (typeLabels n t) eqb eqb tells-eqb tells-eqb (graphOfRows rows) (graphOfRows other)
+        canonical-exact (tableLabels n t) eqb eqb tells-eqb tells-eqb (graphOfRows rows) (graphOfRows other)
         (narrow rows (rules-linked rules)) (narrow other (rules-linked same)) form e

@@ -1,6 +1,6 @@
--- A record that was encoded is decoded to the rows that it was made of, if there is one at least, and at most 2,048 links, and
--- features below 64 that ascend in each row.
-use mathlib.Core.Path.{_≡_, refl, sym, _∙_, ap, ap₂}
+-- A record that was encoded is decoded to the rows that it was made of, if there is one at least, and at most 2,048 links, and in
+-- each row a type of seven bits and features below 64 that ascend.
+use mathlib.Core.Path.{_≡_, refl, sym, _∙_, ap, ap₂, subst}
 use mathlib.Core.Bool.{Bool, cond}
 use mathlib.Core.List.{List, [], _∷_, _++_, map, append-assoc, append-nil, List·Memᴰ, List·Memᴰ·head, List·Memᴰ·tail, List·Memᴰ·not-nil, List·Memᴰ·cases-cons}
 use mathlib.Core.Logic.{⊎-elim}
@@ -17,12 +17,13 @@ use Rattle.graphs.specs.Graph.{Graph, Reached, Tells}
 use Rattle.graphs.specs.Rows.{Row, from, target}
 use Rattle.graphs.specs.Number.{countSome, canonical, written}
 use Rattle.graphs.specs.Large.{Ascending, linksIn}
-use Rattle.graphs.proofs.Form.Rules.{form-nonempty, form-links, form-ascending, form-features}
+use Rattle.graphs.proofs.Form.Rules.{form-nonempty, form-links, form-labels, form-ascending, form-features}
 use Rattle.lattice.specs.Label.{Label}
 use Rattle.decode.specs.Decode.{Taken, changed, takeTarget, takeLinks, takeRow, takeRows, bitOf, whole, decoded}
 use Rattle.decode.proofs.Decoded.{Proper}
-use Rattle.encode.specs.Encode.{bitsFrom, encodedRow, encodedRows, encoded}
+use Rattle.encode.specs.Encode.{bitsFrom, encodedLabel, encodedRow, encodedRows, encoded}
 use Rattle.encode.proofs.FeatureMap.{Within, bit-small, target-absent, target-first, target-later}
+use Rattle.record.proofs.Labels.{SevenBits, encoded-states, row-behind}
 
 -- the bit at i of the number that says which features stand
 bits-at : (links : List (ℕ × ℕ)) (f k i : ℕ) → i < k → (bitsFrom links f k / 2 ^ i) % 2 ≡ countSome (target links (f + i))
@@ -79,7 +80,7 @@ bit-stood links rest f h =
 
 -- The links are taken again.
 
-abbrev took : {X : Type 0} → X → ℕ → List ℕ → Option (Taken X)
+abbrev pub took : {X : Type 0} → X → ℕ → List ℕ → Option (Taken X)
 took x room rest = some (record { value = x; room = room; rest = rest })
 
 module _ (stands : ℕ → Bool) (room : ℕ) (rest : List ℕ) where
@@ -136,31 +137,30 @@ module _ (stands : ℕ → Bool) (room : ℕ) (rest : List ℕ) where
           ∙ ap (λ (o : Option ℕ). eqb (countSome o) 1) (target-absent f (l ∷ ls) (λ m i (e : m .0 ≡ f). omega (arith, above m i))))
           ∙ whole (λ m i. omega (arith, above m i, inside m i)) (λ g low high. agree g (omega arith) (omega arith))
 
-row-taken : (r : Row Label) (room : ℕ) (rest : List ℕ) → Proper r →
+pub row-taken : (r : Row Label) (room : ℕ) (rest : List ℕ) → r .0 .type < 128 → Proper r →
     takeRow (length (r .1) + room) (encodedRow r ++ rest) ≡ took r room rest
-unfolding takeRow encodedRow from
-row-taken r room rest (up, low) =
+unfolding encodedRow from
+row-taken r room rest typed (up, low) =
     let numbers : List ℕ = map (λ l. l .1) (r .1) in
-    let bytes : List ℕ = (mapBytes (r .1) ++ numbers) ++ rest in
-    ap
+    let behind : List ℕ = mapBytes (r .1) ++ (numbers ++ rest) in
+    ap (takeRow (length (r .1) + room))
+    (append-assoc (encodedLabel (r .0) ++ mapBytes (r .1)) numbers rest ∙ append-assoc (encodedLabel (r .0)) (mapBytes (r .1)) (numbers ++ rest))
+    ∙ row-behind (encoded-states (r .0) typed) (length (r .1) + room) behind
+    ∙ ap
     (λ (t : Bool).
-    cond t
-    (Option·map (changed λ ls. (r .0, ls)) (takeLinks (bitOf bytes) (from 0 64) (length (r .1) + room) (numbers ++ rest)))
-    none)
-    (le-leb 9 (length (encodedRow r ++ rest)) (omega arith))
+    cond t (Option·map (changed λ ls. (r .0, ls)) (takeLinks (bitOf behind) (from 0 64) (length (r .1) + room) (numbers ++ rest))) none)
+    (le-leb 8 (length behind) (omega arith))
     ∙ ap (Option·map (changed λ ls. (r .0, ls)))
-    (links-taken (bitOf bytes) room rest (r .1) 0 64 (length (r .1) + room) up (λ l m. omega (arith, low l m))
-    (λ g _ high.
-    ap (λ (bs : List ℕ). bitOf bs g) (append-assoc (mapBytes (r .1)) numbers rest) ∙ bit-stood (r .1) (numbers ++ rest) g high)
-    refl)
+    (links-taken (bitOf behind) room rest (r .1) 0 64 (length (r .1) + room) up (λ l m. omega (arith, low l m))
+    (λ g _ high. bit-stood (r .1) (numbers ++ rest) g high) refl)
 
-rows-taken : (rows : List (Row Label)) (room total : ℕ) (rest : List ℕ) → ((r : Row Label) → List·Memᴰ r rows → Proper r) →
-    total ≡ linksIn rows + room → takeRows (length rows) total (encodedRows rows ++ rest) ≡ took rows room rest
+rows-taken : (rows : List (Row Label)) (room total : ℕ) (rest : List ℕ) → SevenBits rows →
+    ((r : Row Label) → List·Memᴰ r rows → Proper r) → total ≡ linksIn rows + room → takeRows (length rows) total (encodedRows rows ++ rest) ≡ took rows room rest
 unfolding bind takeRows encodedRows linksIn
-rows-taken [] room total rest proper e =
+rows-taken [] room total rest typed proper e =
     let q : total ≡ room = omega arith in
     ap (λ (n : ℕ). took {X = List (Row Label)} [] n rest) q
-rows-taken (r ∷ rs) room total rest proper e =
+rows-taken (r ∷ rs) room total rest typed proper e =
     let q : total ≡ length (r .1) + (linksIn rs + room) = omega arith in
     ap₂
     (λ (n : ℕ) (bytes : List ℕ).
@@ -170,23 +170,29 @@ rows-taken (r ∷ rs) room total rest proper e =
     ∙ ap
     (λ (o : Option (Taken (Row Label))).
     bind o λ t. Option·map (changed λ rs. t .value ∷ rs) (takeRows (length rs) (t .room) (t .rest)))
-    (row-taken r (linksIn rs + room) (encodedRows rs ++ rest) (proper r (List·Memᴰ·head refl)))
-    ∙ ap (Option·map (changed λ rs. r ∷ rs)) (rows-taken rs room (linksIn rs + room) rest (λ x m. proper x (List·Memᴰ·tail m)) refl)
+    (row-taken r (linksIn rs + room) (encodedRows rs ++ rest) (typed r (List·Memᴰ·head refl)) (proper r (List·Memᴰ·head refl)))
+    ∙ ap (Option·map (changed λ rs. r ∷ rs)) (rows-taken rs room (linksIn rs + room) rest (λ x m. typed x (List·Memᴰ·tail m)) (λ x m. proper x (List·Memᴰ·tail m)) refl)
 
 -- The round trip.
-pub decode-encode : (rows : List (Row Label)) → 0 < length rows → linksIn rows ≤ 2048 → ((r : Row Label) → List·Memᴰ r rows → Proper r) →
-    decoded (encoded rows) ≡ some rows
+pub decode-encode : (rows : List (Row Label)) → 0 < length rows → linksIn rows ≤ 2048 → SevenBits rows →
+    ((r : Row Label) → List·Memᴰ r rows → Proper r) → decoded (encoded rows) ≡ some rows
 unfolding decoded encoded
-decode-encode rows some-row few proper =
+decode-encode rows some-row few typed proper =
     ap (λ (t : Bool). cond t none (whole (takeRows (length rows) 2048 (encodedRows rows))))
     (ne-eqb (length rows) 0 (λ (e : length rows ≡ 0). omega arith))
     ∙ ap (λ (bytes : List ℕ). whole (takeRows (length rows) 2048 bytes)) (sym (append-nil (encodedRows rows)))
-    ∙ ap whole (rows-taken rows (2048 - linksIn rows) 2048 [] proper (omega arith))
+    ∙ ap whole (rows-taken rows (2048 - linksIn rows) 2048 [] typed proper (omega arith))
 
--- So what is written of a graph is read again.
-pub written-decodes : {A : Type 0} (same : A → A → Bool) (tells : Tells same) (g : Graph Label A) →
-    ((v w : A) (f : ℕ) → Reached g v → g .link v f ≡ some w → f < 64) → (form : List (Row Label)) → canonical same g ≡ written form →
-    decoded (encoded form) ≡ some form
-written-decodes same tells g narrow form e =
-    decode-encode form (form-nonempty same tells g narrow form e) (form-links same tells g narrow form e)
-    (λ r m. (form-ascending same tells g narrow form e r m, form-features same tells g narrow form e r m))
+-- So what is written of a graph whose types have seven bits is read again.
+module _ {A : Type 0} (same : A → A → Bool) (tells : Tells same) (g : Graph Label A)
+    (narrow : (v w : A) (f : ℕ) → Reached g v → g .link v f ≡ some w → f < 64) (types : (v : A) → Reached g v → g .label v .type < 128)
+    (form : List (Row Label)) (e : canonical same g ≡ written form) where
+  pub form-types : SevenBits form
+  form-types r m =
+      let (v, reached, label) = form-labels same tells g narrow form e r m in
+      subst (λ (l : Label). l .type < 128) (sym label) (types v reached)
+
+  pub written-decodes : decoded (encoded form) ≡ some form
+  written-decodes =
+      decode-encode form (form-nonempty same tells g narrow form e) (form-links same tells g narrow form e) form-types
+      (λ r m. (form-ascending same tells g narrow form e r m, form-features same tells g narrow form e r m))

@@ -1,12 +1,13 @@
 -- The theorems about records, in one place, each with its statement and a line that cites its proof; document 01, "Graph record" and
--- "Returned by a call", is the text beside it. A record is a list of bytes, read over a table with n types; its rows are a type
--- and links for each node, and `graphOfRows rows` is the graph that they state. Nothing here asks that the types are a lattice.
-use mathlib.Core.Path.{_≡_}
+-- "Returned by a call", is the text beside it, and document 02, Paper 7, for ranges of levels. A record is a list of bytes, read over
+-- a table with n types; its rows are a label and links for each node, and `graphOfRows rows` is the graph that they state. Nothing
+-- here asks that the types are a lattice.
+use mathlib.Core.Path.{_≡_, refl}
 use mathlib.Core.Bool.{Bool, true, false}
-use mathlib.Core.List.{List, _∷_, List·Memᴰ}
+use mathlib.Core.List.{List, [], _∷_, List·Memᴰ}
 use mathlib.Core.Logic.{_↔_}
 use mathlib.Core.Option.{none, some}
-use Prim.Native.Nat.{ℕ, _≤_, _<_}
+use Prim.Native.Nat.{ℕ, _+_, _≤_, _<_}
 use lib.Dec.{eqb}
 use lib.ListN.{length, getD}
 use Rattle.graphs.specs.Graph.{Graph, Tells, follow, Reached, SameMeaning}
@@ -14,17 +15,18 @@ use Rattle.graphs.specs.Rows.{Row, from}
 use Rattle.graphs.specs.Number.{canonical, written}
 use Rattle.graphs.specs.Large.{linksIn, Ascending}
 use Rattle.graphs.proofs.Lists.{tells-eqb}
-use Rattle.lattice.specs.Label.{Label}
+use Rattle.lattice.specs.Label.{Label, plain}
 use Rattle.record.specs.declared.GraphFault.the-variants.{Malformed, OutOfRange, Cyclic, Unreached}
-use Rattle.lattice.specs.Labels.{typeLabels, OfAnySize}
-use Rattle.decode.specs.Decode.{decoded}
-use Rattle.encode.specs.Encode.{encoded}
+use Rattle.lattice.specs.Labels.{tableLabels, Known, OfAnySize}
+use Rattle.decode.specs.Decode.{takeRow, decoded}
+use Rattle.encode.specs.Encode.{isFull, encodedLabel, encoded}
 use Rattle.record.specs.Read.{graphOfRows, inRange, cyclic, reachesAll, reading, accepted, refused}
 use Rattle.record.proofs.Readings.{reading-says, in-range}
 use Rattle.decode.proofs.Decoded.{AreBytes, decoded-says, decoded-short, decoded-label, decoded-target}
+use Rattle.record.proofs.Labels.{full-range-read}
 use Rattle.record.proofs.Nodes.{Linked, decoded-linked}
 use Rattle.record.proofs.Reaching.{cyclic-exact, reaches-exact}
-use Rattle.record.proofs.Accepted.{accepted-rules, rules-of-any-size, rules-nodes, rules-fit}
+use Rattle.record.proofs.Accepted.{accepted-rules, rules-of-any-size, rules-types, rules-nodes, rules-fit}
 use Rattle.record.proofs.Rewritten as Rewritten
 
 module _ (n : ℕ) (bytes : List ℕ) where
@@ -51,11 +53,12 @@ module _ (n : ℕ) (bytes : List ℕ) where
       ((rows : List (Row Label)) × (decoded bytes ≡ some rows) × (inRange n rows ≡ true) × (cyclic rows ≡ false) × (reachesAll rows ≡ false))
   unreached-exactly = reading-says n bytes (refused Unreached)
 
-  -- the test for 5: no "type that is 0 or at least n", no "target at least N"
+  -- the test for 5: no "type that is 0 or at least n", no "lowest level above the highest", no "target at least N"
   pub range-exact : (rows : List (Row Label)) →
       (inRange n rows ≡ true) ↔
       ((r : Row Label) → List·Memᴰ r rows →
-      (0 < r .0) × (r .0 < n) × ((l : ℕ × ℕ) → List·Memᴰ l (r .1) → l .1 < length rows))
+      ((0 < r .0 .type) × Known n (r .0) × (r .0 .lowest ≤ r .0 .highest)) ×
+      ((l : ℕ × ℕ) → List·Memᴰ l (r .1) → l .1 < length rows))
   range-exact rows = in-range n rows
 
   module _ (rows : List (Row Label)) (parsed : decoded bytes ≡ some rows) where
@@ -66,10 +69,10 @@ module _ (n : ℕ) (bytes : List ℕ) where
         ((r : Row Label) → List·Memᴰ r rows → Ascending (r .1) × ((l : ℕ × ℕ) → List·Memᴰ l (r .1) → l .0 < 64))
     well-formed = let says = decoded-says bytes rows parsed in (says .nonempty, says .count, says .few-links, says .ordered)
 
-    -- "1 to 255 .. one type byte .. one target byte"
+    -- "1 to 255 .. Bits 0 to 6 of the type byte are the type .. lowest and highest level, 0 to 255 .. one target byte"
     pub in-bytes : AreBytes bytes →
         (length rows ≤ 255) ×
-        ((r : Row Label) → List·Memᴰ r rows → (r .0 < 256) × ((l : ℕ × ℕ) → List·Memᴰ l (r .1) → l .1 < 256))
+        ((r : Row Label) → List·Memᴰ r rows → Known 128 (r .0) × ((l : ℕ × ℕ) → List·Memᴰ l (r .1) → l .1 < 256))
     in-bytes small =
         let says = decoded-says bytes rows parsed in
         (decoded-short bytes rows says small, λ r m. (decoded-label bytes rows says small r m, decoded-target bytes rows says small r m))
@@ -103,6 +106,10 @@ module _ (n : ℕ) (bytes : List ℕ) (rows : List (Row Label)) (ok : reading n 
   unfolding accepted-of-any-size
   accepted-nodes t = rules-nodes n rows (accepted-rules n bytes rows ok) t
 
+  -- its types are those that a type byte states
+  pub accepted-types : (v : ℕ) → Reached (graphOfRows rows) v → graphOfRows rows .label v .type < 128
+  accepted-types = rules-types n rows (accepted-rules n bytes rows ok)
+
   -- 5. An accepted record fits: 11 never applies to it.
 
   pub accepted-fits : (form : List (Row Label)) × (canonical eqb (graphOfRows rows) ≡ written form)
@@ -113,17 +120,17 @@ module _ (n : ℕ) (bytes : List ℕ) (rows : List (Row Label)) (ok : reading n 
 pub meaning-exact : (n : ℕ) (t : List ℕ) (bytes bytes′ : List ℕ) (rows rows′ : List (Row Label)) →
     reading n bytes ≡ accepted rows → reading n bytes′ ≡ accepted rows′ → (form form′ : List (Row Label)) →
     canonical eqb (graphOfRows rows) ≡ written form → canonical eqb (graphOfRows rows′) ≡ written form′ →
-    SameMeaning (typeLabels n t) (graphOfRows rows) (graphOfRows rows′) ↔ (encoded form ≡ encoded form′)
+    SameMeaning (tableLabels n t) (graphOfRows rows) (graphOfRows rows′) ↔ (encoded form ≡ encoded form′)
 meaning-exact n t bytes bytes′ rows rows′ ok ok′ form form′ e e′ =
     Rewritten.meaning-by-bytes n t rows rows′ (accepted-rules n bytes rows ok)
     (accepted-rules n bytes′ rows′ ok′) form form′ e e′
 
--- 7. What is written of a graph of any size is accepted, and means what was written.
+-- 7. What is written of a graph of any size, whose types have seven bits, is accepted, and means what was written.
 
 pub written-reads : (n : ℕ) (t : List ℕ) {A : Type 0} (same : A → A → Bool) → Tells same → (g : Graph Label A) → OfAnySize n t g →
-    (form : List (Row Label)) → canonical same g ≡ written form →
-    (reading n (encoded form) ≡ accepted form) × SameMeaning (typeLabels n t) g (graphOfRows form)
-written-reads n t same tells g size form e = Rewritten.written-reads n t same tells g size form e
+    (form : List (Row Label)) → canonical same g ≡ written form → ((v : A) → Reached g v → g .label v .type < 128) →
+    (reading n (encoded form) ≡ accepted form) × SameMeaning (tableLabels n t) g (graphOfRows form)
+written-reads n t same tells g size form e types = Rewritten.written-reads n t same tells g size form e types
 
 -- 8. A written record is accepted, is its own written record, and means what was written.
 
@@ -131,8 +138,20 @@ pub written-accepted : (n : ℕ) (t : List ℕ) (bytes : List ℕ) (rows : List 
     reading n bytes ≡ accepted rows → (form : List (Row Label)) → canonical eqb (graphOfRows rows) ≡ written form →
     (reading n (encoded form) ≡ accepted form) ×
     (canonical eqb (graphOfRows form) ≡ written form) ×
-    SameMeaning (typeLabels n t) (graphOfRows rows) (graphOfRows form)
+    SameMeaning (tableLabels n t) (graphOfRows rows) (graphOfRows form)
 written-accepted n t bytes rows ok form e =
     let size = accepted-of-any-size n bytes rows ok t in
-    let (read, means) = written-reads n t eqb tells-eqb (graphOfRows rows) size form e in
+    let (read, means) = written-reads n t eqb tells-eqb (graphOfRows rows) size form e (accepted-types n bytes rows ok) in
     (read, Rewritten.form-again n t eqb tells-eqb (graphOfRows rows) size form e, means)
+
+-- 9. "A written record never writes the full range, and a read one may": written, a label with it is the type byte alone;
+
+pub full-range-dropped : (a : ℕ) → encodedLabel (plain a) ≡ a ∷ []
+unfolding encodedLabel isFull
+full-range-dropped a = refl
+
+-- read, a row that spells it out is the row without it, so what is written of a record that does so is without it too.
+
+pub spelled-out : (a : ℕ) → a < 128 → (room : ℕ) (rest : List ℕ) →
+    takeRow room ((128 + a) ∷ 0 ∷ 255 ∷ rest) ≡ takeRow room (a ∷ rest)
+spelled-out = full-range-read

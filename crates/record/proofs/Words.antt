@@ -4,7 +4,7 @@
 -- other than the root ends in a link to it.
 use mathlib.Core.Path.{_≡_, refl, sym, _∙_, ap, subst}
 use mathlib.Core.Bool.{true, false}
-use mathlib.Core.List.{List, [], _∷_, List·Memᴰ, List·Memᴰ·head, List·Memᴰ·tail, List·Memᴰ·not-nil}
+use mathlib.Core.List.{List, [], _∷_, List·Memᴰ}
 use mathlib.Core.Option.{Option, none, some}
 use Prim.Native.Nat.{ℕ, zero, suc, _+_, _-_, _≤_, _<_}
 use native.Mathlib.Decide.{ℕ-discrete}
@@ -15,15 +15,14 @@ use Rattle.graphs.specs.Rows.{Row}
 use Rattle.graphs.proofs.Search.{not-true}
 use Rattle.graphs.proofs.Walk.{some-injective, none-some, follow-nil, follow-none, follow-last, snoc-induction, reached-root, reached-link}
 use Rattle.lattice.specs.Label.{Label}
-use Rattle.layout.specs.Layout.{size, linksFrom, rowEnd, labelAt, featureAt, targetAt, linksAt, rowsFrom, rowsOf, graphIn, Shaped, Sound, Recorded}
+use Rattle.layout.specs.Layout.{size, linksFrom, rowEnd, labelAt, featureAt, linksAt, rowsOf, graphIn, Shaped, Sound}
 use Rattle.layout.proofs.Places.{link-at, link-place}
 use Rattle.layout.proofs.Rows.{length-rows, rows-member, rows-source}
 use Rattle.layout.proofs.Spans.{linkAt, links-member, links-at}
 use Rattle.visits.specs.Walks.{Leads, Reaches, one, more}
-use Rattle.record.specs.Read.{reachesAll}
+use Rattle.record.specs.Read.{labelInRange, reachesAll}
 use Rattle.record.specs.Counts.{Ranged, Earlier}
-use Rattle.record.specs.Reads.{Holds}
-use Rattle.record.proofs.Readings.{InRange}
+use Rattle.record.proofs.Readings.{InRange, label-in-range}
 use Rattle.record.proofs.Nodes as rows
 use Rattle.record.proofs.Reaching.{SelfReach, reaches-exact}
 
@@ -37,10 +36,8 @@ module _ {ws : List ℕ} (shaped : Shaped ws) where
   ranged-rows n ranged r m =
       let (v, below, e) = rows-source ws (size ws) 0 r m in
       let h : v < size ws = omega arith in
-      let (a, b) = ranged .labels v h in
       let q : r .0 ≡ labelAt ws v = ap (λ (x : Row Label). x .0) e in (
-        omega arith,
-        omega arith,
+        label-in-range n (r .0) .0 (ap (labelInRange n) q ∙ ranged .labels v h),
         λ l i.
             let (k, low, high, _, t) =
             links-member ws (rowEnd ws v) (shaped .node v h .ended) (rowEnd ws v - linksFrom ws v) (linksFrom ws v)
@@ -52,12 +49,11 @@ module _ {ws : List ℕ} (shaped : Shaped ws) where
   pub rows-ranged : (n : ℕ) → InRange n (rowsOf ws) → Ranged n ws
   rows-ranged n all =
       record {
-        labels = λ v h. let (a, b, c) = all (labelAt ws v, linksAt ws v) (listed v h) in (a, b);
+        labels = λ v h. label-in-range n (labelAt ws v) .1 (all (labelAt ws v, linksAt ws v) (listed v h) .0);
         targets = λ v h k low high.
-            let (a, b, c) = all (labelAt ws v, linksAt ws v) (listed v h) in
             omega (
               arith,
-              c (linkAt ws k)
+              all (labelAt ws v, linksAt ws v) (listed v h) .1 (linkAt ws k)
                   (links-at ws (rowEnd ws v) (shaped .node v h .ended) (rowEnd ws v - linksFrom ws v) (linksFrom ws v)
                   (omega (arith, shaped .node v h .begun)) k low high),
               held-length ws,

@@ -3,12 +3,14 @@
 use mathlib.Core.Path.{_≡_}
 use mathlib.Core.Bool.{Bool, true, false, cond}
 use mathlib.Core.List.{List}
-use Prim.Native.Nat.{ℕ, zero, suc, _+_, _≤_, _<_}
+use Prim.Native.Nat.{ℕ, zero, suc, _+_, _*_, _≤_, _<_}
 use lib.Dec.{eqb, leb}
 use lib.ListN.{length, getD}
-use Rattle.layout.specs.Layout.{size, linksFrom, rowEnd, labelAt, targetAt, Shaped, Sound}
+use Rattle.graphs.specs.Large.{linksIn}
+use Rattle.layout.specs.Layout.{size, linksFrom, rowEnd, labelAt, targetAt, rowsOf, Shaped, Sound}
 use Rattle.visits.specs.Colouring.{whites}
 use Rattle.visits.specs.Walks.{Leads, Reaches}
+use Rattle.record.specs.Read.{labelInRange}
 use Rattle.record.specs.declared.peeling.Shape.{Shape}
 use Rattle.record.specs.declared.peeling.Shape.the-variants.{Cyclic, Apart, Rooted}
 
@@ -46,9 +48,17 @@ pub record RowCount (ws : List ℕ) (v : ℕ) (answer : Bool) (incoming : List �
   pub yes-stands : answer ≡ true → Within ws v × Counted ws (v + 1) incoming
   pub no-stands : answer ≡ false → Within ws v → ⊥
 
--- every type is one of the n and not 0, every target is a node
+-- the length of a record with the rows of the words and no range: the count, nine bytes for each node and one for each link
+abbrev pub unrangedLength : List ℕ → ℕ
+unrangedLength ws = 1 + 9 * size ws + linksIn (rowsOf ws)
+
+-- no lowest level is above the highest
+abbrev pub LevelsOrdered : List ℕ → Type 0
+LevelsOrdered ws = (v : ℕ) → v < size ws → labelAt ws v .lowest ≤ labelAt ws v .highest
+
+-- every label is in range, every target is a node
 pub record Ranged (n : ℕ) (ws : List ℕ) : Type 0 where
-  pub labels : (v : ℕ) → v < size ws → (0 < labelAt ws v) × (labelAt ws v < n)
+  pub labels : (v : ℕ) → v < size ws → labelInRange n (labelAt ws v) ≡ true
   pub targets : (v : ℕ) → v < size ws → Within ws v
 
 -- whether that is so, and if so all links are counted

@@ -2,3 +2,4 @@
 pub mod Read
 pub mod Counts
 pub mod Reads
+pub mod Unranged

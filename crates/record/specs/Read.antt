@@ -22,10 +22,14 @@ graphNumber OutOfRange = 5
 graphNumber Cyclic = 6
 graphNumber Unreached = 7
 
--- not "a type that is 0 or at least n; a target at least N"
+-- a type that is not "0 or at least n", and levels "0 to 255" of which the lowest is not "above the highest" (document 02, Paper 7)
+unfoldable pub labelInRange : ℕ → Label → Bool
+labelInRange n l =
+    not (eqb (l .type) 0) && leb (suc (l .type)) n && leb (l .lowest) (l .highest) && leb (l .highest) 255
+
+-- not "a type that is 0 or at least n; a target at least N", nor "a lowest level above the highest"
 unfoldable pub inRange : ℕ → List (Row Label) → Bool
-inRange n rows =
-    allOf rows λ r. not (eqb (r .0) 0) && leb (suc (r .0)) n && allOf (r .1) λ l. leb (suc (l .1)) (length rows)
+inRange n rows = allOf rows λ r. labelInRange n (r .0) && allOf (r .1) λ l. leb (suc (l .1)) (length rows)
 
 -- "a node reaches itself": from some node there is a walk of as many links as there are nodes
 unfoldable pub cyclic : List (Row Label) → Bool

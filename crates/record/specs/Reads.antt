@@ -4,6 +4,7 @@ use mathlib.Core.List.{List}
 use Prim.Native.Nat.{ℕ, _≤_, _<_}
 use Rattle.graphs.specs.Rows.{Row}
 use Rattle.lattice.specs.Label.{Label}
+use Rattle.lattice.specs.Labels.{Known}
 use Rattle.layout.specs.Layout.{size, labelAt, rowsOf, Sound}
 use Rattle.record.specs.declared.reading.Verdict.{Verdict}
 use Rattle.record.specs.declared.reading.Verdict.the-variants.{Accepted, Refused}
@@ -18,7 +19,7 @@ pub record Holds (n : ℕ) (rows : List (Row Label)) (ws : List ℕ) : Type 0 wh
   pub rows-are : rowsOf ws ≡ rows
   pub sound : Sound ws
   pub small : size ws ≤ 255
-  pub typed : (v : ℕ) → v < size ws → labelAt ws v < n
+  pub typed : (v : ℕ) → v < size ws → Known n (labelAt ws v)
 
 -- the verdict, and beside an acceptance the graph
 pub record Reads (n : ℕ) (bytes : List ℕ) (v : Verdict) (ws : List ℕ) : Type 0 where

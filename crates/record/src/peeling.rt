@@ -2,11 +2,15 @@
 // sort): nodes that no link enters are taken away with their links, as long as there are any. A graph where some stay has a cycle,
 // and in one where none stays the root reaches every node exactly where it is the only node that no link entered to start with.
 
+use layout::Label;
 ghost use Prim.Native.Nat.{_+_, _≤_, _<_};
+ghost use mathlib.Core.Bool.{false};
 ghost use mathlib.Core.Path.{_≡_};
 ghost use lib.ListN.{length};
+ghost use Rattle.layout.specs.Builder.{stated};
 ghost use Rattle.layout.specs.Layout.{Sound, rowEnd, size};
-ghost use Rattle.record.specs.Counts.{Count, Counted, Peels, Queued, RowCount, RowDue, RowTaken};
+ghost use Rattle.record.specs.Read.{labelInRange};
+ghost use Rattle.record.specs.Counts.{Count, Counted, LevelsOrdered, Peels, Queued, RowCount, RowDue, RowTaken};
 
 // What is found: a cycle; else a node beside the root that no link enters; else neither.
 pub enum Shape {
@@ -35,21 +39,32 @@ fn count_row<'a>(graph: &'a [u16], v: usize, incoming: &mut [u16; 255]) -> bool
     true
 }
 
-// Whether the types of the nodes are among the n and not 0, and the targets of their links among the nodes (refusal 5 otherwise); if
-// so the links that enter each node are counted, none being counted before.
-pub fn count_incoming(n: usize, graph: &[u16], incoming: &mut [u16; 255]) -> bool
+// Whether a label's type is among the n and not 0, and its lowest level not above the highest, as is known in a record without ranges.
+fn is_label_in_range(n: usize, label: Label, ranged: bool) -> bool
+    requires { ⌜ (ranged ≡ false → label .lowest ≤ label .highest) ⌝ }
+    ensures { λ r. ⌜ r ≡ labelInRange n (stated label) ⌝ }
+{
+    let kind = label.kind as usize;
+    if kind == 0 {
+        return false;
+    }
+    if n <= kind {
+        return false;
+    }
+    !ranged || label.lowest <= label.highest
+}
+
+// Whether the labels of the nodes are in range, and the targets of their links among the nodes (refusal 5 otherwise); if
+// so the links that enter each node are counted, none being counted before. Levels are tested where there are ranges.
+pub fn count_incoming(n: usize, graph: &[u16], ranged: bool, incoming: &mut [u16; 255]) -> bool
+    requires { ⌜ (ranged ≡ false → LevelsOrdered (now graph)) ⌝ }
     requires { ⌜ Counted (now graph) 0 (now incoming) ⌝ }
     ensures { λ r. ⌜ Count n (now (graph .entry)) r (now (incoming .exit)) ⌝ }
 {
     let nodes = graph[0] as usize;
     let mut v = 0;
     while v < nodes {
-        let row = graph[v + 1] as usize;
-        let t = graph[row] as usize;
-        if t == 0 {
-            return false;
-        }
-        if n <= t {
+        if !is_label_in_range(n, layout::label_at(graph, v), ranged) {
             return false;
         }
         if !count_row(graph, v, incoming) {

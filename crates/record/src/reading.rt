@@ -2,8 +2,12 @@
 
 use crate::GraphFault;
 use crate::peeling::Shape;
+ghost use mathlib.Core.Bool.{not};
 ghost use mathlib.Core.Path.{_≡_};
+ghost use lib.Dec.{eqb};
 ghost use lib.ListN.{length};
+ghost use Rattle.layout.specs.Layout.{Shaped, longest};
+ghost use Rattle.record.specs.Counts.{unrangedLength};
 ghost use Rattle.record.specs.Reads.{Reads};
 
 // What reading a record answers: that it states a graph, or why not.
@@ -12,17 +16,29 @@ pub enum Verdict {
     Refused(GraphFault),
 }
 
+// Whether a record of a given length that states the graph has labels with levels: each of these takes two bytes more.
+fn has_ranges(length: usize, graph: &[u16]) -> bool
+    requires { ⌜ Shaped (now graph) ⌝ }
+    ensures { λ r. ⌜ r ≡ not (eqb length (unrangedLength (now (graph .entry)))) ⌝ }
+{
+    let nodes = graph[0] as usize;
+    let rows = graph[nodes + 1] as usize - graph[1] as usize;
+    let links = rows - layout::HEADER * nodes;
+    length != 1 + 9 * nodes + links
+}
+
 // Reads a record over a table with n types into the lent words, which are unspecified on refusal.
-pub fn read(n: usize, bytes: &[u8], graph: &mut [u16; 2560]) -> Verdict
-    requires { ⌜ length (now graph) ≡ 2560 ⌝ }
+pub fn read(n: usize, bytes: &[u8], graph: &mut [u16; layout::LONGEST]) -> Verdict
+    requires { ⌜ length (now graph) ≡ longest ⌝ }
     ensures { λ r. ⌜ Reads n (now (bytes .entry)) r (now (graph .exit)) ⌝ }
-    ensures { λ r. ⌜ length (now (graph .exit)) ≡ 2560 ⌝ }
+    ensures { λ r. ⌜ length (now (graph .exit)) ≡ longest ⌝ }
 {
     if !decode::rows::parse(bytes, graph) {
         return Verdict::Refused(GraphFault::Malformed);
     }
+    let ranged = has_ranges(bytes.len(), graph);
     let mut incoming = [0u16; 255];
-    if !crate::peeling::count_incoming(n, graph, &mut incoming) {
+    if !crate::peeling::count_incoming(n, graph, ranged, &mut incoming) {
         return Verdict::Refused(GraphFault::OutOfRange);
     }
     match crate::peeling::sources_first(graph, &mut incoming) {

@@ -52,7 +52,7 @@ second-told c low high =
     ∙ ap (λ (b : Bool). cond b (RefusedGraph (c - 4294967808) Second) (fromSame c)) (lt-ltb c 8589934592 high)
 
 -- the code of a short length, or of a refusal by a small number, tells which it is
-code-told : (k : Kind) → ((l : ℕ) → k ≡ Length l → l ≤ 4344) → numberIn k < 256 → told (codeFor k) ≡ k
+code-told : (k : Kind) → ((l : ℕ) → k ≡ Length l → l ≤ 4854) → numberIn k < 256 → told (codeFor k) ≡ k
 code-told (Length l) short small =
     ap (λ (b : Bool). cond b (Length l) (fromNumber l)) (lt-ltb l 4294967296 (omega (arith, short l refl)))
 code-told Same short small = refl
@@ -67,7 +67,7 @@ code-told (RefusedGraph number Second) short small =
     second-told (codeFor (RefusedGraph number Second)) (omega arith) (omega arith) ∙ ap (λ (m : ℕ). RefusedGraph m Second) (omega arith)
 
 -- two replies with one code are one reply, if their lengths are at most that of the longest record
-pub codes-differ : (r q : Reply) → Bounded r 4344 → Bounded q 4344 → codeOf r ≡ codeOf q → r ≡ q
+pub codes-differ : (r q : Reply) → Bounded r 4854 → Bounded q 4854 → codeOf r ≡ codeOf q → r ≡ q
 codes-differ r q short brief e =
     kind-injective r q
     (sym (code-told (kindOf r) (kind-bounded r short) (number-small r refl))

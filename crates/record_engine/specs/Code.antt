@@ -1,4 +1,4 @@
--- One number for a reply: the length itself, which is at most 4,344; for a refusal 2³² + 256 × the side + its number in document 01;
+-- One number for a reply: the length itself, which is at most 4,854; for a refusal 2³² + 256 × the side + its number in document 01;
 -- for same, under, above and neither 2³³ and the three numbers after it.
 use Prim.Native.Nat.{ℕ, _+_, _*_}
 use Rattle.engine.specs.declared.Side.{Side}

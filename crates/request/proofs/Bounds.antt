@@ -19,7 +19,7 @@ use Rattle.lattice.specs.Label.{Label}
 use Rattle.lattice.specs.declared.Opened.{Opened}
 use Rattle.lattice.specs.declared.Opened.the-variants as opened
 use Rattle.lattice.specs.Reply as table
-use Rattle.lattice.specs.Labels.{typeLabels}
+use Rattle.lattice.specs.Labels.{tableLabels}
 use Rattle.record.specs.Read as graph
 use Rattle.encode.specs.Encode.{encoded, fitted, writtenOut}
 use Rattle.encode.specs.declared.Written.the-variants as outcome
@@ -108,19 +108,19 @@ module _ (n : ℕ) (t a b : List ℕ) where
   generalizing-bounded : (out : List ℕ) → Bounded (generalizing n t a b out .reply) (length out)
   unfolding generalizing generalized
   generalizing-bounded out = writing-bounded out (generalized n t out) λ g h.
-      written-bounded (canonical samePair (generalization (typeLabels n t) (graph.graphOfRows g) (graph.graphOfRows h))) out
+      written-bounded (canonical samePair (generalization (tableLabels n t) (graph.graphOfRows g) (graph.graphOfRows h))) out
 
   unifying-bounded : (out : List ℕ) → Bounded (unifying n t a b out .reply) (length out)
   unfolding unifying unifiedRows
   unifying-bounded out = writing-bounded out (unifiedRows n t out) λ g h.
       combined-bounded
-      (unification (typeLabels n t) eqb eqb (graph.graphOfRows g) (from 0 (length g)) (graph.graphOfRows h) (from 0 (length h))) out
+      (unification (tableLabels n t) eqb eqb (graph.graphOfRows g) (from 0 (length g)) (graph.graphOfRows h) (from 0 (length h))) out
 
   differing-bounded : (out : List ℕ) → Bounded (differing n t a b out .reply) (length out)
   unfolding differing differedRows differed
   differing-bounded out = writing-bounded out (differedRows n t out) λ g s.
       let s = numbered (canonical eqb (graph.graphOfRows s)) in
-      cond-bounded (subsumes (typeLabels n t) eqb eqb (graph.graphOfRows s) (graph.graphOfRows g) (length g))
+      cond-bounded (subsumes (tableLabels n t) eqb eqb (graph.graphOfRows s) (graph.graphOfRows g) (length g))
       (cond (allWanted n t s g) (resultOf (writtenOut (canonical eqb (differenceRows n t g s)) out)) (refusing NoWantedType out))
       (refusing NotBelow out) (length out)
       (cond-bounded (allWanted n t s g) (resultOf (writtenOut (canonical eqb (differenceRows n t g s)) out)) (refusing NoWantedType out)
@@ -138,10 +138,10 @@ module _ (n : ℕ) (t a b : List ℕ) where
   answering-bounded Difference out = differing-bounded out
   answering-bounded Order out = ordering-bounded (length out)
 
-answered-bounded : (request : Request) → Bounded (answered request .reply) 4344
+answered-bounded : (request : Request) → Bounded (answered request .reply) 4854
 unfolding answered
 answered-bounded q l e =
-    omega (arith, answering-bounded (q .n) (q .table) (q .first) (q .second) (q .operation) (replicate 4344 0) l e, length-replicate {A = ℕ} 4344 0)
+    omega (arith, answering-bounded (q .n) (q .table) (q .first) (q .second) (q .operation) (replicate 4854 0) l e, length-replicate {A = ℕ} 4854 0)
 
 -- Every line is short.
 
@@ -149,7 +149,7 @@ side-short : (which : Side) → length (sideText which) ≤ 7
 side-short First = omega arith
 side-short Second = omega arith
 
-kind-short : (k : Kind) (out : List ℕ) → ((l : ℕ) → k ≡ kind.Length l → l ≤ 4344) → numberIn k < 256 → length (kindText k out) ≤ 8696
+kind-short : (k : Kind) (out : List ℕ) → ((l : ℕ) → k ≡ kind.Length l → l ≤ 4854) → numberIn k < 256 → length (kindText k out) ≤ 9716
 kind-short (kind.Length l) out h small =
     simp (length-append, length-hexadecimal, length-take) (omega (arith, h l refl, decimal-short l (omega (arith, h l refl))))
 kind-short kind.Same out h small = omega arith
@@ -165,9 +165,9 @@ kind-short (kind.RefusedGraph number which) out h small =
       side-short which,
     )
 
-reply-short : (reply : Reply) (out : List ℕ) → Bounded reply 4344 → length (replyText reply out) ≤ 8696
+reply-short : (reply : Reply) (out : List ℕ) → Bounded reply 4854 → length (replyText reply out) ≤ 9716
 reply-short reply out h = kind-short (kindOf reply) out (kind-bounded reply h) (number-small reply refl)
 
-pub words-short : (request : Option Request) → length (wordsFor request) ≤ 8696
+pub words-short : (request : Option Request) → length (wordsFor request) ≤ 9716
 words-short none = omega arith
 words-short (some q) = reply-short (answered q .reply) (answered q .output) (answered-bounded q)

@@ -42,11 +42,11 @@ answers-by n t a b out e h = h ∙ ap (λ (o : Operation). answering o n t a b o
 -- the call on the parts of the input
 pub answered-is : (input : List ℕ) (operation : Operation) (parts : Parts) {t a b : List ℕ} →
     t ≡ between input (parts .table) → a ≡ between input (parts .first) → b ≡ between input (parts .second) →
-    answering operation (parts .n) t a b (replicate 4344 0) ≡ answered (requestAt input operation parts)
+    answering operation (parts .n) t a b (replicate 4854 0) ≡ answered (requestAt input operation parts)
 unfolding answered
 answered-is input operation parts {t} {a} {b} et ea eb =
-    ap (λ (x : List ℕ). answering operation (parts .n) x a b (replicate 4344 0)) et
-    ∙ ap₂ (λ (x y : List ℕ). answering operation (parts .n) (between input (parts .table)) x y (replicate 4344 0)) ea eb
+    ap (λ (x : List ℕ). answering operation (parts .n) x a b (replicate 4854 0)) et
+    ∙ ap₂ (λ (x y : List ℕ). answering operation (parts .n) (between input (parts .table)) x y (replicate 4854 0)) ea eb
 
 -- the words of an equal result
 pub puts-result : {x y : Result} {r : Reply} {output : List ℕ} {at next : ℕ} {old new : List ℕ} → x ≡ y → resulting r output ≡ x →
@@ -66,14 +66,14 @@ unfolding textOf
 line-is none = refl
 line-is (some q) = refl
 
-line-put : (input : List ℕ) {end : ℕ} {old part : List ℕ} → 8697 ≤ length old → Puts (wordsFor (requested input)) 0 old end part →
+line-put : (input : List ℕ) {end : ℕ} {old part : List ℕ} → 9717 ≤ length old → Puts (wordsFor (requested input)) 0 old end part →
     (end + 1 ≡ length (lineOf input)) × (set part end 10 ≡ lineOf input ++ drop (length (lineOf input)) old)
 unfolding lineOf
 line-put input {end} {old} {part} room p =
     let words : List ℕ = wordsFor (requested input) in
     let q : Puts (words ++ (10 ∷ [])) 0 old (end + 1) (set part end 10) = puts-then p (puts-byte end part 10) in
     let size : length (words ++ (10 ∷ [])) ≡ length words + 1 = length-append words (10 ∷ []) in
-    let short : length words ≤ 8696 = words-short (requested input) in
+    let short : length words ≤ 9716 = words-short (requested input) in
     let same : length (words ++ (10 ∷ [])) ≡ length (lineOf input) = ap length (sym (line-is (requested input))) in (
       omega (arith, q .next-is),
       q .new-is ∙ sets-eq (words ++ (10 ∷ [])) old 0 (omega arith)
@@ -84,10 +84,10 @@ line-put input {end} {old} {part} room p =
 abbrev held : List ℕ → ℕ → Printed
 held bytes count = record { bytes = bytes; count = count }
 
-pub line-printed : (input : List ℕ) {end : ℕ} {part : List ℕ} → Puts (wordsFor (requested input)) 0 (replicate 8697 0) end part →
+pub line-printed : (input : List ℕ) {end : ℕ} {part : List ℕ} → Puts (wordsFor (requested input)) 0 (replicate 9717 0) end part →
     held (set part end 10) (end + 1) ≡ printed (lineOf input)
 line-printed input p =
-    let h = line-put input (omega (arith, length-replicate {A = ℕ} 8697 0)) p in
+    let h = line-put input (omega (arith, length-replicate {A = ℕ} 9717 0)) p in
     ap₂ held (h .1) (h .0)
 
 -- what is printed is among the bytes
@@ -97,5 +97,5 @@ count-fits input e =
       arith,
       ap (λ (p : Printed). p .count) e,
       ap (λ (p : Printed). length (p .bytes)) e,
-      length-append (lineOf input) (drop (length (lineOf input)) (replicate 8697 0)),
+      length-append (lineOf input) (drop (length (lineOf input)) (replicate 9717 0)),
     )

@@ -65,7 +65,7 @@ answering Order n table first second out = refusing (ordering n table first seco
 
 -- "It lends as many output bytes as the longest record has"
 unfoldable pub answered : Request → Result
-answered q = answering (q .operation) (q .n) (q .table) (q .first) (q .second) (replicate 4344 0)
+answered q = answering (q .operation) (q .n) (q .table) (q .first) (q .second) (replicate 4854 0)
 
 -- "found before any other check, `bad input`"
 abbrev pub lineFor : Option Request → List ℕ
@@ -74,7 +74,7 @@ lineFor (some request) = textOf (answered request)
 
 -- a text as it is printed: its bytes first, zeros behind them, and how many they are
 abbrev pub printed : List ℕ → Printed
-printed text = record { bytes = text ++ drop (length text) (replicate 8697 0); count = length text }
+printed text = record { bytes = text ++ drop (length text) (replicate 9717 0); count = length text }
 
 -- the line that an input is answered by
 unfoldable pub lineOf : List ℕ → List ℕ

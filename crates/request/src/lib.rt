@@ -19,9 +19,9 @@ ghost use Rattle.request.specs.Text.{Puts};
 ghost use Rattle.request.specs.Line.{answering, lineOf, printed};
 ghost use Rattle.request.specs.Words.{wordsFor};
 
-// What is to be printed: the first `count` of the bytes. The longest line has 8,697.
+// What is to be printed: the first `count` of the bytes. The longest line has 9,717.
 pub struct Printed {
-    pub bytes: [u8; 8697],
+    pub bytes: [u8; 9717],
     pub count: usize,
 }
 
@@ -47,21 +47,21 @@ fn answer(
 // The words that answer a request, whose parts stand in the input.
 fn put_answer(operation: Operation, parts: Parts, input: &[u8], out: &mut [u8]) -> usize
     requires { ⌜ AllInside (now input) parts ⌝ }
-    requires { ⌜ 8696 ≤ length (now out) ⌝ }
+    requires { ⌜ 9716 ≤ length (now out) ⌝ }
     ensures { λ r. ⌜ Puts (wordsFor (some (requestAt (now (input .entry)) operation parts))) 0 (now (out .entry)) r (now (out .exit)) ⌝ }
 {
     let n = parts.n;
     let table = parse::bytes_of(input, parts.table);
     let first = parse::bytes_of(input, parts.first);
     let second = parse::bytes_of(input, parts.second);
-    let mut output = [0u8; 4344];
+    let mut output = [0u8; 4854];
     let reply = answer(operation, n, table, first, second, &mut output);
     reply::put_reply(reply, &output, out)
 }
 
 // The line without its end.
 fn put_words(input: &[u8], out: &mut [u8]) -> usize
-    requires { ⌜ 8696 ≤ length (now out) ⌝ }
+    requires { ⌜ 9716 ≤ length (now out) ⌝ }
     ensures { λ r. ⌜ Puts (wordsFor (requested (now (input .entry)))) 0 (now (out .entry)) r (now (out .exit)) ⌝ }
 {
     let parsed = parse::parse(input);
@@ -75,7 +75,7 @@ fn put_words(input: &[u8], out: &mut [u8]) -> usize
 pub fn line(input: &[u8]) -> Printed
     ensures { λ r. ⌜ r ≡ printed (lineOf (now (input .entry))) ⌝ }
 {
-    let mut bytes = [0u8; 8697];
+    let mut bytes = [0u8; 9717];
     let end = put_words(input, &mut bytes);
     bytes[end] = 10;
     Printed {

@@ -17,9 +17,9 @@ ghost use Rattle.request.specs.Line.{okText, refusedText, replyText, sid
 
 // A record and its length.
 fn put_record(count: usize, bytes: &[u8], out: &mut [u8]) -> usize
-    requires { ⌜ count ≤ 4344 ⌝ }
-    requires { ⌜ length (now bytes) ≤ 4344 ⌝ }
-    requires { ⌜ 8696 ≤ length (now out) ⌝ }
+    requires { ⌜ count ≤ 4854 ⌝ }
+    requires { ⌜ length (now bytes) ≤ 4854 ⌝ }
+    requires { ⌜ 9716 ≤ length (now out) ⌝ }
     ensures { λ r. ⌜ Puts (okText count (now (bytes .entry))) 0 (now (out .entry)) r (now (out .exit)) ⌝ }
 {
     let ok = put_word(b"ok ", 0, out);
@@ -31,7 +31,7 @@ fn put_record(count: usize, bytes: &[u8], out: &mut [u8]) -> usize
 // A refusal's number.
 fn put_refused(number: usize, out: &mut [u8]) -> usize
     requires { ⌜ number < 256 ⌝ }
-    requires { ⌜ 8696 ≤ length (now out) ⌝ }
+    requires { ⌜ 9716 ≤ length (now out) ⌝ }
     ensures { λ r. ⌜ Puts (refusedText number) 0 (now (out .entry)) r (now (out .exit)) ⌝ }
 {
     let refused = put_word(b"refused ", 0, out);
@@ -52,7 +52,7 @@ fn put_side(side: Side, at: usize, out: &mut [u8]) -> usize
 // A refusal of a graph.
 fn put_refused_graph(number: usize, side: Side, out: &mut [u8]) -> usize
     requires { ⌜ number < 256 ⌝ }
-    requires { ⌜ 8696 ≤ length (now out) ⌝ }
+    requires { ⌜ 9716 ≤ length (now out) ⌝ }
     ensures { λ r. ⌜ Puts (refusedText number ++ sideText side) 0 (now (out .entry)) r (now (out .exit)) ⌝ }
 {
     let refused = put_refused(number, out);
@@ -62,8 +62,8 @@ fn put_refused_graph(number: usize, side: Side, out: &mut [u8]) -> usize
 // The words of a reply, with the output beside it.
 pub fn put_reply(reply: Reply, output: &[u8], out: &mut [u8]) -> usize
     requires { ⌜ Bounded reply (length (now output)) ⌝ }
-    requires { ⌜ length (now output) ≤ 4344 ⌝ }
-    requires { ⌜ 8696 ≤ length (now out) ⌝ }
+    requires { ⌜ length (now output) ≤ 4854 ⌝ }
+    requires { ⌜ 9716 ≤ length (now out) ⌝ }
     ensures { λ r. ⌜ Puts (replyText reply (now (output .entry))) 0 (now (out .entry)) r (now (out .exit)) ⌝ }
 {
     let kind = kind_of(reply);

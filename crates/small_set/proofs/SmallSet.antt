@@ -1,7 +1,7 @@
 -- Document 01's small set, computed: "The small set is one table proved by one result about the definitions." Every definition that
 -- a case runs through is named where it unfolds.
-use mathlib.Core.Path.{_≡_, refl, ap}
-use mathlib.Core.Bool.{true, false, not, _&&_}
+use mathlib.Core.Path.{_≡_, refl, ap, _∙_}
+use mathlib.Core.Bool.{Bool, true, false, not, _&&_, _||_}
 use mathlib.Core.List.{List, flatMap}
 use mathlib.Core.Option.{bind, orElse}
 use Prim.Native.Nat.{ℕ}
@@ -75,33 +75,35 @@ use Rattle.lattice.specs.Table.{
   found,
 }
 use Rattle.lattice.specs.Reply.{opened}
-use Rattle.lattice.specs.Labels.{typeLabels}
+use Rattle.lattice.specs.Labels.{tableLabels, wantedLabel}
 use Rattle.lattice.proofs.Every.{and-both, implies-at, every-at, found-some}
 use Rattle.lattice.proofs.Residuals.{opened-accepted}
-use Rattle.decode.specs.Decode.{bitOf, takeLinks, takeRow, takeRows, decoded}
-use Rattle.encode.specs.Encode.{bitsFrom, encodedRow, encodedRows, encoded, fitted, writtenOut}
-use Rattle.record.specs.Read.{inRange, cyclic, reachesAll, reading, accepted, graphOfRows}
+use Rattle.lattice.proofs.Lawful.{inside}
+use Rattle.lattice.proofs.WantedLabels.{wanted-label-found}
+use Rattle.decode.specs.Decode.{bitOf, labelLength, labelOf, takeLinks, takeRow, takeRows, decoded}
+use Rattle.encode.specs.Encode.{bitsFrom, isFull, encodedLabel, encodedRow, encodedRows, encoded, fitted, writtenOut}
+use Rattle.record.specs.Read.{labelInRange, inRange, cyclic, reachesAll, reading, accepted, graphOfRows}
 use Rattle.record.proofs.Accepted.{accepted-rules}
 use Rattle.record.proofs.Theorems.{accepted-of-any-size}
 use Rattle.generalize.specs.Pairs.{samePair}
 use Rattle.difference.specs.Promise.{wantedAlong, allWantedAlong, differenceAlong}
-use Rattle.engine.specs.Reply.{generalized, generalizing, ordered as comparing, ordering}
+use Rattle.engine.specs.Reply.{rewriting, generalized, generalizing, ordered as comparing, ordering}
 use Rattle.engine.specs.Unification.{unifiedRows, unifying}
-use Rattle.engine.specs.Difference.{firstAt, over, wantedType, allWanted, differenceRows, differed, differedRows, differing}
+use Rattle.engine.specs.Difference.{firstAt, over, wantedAt, allWanted, differenceRows, differed, differedRows, differing}
 use Rattle.engine.specs.declared.Reply.the-variants.{NoWantedType}
-use Rattle.engine.proofs.Demanded.Wanted.{meet-type, label-below, wanted-exact}
+use Rattle.engine.proofs.Demanded.Wanted.{meet-known, label-below, wanted-exact}
 use Rattle.engine.proofs.Requests.{unwanted-exact, itself-lone-top}
 use Rattle.small_set.specs.Cases.{threeMiddles, twoOverTwo, NeverUnwanted, ItselfTop, AllHold, none-left, _and_, cases, SmallSet, FourAnswers}
 
 all-hold : AllHold cases
 unfolding
     bind orElse
-    generalizing generalized unifying unifiedRows differing differedRows differed allWantedAlong differenceAlong wantedAlong over firstAt
+    rewriting generalizing generalized unifying unifiedRows differing differedRows differed allWantedAlong differenceAlong wantedAlong over firstAt
     opened sized ordered confined reflexive antisymmetric transitive least greatest bounded meet isMeet join isJoin every last below
-    restores isWanted wanted
-    reading decoded takeRows takeRow takeLinks bitOf inRange allOf cyclic anyOf deep reachesAll
+    restores isWanted wanted wantedLabel
+    reading decoded takeRows takeRow labelLength labelOf takeLinks bitOf inRange labelInRange allOf cyclic anyOf deep reachesAll
     canonical visit each member target from linkCount outDegree rowOf linksOf indexOf
-    writtenOut fitted encoded encodedRows encodedRow bitsFrom
+    writtenOut fitted encoded encodedRows encodedRow encodedLabel isFull bitsFrom
     generalization samePair
     unification classGraph className hasCycle hasClash firstOf merge apart unsettled close classLink classLabel
     subsumes walks fitsAt flatMap
@@ -109,6 +111,13 @@ unfolding
     meetOver meetWhere byNumber
 all-hold =
     refl
+    and refl
+    and refl
+    and refl
+    and refl
+    and refl
+    and refl
+    and refl
     and refl
     and refl
     and refl
@@ -137,6 +146,10 @@ three-middles-wanted : every 5 (λ p. every 5 λ q. implies (not (eqb p 0) && be
 unfolding wanted isWanted restores meet isMeet every last below
 three-middles-wanted = refl
 
+or-first : (b c : Bool) → b || c ≡ false → b ≡ false
+or-first true c e = e
+or-first false c e = refl
+
 -- 13 for no two accepted graphs, where the table is accepted and has such types
 no-unwanted : (n : ℕ) (t first second out : List ℕ) (g s : List (Row Label)) → opened n t ≡ Accepted →
     every n (λ p. every n λ q. implies (not (eqb p 0) && below t p q) (found (wanted n t p q))) ≡ true →
@@ -149,14 +162,17 @@ no-unwanted n t first second out g s opens all e f told =
     let (lies, (v, r, nothing)) =
     unwanted-exact n t first second g s (record { opens = opens; first = e; second = f }) out .0 told in
     let size = accepted-of-any-size n second s f t in
-    let p : ℕ = graphOfRows s .label v in
-    let q : ℕ = meetOver (typeLabels n t) eqb (graphOfRows g) (from 0 (length g)) (over s g) v in
-    let nonzero : eqb p 0 ≡ false = size .any-size .consistent v r in
+    let x : Label = graphOfRows s .label v in
+    let y : Label = meetOver (tableLabels n t) eqb (graphOfRows g) (from 0 (length g)) (over s g) v in
+    let p : ℕ = x .type in
+    let q : ℕ = y .type in
+    let nonzero : eqb p 0 ≡ false = or-first (eqb p 0) _ (size .any-size .consistent v r) in
     let (c, is) =
-    found-some (wanted n t p q)
-    (implies-at (not (eqb p 0) && below t p q) (found (wanted n t p q))
-    (every-at _ n q (every-at _ n p all (size .typed v r)) (meet-type n t ok g s general specific lies v))
-    (and-both (not (eqb p 0)) (below t p q) (ap not nonzero) (label-below n t ok g s general specific lies v))) in
+    found-some (wantedLabel n t x y)
+    (wanted-label-found n t x y ∙
+    implies-at (not (eqb p 0) && below t p q) (found (wanted n t p q))
+    (every-at _ n q (every-at _ n p all (size .typed v r .type)) (meet-known n t ok g s general specific lies v .type))
+    (and-both (not (eqb p 0)) (below t p q) (ap not nonzero) (inside n t x y (label-below n t ok g s general specific lies v) .type))) in
     nothing c (wanted-exact n t ok g s general specific lies v c .0 is)
 
 never-unwanted : NeverUnwanted threeMiddles
@@ -180,7 +196,7 @@ pub four-answers : FourAnswers
 unfolding
     ordering comparing
     opened sized ordered confined reflexive antisymmetric transitive least greatest bounded meet isMeet join isJoin every last below
-    reading decoded takeRows takeRow takeLinks bitOf inRange allOf cyclic anyOf deep reachesAll
+    reading decoded takeRows takeRow labelLength labelOf takeLinks bitOf inRange labelInRange allOf cyclic anyOf deep reachesAll
     visit each member target from linksOf bind orElse
     subsumes walks fitsAt flatMap
 four-answers =

@@ -3,14 +3,14 @@
 use mathlib.Core.Path.{_≡_}
 use mathlib.Core.List.{List, [], _∷_, _++_}
 use mathlib.Core.Option.{Option, some}
-use Prim.Native.Nat.{ℕ}
+use Prim.Native.Nat.{ℕ, _+_}
 use lib.ListN.{length, drop, replicate}
 use Rattle.graphs.specs.Rows.{Row}
 use Rattle.lattice.specs.Label.{Label}
 use Rattle.record.specs.Read.{reading, accepted}
 use Rattle.engine.specs.declared.Reply.the-variants.{Length, Same, Under, Above, Neither, NoWantedType}
 use Rattle.engine.specs.declared.Reply.{Reply}
-use Rattle.engine.specs.Reply.{Result, refusal, resultOf, generalizing, ordering}
+use Rattle.engine.specs.Reply.{Result, refusal, resultOf, rewriting, generalizing, ordering}
 use Rattle.engine.specs.Unification.{unifying}
 use Rattle.engine.specs.Difference.{differing}
 use Rattle.engine.specs.Demand.{loneTop}
@@ -64,6 +64,10 @@ leaf type = node type 0x00 []
 abbrev pub lone : ℕ → List ℕ
 lone type = 1 ∷ leaf type
 
+-- a node without links, with a range: "bit 7 says that two bytes follow it, lowest and highest level"
+abbrev pub ranged : ℕ → ℕ → ℕ → List ℕ
+ranged type lowest highest = (128 + type) ∷ lowest ∷ highest ∷ replicate 8 0
+
 -- "P = top[0: X top, 1: X]"
 abbrev pub P : List ℕ
 P = 2 ∷ node top 0x03 (1 ∷ 1 ∷ []) ++ leaf top
@@ -79,6 +83,10 @@ R = 2 ∷ node top 0x03 (1 ∷ 1 ∷ []) ++ leaf a
 -- a call on two records that lends an output
 abbrev pub Call : Type 0
 Call = ℕ → List ℕ → List ℕ → List ℕ → List ℕ → Result
+
+-- rewriting the first record; the second is not looked at
+abbrev pub rewritingFirst : Call
+rewritingFirst n t first second out = rewriting n t first out
 
 -- what a call gives: a record, or a refusal by its number
 pub data Answer : Type 0 where
@@ -121,7 +129,7 @@ abbrev pub overThreeMiddles : Call → List ℕ → List ℕ → Answer → Case
 overThreeMiddles call first second answer =
     record { call = call; types = threeMiddles; first = first; second = second; answer = answer }
 
--- "Cases 1 to 12 are the small set.", with case 12 and a new case as Paper 6 has them
+-- "Cases 1 to 12 are the small set.", with case 12 and a new case as Paper 6 has them, and cases of Paper 7
 abbrev pub cases : List Case
 cases =
     -- 1. Common part of a[0: b] and b: a lone top, 01 03 and eight 00.
@@ -158,6 +166,21 @@ cases =
     ∷ overThreeMiddles differing (lone 1) (lone 2) (refuses 12)
     -- Paper 6: "with g a lone 2 and s a lone 1, the types 1, 3 and 4 all restore and none is the greatest, so 13".
     ∷ record { call = differing; types = threeOverOne; first = lone 2; second = lone 1; answer = refuses 13 }
+    -- Paper 7, with ranges behind the types: combine a{10..100} with top{50..200}: a{50..100}.
+    ∷ overDiamond unifying (1 ∷ ranged a 10 100) (1 ∷ ranged top 50 200) (gives (1 ∷ ranged a 50 100))
+    -- Combine a{10..50} with a{60..70}: 10, "an empty overlap is a clash".
+    ∷ overDiamond unifying (1 ∷ ranged a 10 50) (1 ∷ ranged a 60 70) (refuses 10)
+    -- Common part of a{10..50} and b{60..70}: top{10..70}.
+    ∷ overDiamond generalizing (1 ∷ ranged a 10 50) (1 ∷ ranged b 60 70) (gives (1 ∷ ranged top 10 70))
+    -- Common part of a{0..50} and a{40..255}: a.
+    ∷ overDiamond generalizing (1 ∷ ranged a 0 50) (1 ∷ ranged a 40 255) (gives (lone a))
+    -- Difference of g = top[0: a{0..20}], s = top[0: a{10..20}]: top[0: top{10..255}], "a node is also kept when it is not full".
+    ∷ overDiamond differing (2 ∷ node top 0x01 (1 ∷ []) ++ ranged a 0 20) (2 ∷ node top 0x01 (1 ∷ []) ++ ranged a 10 20)
+    (gives (2 ∷ node top 0x01 (1 ∷ []) ++ ranged top 10 255))
+    -- The full range spelled out, a{0..255}, and rewritten: a.
+    ∷ overDiamond rewritingFirst (1 ∷ ranged a 0 255) [] (gives (lone a))
+    -- A lowest level above the highest: 5.
+    ∷ overDiamond rewritingFirst (1 ∷ ranged a 20 10) [] (refuses 5)
     ∷ []
 
 -- no difference of two graphs accepted over a table gives 13, whatever output is lent

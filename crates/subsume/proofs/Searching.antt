@@ -14,10 +14,9 @@ use Rattle.graphs.specs.Graph.{Graph, Below, walk, follow}
 use Rattle.graphs.specs.Map.{NodeMap}
 use Rattle.graphs.proofs.Walk.{some-injective, some-unique, snoc-induction, follow-last, walk-snoc}
 use Rattle.graphs.proofs.Below.{below-labels}
-use Rattle.lattice.specs.Table.{below}
-use Rattle.lattice.specs.Labels.{typeLabels}
+use Rattle.lattice.specs.Labels.{tableLabels, Known}
 use Rattle.lattice.specs.Label.{Label}
-use Rattle.layout.specs.Layout.{size, rowFrom, linksFrom, rowEnd, labelAt, featureAt, targetAt, rowsOf, graphIn, Node, Recorded}
+use Rattle.layout.specs.Layout.{size, linksFrom, rowEnd, labelAt, featureAt, targetAt, rowsOf, graphIn, Recorded}
 use Rattle.layout.proofs.Places.{label-at, link-at, link-place}
 use Rattle.subsume.specs.declared.Order.the-variants as order
 use Rattle.subsume.specs.Promise.{Orders}
@@ -38,8 +37,8 @@ module _ (s g : Graph Label ℕ) where
   together-link : {v u w x : ℕ} (f : ℕ) → Together s g v u → g .link v f ≡ some w → s .link u f ≡ some x → Together s g w x
   together-link f t a b = (t .0 ++ (f ∷ []), walk-snoc g (t .0) f (t .1) ∙ a, walk-snoc s (t .0) f (t .2) ∙ b)
 
-  module _ (n : ℕ) (t : List ℕ) (b : Below (typeLabels n t) s g) where
-    label-refutes : {v u : ℕ} → Together s g v u → below t (s .label u) (g .label v) ≡ false → ⊥
+  module _ (n : ℕ) (t : List ℕ) (b : Below (tableLabels n t) s g) where
+    label-refutes : {v u : ℕ} → Together s g v u → tableLabels n t .le (s .label u) (g .label v) ≡ false → ⊥
     label-refutes {v} {u} c e = true≢false (sym (below-labels b (c .0) u v (c .2) (c .1)) ∙ e)
 
     lack-refutes : {v u w : ℕ} (f : ℕ) → Together s g v u → g .link v f ≡ some w → ((x : ℕ) → s .link u f ≡ some x → ⊥) → ⊥
@@ -104,9 +103,9 @@ module _ (map queue : List ℕ) (bare : map ≡ replicate 255 65535) (clear : qu
 
 -- s and g are graphs of records, t is the type table.
 module _ (t s g : List ℕ) where
-  -- Node v is passed: its type and links are those of its image.
+  -- Node v is passed: its label is over that of its image, and its links are among that node's.
   pub record Passed (map : List ℕ) (v : ℕ) : Type 0 where
-    pub ordered : below t (labelAt s (getD map v 0)) (labelAt g v) ≡ true
+    pub ordered : (n : ℕ) → tableLabels n t .le (labelAt s (getD map v 0)) (labelAt g v) ≡ true
     pub leads : (k : ℕ) → linksFrom g v ≤ k → k < rowEnd g v →
         (j : ℕ) × Meets s g (getD map v 0) v k j × (getD map (targetAt g k) 0 ≡ targetAt s j)
 
@@ -128,12 +127,8 @@ pub record Next (s g : List ℕ) (u v : ℕ) : Type 0 where
   pub image-small : u < 255
   pub inside : v < size g
   pub image : u < size s
-  pub node : Node g v
-  pub image-node : Node s u
-  pub from : rowFrom g v < length g
-  pub image-from : rowFrom s u < length s
-  pub typed : labelAt g v < 64
-  pub image-typed : labelAt s u < 64
+  pub typed : Known 64 (labelAt g v)
+  pub image-typed : Known 64 (labelAt s u)
 
 module _ {t s g : List ℕ} where
   -- at the root
@@ -197,22 +192,22 @@ module _ {t s g : List ℕ} where
               let (low, few, x) = link-mapped v w a h d l in
               (low, λ z. omega arith)
 
-      node-map : (n : ℕ) → NodeMap (typeLabels n t) (graphIn s) (graphIn g) (λ v. getD map v 0)
+      node-map : (n : ℕ) → NodeMap (tableLabels n t) (graphIn s) (graphIn g) (λ v. getD map v 0)
       node-map n =
           record {
             root = f .rooted;
             links = λ v w a r l. let (h, d) = reached-mapped (r .0) v (r .1) in link-mapped v w a h d l .2;
             labels = λ v r.
                 let (h, d) = reached-mapped (r .0) v (r .1) in
-                ap₂ (below t) (label-at s (getD map v 0) (f .image v h d)) (label-at g v (f .inside v h d)) ∙
-                mapped-passed v h d .ordered;
+                ap₂ (tableLabels n t .le) (label-at s (getD map v 0) (f .image v h d)) (label-at g v (f .inside v h d)) ∙
+                mapped-passed v h d .ordered n;
           }
 
       pub order-yes : (n : ℕ) → Orders n t (rowsOf s) (rowsOf g) order.Below map
       order-yes n =
           record { yes-stands = λ _. node-map n; no-stands = λ e b. let z : _≡_ {A = ℕ} 0 1 = cc in omega arith }
 
-    order-no : {n : ℕ} {answer : List ℕ} → (Below (typeLabels n t) (graphIn s) (graphIn g) → ⊥) →
+    order-no : {n : ℕ} {answer : List ℕ} → (Below (tableLabels n t) (graphIn s) (graphIn g) → ⊥) →
         Orders n t (rowsOf s) (rowsOf g) order.NotBelow answer
     order-no never =
         record { yes-stands = λ e. let z : _≡_ {A = ℕ} 0 1 = cc in absurd (omega arith); no-stands = λ _. never }
@@ -244,19 +239,15 @@ module _ {t s g : List ℕ} where
             image-small = omega (arith, image-in, f .lower .small);
             inside = node-in;
             image = image-in;
-            node = f .upper .sound .shaped .node v node-in;
-            image-node = f .lower .sound .shaped .node u image-in;
-            from = omega (arith, f .upper .sound .shaped .node v node-in .begun, f .upper .sound .shaped .node v node-in .ended);
-            image-from = omega (arith, f .lower .sound .shaped .node u image-in .begun, f .lower .sound .shaped .node u image-in .ended);
             typed = f .upper .typed v node-in;
             image-typed = f .lower .typed u image-in;
           }
 
-      -- its type is not below
-      pub order-label : (n : ℕ) {answer : List ℕ} → below t (labelAt s u) (labelAt g v) ≡ false →
+      -- its label is not over that of its image
+      pub order-label : (n : ℕ) {answer : List ℕ} → tableLabels n t .le (labelAt s u) (labelAt g v) ≡ false →
           Orders n t (rowsOf s) (rowsOf g) order.NotBelow answer
       order-label n e =
-          order-no λ b. label-refutes (graphIn s) (graphIn g) n t b both (ap₂ (below t) (label-at s u image-in) (label-at g v node-in) ∙ e)
+          order-no λ b. label-refutes (graphIn s) (graphIn g) n t b both (ap₂ (tableLabels n t .le) (label-at s u image-in) (label-at g v node-in) ∙ e)
 
       come-together : {w x : ℕ} → w < 255 → Comes s g u v map w x →
           Together (graphIn s) (graphIn g) w x
@@ -278,7 +269,7 @@ module _ {t s g : List ℕ} where
       order-clash n (splits w x y h c d never) = order-no λ b. split-refutes (graphIn s) (graphIn g) n t b (come-together h c) (come-together h d) never
 
       -- it is passed
-      pub searched-on : {later longer : List ℕ} {more : ℕ} → below t (labelAt s u) (labelAt g v) ≡ true →
+      pub searched-on : {later longer : List ℕ} {more : ℕ} → ((n : ℕ) → tableLabels n t .le (labelAt s u) (labelAt g v) ≡ true) →
           Followed s g u v map queue count later longer more
           (rowEnd g v) →
           Searched t s g later longer more (head + 1)

@@ -7,12 +7,12 @@ use Rattle.graphs.specs.Graph.{Below}
 use Rattle.graphs.specs.Map.{NodeMap}
 use Rattle.graphs.specs.Rows.{Row}
 use Rattle.lattice.specs.Label.{Label}
-use Rattle.lattice.specs.Labels.{typeLabels}
+use Rattle.lattice.specs.Labels.{tableLabels}
 use Rattle.layout.specs.Layout.{graphOfRows}
 use Rattle.subsume.specs.declared.Order.{Order}
 use Rattle.subsume.specs.declared.Order.the-variants as order
 
 -- s and g are given by their rows, t is the type table; the number of types says nothing about the order
 pub record Orders (n : ℕ) (t : List ℕ) (s g : List (Row Label)) (answer : Order) (map : List ℕ) : Type 0 where
-  pub yes-stands : answer ≡ order.Below → NodeMap (typeLabels n t) (graphOfRows s) (graphOfRows g) (λ v. getD map v 0)
-  pub no-stands : answer ≡ order.NotBelow → Below (typeLabels n t) (graphOfRows s) (graphOfRows g) → ⊥
+  pub yes-stands : answer ≡ order.Below → NodeMap (tableLabels n t) (graphOfRows s) (graphOfRows g) (λ v. getD map v 0)
+  pub no-stands : answer ≡ order.NotBelow → Below (tableLabels n t) (graphOfRows s) (graphOfRows g) → ⊥

@@ -1,8 +1,12 @@
 // The order: whether the graph s lies below the graph g (document 01, "Order and results"). A queue over g's nodes; each is
 // mapped to the node of s that the same path leads to.
 
+use layout::Label;
+ghost use mathlib.Core.Path.{_≡_};
 ghost use Prim.Native.Nat.{ℕ, _≤_, _<_};
 ghost use lib.ListN.{length};
+ghost use Rattle.lattice.specs.Labels.{tableLabels};
+ghost use Rattle.layout.specs.Builder.{stated};
 ghost use Rattle.layout.specs.Layout.{Recorded, size, rowsOf};
 ghost use Rattle.subsume.specs.Following.{Follows, Queued, Sought};
 ghost use Rattle.subsume.specs.Promise.{Orders};
@@ -86,6 +90,20 @@ pub fn follow<'a>(
     end
 }
 
+// Whether a label is below another: its type is, and its range lies inside.
+pub fn is_label_below(table: &[u8], a: Label, b: Label) -> bool
+    requires { ⌜ (a .kind < 64) × (b .kind < 64) ⌝ }
+    ensures { λ r. ⌜ ((n : ℕ) → r ≡ tableLabels n (now (table .entry)) .le (stated a) (stated b)) ⌝ }
+{
+    if a.lowest < b.lowest {
+        return false;
+    }
+    if b.highest < a.highest {
+        return false;
+    }
+    lattice::words::is_below(table, a.kind as usize, b.kind as usize)
+}
+
 // Whether s lies below g.
 pub fn subsume<'a>(table: &'a [u8], s: &'a [u16], g: &'a [u16]) -> Ordered
     requires { ⌜ Recorded (now s) × Recorded (now g) ⌝ }
@@ -99,11 +117,9 @@ pub fn subsume<'a>(table: &'a [u8], s: &'a [u16], g: &'a [u16]) -> Ordered
     while head < count {
         let v = queue[head] as usize;
         let u = map[v] as usize;
-        let s_row = s[u + 1] as usize;
-        let g_row = g[v + 1] as usize;
-        let a = s[s_row] as usize;
-        let b = g[g_row] as usize;
-        if !lattice::words::is_below(table, a, b) {
+        let a = layout::label_at(s, u);
+        let b = layout::label_at(g, v);
+        if !is_label_below(table, a, b) {
             return Ordered {
                 order: Order::NotBelow,
                 map: map,

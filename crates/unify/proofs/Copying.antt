@@ -1,7 +1,7 @@
 -- Loops that copy: words and spans of the two graphs, and rows of classes.
 use mathlib.Core.Path.{_≡_, refl, sym, _∙_, ap, subst}
 use mathlib.Core.List.{List}
-use Prim.Native.Nat.{ℕ, _+_, _-_, _≤_, _<_}
+use Prim.Native.Nat.{ℕ, _+_, _-_, _%_, _≤_, _<_}
 use native.Mathlib.Decide.{decLt}
 use native.Mathlib.Omega.{arith}
 use lib.ListN.{length, getD, set, length-set}
@@ -19,22 +19,22 @@ words-start ws at shift pool =
 
 pub words-step : {ws : List ℕ} {k at shift : ℕ} {pool pool′ : List ℕ} {next : ℕ} → rowFrom ws 0 ≤ k →
     WordsCopied ws k at shift pool pool′ next → next < length pool →
-    WordsCopied ws (k + 1) at shift pool (set pool′ next (getD ws k 0 + shift)) (next + 1)
+    WordsCopied ws (k + 1) at shift pool (set pool′ next ((getD ws k 0 + shift) % 65536)) (next + 1)
 words-step {ws} {k} {at} {shift} {pool} {pool′} {next} low s room =
     record {
-      long = length-set pool′ next (getD ws k 0 + shift) ∙ s .long;
-      kept = λ j h. unstored pool′ next (getD ws k 0 + shift) j (λ e. omega (arith, s .counted)) ∙ s .kept j h;
+      long = length-set pool′ next ((getD ws k 0 + shift) % 65536) ∙ s .long;
+      kept = λ j h. unstored pool′ next ((getD ws k 0 + shift) % 65536) j (λ e. omega (arith, s .counted)) ∙ s .kept j h;
       counted = omega (arith, s .counted);
       words-are = λ i h. words-are i h (decLt (rowFrom ws 0 + i) k);
     }
   where
     words-are : (i : ℕ) → rowFrom ws 0 + i < k + 1 → Dec (rowFrom ws 0 + i < k) →
-        getD (set pool′ next (getD ws k 0 + shift)) (at + i) 0 ≡ getD ws (rowFrom ws 0 + i) 0 + shift
-    words-are i h (yes l) = unstored pool′ next (getD ws k 0 + shift) (at + i) (λ e. omega (arith, s .counted)) ∙ s .words-are i l
+        getD (set pool′ next ((getD ws k 0 + shift) % 65536)) (at + i) 0 ≡ (getD ws (rowFrom ws 0 + i) 0 + shift) % 65536
+    words-are i h (yes l) = unstored pool′ next ((getD ws k 0 + shift) % 65536) (at + i) (λ e. omega (arith, s .counted)) ∙ s .words-are i l
     words-are i h (no n) =
         let e : k ≡ rowFrom ws 0 + i = omega arith in
-        stored-at pool′ next (getD ws k 0 + shift) (at + i) (omega (arith, s .long)) (omega (arith, s .counted)) ∙
-        ap (λ (j : ℕ). getD ws j 0 + shift) e
+        stored-at pool′ next ((getD ws k 0 + shift) % 65536) (at + i) (omega (arith, s .long)) (omega (arith, s .counted)) ∙
+        ap (λ (j : ℕ). (getD ws j 0 + shift) % 65536) e
 
 pub words-done : {ws : List ℕ} {k end at shift : ℕ} {pool pool′ : List ℕ} {next : ℕ} → WordsCopied ws k at shift pool pool′ next →
     k ≤ end → end ≤ k → WordsCopied ws end at shift pool pool′ next

@@ -9,18 +9,22 @@ use native.Mathlib.Omega.{arith}
 use borrow.Author.Tests.{eq-eqb}
 use lib.Dec.{eqb}
 use lib.ListN.{length, getD, set, length-set}
+use Rattle.lattice.specs.Label.{Label}
+use Rattle.lattice.specs.Labels.{Known}
 use Rattle.layout.specs.Layout.{header, size, rowFrom, linksFrom, rowEnd, labelFrom, labelAt, targetAt}
-use Rattle.layout.specs.Builder.{Built, Open}
-use Rattle.layout.proofs.Builder.{label-same, built-kept, built-begin, row-closes}
+use Rattle.layout.specs.Builder.{Built, Open, putLabel}
+use Rattle.layout.proofs.Builder.{label-put, label-same, length-put, put-before, built-kept, built-begin, row-closes}
 use Rattle.classes.specs.Classes.{rowLength, sumTo}
 use Rattle.classes.proofs.Roots.{stored, unstored}
 use Rattle.classes.proofs.Sums.{sum-prefix}
-use Rattle.unify.specs.Rows.{Fillable, RowCopied, ClassRows, ClassGraph, classWord, endOfRow}
+use Rattle.unify.specs.Lowered.{Below, labelOfClass}
+use Rattle.unify.specs.Rows.{classWords, Fillable, RowCopied, ClassRows, ClassGraph, classWord, endOfRow}
 
 pub record Filling (nodes : ℕ) (class labels start end pool graph : List ℕ) (at x : ℕ) : Type 0 where
   pub given : Fillable nodes class start end pool
+  pub labelled : Below 128 labels
   pub most : x ≤ nodes
-  pub long : length graph ≡ 5118
+  pub long : length graph ≡ classWords
   pub sized : size graph ≡ nodes
   pub built : Built graph (nodes + 2) x at
   pub counted : at ≡ ((nodes + 2) + x * header) + sumTo x (rowLength (λ y. getD class y 0) start end)
@@ -37,12 +41,13 @@ row-end-is class start end x h = go (eqb (getD class x 0) x)
     go true = (omega arith, omega arith)
     go false = (omega arith, omega arith)
 
-pub fill-start : {nodes : ℕ} {class start end pool : List ℕ} → Fillable nodes class start end pool → (labels graph : List ℕ) →
-    length graph ≡ 5118 → Filling nodes class labels start end pool (set (set graph 0 nodes) 1 (nodes + 2)) (nodes + 2) 0
+pub fill-start : {nodes : ℕ} {class start end pool : List ℕ} → Fillable nodes class start end pool → {labels : List ℕ} → Below 128 labels →
+    (graph : List ℕ) → length graph ≡ classWords → Filling nodes class labels start end pool (set (set graph 0 nodes) 1 (nodes + 2)) (nodes + 2) 0
 unfolding sumTo
-fill-start {nodes} {class} {start} {end} given labels graph long =
+fill-start {nodes} {class} {start} {end} given labelled graph long =
     record {
       given = given;
+      labelled = labelled;
       most = omega arith;
       long = length-set (set graph 0 nodes) 1 (nodes + 2) ∙ long′;
       sized = unstored (set graph 0 nodes) 1 (nodes + 2) 0 (λ e. omega arith) ∙ stored graph 0 nodes (omega (arith, long));
@@ -56,7 +61,7 @@ fill-start {nodes} {class} {start} {end} given labels graph long =
           };
     }
   where
-    long′ : length (set graph 0 nodes) ≡ 5118
+    long′ : length (set graph 0 nodes) ≡ classWords
     long′ = length-set graph 0 nodes ∙ long
 
 module _ {nodes : ℕ} {class labels start end pool graph : List ℕ} {at x : ℕ} (s : Filling nodes class labels start end pool graph at x)
@@ -64,13 +69,16 @@ module _ {nodes : ℕ} {class labels start end pool graph : List ℕ} {at x : �
   abbrev rowSize : ℕ
   rowSize = rowLength (λ y. getD class y 0) start end x
 
-  abbrev label : ℕ
-  label = getD labels (getD class x 0) 0
+  abbrev label : Label
+  label = labelOfClass labels (getD class x 0)
+
+  pub label-known : Known 128 (labelOfClass labels (getD class x 0))
+  label-known = s .labelled (getD class x 0) (s .given .classed x more)
 
   ends : (getD start x 0 + rowSize ≡ endOfRow class start end x) × (endOfRow class start end x ≤ getD end x 0)
   ends = row-end-is class start end x (s .given .rising x more .0)
 
-  fits : at + header + rowSize ≤ 5118
+  fits : at + header + rowSize ≤ classWords
   unfolding sumTo
   fits =
       omega (
@@ -81,42 +89,47 @@ module _ {nodes : ℕ} {class labels start end pool graph : List ℕ} {at x : �
         s .given .few,
       )
 
-  pub fill-room : at < length graph
+  pub fill-room : at + header ≤ length graph
   fill-room = omega (arith, fits, s .long)
 
-  -- what copying the row asks
-  pub fill-asks : ((getD start x 0 ≤ endOfRow class start end x) × (endOfRow class start end x ≤ length pool) ×
-      (at + header + endOfRow class start end x ≤ 5118 + getD start x 0) × (length (set graph at label) ≡ 5118)) ×
-      ((k : ℕ) → getD start x 0 ≤ k → k < endOfRow class start end x → (targetAt pool k < 510) × (getD class (targetAt pool k) 0 < 510))
-  fill-asks = (
-    (
-      omega (arith, ends .0),
-      omega (arith, ends .1, s .given .rising x more .2),
-      omega (arith, ends .0, fits),
-      length-set graph at label ∙ s .long,
-    ),
-    λ k low high. s .given .within x k more (low, omega (arith, ends .1)),
-  )
+  module _ {opened : List ℕ} (opens : opened ≡ putLabel graph at label) where
+    opened-long : length opened ≡ length graph
+    opened-long = ap length opens ∙ length-put graph at label
 
-  module _ {graph′ : List ℕ} {next : ℕ}
-      (copied : RowCopied class pool (getD start x 0) (endOfRow class start end x) (at + header) (set graph at label) graph′ next) where
+    -- what copying the row asks
+    pub fill-asks : ((getD start x 0 ≤ endOfRow class start end x) × (endOfRow class start end x ≤ length pool) ×
+        (at + header + endOfRow class start end x ≤ classWords + getD start x 0) × (length opened ≡ classWords)) ×
+        ((k : ℕ) → getD start x 0 ≤ k → k < endOfRow class start end x → (targetAt pool k < 510) × (getD class (targetAt pool k) 0 < 510))
+    fill-asks = (
+      (
+        omega (arith, ends .0),
+        omega (arith, ends .1, s .given .rising x more .2),
+        omega (arith, ends .0, fits),
+        opened-long ∙ s .long,
+      ),
+      λ k low high. s .given .within x k more (low, omega (arith, ends .1)),
+    )
+
+  module _ {opened : List ℕ} (opens : opened ≡ putLabel graph at label) {graph′ : List ℕ} {next : ℕ}
+      (copied : RowCopied class pool (getD start x 0) (endOfRow class start end x) (at + header) opened graph′ next) where
     length-is : next ≡ at + header + rowSize
     length-is = omega (arith, copied .counted, ends .0)
 
-    pub fill-bound : next ≤ 5118
+    pub fill-bound : next ≤ classWords
     fill-bound = omega (arith, length-is, fits)
 
     long′ : length graph′ ≡ length graph
-    long′ = copied .long ∙ length-set graph at label
+    long′ = copied .long ∙ opened-long opens
 
     kept : (k : ℕ) → k < at → getD graph′ k 0 ≡ getD graph k 0
-    kept k h = copied .kept k (omega arith) ∙ unstored graph at label k (λ e. omega arith)
+    kept k h =
+        copied .kept k (omega arith) ∙ ap (λ (ws : List ℕ). getD ws k 0) opens ∙ put-before graph at label k (k + 1) (omega arith) k (omega arith) (omega arith)
 
     low : x + 2 < at
     low = omega (arith, s .built .low)
 
-    opened : Open graph′ (nodes + 2) x at next
-    opened =
+    row-open : Open graph′ (nodes + 2) x at next
+    row-open =
         record {
           built = built-kept (s .built) graph′ long′ (λ k _ h. kept k (omega (arith, low)));
           headed = omega (arith, length-is);
@@ -163,7 +176,7 @@ module _ {nodes : ℕ} {class labels start end pool graph : List ℕ} {at x : �
             rowEnd (set graph′ (x + 2) next) z ≡ linksFrom (set graph′ (x + 2) next) z + rowLength (λ y. getD class y 0) start end z)
             e (omega (arith, from-new, end-new, length-is))
 
-        labels-are : (y : ℕ) → y < x + 1 → Dec (y < x) → labelAt (set graph′ (x + 2) next) y ≡ getD labels (getD class y 0) 0
+        labels-are : (y : ℕ) → y < x + 1 → Dec (y < x) → labelAt (set graph′ (x + 2) next) y ≡ labelOfClass labels (getD class y 0)
         labels-are y h (yes l) =
             ap (labelFrom (set graph′ (x + 2) next)) (from-old y l) ∙
             label-same graph (set graph′ (x + 2) next) (rowFrom graph y)
@@ -172,9 +185,11 @@ module _ {nodes : ℕ} {class labels start end pool graph : List ℕ} {at x : �
             s .rows .labels-are y l
         labels-are y h (no n) =
             let e : x ≡ y = omega arith in
-            subst (λ (z : ℕ). labelAt (set graph′ (x + 2) next) z ≡ getD labels (getD class z 0) 0) e
+            subst (λ (z : ℕ). labelAt (set graph′ (x + 2) next) z ≡ labelOfClass labels (getD class z 0)) e
             (ap (labelFrom (set graph′ (x + 2) next)) from-new ∙
-            after at (λ q. omega (arith, low)) ∙ copied .kept at (omega arith) ∙ stored graph at label fill-room)
+            label-same opened (set graph′ (x + 2) next) at
+            (λ k a b. after k (λ q. omega (arith, low)) ∙ copied .kept k b) ∙
+            ap (λ (ws : List ℕ). labelFrom ws at) opens ∙ label-put graph at label fill-room (label-known .highest))
 
         words-are : (y i : ℕ) → y < x + 1 → getD class y 0 ≡ y → getD start y 0 + i < getD end y 0 → Dec (y < x) →
             getD (set graph′ (x + 2) next) (linksFrom (set graph′ (x + 2) next) y + i) 0 ≡ classWord class (getD pool (getD start y 0 + i) 0)
@@ -200,10 +215,11 @@ module _ {nodes : ℕ} {class labels start end pool graph : List ℕ} {at x : �
     fill-step =
         record {
           given = s .given;
+          labelled = s .labelled;
           most = omega arith;
           long = length-set graph′ (x + 2) next ∙ long′ ∙ s .long;
           sized = still 0 (omega (arith, low)) (λ e. omega arith) ∙ s .sized;
-          built = row-closes opened (omega arith);
+          built = row-closes row-open (omega arith);
           counted = counted;
           rows = rows′;
         }

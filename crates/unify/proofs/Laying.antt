@@ -2,7 +2,7 @@
 use mathlib.Core.Path.{_≡_, refl, sym, _∙_, ap, subst}
 use mathlib.Core.Bool.{Bool, cond}
 use mathlib.Core.List.{List}
-use Prim.Native.Nat.{ℕ, zero, suc, _+_, _-_, _≤_, _<_}
+use Prim.Native.Nat.{ℕ, zero, suc, _+_, _-_, _%_, _≤_, _<_}
 use native.Mathlib.Decide.{decLt}
 use native.Mathlib.Omega.{arith}
 use borrow.Author.Tests.{eq-eqb}
@@ -16,7 +16,7 @@ use Rattle.classes.proofs.Merging.{feature-same, target-same}
 use Rattle.unify.specs.Rows.{Fillable, WordsCopied, SpansCopied, Placed, wordsIn}
 use Rattle.layout.proofs.Order.{row-low, row-last}
 use Rattle.layout.proofs.Sums.{words-few}
-use Rattle.unify.proofs.Words.{moved-feature, moved-target}
+use Rattle.unify.proofs.Words.{moved-feature, moved-link, moved-target}
 
 -- What is copied is placed, and stays so where its words and spans are kept.
 module _ {ws : List ℕ} (r : Recorded ws) {at shift : ℕ} {p₀ p₁ : List ℕ} {next : ℕ} {s₀ e₀ s₁ e₁ : List ℕ}
@@ -41,8 +41,8 @@ module _ {ws : List ℕ} (r : Recorded ws) {at shift : ℕ} {p₀ p₁ : List �
   pub placed-before : (v : ℕ) → v < size ws → getD end (shift + v) 0 ≤ next
   placed-before v h = omega (arith, end-is v h, row-last (r .sound .shaped) v h, words .counted)
 
-  pub placed : Placed ws shift start end pool
-  placed =
+  pub placed : shift ≤ 255 → Placed ws shift start end pool
+  placed few =
       record {
         spans = λ v h. omega (arith, start-is v h, end-is v h);
         words = word;
@@ -58,7 +58,8 @@ module _ {ws : List ℕ} (r : Recorded ws) {at shift : ℕ} {p₀ p₁ : List �
           pool-kept (getD start (shift + v) 0 + i) (omega (arith, start-is v h, words .counted)) ∙
           ap (λ (z : ℕ). getD p₁ z 0) k ∙
           words .words-are ((linksFrom ws v + i) - rowFrom ws 0) (omega arith) ∙
-          ap (λ (z : ℕ). getD ws z 0 + shift) j
+          ap (λ (z : ℕ). (getD ws z 0 + shift) % 65536) j ∙
+          moved-link r v (linksFrom ws v + i) shift h (omega arith) inside few
 
 module _ {ws : List ℕ} (r : Recorded ws) {shift : ℕ} (few : shift ≤ 255) {start end pool : List ℕ} (p : Placed ws shift start end pool) where
   -- the place of the graph that a place of the pool has the link of
@@ -200,7 +201,7 @@ pub record Laid (a b start end pool : List ℕ) (used : ℕ) : Type 0 where
   pub rows : Rows (size a + size b) start end pool used
   pub short : sumTo (size a + size b) (rowLength (λ y. y) start end) ≤ 4096
   pub used-is : used ≡ wordsIn a + wordsIn b
-  pub few : used ≤ 4606
+  pub few : used ≤ 5116
 
 pub lay : {a b : List ℕ} → Recorded a → Recorded b → {p₀ p₁ pool s₀ e₀ s₁ e₁ start end : List ℕ} {at used : ℕ} →
     WordsCopied a (rowsEnd a) 0 0 p₀ p₁ at → WordsCopied b (rowsEnd b) at (size a) p₁ pool used →
@@ -229,10 +230,10 @@ lay {a} {b} ra rb {p₀} {p₁} {pool} {s₀} {e₀} {s₁} {e₁} {start} {end}
     end-kept x h = sb .end-kept x (omega arith)
 
     first : Placed a 0 start end pool
-    first = placed ra wa sa start end pool pool-kept start-kept end-kept
+    first = placed ra wa sa start end pool pool-kept start-kept end-kept (omega arith)
 
     second : Placed b (size a) start end pool
-    second = placed rb wb sb start end pool (λ k h. refl) (λ k h. refl) (λ k h. refl)
+    second = placed rb wb sb start end pool (λ k h. refl) (λ k h. refl) (λ k h. refl) (ra .small)
 
 -- the graph of the classes can be built
 pub closed-fillable : {nodes second : ℕ} {start end pool class start′ end′ pool′ : List ℕ} {used : ℕ} →

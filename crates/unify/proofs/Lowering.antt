@@ -1,18 +1,22 @@
--- The loops over the nodes' types: the labels of classes, and whether one is the contradiction.
-use mathlib.Core.Path.{_≡_, sym, _∙_, ap}
+-- The loops over the nodes' labels: the labels of classes, and whether one is the contradiction.
+use mathlib.Core.Path.{_≡_, sym, _∙_, ap, subst}
 use mathlib.Core.Bool.{Bool, true, false, cond, _||_}
 use mathlib.Core.List.{List, [], _∷_, foldr}
-use Prim.Native.Nat.{ℕ, suc, _+_, _-_, _≤_, _<_}
-use native.Mathlib.Decide.{ℕ-discrete}
+use Prim.Native.Nat.{ℕ, suc, _+_, _-_, _*_, _≤_, _<_}
+use native.Mathlib.Decide.{ℕ-discrete, decLt}
 use native.Mathlib.Numerals.{add-one}
 use native.Mathlib.Omega.{arith}
 use borrow.Author.Tests.{eq-eqb, ne-eqb}
-use lib.ListN.{length, getD, set, length-set}
+use lib.ListN.{length, getD, replicate, getD-replicate}
 use Rattle.graphs.specs.Rows.{from}
 use Rattle.graphs.specs.Unify.{anyOf}
-use Rattle.classes.proofs.Roots.{stored, unstored}
-use Rattle.layout.specs.Layout.{size, labelAt}
-use Rattle.unify.specs.Lowered.{meetIn, lowerBy, Below, Lowerable}
+use Rattle.lattice.specs.Label.{Label, plain}
+use Rattle.lattice.specs.Labels.{Known}
+use Rattle.lattice.proofs.Lawful.{plain-known}
+use Rattle.layout.specs.Layout.{header, size, labelAt}
+use Rattle.layout.specs.Builder.{Same, putLabel}
+use Rattle.layout.proofs.Builder.{length-put, put-before, put-behind, label-put, label-same}
+use Rattle.unify.specs.Lowered.{MeetsBelow, labelOfClass, labelWords, meetLabels, lowerBy, Below, Lowerable}
 
 pub from-cons : (x n : ℕ) → x < n → from x (n - x) ≡ x ∷ from (suc x) (n - suc x)
 unfolding from
@@ -24,42 +28,75 @@ from-empty : (n : ℕ) → from n (n - n) ≡ []
 unfolding from
 from-empty n = let e : n - n ≡ 0 = omega arith in ap (from n) e
 
+-- the meet of two labels over n types is one
+pub meet-known : (n : ℕ) (meets : List (List ℕ)) → MeetsBelow n meets → (x y : Label) → Known n x → Known n y →
+    Known n (meetLabels meets x y)
+meet-known n meets below x y k l =
+    record {
+      type = below (x .type) (y .type) (k .type) (l .type);
+      lowest = omega (arith, k .lowest, l .lowest);
+      highest = omega (arith, k .highest, l .highest);
+    }
+
+-- A label that is stored, and the others.
+pub class-put : (labels : List ℕ) (c : ℕ) (l : Label) → length labels ≡ labelWords → c < 510 → l .highest ≤ 255 →
+    labelOfClass (putLabel labels (header * c) l) c ≡ l
+class-put labels c l long h high = label-put labels (header * c) l (omega arith) high
+
+pub class-kept : (labels : List ℕ) (c : ℕ) (l : Label) (d : ℕ) → (d ≡ c → ⊥) →
+    labelOfClass (putLabel labels (header * c) l) d ≡ labelOfClass labels d
+class-kept labels c l d other =
+    label-same labels (putLabel labels (header * c) l) (header * d) (go (decLt d c))
+  where
+    go : Dec (d < c) → Same labels (putLabel labels (header * c) l) (header * d) (header * d + header)
+    go (yes before) = put-before labels (header * c) l (header * d) (header * d + header) (omega arith)
+    go (no behind) = put-behind labels (header * c) l (header * d) (header * d + header) (omega arith)
+
 -- The nodes from v on have lowered the labels of their classes.
 pub record Lowering (meets : List (List ℕ)) (ws class : List ℕ) (shift : ℕ) (labels₀ labels : List ℕ) (v : ℕ) : Type 0 where
   pub most : v ≤ size ws
-  pub long : length labels ≡ 510
+  pub long : length labels ≡ labelWords
   pub below : (n : ℕ) → Lowerable n meets ws labels₀ → Below n labels
   pub is : (c : ℕ) → c < 510 →
-      getD labels c 0 ≡ foldr (lowerBy meets ws class shift c) (getD labels₀ c 0) (from v (size ws - v))
+      labelOfClass labels c ≡ foldr (lowerBy meets ws class shift c) (labelOfClass labels₀ c) (from v (size ws - v))
 
-pub lower-start : (meets : List (List ℕ)) (ws class : List ℕ) (shift : ℕ) (labels : List ℕ) → length labels ≡ 510 →
+pub lower-start : (meets : List (List ℕ)) (ws class : List ℕ) (shift : ℕ) (labels : List ℕ) → length labels ≡ labelWords →
     Lowering meets ws class shift labels labels (size ws)
 lower-start meets ws class shift labels long =
     record {
       most = omega arith;
       long = long;
       below = λ n given. given .below;
-      is = λ c h. sym (ap (foldr (lowerBy meets ws class shift c) (getD labels c 0)) (from-empty (size ws)));
+      is = λ c h. sym (ap (foldr (lowerBy meets ws class shift c) (labelOfClass labels c)) (from-empty (size ws)));
     }
 
 module _ {meets : List (List ℕ)} {ws class : List ℕ} {shift : ℕ} {labels₀ labels : List ℕ} {v : ℕ}
     (s : Lowering meets ws class shift labels₀ labels v) where
   pub lower-done : v ≡ 0 → (c : ℕ) → c < 510 →
-      getD labels c 0 ≡ foldr (lowerBy meets ws class shift c) (getD labels₀ c 0) (from 0 (size ws))
+      labelOfClass labels c ≡ foldr (lowerBy meets ws class shift c) (labelOfClass labels₀ c) (from 0 (size ws))
   lower-done e c h =
       let all : size ws - 0 ≡ size ws = omega arith in
       s .is c h ∙
-      ap (λ (u : ℕ). foldr (lowerBy meets ws class shift c) (getD labels₀ c 0) (from u (size ws - u))) e ∙
-      ap (λ (k : ℕ). foldr (lowerBy meets ws class shift c) (getD labels₀ c 0) (from 0 k)) all
+      ap (λ (u : ℕ). foldr (lowerBy meets ws class shift c) (labelOfClass labels₀ c) (from u (size ws - u))) e ∙
+      ap (λ (k : ℕ). foldr (lowerBy meets ws class shift c) (labelOfClass labels₀ c) (from 0 k)) all
 
-  pub lower-step : 0 < v → getD class (shift + (v - 1)) 0 < 510 →
-      Lowering meets ws class shift labels₀
-      (set labels (getD class (shift + (v - 1)) 0)
-      (meetIn meets (labelAt ws (v - 1)) (getD labels (getD class (shift + (v - 1)) 0) 0))) (v - 1)
-  lower-step some placed =
+  -- the labels of a node and of its class
+  module _ {n : ℕ} (able : Lowerable n meets ws labels₀) (some : 0 < v) (placed : getD class (shift + (v - 1)) 0 < 510) where
+    pub node-known : Known n (labelAt ws (v - 1))
+    node-known = able .labelled (v - 1) (omega (arith, s .most))
+
+    pub class-known : Known n (labelOfClass labels (getD class (shift + (v - 1)) 0))
+    class-known = s .below n able (getD class (shift + (v - 1)) 0) placed
+
+  pub lower-step : {n : ℕ} → Lowerable n meets ws labels₀ → 0 < v → getD class (shift + (v - 1)) 0 < 510 → {labels′ : List ℕ} →
+      labels′ ≡ putLabel labels (header * getD class (shift + (v - 1)) 0)
+      (meetLabels meets (labelAt ws (v - 1)) (labelOfClass labels (getD class (shift + (v - 1)) 0))) →
+      Lowering meets ws class shift labels₀ labels′ (v - 1)
+  lower-step {n} able some placed {labels′} put =
+      subst (λ (l : List ℕ). Lowering meets ws class shift labels₀ l (v - 1)) (sym put)
       record {
         most = omega (arith, s .most);
-        long = length-set labels c₀ new ∙ s .long;
+        long = length-put labels (header * c₀) new ∙ s .long;
         below = λ n given c h. below n given c h (ℕ-discrete c c₀);
         is = λ c h. is c h (ℕ-discrete c c₀);
       }
@@ -67,56 +104,91 @@ module _ {meets : List (List ℕ)} {ws class : List ℕ} {shift : ℕ} {labels�
       c₀ : ℕ
       c₀ = getD class (shift + (v - 1)) 0
 
-      new : ℕ
-      new = meetIn meets (labelAt ws (v - 1)) (getD labels (getD class (shift + (v - 1)) 0) 0)
+      new : Label
+      new = meetLabels meets (labelAt ws (v - 1)) (labelOfClass labels (getD class (shift + (v - 1)) 0))
 
-      here : (c : ℕ) → c ≡ c₀ → getD (set labels c₀ new) c 0 ≡ new
-      here c e = ap (λ (i : ℕ). getD (set labels c₀ new) i 0) e ∙ stored labels c₀ new (omega (arith, s .long))
+      new-known : (n : ℕ) → Lowerable n meets ws labels₀ → Known n new
+      new-known n given =
+          meet-known n meets (given .meets-below) (labelAt ws (v - 1)) (labelOfClass labels c₀) (node-known given some placed) (class-known given some placed)
 
-      elsewhere : (c : ℕ) → (c ≡ c₀ → ⊥) → getD (set labels c₀ new) c 0 ≡ getD labels c 0
-      elsewhere c d = unstored labels c₀ new c d
+      here : (c : ℕ) → c ≡ c₀ → labelOfClass (putLabel labels (header * c₀) new) c ≡ new
+      here c e =
+          ap (labelOfClass (putLabel labels (header * c₀) new)) e ∙ class-put labels c₀ new (s .long) placed (new-known n able .highest)
 
-      below : (n : ℕ) → Lowerable n meets ws labels₀ → (c : ℕ) → c < 510 → Dec (c ≡ c₀) → getD (set labels c₀ new) c 0 < n
-      below n given c h (yes e) =
-          omega (
-            arith,
-            here c e,
-            given .meets-below (labelAt ws (v - 1)) (getD labels c₀ 0) (given .labelled (v - 1) (omega (arith, s .most)))
-                (s .below n given c₀ placed),
-          )
-      below n given c h (no d) = omega (arith, elsewhere c d, s .below n given c h)
+      elsewhere : (c : ℕ) → (c ≡ c₀ → ⊥) → labelOfClass (putLabel labels (header * c₀) new) c ≡ labelOfClass labels c
+      elsewhere c d = class-kept labels c₀ new c d
+
+      below : (n : ℕ) → Lowerable n meets ws labels₀ → (c : ℕ) → c < 510 → Dec (c ≡ c₀) →
+          Known n (labelOfClass (putLabel labels (header * c₀) new) c)
+      below n given c h (yes e) = subst (Known n) (sym (here c e)) (new-known n given)
+      below n given c h (no d) = subst (Known n) (sym (elsewhere c d)) (s .below n given c h)
 
       -- one node more
       unfolded : (c : ℕ) →
-          foldr (lowerBy meets ws class shift c) (getD labels₀ c 0) (from (v - 1) (size ws - (v - 1))) ≡
-          lowerBy meets ws class shift c (v - 1) (foldr (lowerBy meets ws class shift c) (getD labels₀ c 0) (from v (size ws - v)))
+          foldr (lowerBy meets ws class shift c) (labelOfClass labels₀ c) (from (v - 1) (size ws - (v - 1))) ≡
+          lowerBy meets ws class shift c (v - 1) (foldr (lowerBy meets ws class shift c) (labelOfClass labels₀ c) (from v (size ws - v)))
       unfolded c =
-          ap (foldr (lowerBy meets ws class shift c) (getD labels₀ c 0)) (from-cons (v - 1) (size ws) (omega (arith, s .most))) ∙
+          ap (foldr (lowerBy meets ws class shift c) (labelOfClass labels₀ c)) (from-cons (v - 1) (size ws) (omega (arith, s .most))) ∙
           ap
           (λ (w : ℕ).
           lowerBy meets ws class shift c (v - 1)
-          (foldr (lowerBy meets ws class shift c) (getD labels₀ c 0) (from w (size ws - w))))
+          (foldr (lowerBy meets ws class shift c) (labelOfClass labels₀ c) (from w (size ws - w))))
           next
         where
           next : suc (v - 1) ≡ v
           next = omega arith
 
       is : (c : ℕ) → c < 510 → Dec (c ≡ c₀) →
-          getD (set labels c₀ new) c 0 ≡
-          foldr (lowerBy meets ws class shift c) (getD labels₀ c 0) (from (v - 1) (size ws - (v - 1)))
+          labelOfClass (putLabel labels (header * c₀) new) c ≡
+          foldr (lowerBy meets ws class shift c) (labelOfClass labels₀ c) (from (v - 1) (size ws - (v - 1)))
       is c h (yes e) =
           here c e ∙
-          ap (λ (i : ℕ). meetIn meets (labelAt ws (v - 1)) (getD labels i 0)) (sym e) ∙
+          ap (λ (i : ℕ). meetLabels meets (labelAt ws (v - 1)) (labelOfClass labels i)) (sym e) ∙
           sym
           (unfolded c ∙ ap (lowerBy meets ws class shift c (v - 1)) (sym (s .is c h)) ∙
-          ap (λ (t : Bool). cond t (meetIn meets (labelAt ws (v - 1)) (getD labels c 0)) (getD labels c 0))
+          ap (λ (t : Bool). cond t (meetLabels meets (labelAt ws (v - 1)) (labelOfClass labels c)) (labelOfClass labels c))
           (eq-eqb c₀ c (sym e)))
       is c h (no d) =
           elsewhere c d ∙
           sym
           (unfolded c ∙ ap (lowerBy meets ws class shift c (v - 1)) (sym (s .is c h)) ∙
-          ap (λ (t : Bool). cond t (meetIn meets (labelAt ws (v - 1)) (getD labels c 0)) (getD labels c 0))
+          ap (λ (t : Bool). cond t (meetLabels meets (labelAt ws (v - 1)) (labelOfClass labels c)) (labelOfClass labels c))
           (ne-eqb c₀ c (λ q. d (sym q))))
+
+-- words of zeros
+pub blank-below : {n : ℕ} → 0 < n → Below n (replicate labelWords 0)
+blank-below {n} some c h =
+    let a : _≡_ {A = ℕ} (getD (replicate labelWords 0) (header * c) 0) 0 = getD-replicate {A = ℕ} labelWords (header * c) 0 0 (omega arith) in
+    let b : _≡_ {A = ℕ} (getD (replicate labelWords 0) (header * c + 1) 0) 0 = getD-replicate {A = ℕ} labelWords (header * c + 1) 0 0 (omega arith) in
+    record { type = omega arith; lowest = omega arith; highest = omega arith }
+
+-- The first c classes have the label top.
+pub record Cleared (n : ℕ) (labels : List ℕ) (c : ℕ) : Type 0 where
+  pub long : length labels ≡ labelWords
+  pub below : Below n labels
+  pub tops : (d : ℕ) → d < c → labelOfClass labels d ≡ plain (n - 1)
+
+pub cleared-step : {n : ℕ} {labels : List ℕ} {c : ℕ} → Cleared n labels c → 0 < n → c < 510 → {labels′ : List ℕ} →
+    labels′ ≡ putLabel labels (header * c) (plain (n - 1)) → Cleared n labels′ (c + 1)
+cleared-step {n} {labels} {c} s some h {labels′} put =
+    subst (λ (l : List ℕ). Cleared n l (c + 1)) (sym put)
+    record {
+      long = length-put labels (header * c) (plain (n - 1)) ∙ s .long;
+      below = λ d i. below d i (ℕ-discrete d c);
+      tops = λ d i. tops d i (ℕ-discrete d c);
+    }
+  where
+    here : (d : ℕ) → d ≡ c → labelOfClass (putLabel labels (header * c) (plain (n - 1))) d ≡ plain (n - 1)
+    here d e =
+        ap (labelOfClass (putLabel labels (header * c) (plain (n - 1)))) e ∙ class-put labels c (plain (n - 1)) (s .long) h (omega arith)
+
+    below : (d : ℕ) → d < 510 → Dec (d ≡ c) → Known n (labelOfClass (putLabel labels (header * c) (plain (n - 1))) d)
+    below d i (yes e) = subst (Known n) (sym (here d e)) (plain-known n (n - 1) (omega arith))
+    below d i (no q) = subst (Known n) (sym (class-kept labels c (plain (n - 1)) d q)) (s .below d i)
+
+    tops : (d : ℕ) → d < c + 1 → Dec (d ≡ c) → labelOfClass (putLabel labels (header * c) (plain (n - 1))) d ≡ plain (n - 1)
+    tops d i (yes e) = here d e
+    tops d i (no q) = class-kept labels c (plain (n - 1)) d q ∙ s .tops d (omega arith)
 
 -- A test of numbers in turn.
 

@@ -47,15 +47,15 @@ use Rattle.graphs.proofs.Unification.Beside.{
 }
 use Rattle.graphs.proofs.Unification.ClassGraph.{classLink-source, classLink-of, name-classes, name-related}
 use Rattle.graphs.proofs.Unification.Deep.{deep-walk, walk-deep, loop-walk}
-use Rattle.lattice.specs.Label.{Label}
+use Rattle.lattice.specs.Label.{Label, plain}
 use Rattle.layout.specs.Layout.{size, featureAt, labelAt, graphIn}
 use Rattle.layout.proofs.Places.{label-at, link-at, link-place, link-known}
 use Rattle.visits.specs.Walks.{Reaches, one, more, TargetsFirst}
 use Rattle.encode.specs.declared.Written.{Written}
 use Rattle.encode.specs.Encode.{yielding, writtenOut}
 use Rattle.unify.specs.declared.Combined.the-variants as combined
-use Rattle.unify.specs.Lowered.{meetIn, lowerBy}
-use Rattle.unify.specs.Outcome.{meetsOf, sameEither, combinedOf, unifiedOut, unifyingOut}
+use Rattle.unify.specs.Lowered.{labelOfClass, meetLabels, lowerBy}
+use Rattle.unify.specs.Outcome.{contradicts, meetsOf, sameEither, combinedOf, unifiedOut, unifyingOut}
 use Rattle.unify.specs.Rows.{Operand, Merges}
 use Rattle.unify.proofs.Sides.{operands, number, Inside, inside-reached, reached-in, number-in, node-of, link-in}
 use Rattle.unify.proofs.Sharing.{classOf, one-related, related-one, class-sound, class-link, class-source, leads-own}
@@ -67,18 +67,18 @@ unfolding from
 length-from f zero = refl
 length-from f (suc k) = ap suc (length-from (suc f) k)
 
-fold-same : {X : Type 0} (s t : X → ℕ → ℕ) (d : ℕ) (vs : List X) → ((v : X) (i : ℕ) → List·Memᴰ v vs → s v i ≡ t v i) →
+fold-same : {X : Type 0} (s t : X → Label → Label) (d : Label) (vs : List X) → ((v : X) (i : Label) → List·Memᴰ v vs → s v i ≡ t v i) →
     foldr s d vs ≡ foldr t d vs
 fold-same s t d [] e = refl
 fold-same s t d (v ∷ vs) e =
     ap (s v) (fold-same s t d vs (λ w i m. e w i (List·Memᴰ·tail m))) ∙ e v (foldr t d vs) (List·Memᴰ·head refl)
 
 -- a fold over the nodes of both graphs
-fold-right : (s : ℕ ⊎ ℕ → ℕ → ℕ) (d : ℕ) (vs : List ℕ) → foldr s d (map inr vs) ≡ foldr (λ v. s (inr v)) d vs
+fold-right : (s : ℕ ⊎ ℕ → Label → Label) (d : Label) (vs : List ℕ) → foldr s d (map inr vs) ≡ foldr (λ v. s (inr v)) d vs
 fold-right s d [] = refl
 fold-right s d (v ∷ vs) = ap (s (inr v)) (fold-right s d vs)
 
-fold-left : (s : ℕ ⊎ ℕ → ℕ → ℕ) (d : ℕ) (vs ws : List ℕ) →
+fold-left : (s : ℕ ⊎ ℕ → Label → Label) (d : Label) (vs ws : List ℕ) →
     foldr s d (map inl vs ++ map inr ws) ≡ foldr (λ v. s (inl v)) (foldr (λ v. s (inr v)) d ws) vs
 fold-left s d [] ws = fold-right s d ws
 fold-left s d (v ∷ vs) ws = ap (s (inl v)) (fold-left s d vs ws)
@@ -309,21 +309,21 @@ module _ (n : ℕ) (meets : List (List ℕ)) {a b graph : List ℕ} (left : Oper
 
   -- The labels.
 
-  node-label : (x : ℕ) → x < size a + size b → labelAt graph x ≡ getD (m .labels) (getD class x 0) 0
+  node-label : (x : ℕ) → x < size a + size b → labelAt graph x ≡ labelOfClass (m .labels) (getD class x 0)
   node-label x h = m .built .rows .labels-are x h
 
-  own-label : (i : ℕ) → i < size a + size b → getD class i 0 ≡ i → rows .label i ≡ getD (m .labels) i 0
-  own-label i h own = label-at graph i (within h) ∙ node-label i h ∙ ap (λ (c : ℕ). getD (m .labels) c 0) own
+  own-label : (i : ℕ) → i < size a + size b → getD class i 0 ≡ i → rows .label i ≡ labelOfClass (m .labels) i
+  own-label i h own = label-at graph i (within h) ∙ node-label i h ∙ ap (labelOfClass (m .labels)) own
 
   both-labels : (c : ℕ ⊎ ℕ) (i : ℕ) → Both c i → u .label c ≡ rows .label i
   unfolding classGraph classLabel
   both-labels c i (x, x-in, x-name, x-class) =
-      fold-left step (n - 1) (from 0 (size a)) (from 0 (size b)) ∙
-      fold-same (λ v. step (inl v)) (lowerBy meets a class 0 i) (foldr (λ v. step (inr v)) (n - 1) (from 0 (size b)))
+      fold-left step (plain (n - 1)) (from 0 (size a)) (from 0 (size b)) ∙
+      fold-same (λ v. step (inl v)) (lowerBy meets a class 0 i) (foldr (λ v. step (inr v)) (plain (n - 1)) (from 0 (size b)))
       (from 0 (size a)) in-left ∙
-      ap (λ (d : ℕ). foldr (lowerBy meets a class 0 i) d (from 0 (size a)))
-      (fold-same (λ v. step (inr v)) (lowerBy meets b class (size a) i) (n - 1) (from 0 (size b)) in-right) ∙
-      sym (m .lowers i (omega (arith, i-in, m .closed .rows .few))) ∙ sym (own-label i i-in own)
+      ap (λ (d : Label). foldr (lowerBy meets a class 0 i) d (from 0 (size a)))
+      (fold-same (λ v. step (inr v)) (lowerBy meets b class (size a) i) (plain (n - 1)) (from 0 (size b)) in-right) ∙
+      sym (m .lowers i i-in) ∙ sym (own-label i i-in own)
     where
       i-in : i < size a + size b
       i-in = both-in c i (x, x-in, x-name, x-class)
@@ -334,7 +334,7 @@ module _ (n : ℕ) (meets : List (List ℕ)) {a b graph : List ℕ} (left : Oper
 
       step : ℕ ⊎ ℕ → Label → Label
       step y d =
-          cond (sameEither (name y) c) (meetIn meets (labelBeside (graphIn a .label) (graphIn b .label) y) d) d
+          cond (sameEither (name y) c) (meetLabels meets (labelBeside (graphIn a .label) (graphIn b .label) y) d) d
 
       -- a node is of the class by either account
       test : (y : ℕ ⊎ ℕ) → Inside left right y → sameEither (name y) c ≡ eqb (cls y) i
@@ -343,17 +343,17 @@ module _ (n : ℕ) (meets : List (List ℕ)) {a b graph : List ℕ} (left : Oper
           (λ e. eq-eqb (cls y) i (name-class y x y-in x-in (tells (name y) c .0 e ∙ sym x-name) ∙ x-class))
           (λ e. tells (name y) c .1 (class-name y x y-in x-in (eqb-true (cls y) i e ∙ sym x-class) ∙ x-name))
 
-      in-left : (v d : ℕ) → List·Memᴰ v (from 0 (size a)) → step (inl v) d ≡ lowerBy meets a class 0 i v d
+      in-left : (v : ℕ) (d : Label) → List·Memᴰ v (from 0 (size a)) → step (inl v) d ≡ lowerBy meets a class 0 i v d
       in-left v d k =
           let v-in : v < size a = omega (arith, from-range 0 (size a) v k) in
           let e : v ≡ 0 + v = omega arith in
-          ap₂ (λ (t : Bool) (l : ℕ). cond t (meetIn meets l d) d)
+          ap₂ (λ (t : Bool) (l : Label). cond t (meetLabels meets l d) d)
           (test (inl v) v-in ∙ ap (λ (w : ℕ). eqb (getD class w 0) i) e) (label-at a v v-in)
 
-      in-right : (v d : ℕ) → List·Memᴰ v (from 0 (size b)) → step (inr v) d ≡ lowerBy meets b class (size a) i v d
+      in-right : (v : ℕ) (d : Label) → List·Memᴰ v (from 0 (size b)) → step (inr v) d ≡ lowerBy meets b class (size a) i v d
       in-right v d k =
           let v-in : v < size b = omega (arith, from-range 0 (size b) v k) in
-          ap₂ (λ (t : Bool) (l : ℕ). cond t (meetIn meets l d) d) (test (inr v) v-in) (label-at b v v-in)
+          ap₂ (λ (t : Bool) (l : Label). cond t (meetLabels meets l d) d) (test (inr v) v-in) (label-at b v v-in)
 
   alike : Bisimilar Both u rows
   unfolding classGraph
@@ -371,7 +371,7 @@ module _ (n : ℕ) (meets : List (List ℕ)) {a b graph : List ℕ} (left : Oper
   same-form : canonical sameEither u ≡ canonical eqb (graphIn graph)
   same-form = bisimilar-canonical sameEither eqb tells tells-eqb Both u rows alike
 
-  -- "A clash is a class whose meet is type 0."
+  -- "A clash is a class whose meet is type 0", "and an empty overlap is a clash".
 
   label-is : (x : ℕ ⊎ ℕ) → Inside left right x → u .label (name x) ≡ labelAt graph (number (size a) x)
   label-is x i =
@@ -381,17 +381,17 @@ module _ (n : ℕ) (meets : List (List ℕ)) {a b graph : List ℕ} (left : Oper
       sym (node-label (number (size a) x) h)
 
   pub clash-is : hasClash (meetsOf n meets) eqb eqb (graphIn a) (from 0 (size a)) (graphIn b) (from 0 (size b)) ≡
-      anyOf (from 0 (size graph)) (λ x. eqb (labelAt graph x) 0)
+      anyOf (from 0 (size graph)) (λ x. contradicts (labelAt graph x))
   unfolding hasClash
   clash-is =
       bool-same (anyOf (nodesBeside (from 0 (size a)) (from 0 (size b))) here)
       (anyOf (from 0 (size graph)) there) forth back
     where
       here : ℕ ⊎ ℕ → Bool
-      here x = eqb (u .label (name x)) 0
+      here x = contradicts (u .label (name x))
 
       there : ℕ → Bool
-      there x = eqb (labelAt graph x) 0
+      there x = contradicts (labelAt graph x)
 
       forth : anyOf (nodesBeside (from 0 (size a)) (from 0 (size b))) here ≡ true → anyOf (from 0 (size graph)) there ≡ true
       forth e =
@@ -399,14 +399,14 @@ module _ (n : ℕ) (meets : List (List ℕ)) {a b graph : List ℕ} (left : Oper
           let x-in = unlisted x i in
           anyOf-finds there (from 0 (size graph)) (number (size a) x)
           (from-member 0 (size graph) (number (size a) x) (omega arith) (omega (arith, within (number-in left right x x-in))))
-          (ap (λ (l : ℕ). eqb l 0) (sym (label-is x x-in)) ∙ d)
+          (ap contradicts (sym (label-is x x-in)) ∙ d)
 
       back : anyOf (from 0 (size graph)) there ≡ true → anyOf (nodesBeside (from 0 (size a)) (from 0 (size b))) here ≡ true
       back e =
           let (i, k, d) = anyOf-true there (from 0 (size graph)) e in
           let (x, x-in, x-is) = node-of left right i (without (omega (arith, from-range 0 (size graph) i k))) in
           anyOf-finds here (nodesBeside (from 0 (size a)) (from 0 (size b))) x (listed x x-in)
-          (ap (λ (l : ℕ). eqb l 0) (label-is x x-in ∙ ap (labelAt graph) x-is) ∙ d)
+          (ap contradicts (label-is x x-in ∙ ap (labelAt graph) x-is) ∙ d)
 
   -- What is answered.
 
@@ -428,12 +428,12 @@ module _ (n : ℕ) (meets : List (List ℕ)) {a b graph : List ℕ} (left : Oper
     unfolding unification
     answered-none t e = ap₂ answered (cycle-none sorted) e
 
-    pub answers-clash : anyOf (from 0 (size graph)) (λ x. eqb (labelAt graph x) 0) ≡ true → (old : List ℕ) →
+    pub answers-clash : anyOf (from 0 (size graph)) (λ x. contradicts (labelAt graph x)) ≡ true → (old : List ℕ) →
         yielding combined.Clash old ≡ unifyingOut n meets a b old
     unfolding unifiedOut
     answers-clash found old = sym (ap (λ z. unifiedOut z old) (answered-none true (clash-is ∙ found)))
 
-    pub answers-written : anyOf (from 0 (size graph)) (λ x. eqb (labelAt graph x) 0) ≡ false → (old : List ℕ) {w : Written} {new : List ℕ} →
+    pub answers-written : anyOf (from 0 (size graph)) (λ x. contradicts (labelAt graph x)) ≡ false → (old : List ℕ) {w : Written} {new : List ℕ} →
         yielding w new ≡ writtenOut (canonical eqb (graphIn graph)) old → yielding (combined.Written w) new ≡ unifyingOut n meets a b old
     unfolding unifiedOut
     answers-written clear old yields =

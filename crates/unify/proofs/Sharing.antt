@@ -13,6 +13,7 @@ use lib.Dec.{eqb}
 use lib.ListN.{getD}
 use Rattle.graphs.proofs.Unification.Related.{roots, back, next, feat, related-constant}
 use Rattle.graphs.proofs.Unification.Beside.{linkBeside, RelatedBeside, leads-related, related-reached}
+use Rattle.lattice.specs.Labels.{Known}
 use Rattle.layout.specs.Layout.{Sound, scale, size, linksFrom, rowEnd, featureAt, targetAt, linkWord, graphIn}
 use Rattle.layout.proofs.Places.{link-at, link-place}
 use Rattle.visits.specs.Walks.{Leads}
@@ -215,11 +216,8 @@ module _ {n : ℕ} {meets : List (List ℕ)} {a b graph : List ℕ} (left : Oper
               };
           labelled = λ x h.
               let i = inside-graph h in
-              omega (
-                arith,
-                m .built .rows .labels-are x i,
-                m .below (getD class x 0) (omega (arith, class-in x i, m .closed .rows .few)),
-              );
+              subst (Known 128) (sym (m .built .rows .labels-are x i))
+              (m .below (getD class x 0) (omega (arith, class-in x i, m .closed .rows .few)));
           known = λ x k h low high.
               let i = inside-graph h in
               let s = stands x k i low high in

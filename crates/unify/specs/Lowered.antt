@@ -1,20 +1,27 @@
 -- The labels of classes as they are computed.
+use mathlib.Core.Path.{_≡_}
 use mathlib.Core.Bool.{cond}
 use mathlib.Core.List.{List, [], foldr}
-use Prim.Native.Nat.{ℕ, _+_, _-_, _<_, _≤_}
+use Prim.Native.Nat.{ℕ, _+_, _-_, _*_, _<_, _≤_}
 use lib.Dec.{eqb}
 use lib.ListN.{getD}
 use Rattle.graphs.specs.Rows.{from}
-use Rattle.lattice.specs.Label.{Label}
-use Rattle.layout.specs.Layout.{size, labelAt}
+use Rattle.lattice.specs.Label.{Label, plain}
+use Rattle.lattice.specs.Labels.{Known}
+use Rattle.layout.specs.Layout.{size, header, labelAt, labelFrom}
+use Rattle.unify.specs.Outcome.{meetsOf}
 
--- the meet of two labels, as a table of 64 rows gives it
-abbrev pub meetIn : List (List ℕ) → Label → Label → Label
+-- the meet of two types, as a table of 64 rows gives it
+abbrev pub meetIn : List (List ℕ) → ℕ → ℕ → ℕ
 meetIn meets a b = getD (getD meets a []) b 0
+
+-- the meet of two labels: that of their types, and the overlap of their ranges
+abbrev pub meetLabels : List (List ℕ) → Label → Label → Label
+meetLabels meets a b = meetsOf 0 meets .meet a b
 
 -- the label of the class c met with the label of node v, where the node is of that class
 abbrev pub lowerBy : List (List ℕ) → List ℕ → List ℕ → ℕ → ℕ → ℕ → Label → Label
-lowerBy meets ws class shift c v a = cond (eqb (getD class (shift + v) 0) c) (meetIn meets (labelAt ws v) a) a
+lowerBy meets ws class shift c v a = cond (eqb (getD class (shift + v) 0) c) (meetLabels meets (labelAt ws v) a) a
 
 -- the label of the class c met with the labels of the nodes in it, the last node first
 abbrev pub lowered : List (List ℕ) → List ℕ → List ℕ → ℕ → ℕ → Label → Label
@@ -22,19 +29,32 @@ lowered meets ws class shift c label = foldr (lowerBy meets ws class shift c) la
 
 -- the same over the nodes of two graphs, from the greatest of n types
 abbrev pub loweredBoth : ℕ → List (List ℕ) → List ℕ → List ℕ → List ℕ → ℕ → Label
-loweredBoth n meets a b class c = lowered meets a class 0 c (lowered meets b class (size a) c (n - 1))
+loweredBoth n meets a b class c = lowered meets a class 0 c (lowered meets b class (size a) c (plain (n - 1)))
 
 -- meets of types below n are types below n
 abbrev pub MeetsBelow : ℕ → List (List ℕ) → Type 0
 MeetsBelow n meets = (i j : ℕ) → i < n → j < n → meetIn meets i j < n
 
--- The labels of classes are types below n.
+-- the label of the class c, in words that hold headers alone
+abbrev pub labelOfClass : List ℕ → ℕ → Label
+labelOfClass labels c = labelFrom labels (header * c)
+
+-- the number of such words
+abbrev pub labelWords : ℕ
+labelWords = 510 * header
+
+-- the labels of classes are lowered by the nodes of a graph
+abbrev pub Lowers : List (List ℕ) → List ℕ → List ℕ → ℕ → List ℕ → List ℕ → Type 0
+Lowers meets ws class shift labels labels′ =
+    (c : ℕ) → c < 510 → labelOfClass labels′ c ≡ lowered meets ws class shift c (labelOfClass labels c)
+
+-- The labels of classes are labels over n types.
 abbrev pub Below : ℕ → List ℕ → Type 0
-Below n labels = (c : ℕ) → c < 510 → getD labels c 0 < n
+Below n labels = (c : ℕ) → c < 510 → Known n (labelOfClass labels c)
 
 -- Labels of classes and of a graph's nodes over n types, whose meets the table gives.
 pub record Lowerable (n : ℕ) (meets : List (List ℕ)) (ws labels : List ℕ) : Type 0 where
   pub few : n ≤ 64
   pub meets-below : MeetsBelow n meets
-  pub labelled : (v : ℕ) → v < size ws → labelAt ws v < n
+  pub labelled : (v : ℕ) → v < size ws → Known n (labelAt ws v)
   pub below : Below n labels

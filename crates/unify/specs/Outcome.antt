@@ -10,23 +10,28 @@ use Rattle.graphs.specs.Number.{canonical}
 use Rattle.graphs.specs.Rows.{from}
 use Rattle.graphs.specs.Unify.{Unified, cycle, clash, unified, sameBeside, unification}
 use Rattle.lattice.specs.Label.{Label}
+use Rattle.lattice.specs.Labels.{withRanges}
 use Rattle.layout.specs.Layout.{size, graphIn}
 use Rattle.encode.specs.Encode.{Yield, Outcome, yielding, writtenOut}
 use Rattle.unify.specs.declared.Combined.{Combined}
 use Rattle.unify.specs.declared.Combined.the-variants as combined
 
--- The labels of a unification over n types: type numbers with their meets as a table of 64 rows gives them. Neither order nor
--- joins are used.
+-- The labels of a unification over n types: type numbers with their meets as a table of 64 rows gives them, and ranges. Neither order
+-- nor joins are used.
 abbrev pub meetsOf : ℕ → List (List ℕ) → Labels
 meetsOf n meets =
-    record {
-      L = Label;
+    withRanges (record {
+      L = ℕ;
       le = eqb;
       meet = λ a b. getD (getD meets a []) b 0;
       join = λ a b. a;
       top = n - 1;
       contradiction = λ a. eqb a 0;
-    }
+    })
+
+-- type 0, or an empty range; which types and meets there are has no part in it
+abbrev pub contradicts : Label → Bool
+contradicts l = meetsOf 0 [] .contradiction l
 
 -- whether two nodes of the graphs side by side are one
 abbrev pub sameEither : ℕ ⊎ ℕ → ℕ ⊎ ℕ → Bool

@@ -6,14 +6,15 @@ use Prim.Native.Nat.{ℕ, _+_, _-_, _*_, _/_, _%_, _≤_, _<_}
 use lib.Dec.{eqb}
 use lib.ListN.{length, getD}
 use Rattle.graphs.specs.Graph.{Reached}
+use Rattle.lattice.specs.Labels.{Known}
 use Rattle.layout.specs.Layout.{Recorded, header, scale, linkWord, size, rowFrom, linksFrom, rowEnd, rowsEnd, labelAt, targetAt, graphIn}
 use Rattle.classes.specs.Classes.{At, rowLength, sumTo, Closed}
-use Rattle.unify.specs.Lowered.{loweredBoth}
+use Rattle.unify.specs.Lowered.{Below, labelOfClass, loweredBoth}
 
 -- A graph to unify over n types: that of a record, all its nodes reached.
 pub record Operand (n : ℕ) (ws : List ℕ) : Type 0 where
   pub recorded : Recorded ws
-  pub labelled : (v : ℕ) → v < size ws → labelAt ws v < n
+  pub labelled : (v : ℕ) → v < size ws → Known n (labelAt ws v)
   pub reached : (v : ℕ) → v < size ws → Reached (graphIn ws) v
 
 -- the number of words of a graph's rows
@@ -24,12 +25,13 @@ wordsIn ws = rowsEnd ws - rowFrom ws 0
 abbrev pub placesFor : List ℕ → List ℕ → ℕ
 placesFor a b = (wordsIn a + wordsIn b) + 64 * ((size a + size b) - 1)
 
--- The words of a graph's rows up to `end` stand at the places from `at` to `next`, each moved by `shift`; what stood before is kept.
+-- The words of a graph's rows up to `end` stand at the places from `at` to `next`, each moved by `shift`; what stood before is kept. A
+-- word of a header may wrap; it stands in no span.
 pub record WordsCopied (ws : List ℕ) (end at shift : ℕ) (pool pool′ : List ℕ) (next : ℕ) : Type 0 where
   pub long : length pool′ ≡ length pool
   pub kept : (k : ℕ) → k < at → getD pool′ k 0 ≡ getD pool k 0
   pub counted : next + rowFrom ws 0 ≡ at + end
-  pub words-are : (i : ℕ) → rowFrom ws 0 + i < end → getD pool′ (at + i) 0 ≡ getD ws (rowFrom ws 0 + i) 0 + shift
+  pub words-are : (i : ℕ) → rowFrom ws 0 + i < end → getD pool′ (at + i) 0 ≡ (getD ws (rowFrom ws 0 + i) 0 + shift) % 65536
 
 -- The nodes of a graph before `nodes`, each moved by `shift`, have their links' spans in the pool; what stood before is kept.
 pub record SpansCopied (ws : List ℕ) (nodes at shift : ℕ) (start end start′ end′ : List ℕ) : Type 0 where
@@ -65,14 +67,18 @@ endOfRow class start end x = cond (eqb (getD class x 0) x) (getD end x 0) (getD 
 -- of its class at each.
 pub record ClassRows (nodes : ℕ) (class labels start end pool graph : List ℕ) : Type 0 where
   pub lengths : (x : ℕ) → x < nodes → rowEnd graph x ≡ linksFrom graph x + rowLength (λ y. getD class y 0) start end x
-  pub labels-are : (x : ℕ) → x < nodes → labelAt graph x ≡ getD labels (getD class x 0) 0
+  pub labels-are : (x : ℕ) → x < nodes → labelAt graph x ≡ labelOfClass labels (getD class x 0)
   pub words-are : (x i : ℕ) → x < nodes → getD class x 0 ≡ x → getD start x 0 + i < getD end x 0 →
       getD graph (linksFrom graph x + i) 0 ≡ classWord class (getD pool (getD start x 0 + i) 0)
+
+-- the words of the graph of the classes of up to 510 nodes: the number of nodes, 511 places, 510 headers and 4,096 links
+abbrev pub classWords : ℕ
+classWords = 512 + 510 * header + 4096
 
 -- The graph of the classes stands whole.
 pub record ClassGraph (nodes : ℕ) (class labels start end pool graph : List ℕ) : Type 0 where
   pub sized : size graph ≡ nodes
-  pub long : length graph ≡ 5118
+  pub long : length graph ≡ classWords
   pub begun : (x : ℕ) → x < nodes → nodes + 2 ≤ rowFrom graph x
   pub ended : (x : ℕ) → x < nodes → rowEnd graph x ≤ length graph
   pub rows : ClassRows nodes class labels start end pool graph
@@ -81,7 +87,7 @@ pub record ClassGraph (nodes : ℕ) (class labels start end pool graph : List �
 pub record Fillable (nodes : ℕ) (class start end pool : List ℕ) : Type 0 where
   pub few : nodes ≤ 510
   pub classed : (x : ℕ) → x < nodes → getD class x 0 < 510
-  pub rising : (x : ℕ) → x < nodes → (getD start x 0 ≤ getD end x 0) × (getD end x 0 ≤ 37182) × (getD end x 0 ≤ length pool)
+  pub rising : (x : ℕ) → x < nodes → (getD start x 0 ≤ getD end x 0) × (getD end x 0 ≤ 37692) × (getD end x 0 ≤ length pool)
   pub within : (x k : ℕ) → x < nodes → At start end x k → (targetAt pool k < 510) × (getD class (targetAt pool k) 0 < 510)
   pub short : sumTo nodes (rowLength (λ y. getD class y 0) start end) ≤ 4096
 
@@ -99,6 +105,6 @@ pub record Merges (n : ℕ) (meets : List (List ℕ)) (a b graph : List ℕ) : T
   pub first : Placed a 0 start end pool
   pub second : Placed b (size a) start end pool
   pub closed : Closed (size a + size b) (size a) start end pool class start′ end′ pool′ used
-  pub lowers : (c : ℕ) → c < 510 → getD labels c 0 ≡ loweredBoth n meets a b class c
-  pub below : (c : ℕ) → c < 510 → getD labels c 0 < 256
+  pub lowers : (c : ℕ) → c < size a + size b → labelOfClass labels c ≡ loweredBoth n meets a b class c
+  pub below : Below 128 labels
   pub built : ClassGraph (size a + size b) class labels start′ end′ pool′ graph

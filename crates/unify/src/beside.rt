@@ -15,11 +15,11 @@ pub fn word_count(graph: &[u16]) -> usize
     graph[nodes + 1] as usize - graph[1] as usize
 }
 
-// Copies the words of a graph's rows to the places from `at` on, each target moved by `shift`. Headers come along, and stand in no
-// span. Answers the next place.
+// Copies the words of a graph's rows to the places from `at` on, each target moved by `shift`. Headers come along, wrapped where
+// they must, and stand in no span. Answers the next place.
 pub fn copy_words<'a>(graph: &'a [u16], at: usize, shift: usize, pool: &mut [u16]) -> usize
     requires { ⌜ Recorded (now graph) ⌝ }
-    requires { ⌜ (at ≤ 2303) × (shift ≤ 255) × (at + wordsIn (now graph) ≤ length (now pool)) ⌝ }
+    requires { ⌜ (at ≤ 2558) × (shift ≤ 255) × (at + wordsIn (now graph) ≤ length (now pool)) ⌝ }
     ensures { λ r. ⌜ WordsCopied (now (graph .entry)) (rowsEnd (now (graph .entry))) at shift (now (pool .entry)) (now (pool .exit)) r ⌝ }
 {
     let nodes = graph[0] as usize;
@@ -28,7 +28,7 @@ pub fn copy_words<'a>(graph: &'a [u16], at: usize, shift: usize, pool: &mut [u16
     let mut k = graph[1] as usize;
     let mut next = at;
     while k < end {
-        pool[next] = graph[k] + moved;
+        pool[next] = std::num::wrapping_add_u16(graph[k], moved);
         k += 1;
         next += 1;
     }
@@ -44,7 +44,7 @@ pub fn copy_spans<'a>(
     end: &mut [u16; 510],
 )
     requires { ⌜ Recorded (now graph) ⌝ }
-    requires { ⌜ (at ≤ 2303) × (shift ≤ 255) × (length (now start) ≡ 510) × (length (now end) ≡ 510) ⌝ }
+    requires { ⌜ (at ≤ 2558) × (shift ≤ 255) × (length (now start) ≡ 510) × (length (now end) ≡ 510) ⌝ }
     ensures { λ _. ⌜ SpansCopied (now (graph .entry)) (size (now (graph .entry))) at shift (now (start .entry)) (now (end .entry)) (now (start .exit)) (now (end .exit)) ⌝ }
 {
     let nodes = graph[0] as usize;

@@ -1,75 +1,125 @@
-// The labels of classes: "a class has the meet of all types in it".
+// The labels of classes: "a class has the meet of all types in it", and the overlap of all ranges. They stand in words as headers, one
+// after another, that of class c at HEADER * c.
 
-ghost use Prim.Native.Nat.{ℕ, _+_, _≤_, _<_};
-ghost use lib.Dec.{eqb};
+use layout::HEADER;
+use layout::Label;
+
+// The words of the labels of 510 classes.
+pub const LABELS: usize = 510 * HEADER;
+
+ghost use Prim.Native.Nat.{ℕ, _+_, _-_, _≤_, _<_};
 ghost use lib.ListN.{length, getD};
 ghost use mathlib.Core.Path.{_≡_};
+ghost use Rattle.lattice.specs.Label.{plain};
+ghost use Rattle.layout.specs.Builder.{stated};
 ghost use Rattle.graphs.specs.Rows.{from};
 ghost use Rattle.graphs.specs.Unify.{anyOf};
 ghost use Rattle.layout.specs.Layout.{Recorded, Shaped, size, labelAt};
-ghost use Rattle.unify.specs.Lowered.{Below, Lowerable, MeetsBelow, lowered, loweredBoth};
+ghost use Rattle.unify.specs.Outcome.{contradicts};
+ghost use Rattle.unify.specs.Lowered.{Below, Lowerable, Lowers, MeetsBelow, labelOfClass, labelWords, loweredBoth, meetLabels};
 ghost use Rattle.unify.specs.Rows.{Operand};
 
-// Meets the label of each node's class with the node's type, the last node first. Node v of the graph is node shift + v of both.
+// The meet of two labels: the meet of their types, and the overlap of their ranges.
+fn meet(meets: &[[u8; 64]; 64], a: Label, b: Label) -> Label
+    requires { ⌜ (a .kind < 64) × (b .kind < 64) ⌝ }
+    ensures { λ r. ⌜ stated r ≡ meetLabels (now (meets .entry)) (stated a) (stated b) ⌝ }
+{
+    let i = a.kind as usize;
+    let j = b.kind as usize;
+    Label {
+        kind: meets[i][j],
+        lowest: layout::greater(a.lowest, b.lowest),
+        highest: layout::lesser(a.highest, b.highest),
+    }
+}
+
+// Meets the label of each node's class with the node's label, the last node first. Node v of the graph is node shift + v of both.
 fn lower<'a>(
     meets: &'a [[u8; 64]; 64],
     graph: &'a [u16],
     class: &'a [u16; 510],
     shift: usize,
-    labels: &mut [u8; 510],
+    labels: &mut [u16; LABELS],
 )
     requires { ⌜ Recorded (now graph) ⌝ }
-    requires { ⌜ (shift ≤ 255) × (length (now labels) ≡ 510) ⌝ }
+    requires { ⌜ (shift ≤ 255) × (length (now labels) ≡ labelWords) ⌝ }
     requires { ⌜ ((n : ℕ) × Lowerable n (now meets) (now graph) (now labels)) ⌝ }
     requires { ⌜ ((v : ℕ) → v < size (now graph) → getD (now class) (shift + v) 0 < 510) ⌝ }
-    ensures { λ _. ⌜ length (now (labels .exit)) ≡ 510 ⌝ }
+    ensures { λ _. ⌜ length (now (labels .exit)) ≡ labelWords ⌝ }
     ensures { λ _. ⌜ ((n : ℕ) → Lowerable n (now (meets .entry)) (now (graph .entry)) (now (labels .entry)) → Below n (now (labels .exit))) ⌝ }
-    ensures { λ _. ⌜ ((c : ℕ) → c < 510 → getD (now (labels .exit)) c 0 ≡ lowered (now (meets .entry)) (now (graph .entry)) (now (class .entry)) shift c (getD (now (labels .entry)) c 0)) ⌝ }
+    ensures { λ _. ⌜ Lowers (now (meets .entry)) (now (graph .entry)) (now (class .entry)) shift (now (labels .entry)) (now (labels .exit)) ⌝ }
 {
     let mut v = graph[0] as usize;
     while 0 < v {
         v -= 1;
         let c = class[shift + v] as usize;
-        let row = graph[v + 1] as usize;
-        let i = graph[row] as usize;
-        let j = labels[c] as usize;
-        labels[c] = meets[i][j];
+        let lower = meet(
+            meets,
+            layout::label_at(graph, v),
+            layout::label_from(labels, HEADER * c),
+        );
+        layout::put_label(labels, HEADER * c, lower);
     }
 }
 
-// The labels of the classes of two graphs' nodes over n types: top, met with the types of the nodes.
+// Gives each of the first `nodes` classes the label top, over n types.
+fn clear(n: usize, nodes: usize, labels: &mut [u16; LABELS])
+    requires { ⌜ (0 < n) × (n ≤ 64) × (nodes ≤ 510) × (length (now labels) ≡ labelWords) × Below n (now labels) ⌝ }
+    ensures { λ _. ⌜ (length (now (labels .exit)) ≡ labelWords) × Below n (now (labels .exit)) ⌝ }
+    ensures { λ _. ⌜ ((c : ℕ) → c < nodes → labelOfClass (now (labels .exit)) c ≡ plain (n - 1)) ⌝ }
+{
+    let mut c = 0;
+    while c < nodes {
+        let top = Label {
+            kind: (n - 1) as u8,
+            lowest: 0,
+            highest: 255,
+        };
+        layout::put_label(labels, HEADER * c, top);
+        c += 1;
+    }
+}
+
+// The labels of the classes of two graphs' nodes over n types: top, met with the labels of the nodes.
 pub fn class_labels<'a>(
     n: usize,
     meets: &'a [[u8; 64]; 64],
     a: &'a [u16],
     b: &'a [u16],
     class: &'a [u16; 510],
-) -> [u8; 510]
+) -> [u16; LABELS]
     requires { ⌜ (0 < n) × (n ≤ 64) ⌝ }
     requires { ⌜ MeetsBelow n (now meets) ⌝ }
     requires { ⌜ Operand n (now a) ⌝ }
     requires { ⌜ Operand n (now b) ⌝ }
     requires { ⌜ ((x : ℕ) → x < size (now a) + size (now b) → getD (now class) x 0 < 510) ⌝ }
-    ensures { λ r. ⌜ Below n r ⌝ }
-    ensures { λ r. ⌜ ((c : ℕ) → c < 510 → getD r c 0 ≡ loweredBoth n (now (meets .entry)) (now (a .entry)) (now (b .entry)) (now (class .entry)) c) ⌝ }
+    ensures { λ r. ⌜ Below n r × (length r ≡ labelWords) ⌝ }
+    ensures { λ r. ⌜ ((c : ℕ) → c < size (now (a .entry)) + size (now (b .entry)) → labelOfClass r c ≡ loweredBoth n (now (meets .entry)) (now (a .entry)) (now (b .entry)) (now (class .entry)) c) ⌝ }
 {
-    let mut labels = [(n - 1) as u8; 510];
+    let mut labels = [0u16; LABELS];
     let shift = a[0] as usize;
+    clear(n, shift + b[0] as usize, &mut labels);
     lower(meets, b, class, shift, &mut labels);
     lower(meets, a, class, 0, &mut labels);
     labels
 }
 
+// Whether a label is the contradiction: type 0, or an empty range.
+fn is_contradiction(label: Label) -> bool
+    ensures { λ r. ⌜ r ≡ contradicts (stated label) ⌝ }
+{
+    label.kind == 0 || label.highest < label.lowest
+}
+
 // Whether the label of some node is the contradiction.
 pub fn has_clash(graph: &[u16]) -> bool
     requires { ⌜ Shaped (now graph) ⌝ }
-    ensures { λ r. ⌜ r ≡ anyOf (from 0 (size (now (graph .entry)))) (λ x. eqb (labelAt (now (graph .entry)) x) 0) ⌝ }
+    ensures { λ r. ⌜ r ≡ anyOf (from 0 (size (now (graph .entry)))) (λ x. contradicts (labelAt (now (graph .entry)) x)) ⌝ }
 {
     let nodes = graph[0] as usize;
     let mut x = 0;
     while x < nodes {
-        let row = graph[x + 1] as usize;
-        if graph[row] == 0 {
+        if is_contradiction(layout::label_at(graph, x)) {
             return true;
         }
         x += 1;

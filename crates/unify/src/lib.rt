@@ -12,7 +12,7 @@ ghost use lib.ListN.{length};
 ghost use Rattle.encode.specs.Encode.{yielding};
 ghost use Rattle.unify.specs.Lowered.{MeetsBelow};
 ghost use Rattle.unify.specs.Outcome.{unifyingOut};
-ghost use Rattle.unify.specs.Rows.{Merges, Operand, placesFor};
+ghost use Rattle.unify.specs.Rows.{Merges, Operand, classWords, placesFor};
 
 // What unifying answers: what writing the result answers, or document 01's refusals 9 and 10.
 pub enum Combined {
@@ -21,6 +21,12 @@ pub enum Combined {
     Clash,
 }
 
+// The places of a pool for two graphs with 80 nodes and 240 links together, and for any two: two words and 64 places for a merge of each
+// node but the first, one for each link.
+const SMALL: usize = 80 * layout::HEADER + 240 + 64 * 79;
+
+const LARGE: usize = 510 * layout::HEADER + 4096 + 64 * 509;
+
 // Builds the graph of the classes of both graphs' nodes. The pool takes the words of both graphs and the rows of merged classes.
 fn merge_within<'a>(
     n: usize,
@@ -28,13 +34,13 @@ fn merge_within<'a>(
     a: &'a [u16],
     b: &'a [u16],
     pool: &mut [u16],
-    graph: &mut [u16; 5118],
+    graph: &mut [u16; quotient::GRAPH],
 )
     requires { ⌜ (0 < n) × (n ≤ 64) ⌝ }
     requires { ⌜ MeetsBelow n (now meets) ⌝ }
     requires { ⌜ Operand n (now a) ⌝ }
     requires { ⌜ Operand n (now b) ⌝ }
-    requires { ⌜ (placesFor (now a) (now b) ≤ length (now pool)) × (length (now graph) ≡ 5118) ⌝ }
+    requires { ⌜ (placesFor (now a) (now b) ≤ length (now pool)) × (length (now graph) ≡ classWords) ⌝ }
     ensures { λ _. ⌜ Merges n (now (meets .entry)) (now (a .entry)) (now (b .entry)) (now (graph .exit)) ⌝ }
 {
     let mut start = [0u16; 510];
@@ -57,22 +63,22 @@ fn merge<'a>(
     meets: &'a [[u8; 64]; 64],
     a: &'a [u16],
     b: &'a [u16],
-    graph: &mut [u16; 5118],
+    graph: &mut [u16; quotient::GRAPH],
 )
     requires { ⌜ (0 < n) × (n ≤ 64) ⌝ }
     requires { ⌜ MeetsBelow n (now meets) ⌝ }
     requires { ⌜ Operand n (now a) ⌝ }
     requires { ⌜ Operand n (now b) ⌝ }
-    requires { ⌜ length (now graph) ≡ 5118 ⌝ }
+    requires { ⌜ length (now graph) ≡ classWords ⌝ }
     ensures { λ _. ⌜ Merges n (now (meets .entry)) (now (a .entry)) (now (b .entry)) (now (graph .exit)) ⌝ }
 {
     let words = beside::word_count(a) + beside::word_count(b);
     let nodes = a[0] as usize + b[0] as usize;
-    if words + 64 * (nodes - 1) <= 5376 {
-        let mut pool = [0u16; 5376];
+    if words + 64 * (nodes - 1) <= SMALL {
+        let mut pool = [0u16; SMALL];
         merge_within(n, meets, a, b, &mut pool, graph);
     } else {
-        let mut pool = [0u16; 37182];
+        let mut pool = [0u16; LARGE];
         merge_within(n, meets, a, b, &mut pool, graph);
     }
 }
@@ -91,7 +97,7 @@ pub fn unify<'a>(
     requires { ⌜ Operand n (now b) ⌝ }
     ensures { λ r. ⌜ yielding r (now (out .exit)) ≡ unifyingOut n (now (meets .entry)) (now (a .entry)) (now (b .entry)) (now (out .entry)) ⌝ }
 {
-    let mut graph = [0u16; 5118];
+    let mut graph = [0u16; quotient::GRAPH];
     merge(n, meets, a, b, &mut graph);
     let mut order = [0u16; 510];
     if visits::cycle::has_cycle(&graph, &mut order) {

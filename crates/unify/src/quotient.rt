@@ -1,12 +1,17 @@
 // The graph of the classes in words: its nodes are the nodes of both graphs, of which those that represent no class have no links.
 
+use crate::labels::LABELS;
+use layout::HEADER;
 use layout::SCALE;
 ghost use Prim.Native.Nat.{ℕ, _+_, _≤_, _<_};
 ghost use lib.ListN.{length, getD};
 ghost use mathlib.Core.Path.{_≡_};
 ghost use Rattle.layout.specs.Layout.{targetAt};
-ghost use Rattle.unify.specs.Lowered.{Below};
-ghost use Rattle.unify.specs.Rows.{ClassGraph, Fillable, RowCopied, endOfRow};
+ghost use Rattle.unify.specs.Lowered.{Below, labelWords};
+ghost use Rattle.unify.specs.Rows.{ClassGraph, Fillable, RowCopied, classWords, endOfRow};
+
+// The words of the graph of the classes of up to 510 nodes: the number of nodes, 511 places, 510 headers and 4,096 links.
+pub const GRAPH: usize = 512 + 510 * HEADER + 4096;
 
 // Copies a row to the places from `at` on, each target by its class. Answers the next place.
 pub fn copy_row<'a>(
@@ -15,9 +20,9 @@ pub fn copy_row<'a>(
     start: usize,
     end: usize,
     at: usize,
-    graph: &mut [u16; 5118],
+    graph: &mut [u16; GRAPH],
 ) -> usize
-    requires { ⌜ (start ≤ end) × (end ≤ length (now pool)) × (at + end ≤ 5118 + start) × (length (now graph) ≡ 5118) ⌝ }
+    requires { ⌜ (start ≤ end) × (end ≤ length (now pool)) × (at + end ≤ classWords + start) × (length (now graph) ≡ classWords) ⌝ }
     requires { ⌜ ((k : ℕ) → start ≤ k → k < end → (targetAt (now pool) k < 510) × (getD (now class) (targetAt (now pool) k) 0 < 510)) ⌝ }
     ensures { λ r. ⌜ RowCopied (now (class .entry)) (now (pool .entry)) start end at (now (graph .entry)) (now (graph .exit)) r ⌝ }
 {
@@ -41,7 +46,7 @@ fn end_of_row<'a>(
     x: usize,
 ) -> usize
     requires { ⌜ (x < 510) × (getD (now class) x 0 < 510) ⌝ }
-    requires { ⌜ (getD (now start) x 0 ≤ getD (now end) x 0) × (getD (now end) x 0 ≤ 37182) ⌝ }
+    requires { ⌜ (getD (now start) x 0 ≤ getD (now end) x 0) × (getD (now end) x 0 ≤ 37692) ⌝ }
     ensures { λ r. ⌜ r ≡ endOfRow (now (class .entry)) (now (start .entry)) (now (end .entry)) x ⌝ }
 {
     let c = class[x] as usize;
@@ -55,13 +60,13 @@ fn end_of_row<'a>(
 pub fn quotient<'a>(
     nodes: usize,
     class: &'a [u16; 510],
-    labels: &'a [u8; 510],
+    labels: &'a [u16; LABELS],
     start: &'a [u16; 510],
     end: &'a [u16; 510],
     pool: &'a [u16],
-    graph: &mut [u16; 5118],
+    graph: &mut [u16; GRAPH],
 )
-    requires { ⌜ (length (now graph) ≡ 5118) × Below 256 (now labels) ⌝ }
+    requires { ⌜ (length (now graph) ≡ classWords) × (length (now labels) ≡ labelWords) × Below 128 (now labels) ⌝ }
     requires { ⌜ Fillable nodes (now class) (now start) (now end) (now pool) ⌝ }
     ensures { λ _. ⌜ ClassGraph nodes (now (class .entry)) (now (labels .entry)) (now (start .entry)) (now (end .entry)) (now (pool .entry)) (now (graph .exit)) ⌝ }
 {
@@ -71,10 +76,10 @@ pub fn quotient<'a>(
     let mut x = 0;
     while x < nodes {
         let c = class[x] as usize;
-        graph[at] = labels[c] as u16;
+        layout::put_label(graph, at, layout::label_from(labels, HEADER * c));
         let row_start = start[x] as usize;
         let row_end = end_of_row(class, start, end, x);
-        at = copy_row(class, pool, row_start, row_end, at + layout::HEADER, graph);
+        at = copy_row(class, pool, row_start, row_end, at + HEADER, graph);
         graph[x + 2] = at as u16;
         x += 1;
     }

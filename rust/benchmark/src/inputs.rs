@@ -1,8 +1,10 @@
 //! What is measured: a table, a graph, a more general one, and one beside it with
-//! which it has a common part, a combination and a difference. The same on every run.
+//! which it has a common part, a combination and a difference, without level ranges
+//! and with them. The same on every run.
 
 use reference::difference::difference;
 use reference::graph::Graph;
+use reference::order::subsumption;
 use reference::random::{self, Shape, TableBytes, Xorshift};
 use reference::record;
 use reference::table::Table;
@@ -11,6 +13,8 @@ use reference::table::Table;
 pub struct Input {
     /// The table's name in what is printed: its number of types.
     pub kind: &'static str,
+    /// Whether nodes have ranges.
+    pub has_ranges: bool,
     /// The number of types.
     pub n: usize,
     /// The number of nodes of the specific graph.
@@ -25,21 +29,45 @@ pub struct Input {
     pub other: Vec<u8>,
 }
 
-/// All sizes, first with 4 types, then with 64, then with 64 that do not admit
-/// differences and are not numbered along their order.
-pub fn inputs() -> Vec<Input> {
-    let mut inputs = Vec::new();
-    let rivals = random::large_rival_table(&mut Xorshift::new(64));
-    for (kind, table) in [
-        ("4", random::diamond()),
-        ("64", random::boolean(6)),
-        ("64 rivals", rivals),
-    ] {
-        for nodes in [8, 40, 255] {
-            inputs.push(input(kind, &table, nodes));
-        }
+impl Input {
+    /// What is printed of the types and the ranges.
+    pub fn labels(&self) -> String {
+        let ranges = if self.has_ranges { ", ranges" } else { "" };
+        format!("{}{ranges}", self.kind)
     }
-    inputs
+}
+
+/// The names of the tables.
+const KINDS: [&str; 3] = ["4", "64", "64 rivals"];
+
+/// The table of a name: 4 types, 64, or 64 that do not admit differences and are not
+/// numbered along their order.
+fn table(kind: &str) -> TableBytes {
+    match kind {
+        "4" => random::diamond(),
+        "64" => random::boolean(6),
+        _ => random::large_rival_table(&mut Xorshift::new(64)),
+    }
+}
+
+/// The numbers of nodes.
+const SIZES: [usize; 3] = [8, 40, 255];
+
+/// All sizes with each table in turn; then the same with ranges.
+pub fn inputs() -> Vec<Input> {
+    (0..).map_while(input_at).collect()
+}
+
+/// The input at a place among them.
+pub fn input_at(place: usize) -> Option<Input> {
+    let (round, size) = (place / SIZES.len(), place % SIZES.len());
+    let kind = KINDS[round % KINDS.len()];
+    let plain = input(kind, &table(kind), SIZES[size]);
+    match round / KINDS.len() {
+        0 => Some(plain),
+        1 => Some(with_ranges(&plain)),
+        _ => None,
+    }
 }
 
 /// The first input of a seed whose graphs have a difference.
@@ -65,18 +93,55 @@ fn attempt(kind: &'static str, table: &TableBytes, nodes: usize, seed: u64) -> I
         features: (0..24).collect(),
         spread: nodes / 4,
         tops: 1,
+        ranges: 0,
     };
     let specific = random::graph(random, table.n, &shape);
     let general = weaker(random, &table.accepted(), &specific);
     let other = weaker(random, &table.accepted(), &specific);
     Input {
         kind,
+        has_ranges: false,
         n: table.n,
         nodes,
         table: table.bytes.clone(),
         specific: record::write(&specific),
         general: record::write(&general),
         other: record::write(&other),
+    }
+}
+
+/// The same graphs with ranges: at every other node of the specific one, and at the
+/// nodes over it the same range, or for one in eight a range around it.
+fn with_ranges(input: &Input) -> Input {
+    let random = &mut Xorshift::new(input.nodes as u64);
+    let table = Table::accept(input.n, &input.table).expect("a table");
+    let [specific, general, other] = [&input.specific, &input.general, &input.other]
+        .map(|bytes| record::read(&table, bytes).expect("a record"));
+    let mut ranged = specific.clone();
+    for node in &mut ranged.nodes {
+        if random.chance(1, 2) {
+            node.label.range = random::range(random);
+        }
+    }
+    let mut above = |graph: &Graph| {
+        let map = subsumption(&table, graph, &specific).expect("a graph above");
+        let mut above = graph.clone();
+        for (node, below) in above.nodes.iter_mut().zip(map.image) {
+            let range = ranged.nodes[below].label.range;
+            node.label.range = match random.chance(1, 8) {
+                true => random::range_around(random, range),
+                false => range,
+            };
+        }
+        record::write(&above)
+    };
+    Input {
+        has_ranges: true,
+        general: above(&general),
+        other: above(&other),
+        specific: record::write(&ranged),
+        table: input.table.clone(),
+        ..*input
     }
 }
 

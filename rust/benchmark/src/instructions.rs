@@ -2,8 +2,8 @@
 //! with one call and with some more, and takes the difference.
 
 use crate::calls::{CALLS, Worker};
-use crate::inputs::inputs;
-use crate::mean_and_worst;
+use crate::inputs::{input_at, inputs};
+use crate::print_means;
 use record_engine::LONGEST_RECORD;
 use std::env;
 use std::hint::black_box;
@@ -18,8 +18,7 @@ pub fn run(words: &[String]) -> bool {
     let &[call, input, worker, count] = &numbers[..] else {
         return false;
     };
-    let inputs = inputs();
-    let (Some(call), Some(input)) = (CALLS.get(call), inputs.get(input)) else {
+    let (Some(call), Some(input)) = (CALLS.get(call), input_at(input)) else {
         return false;
     };
     let Some(&worker) = Worker::ALL.get(worker) else {
@@ -27,7 +26,7 @@ pub fn run(words: &[String]) -> bool {
     };
     let mut output = vec![0; LONGEST_RECORD];
     for _ in 0..count {
-        black_box(call.work(worker)(black_box(input), &mut output));
+        black_box(call.work(worker)(black_box(&input), &mut output));
     }
     true
 }
@@ -61,16 +60,15 @@ pub fn print() {
                 let run = |count| counted([call, place, worker, count]).expect("valgrind counts");
                 (run(1 + MORE) - run(1)) as f64 / MORE as f64
             });
-            ratios.push(engine / peer);
+            ratios.push((input.has_ranges, engine / peer));
             println!(
                 "| {} | {} | {} | {engine:.0} | {peer:.0} | {:.2} |",
                 known.name,
-                input.kind,
+                input.labels(),
                 input.nodes,
                 engine / peer
             );
         }
     }
-    let (mean, worst) = mean_and_worst(&ratios);
-    println!("\nengine / peer: geometric mean {mean:.2}, worst {worst:.2}\n");
+    print_means(&ratios);
 }

@@ -1,6 +1,6 @@
 //! Prints what a call takes, at graphs of 8, 40 and 255 nodes and tables of 4 types, of
-//! 64, and of 64 rivals, which do not admit differences: where valgrind is there, the
-//! instructions that a call of the engine and of the peer runs, which repeat; then the
+//! 64, and of 64 rivals, which do not admit differences, without level ranges and with
+//! them: where valgrind is there, the instructions that a call of the engine and of the peer runs, which repeat; then the
 //! times by the engine, by the peer and by the reference, which do so only on a machine
 //! that has nothing else to do.
 
@@ -31,17 +31,26 @@ fn check_agreement() {
             let answers = Worker::ALL.map(|worker| call.answer(worker, &input));
             assert!(
                 answers[0].is_some() && answers == [answers[0]; 3],
-                "{} of {} nodes: {answers:?}",
+                "{} of {} nodes, {}: {answers:?}",
                 call.name,
-                input.nodes
+                input.nodes,
+                input.labels()
             );
         }
     }
 }
 
-/// The geometric mean and the greatest of some ratios.
-fn mean_and_worst(ratios: &[f64]) -> (f64, f64) {
-    let logarithms: f64 = ratios.iter().map(|ratio| ratio.ln()).sum();
-    let mean = (logarithms / ratios.len() as f64).exp();
-    (mean, ratios.iter().copied().fold(0.0, f64::max))
+/// Prints the geometric mean and the greatest of the ratios without ranges, and of those
+/// with them; each ratio stands beside whether its input has ranges.
+fn print_means(ratios: &[(bool, f64)]) {
+    println!();
+    for (has_ranges, name) in [(false, "without ranges"), (true, "with ranges")] {
+        let some = ratios.iter().filter(|(ranged, _)| *ranged == has_ranges);
+        let some: Vec<f64> = some.map(|(_, ratio)| *ratio).collect();
+        let logarithms: f64 = some.iter().map(|ratio| ratio.ln()).sum();
+        let mean = (logarithms / some.len() as f64).exp();
+        let worst = some.iter().copied().fold(0.0, f64::max);
+        println!("engine / peer {name}: geometric mean {mean:.2}, worst {worst:.2}");
+    }
+    println!();
 }

@@ -4,7 +4,7 @@
 
 use crate::calls::{CALLS, Work, Worker};
 use crate::inputs::{Input, inputs};
-use crate::mean_and_worst;
+use crate::print_means;
 use record_engine::LONGEST_RECORD;
 use std::hint::black_box;
 use std::time::{Duration, Instant};
@@ -61,11 +61,11 @@ pub fn print() {
                 }
             }
             let [engine, peer, reference] = &rounds;
-            ratios.push(engine.least / peer.least);
+            ratios.push((input.has_ranges, engine.least / peer.least));
             println!(
                 "| {} | {} | {} | {:.2} | {:.2} | {:.2} | {:.2} | {:.3} | {:.0} % |",
                 call.name,
-                input.kind,
+                input.labels(),
                 input.nodes,
                 engine.least,
                 peer.least,
@@ -76,6 +76,5 @@ pub fn print() {
             );
         }
     }
-    let (mean, worst) = mean_and_worst(&ratios);
-    println!("\nengine / peer: geometric mean {mean:.2}, worst {worst:.2}");
+    print_means(&ratios);
 }

@@ -1,12 +1,12 @@
 //! Inputs of the program `mapcalc`, each with a name: the cases of document 01,
-//! every refusal that the program can print, and every kind of bad input.
+//! every refusal that the program can print, every kind of bad input, and level
+//! ranges.
 
 use reference::graph::{Graph, Node};
 use reference::mapcalc::{Operation, input};
 use reference::notation;
 use reference::random::{self, TableBytes};
 use reference::record;
-use std::collections::BTreeMap;
 
 /// An input of the program and what it is.
 pub struct Case {
@@ -62,12 +62,9 @@ fn rows(first_bytes: &[u8]) -> Vec<u8> {
 
 /// Top nodes with 64 links each, all to the last of them.
 fn full(nodes: usize) -> Graph {
-    let node = |number: usize| Node {
-        node_type: 3,
-        links: (0..64)
-            .filter(|_| number + 1 < nodes)
-            .map(|feature| (feature, nodes - 1))
-            .collect(),
+    let node = |number: usize| {
+        let features = (0..64).filter(|_| number + 1 < nodes);
+        Node::new(3, features.map(|feature| (feature, nodes - 1)))
     };
     let mut graph = Graph {
         nodes: (0..nodes).map(node).collect(),
@@ -79,6 +76,15 @@ fn full(nodes: usize) -> Graph {
     graph
 }
 
+/// 255 top nodes in a row with 2,048 links.
+fn longest() -> Graph {
+    let mut longest = random::ladder(255, &[0, 9, 18, 27, 36, 45, 54, 63], 3);
+    for number in 0..16 {
+        longest.nodes[number].links.insert(1, number + 1);
+    }
+    longest
+}
+
 /// Every case.
 pub fn cases() -> Vec<Case> {
     let mut cases = Vec::new();
@@ -87,6 +93,7 @@ pub fn cases() -> Vec<Case> {
     tables(&mut add);
     graphs(&mut add);
     bad_inputs(&mut add);
+    ranges(&mut add);
     cases
 }
 
@@ -136,13 +143,7 @@ fn fittings(add: &mut impl FnMut(&'static str, Vec<u8>)) {
         add(name, asked(Combine, &random::diamond(), &first, &second));
     }
     // Case 15 is about an output one byte short, and the program lends the longest.
-    let longest = record::write(&{
-        let mut longest = random::ladder(255, &[0, 9, 18, 27, 36, 45, 54, 63], 3);
-        for number in 0..16 {
-            longest.nodes[number].links.insert(1, number + 1);
-        }
-        longest
-    });
+    let longest = record::write(&longest());
     add(
         "the longest record",
         asked(Combine, &random::diamond(), &longest, &longest),
@@ -213,21 +214,13 @@ fn graphs(add: &mut impl FnMut(&'static str, Vec<u8>)) {
     both(["5: type n, first", "5: type n, second"], &type_n);
     let target = |target| {
         record::write(&Graph {
-            nodes: vec![Node {
-                node_type: 3,
-                links: BTreeMap::from([(0, target)]),
-            }],
+            nodes: vec![Node::new(3, [(0, target)])],
         })
     };
     both(["5: target N, first", "5: target N, second"], &target(1));
     both(["6: itself, first", "6: itself, second"], &target(0));
     let unreached = record::write(&Graph {
-        nodes: [3, 3]
-            .map(|node_type| Node {
-                node_type,
-                links: BTreeMap::new(),
-            })
-            .into(),
+        nodes: [3, 3].map(|node_type| Node::new(node_type, [])).into(),
     });
     both(["7: first", "7: second"], &unreached);
     add("4 first before 5 second", with_records(&lone[..9], &type_0));
@@ -315,4 +308,125 @@ fn bad_inputs(add: &mut impl FnMut(&'static str, Vec<u8>)) {
     let mut more = widest;
     more.push(0);
     add("bad: one byte more", more);
+}
+
+fn ranges(add: &mut impl FnMut(&'static str, Vec<u8>)) {
+    use Operation::{Combine, Common, Difference, Order};
+    add(
+        "ranges: two that overlap",
+        over_diamond(Combine, "a{10..100}", "top{50..200}"),
+    );
+    add(
+        "ranges: two that overlap in one level",
+        over_diamond(Combine, "a{0..50}", "a{50..255}"),
+    );
+    add(
+        "ranges: two that do not overlap",
+        over_diamond(Combine, "a{0..50}", "a{51..255}"),
+    );
+    add(
+        "ranges: two that do not overlap where paths share",
+        over_diamond(Combine, P, "top[0: top{0..50}, 1: top{51..255}]"),
+    );
+    add(
+        "ranges: a loop before two that do not overlap",
+        over_diamond(Combine, P, "top[0: Z top{0..50}, 1: top{51..255}[0: Z]]"),
+    );
+    add(
+        "ranges: a common part that widens",
+        over_diamond(Common, "a{10..20}[0: b]", "a{90..100}[0: b{7..7}]"),
+    );
+    add(
+        "ranges: a common part that widens to the full range",
+        over_diamond(Common, "a{0..20}", "b{90..255}"),
+    );
+    let general = "a[0: b{10..200}, 1: b]";
+    let specific = "a[0: b{10..100}, 1: b]";
+    add(
+        "ranges: a difference that keeps a node for its range alone",
+        over_diamond(Difference, general, specific),
+    );
+    add(
+        "ranges: a difference of both ends",
+        over_diamond(Difference, "a{5..200}", "a{10..100}"),
+    );
+    add(
+        "ranges: a graph's difference from itself",
+        over_diamond(Difference, specific, specific),
+    );
+    add(
+        "ranges: no difference where none lies inside",
+        over_diamond(Difference, specific, general),
+    );
+    for (name, first, second) in [
+        ("ranges: order, the same", "a{10..20}", "a{10..20}"),
+        ("ranges: order, inside", "a{10..20}", "top{10..21}"),
+        ("ranges: order, around", "a", "a{0..254}"),
+        ("ranges: order, beside", "a{10..20}", "a{11..21}"),
+    ] {
+        add(name, over_diamond(Order, first, second));
+    }
+    let spelled = record::write_spelling(&notation::graph(3, "a[0: b{1..2}, 1: top]"), |_| true);
+    add(
+        "ranges: full ones spelled out and rewritten",
+        asked(Combine, &random::diamond(), &spelled, &spelled),
+    );
+    add(
+        "ranges: a full one spelled out is the same",
+        asked(
+            Order,
+            &random::diamond(),
+            &spelled,
+            &record_of("a[0: b{1..2}, 1: top]"),
+        ),
+    );
+    let mut longest = longest();
+    for node in &mut longest.nodes {
+        node.label.range.lowest = 1;
+    }
+    let longest = record::write(&longest);
+    add(
+        "ranges: the longest record",
+        asked(Combine, &random::diamond(), &longest, &longest),
+    );
+    let lone = record_of("top");
+    let mut both = |names: [&'static str; 2], record: &[u8]| {
+        add(names[0], with_records(record, &lone));
+        add(names[1], with_records(&lone, record));
+    };
+    both(
+        [
+            "4: bit 7 and no levels, first",
+            "4: bit 7 and no levels, second",
+        ],
+        &notation::bytes("01 83 0000000000000000"),
+    );
+    both(
+        [
+            "4: bit 7 and one level, first",
+            "4: bit 7 and one level, second",
+        ],
+        &notation::bytes("01 83 07"),
+    );
+    both(
+        [
+            "5: the lowest level above the highest, first",
+            "5: the lowest level above the highest, second",
+        ],
+        &record_of("top{51..50}"),
+    );
+    both(
+        [
+            "5: type 0 with bit 7, first",
+            "5: type 0 with bit 7, second",
+        ],
+        &record_of("0{10..20}"),
+    );
+    both(
+        [
+            "5: type n with bit 7, first",
+            "5: type n with bit 7, second",
+        ],
+        &record_of("4{10..20}"),
+    );
 }

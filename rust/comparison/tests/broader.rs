@@ -1,11 +1,11 @@
 //! Broader graphs in place of narrower ones, by the proved engine and by the
-//! reference: b is made from a, and d from c, by raising types, dropping links and
-//! parting shared nodes. Where a and c combine, so do b and d; what is written of a
+//! reference: b is made from a, and d from c, by raising types, widening ranges,
+//! dropping links and parting shared nodes. Where a and c combine, so do b and d; what is written of a
 //! and c is below what is written of b and d, whatever outputs are lent.
 
 use comparison::{Call, Comparison, GENERALIZE, ORDER, UNIFY};
 use reference::graph::{Feature, Graph};
-use reference::random::{self, Shape, TableBytes, Xorshift};
+use reference::random::{self, Ranges, Shape, TableBytes, Xorshift};
 use reference::record::{self, LONGEST_RECORD, MOST_NODES};
 use reference::reply::Reply;
 use std::collections::BTreeMap;
@@ -97,9 +97,18 @@ impl Broader {
 /// Two graphs over a table.
 type Draw = fn(&mut Xorshift, &TableBytes) -> [Graph; 2];
 
-/// Small graphs, unrelated or made from each other.
+/// Small graphs, unrelated or made from each other, without ranges.
 fn small(random: &mut Xorshift, table: &TableBytes) -> [Graph; 2] {
-    let shape = Shape::small(random, 9, 4);
+    small_pair(random, table, Ranges::Absent)
+}
+
+/// The same with ranges.
+fn small_ranged(random: &mut Xorshift, table: &TableBytes) -> [Graph; 2] {
+    small_pair(random, table, Ranges::Present)
+}
+
+fn small_pair(random: &mut Xorshift, table: &TableBytes, ranges: Ranges) -> [Graph; 2] {
+    let shape = Shape::small(random, 9, 4).ranged(random, ranges);
     match random.chance(1, 2) {
         true => random::unrelated(random, table.n, &shape).into(),
         false => random::pair(random, &table.accepted(), &shape).into(),
@@ -134,6 +143,7 @@ fn large(random: &mut Xorshift, nodes: usize, features: Vec<Feature>) -> Shape {
         features,
         spread: *random.choose(&[3, 60]),
         tops: 4,
+        ranges: 0,
     }
 }
 
@@ -161,6 +171,27 @@ fn a_broader_pair_combines_and_lies_above() {
     compared.assert_came(&[0, 8], &[11], 20);
     compared.assert_came(&[8], &[0, 11], 200);
     compared.assert_came(&[0, 11], &[8], 200);
+}
+
+#[test]
+fn a_broader_pair_with_ranges_combines_and_lies_above() {
+    let mut compared = Broader::new(UNIFY, 111);
+    check(&mut compared, 114, 6_000, small_ranged);
+    let exists = [0, 8, 11];
+    compared.assert_came(&[9], &exists, 200);
+    compared.assert_came(&[10], &exists, 100);
+    compared.assert_came(&[0], &[0], 2_000);
+    compared.assert_came(&[8], &[0], 100);
+    compared.assert_came(&[0], &[8], 100);
+}
+
+#[test]
+fn common_parts_of_a_broader_pair_with_ranges_lie_above() {
+    let mut compared = Broader::new(GENERALIZE, 116);
+    check(&mut compared, 119, 6_000, small_ranged);
+    compared.assert_came(&[0], &[0], 3_000);
+    compared.assert_came(&[8], &[0], 200);
+    compared.assert_came(&[0], &[8], 200);
 }
 
 #[test]

@@ -1,6 +1,9 @@
-//! The cases of document 01 by the proved engine, over the diamond.
+//! The cases of document 01 by the proved engine, over the diamond, and those of the
+//! change requests.
 
-use record_engine::{LONGEST_RECORD, Order, Refusal, difference, generalize, order, unify};
+use record_engine::{
+    LONGEST_RECORD, Order, Refusal, difference, generalize, order, rewrite, unify,
+};
 use reference::graph::Graph;
 use reference::notation;
 use reference::random;
@@ -252,5 +255,75 @@ fn a_difference_restores_its_graph() {
         );
         let length = length.expect("a combination");
         assert_eq!(output[..length], record_of(specific), "{specific}");
+    }
+}
+
+/// Paper 7.
+#[test]
+fn ranges_that_overlap_and_ranges_that_do_not() {
+    let combined = written(unify, "a{10..100}", "top{50..200}");
+    assert_eq!(combined, Ok(record_of("a{50..100}")));
+    let combined = written(unify, "a{0..50}", "a{50..255}");
+    assert_eq!(combined, Ok(record_of("a{50..50}")));
+    let apart = written(unify, "a{0..50}", "a{51..255}");
+    assert_eq!(apart, Err(Refusal::Clash));
+    // Two that a third graph makes one, and a loop before them.
+    let apart = written(unify, P, "top[0: top{0..50}, 1: top{51..255}]");
+    assert_eq!(apart, Err(Refusal::Clash));
+    let looping = written(unify, P, "top[0: Z top{0..50}, 1: top{51..255}[0: Z]]");
+    assert_eq!(looping, Err(Refusal::Cycle));
+}
+
+#[test]
+fn a_common_part_widens() {
+    let common = written(generalize, "a{10..20}[0: b]", "a{90..100}[0: b{7..7}]");
+    assert_eq!(common, Ok(record_of("a{10..100}[0: b]")));
+    let full = written(generalize, "a{0..20}", "b{90..255}");
+    assert_eq!(full, Ok(record_of("top")));
+}
+
+#[test]
+fn a_difference_keeps_a_node_for_its_range_alone() {
+    let general = "a[0: b{10..200}, 1: b]";
+    let specific = "a[0: b{10..100}, 1: b]";
+    let rest = written(difference, general, specific);
+    assert_eq!(rest, Ok(record_of("top[0: top{0..100}]")));
+    let both_ends = written(difference, "a{5..200}", "a{10..100}");
+    assert_eq!(both_ends, Ok(record_of("top{10..100}")));
+    assert_eq!(
+        written(difference, specific, specific),
+        Ok(record_of("top"))
+    );
+    assert_eq!(
+        written(difference, specific, general),
+        Err(Refusal::NotBelow)
+    );
+}
+
+#[test]
+fn a_full_range_spelled_out_is_not_written() {
+    let table = random::diamond();
+    let graph = notation::graph(3, "a[0: b{1..2}, 1: top]");
+    let spelled = record::write_spelling(&graph, |_| true);
+    let plain = record::write(&graph);
+    assert_eq!([spelled.len(), plain.len()], [36, 32]);
+    let mut output = vec![7; spelled.len()];
+    let length = rewrite(table.n, &table.bytes, &spelled, &mut output);
+    assert_eq!(length, Ok(plain.len()));
+    assert_eq!(output[..plain.len()], plain);
+    assert_eq!(output[plain.len()..], [7; 4]);
+}
+
+#[test]
+fn the_order_of_ranges() {
+    for (first, second, expected) in [
+        ("a{10..20}", "a{10..20}", Order::Same),
+        ("a{10..20}", "top{10..21}", Order::Under),
+        ("a", "a{0..254}", Order::Above),
+        ("a{10..20}", "a{11..21}", Order::Neither),
+        ("a", "top{10..20}", Order::Neither),
+        ("top[0: a{3..3}]", "top[0: a{3..4}]", Order::Under),
+    ] {
+        assert_eq!(ordered(first, second), expected, "{first} and {second}");
     }
 }

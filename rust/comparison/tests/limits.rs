@@ -6,7 +6,7 @@ use reference::common::generalization;
 use reference::graph::{Feature, Graph, Node, ROOT};
 use reference::random::{self, Shape, TableBytes, Xorshift};
 use reference::record::{self, MOST_LINKS, MOST_NODES};
-use std::collections::{BTreeMap, BTreeSet};
+use std::collections::BTreeSet;
 
 /// How many pairs are compared at each limit.
 const PAIRS: usize = 150;
@@ -42,10 +42,8 @@ fn hang(
         let first = graph.nodes.len();
         let number = |place: usize| if place == 0 { ROOT } else { first + place - 1 };
         for _ in 0..nodes {
-            graph.nodes.push(Node {
-                node_type: random.between(1, n - 1) as u8,
-                links: BTreeMap::new(),
-            });
+            let node_type = random.between(1, n - 1) as u8;
+            graph.nodes.push(Node::new(node_type, []));
         }
         for &((parent, feature), child) in &hung {
             let links = &mut graph.nodes[number(parent)].links;
@@ -71,6 +69,7 @@ fn unrelated(
         features,
         spread: *random.choose(&[1, 2, 5]),
         tops: random.pick(5),
+        ranges: 0,
     };
     let (first, second) = random::unrelated(random, table.n, &shape);
     let common = generalization(&table.accepted(), &first, &second);

@@ -1,36 +1,42 @@
 //! The calls on two records by the proved engine and by the reference: random
-//! pairs, unrelated or made from each other by dropping links, raising types and
-//! parting shared nodes; small, large, and damaged, over random and damaged tables.
+//! pairs, unrelated or made from each other by dropping links, raising types, widening
+//! ranges and parting shared nodes; small, large, and damaged, without ranges and with
+//! them, over random and damaged tables.
 
 use comparison::{Call, Comparison, DIFFERENCE, GENERALIZE, ORDER, UNIFY};
 use reference::graph::{Graph, Node};
-use reference::random::{self, Shape, TableBytes, Xorshift};
+use reference::random::{self, Ranges, Shape, TableBytes, Xorshift};
 use reference::record::{self, MOST_LINKS, MOST_NODES};
 use reference::reply::Reply;
 use reference::table::Table;
 
 /// Two records over a table: mostly those of a pair of graphs, sometimes one or
 /// both of them damaged.
-fn records(random: &mut Xorshift, table: &TableBytes, shape: &Shape) -> [Vec<u8>; 2] {
+fn records(
+    random: &mut Xorshift,
+    table: &TableBytes,
+    shape: &Shape,
+    ranges: Ranges,
+) -> [Vec<u8>; 2] {
     // A table that is refused may state any n.
     let n = table.n.clamp(2, 64);
     let mut records = match Table::accept(table.n, &table.bytes) {
         Ok(accepted) => {
             let (first, second) = random::pair(random, &accepted, shape);
-            [record::write(&first), record::write(&second)]
+            [first, second].map(|graph| random::record_of(random, &graph, ranges))
         }
-        Err(_) => [0, 1].map(|_| random::valid_record(random, n)),
+        Err(_) => [0, 1].map(|_| random::valid_record(random, n, ranges)),
     };
     for record in &mut records {
         if random.chance(1, 16) {
-            *record = random::damaged_record(random, n);
+            *record = random::damaged_record(random, n, ranges);
         }
     }
     records
 }
 
 /// At least 20,000 pairs of mostly small graphs, and some of any size.
-fn compare_pairs(call: Call, seed: u64) -> Comparison {
+fn compare_pairs(call: Call, seed: u64, ranges: Ranges) -> Comparison {
     let mut compared = Comparison::new(call, seed);
     let random = &mut Xorshift::stored(seed + 1);
     while compared.inputs() < 20_000 {
@@ -43,7 +49,8 @@ fn compare_pairs(call: Call, seed: u64) -> Comparison {
                 true => Shape::any(random),
                 false => Shape::small(random, 9, 4),
             };
-            let [first, second] = records(random, &table, &shape);
+            let shape = shape.ranged(random, ranges);
+            let [first, second] = records(random, &table, &shape, ranges);
             compared.check(&table, &[&first, &second]);
         }
     }
@@ -51,7 +58,7 @@ fn compare_pairs(call: Call, seed: u64) -> Comparison {
 }
 
 /// Pairs of graphs with up to 255 nodes and 2,048 links.
-fn compare_large(call: Call, seed: u64) -> Comparison {
+fn compare_large(call: Call, seed: u64, ranges: Ranges) -> Comparison {
     let mut compared = Comparison::new(call, seed);
     let random = &mut Xorshift::stored(seed + 1);
     for _ in 0..400 {
@@ -64,9 +71,11 @@ fn compare_large(call: Call, seed: u64) -> Comparison {
             features: (0..features).collect(),
             spread: *random.choose(&[1, 2, 20, MOST_NODES]),
             tops: random.pick(5),
+            ranges: 0,
         };
+        let shape = shape.ranged(random, ranges);
         let (first, second) = random::pair(random, &table.accepted(), &shape);
-        let records = [first, second].map(|graph| record::write(&graph));
+        let records = [first, second].map(|graph| random::record_of(random, &graph, ranges));
         compared.check(&table, &[&records[0], &records[1]]);
     }
     compared
@@ -74,39 +83,77 @@ fn compare_large(call: Call, seed: u64) -> Comparison {
 
 #[test]
 fn the_order_of_random_pairs() {
-    let compared = compare_pairs(ORDER, 21);
+    let compared = compare_pairs(ORDER, 21, Ranges::Absent);
     compared.assert_replies(&[1, 2, 3, 4, 5, 6, 7], 50);
     compared.assert_answers(3_000);
 }
 
 #[test]
+fn the_order_of_random_pairs_with_ranges() {
+    let compared = compare_pairs(ORDER, 81, Ranges::Present);
+    compared.assert_replies(&[1, 2, 3, 4, 5, 6, 7], 50);
+    compared.assert_answers(2_000);
+}
+
+#[test]
 fn the_order_of_large_pairs() {
-    let compared = compare_large(ORDER, 23);
+    let compared = compare_large(ORDER, 23, Ranges::Absent);
+    compared.assert_replies(&[], 0);
+    compared.assert_answers(50);
+}
+
+#[test]
+fn the_order_of_large_pairs_with_ranges() {
+    let compared = compare_large(ORDER, 83, Ranges::Present);
     compared.assert_replies(&[], 0);
     compared.assert_answers(50);
 }
 
 #[test]
 fn the_common_part_of_random_pairs() {
-    let compared = compare_pairs(GENERALIZE, 25);
+    let compared = compare_pairs(GENERALIZE, 25, Ranges::Absent);
+    compared.assert_replies(&[0, 1, 2, 3, 4, 5, 6, 7, 8, 11], 30);
+}
+
+#[test]
+fn the_common_part_of_random_pairs_with_ranges() {
+    let compared = compare_pairs(GENERALIZE, 185, Ranges::Present);
     compared.assert_replies(&[0, 1, 2, 3, 4, 5, 6, 7, 8, 11], 30);
 }
 
 #[test]
 fn the_common_part_of_large_pairs() {
-    let compared = compare_large(GENERALIZE, 27);
+    let compared = compare_large(GENERALIZE, 27, Ranges::Absent);
+    compared.assert_replies(&[0, 8, 11], 50);
+}
+
+#[test]
+fn the_common_part_of_large_pairs_with_ranges() {
+    let compared = compare_large(GENERALIZE, 87, Ranges::Present);
     compared.assert_replies(&[0, 8, 11], 50);
 }
 
 #[test]
 fn the_combination_of_random_pairs() {
-    let compared = compare_pairs(UNIFY, 31);
+    let compared = compare_pairs(UNIFY, 31, Ranges::Absent);
+    compared.assert_replies(&[0, 1, 2, 3, 4, 5, 6, 7, 8, 9, 10, 11], 10);
+}
+
+#[test]
+fn the_combination_of_random_pairs_with_ranges() {
+    let compared = compare_pairs(UNIFY, 91, Ranges::Present);
     compared.assert_replies(&[0, 1, 2, 3, 4, 5, 6, 7, 8, 9, 10, 11], 10);
 }
 
 #[test]
 fn the_combination_of_large_pairs() {
-    let compared = compare_large(UNIFY, 33);
+    let compared = compare_large(UNIFY, 33, Ranges::Absent);
+    compared.assert_replies(&[0, 8, 9, 10, 11], 5);
+}
+
+#[test]
+fn the_combination_of_large_pairs_with_ranges() {
+    let compared = compare_large(UNIFY, 93, Ranges::Present);
     compared.assert_replies(&[0, 8, 9, 10, 11], 5);
 }
 
@@ -124,6 +171,7 @@ fn combinations_of_trees_around_255_nodes() {
             features: (0..*random.choose(&[2, 3, 8])).collect(),
             spread: *random.choose(&[1, 3, 40]),
             tops: 4,
+            ranges: 0,
         };
         let (first, second) = random::unrelated(random, table.n, &shape);
         let records = [first, second].map(|graph| record::write(&graph));
@@ -134,32 +182,56 @@ fn combinations_of_trees_around_255_nodes() {
 
 #[test]
 fn the_difference_of_random_pairs() {
-    let compared = compare_pairs(DIFFERENCE, 37);
+    let compared = compare_pairs(DIFFERENCE, 37, Ranges::Absent);
+    compared.assert_replies(&[0, 1, 2, 3, 4, 5, 6, 7, 8, 12, 13], 30);
+}
+
+#[test]
+fn the_difference_of_random_pairs_with_ranges() {
+    let compared = compare_pairs(DIFFERENCE, 97, Ranges::Present);
     compared.assert_replies(&[0, 1, 2, 3, 4, 5, 6, 7, 8, 12, 13], 30);
 }
 
 #[test]
 fn the_difference_of_large_pairs() {
-    let compared = compare_large(DIFFERENCE, 39);
+    let compared = compare_large(DIFFERENCE, 39, Ranges::Absent);
+    compared.assert_replies(&[0, 8, 12, 13], 3);
+}
+
+#[test]
+fn the_difference_of_large_pairs_with_ranges() {
+    let compared = compare_large(DIFFERENCE, 99, Ranges::Present);
     compared.assert_replies(&[0, 8, 12, 13], 3);
 }
 
 /// Over tables that admit no differences: 13 and lengths both come up often.
-#[test]
-fn the_difference_over_rival_types() {
-    let mut compared = Comparison::new(DIFFERENCE, 41);
-    let random = &mut Xorshift::stored(42);
-    while compared.inputs() < 20_000 {
+fn compare_over_rivals(seed: u64, count: usize, ranges: Ranges) -> Comparison {
+    let mut compared = Comparison::new(DIFFERENCE, seed);
+    let random = &mut Xorshift::stored(seed + 1);
+    while compared.inputs() < count {
         let table = random::rival_table(random);
         let accepted = table.accepted();
         for _ in 0..8 {
-            let shape = Shape::small(random, 9, 4);
+            let shape = Shape::small(random, 9, 4).ranged(random, ranges);
             let s = random::low_graph(random, table.n, &shape);
             let g = random::graph_well_above(random, &accepted, &s);
-            compared.check(&table, &[&record::write(&g), &record::write(&s)]);
+            let [g, s] = [g, s].map(|graph| random::record_of(random, &graph, ranges));
+            compared.check(&table, &[&g, &s]);
         }
     }
+    compared
+}
+
+#[test]
+fn the_difference_over_rival_types() {
+    let compared = compare_over_rivals(41, 20_000, Ranges::Absent);
     compared.assert_replies(&[0, 8, 13], 2_000);
+}
+
+#[test]
+fn the_difference_over_rival_types_with_ranges() {
+    let compared = compare_over_rivals(101, 5_000, Ranges::Present);
+    compared.assert_replies(&[0, 8, 13], 500);
 }
 
 /// The same over tables of 64 types that are not numbered along their order.
@@ -223,12 +295,7 @@ impl Crossing {
 
 /// A node of the diamond's top with the links given.
 fn node(links: impl Iterator<Item = (usize, usize)>) -> Node {
-    Node {
-        node_type: 3,
-        links: links
-            .map(|(feature, target)| (feature as u8, target))
-            .collect(),
-    }
+    Node::new(3, links.map(|(feature, target)| (feature as u8, target)))
 }
 
 #[test]

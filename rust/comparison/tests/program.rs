@@ -4,7 +4,7 @@
 use comparison::cases::cases;
 use comparison::program::{path, run};
 use reference::mapcalc;
-use reference::random::{self, Xorshift};
+use reference::random::{self, Ranges, Xorshift};
 use std::collections::BTreeMap;
 use std::io::Write;
 use std::process::{Command, Stdio};
@@ -31,7 +31,7 @@ fn the_stored_lines() {
         count += 1;
     }
     assert_eq!(lines.next(), None);
-    assert!(count >= 75, "{count} cases");
+    assert!(count >= 111, "{count} cases");
 }
 
 #[test]
@@ -41,6 +41,23 @@ fn every_line_is_stored() {
         assert!(lines.iter().any(|line| kind_of(line) == kind), "{kind}");
     }
     assert!(lines.contains(&"ok 20 0203010000000000000001010000000000000000"));
+    // Every kind of line that a range can bring about comes from one.
+    let with_ranges = STORED
+        .split("# ")
+        .filter(|case| case.starts_with("ranges: "));
+    let lines: Vec<&str> = with_ranges.filter_map(|case| case.lines().nth(2)).collect();
+    for kind in [
+        "ok",
+        "same",
+        "under",
+        "above",
+        "neither",
+        "refused 9",
+        "refused 10",
+    ] {
+        assert!(lines.iter().any(|line| kind_of(line) == kind), "{kind}");
+    }
+    assert!(lines.iter().any(|line| line.starts_with("ok 4854 ")));
 }
 
 #[test]
@@ -89,11 +106,11 @@ fn kind_of(line: &str) -> &str {
 }
 
 /// Runs inputs of one seed; gives how often each kind of line came.
-fn compare(seed: u64) -> BTreeMap<String, usize> {
+fn compare(seed: u64, ranges: Ranges) -> BTreeMap<String, usize> {
     let random = &mut Xorshift::stored(seed);
     let mut counts = BTreeMap::new();
     for _ in 0..INPUTS / THREADS as usize {
-        let input = random::mapcalc_input(random);
+        let input = random::mapcalc_input(random, ranges);
         let line = mapcalc::line(&input);
         assert_eq!(run(&path(), &input), line, "{input:?}");
         *counts.entry(kind_of(&line).to_string()).or_insert(0) += 1;
@@ -103,8 +120,17 @@ fn compare(seed: u64) -> BTreeMap<String, usize> {
 
 #[test]
 fn random_requests() {
+    compare_requests(60, Ranges::Absent);
+}
+
+#[test]
+fn random_requests_with_ranges() {
+    compare_requests(70, Ranges::Present);
+}
+
+fn compare_requests(seed: u64, ranges: Ranges) {
     let threads: Vec<_> = (0..THREADS)
-        .map(|thread| thread::spawn(move || compare(60 + thread)))
+        .map(|thread| thread::spawn(move || compare(seed + thread, ranges)))
         .collect();
     let mut counts = BTreeMap::new();
     for thread in threads {

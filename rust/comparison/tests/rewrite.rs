@@ -1,13 +1,14 @@
 //! Rewriting by the proved engine and by the reference: the same reply and the
 //! same bytes, also beside the output, on random and damaged tables and records,
-//! with outputs that are empty, one byte short, exact and larger.
+//! without ranges and with them, with outputs that are empty, one byte short, exact
+//! and larger.
 
 use comparison::{Comparison, REWRITE};
 use reference::graph::{Graph, Node};
-use reference::random::{self, Shape, TableBytes, Xorshift};
-use reference::record::{self, LONGEST_RECORD, MOST_NODES};
+use reference::label::Range;
+use reference::random::{self, Ranges, Shape, TableBytes, Xorshift};
+use reference::record::{self, HAS_RANGE, LONGEST_RECORD, MOST_LINKS, MOST_NODES};
 use reference::reply::Reply;
-use std::collections::BTreeMap;
 
 /// Tables of every kind, all accepted.
 fn tables(random: &mut Xorshift) -> Vec<TableBytes> {
@@ -36,6 +37,7 @@ fn with_links(random: &mut Xorshift, n: usize, nodes: usize, links: usize) -> Gr
         features: vec![random.pick(64) as u8],
         spread: 1,
         tops: 2,
+        ranges: 0,
     };
     let mut graph = random::graph(random, n, &shape);
     // From a parent to one that is listed before it, so that none reaches itself.
@@ -51,17 +53,23 @@ fn with_links(random: &mut Xorshift, n: usize, nodes: usize, links: usize) -> Gr
 }
 
 /// A record that is accepted, of a few nodes.
-fn small_record(random: &mut Xorshift, n: usize, most_nodes: usize) -> Vec<u8> {
-    let shape = Shape::small(random, most_nodes, 3);
-    record::write(&random::graph(random, n, &shape))
+fn small_record(random: &mut Xorshift, n: usize, most_nodes: usize, ranges: Ranges) -> Vec<u8> {
+    let shape = Shape::small(random, most_nodes, 3).ranged(random, ranges);
+    let graph = random::graph(random, n, &shape);
+    random::record_of(random, &graph, ranges)
 }
 
 /// Random bytes in the form of a record: few nodes, few bits in the maps.
-fn random_rows(random: &mut Xorshift) -> Vec<u8> {
+fn random_rows(random: &mut Xorshift, ranges: Ranges) -> Vec<u8> {
     let nodes = random.between(0, 4);
     let mut record = vec![nodes as u8];
     for _ in 0..nodes {
-        record.push(random.pick(6) as u8);
+        let node_type = random.pick(6) as u8;
+        if ranges == Ranges::Present && random.chance(1, 3) {
+            record.extend([node_type | HAS_RANGE, random.byte(), random.byte()]);
+        } else {
+            record.push(node_type);
+        }
         let mut map = [0; 8];
         for _ in 0..random.pick(3) {
             map[random.pick(8)] |= 1 << random.pick(8);
@@ -81,8 +89,17 @@ fn random_bytes(random: &mut Xorshift) -> Vec<u8> {
 
 #[test]
 fn random_and_damaged_records_over_random_and_damaged_tables() {
-    let mut compared = Comparison::new(REWRITE, 1);
-    let random = &mut Xorshift::stored(2);
+    compare_records(1, Ranges::Absent);
+}
+
+#[test]
+fn random_and_damaged_records_with_ranges() {
+    compare_records(13, Ranges::Present);
+}
+
+fn compare_records(seed: u64, ranges: Ranges) {
+    let mut compared = Comparison::new(REWRITE, seed);
+    let random = &mut Xorshift::stored(seed + 1);
     while compared.inputs() < 20_000 {
         let table = match random.chance(1, 8) {
             true => random::damaged_table(random),
@@ -92,10 +109,10 @@ fn random_and_damaged_records_over_random_and_damaged_tables() {
         let n = table.n.clamp(2, 64);
         for _ in 0..4 {
             let record = match random.pick(12) {
-                0 => random::valid_record(random, n),
-                1..=3 => small_record(random, n, 8),
-                4..=8 => random::damaged_record(random, n),
-                9 | 10 => random_rows(random),
+                0 => random::valid_record(random, n, ranges),
+                1..=3 => small_record(random, n, 8, ranges),
+                4..=8 => random::damaged_record(random, n, ranges),
+                9 | 10 => random_rows(random, ranges),
                 _ => random_bytes(random),
             };
             compared.check(&table, &[&record]);
@@ -109,8 +126,13 @@ fn every_bit_of_a_record_and_every_length() {
     let mut compared = Comparison::new(REWRITE, 3);
     let random = &mut Xorshift::stored(4);
     for table in tables(random) {
-        for most_nodes in [2, 4] {
-            let record = small_record(random, table.n, most_nodes);
+        for (most_nodes, ranges) in [
+            (2, Ranges::Absent),
+            (4, Ranges::Absent),
+            (2, Ranges::Present),
+            (4, Ranges::Present),
+        ] {
+            let record = small_record(random, table.n, most_nodes, ranges);
             assert!(matches!(
                 compared.check(&table, &[&record]),
                 Reply::Length(_)
@@ -140,7 +162,7 @@ fn every_bit_of_a_table_and_every_number_of_types() {
     let mut compared = Comparison::new(REWRITE, 5);
     let random = &mut Xorshift::stored(6);
     for table in tables(random) {
-        let record = small_record(random, table.n, 4);
+        let record = small_record(random, table.n, 4, Ranges::Absent);
         for row in 0..table.n {
             // Of a large table one bit in eight.
             for bit in 0..64 {
@@ -190,6 +212,39 @@ fn links_up_to_and_past_2048() {
         }
     }
     compared.assert_replies(&[0, 4, 5, 8], 20);
+}
+
+/// The same with a range at every node: the longest record, and longer ones.
+#[test]
+fn links_up_to_and_past_2048_with_ranges() {
+    let mut compared = Comparison::new(REWRITE, 15);
+    let random = &mut Xorshift::stored(16);
+    let table = random::diamond();
+    for nodes in [40, 254, MOST_NODES] {
+        for (links, number) in [(2047, None), (2048, None), (2049, Some(4)), (2300, Some(4))] {
+            let mut graph = with_links(random, table.n, nodes, links);
+            for node in &mut graph.nodes {
+                let lowest = random.between(1, 255) as u8;
+                node.label.range = Range {
+                    lowest,
+                    highest: 255,
+                };
+            }
+            let record = record::write(&graph);
+            assert_eq!(record.len(), 1 + 11 * nodes + links);
+            if [nodes, links] == [MOST_NODES, MOST_LINKS] {
+                assert_eq!(record.len(), LONGEST_RECORD);
+            }
+            let reply = compared.check(&table, &[&record]);
+            assert_eq!(reply.number(), number, "{nodes} nodes, {links} links");
+            // With a lowest level above the highest, which would be told later.
+            let mut broken = record.clone();
+            broken[3] = broken[2] - 1;
+            let reply = compared.check(&table, &[&broken]);
+            assert_eq!(reply.number(), Some(number.unwrap_or(5)));
+        }
+    }
+    compared.assert_replies(&[0, 4, 5, 8], 6);
 }
 
 #[test]
@@ -253,13 +308,9 @@ fn loops_in_parts_that_the_root_does_not_reach() {
                 let mut graph = reached.clone();
                 for node in first..first + more {
                     let next = (node + 1 < first + more).then_some(node + 1);
-                    graph.nodes.push(Node {
-                        node_type: (table.n - 1) as u8,
-                        links: BTreeMap::from_iter(
-                            next.or(target)
-                                .map(|target| (random.pick(64) as u8, target)),
-                        ),
-                    });
+                    let link = next.or(target);
+                    let link = link.map(|target| (random.pick(64) as u8, target));
+                    graph.nodes.push(Node::new((table.n - 1) as u8, link));
                 }
                 let record = record::write(&random::renumbered(random, &graph));
                 assert_eq!(compared.check(&table, &[&record]).number(), Some(number));

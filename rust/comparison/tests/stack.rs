@@ -2,6 +2,7 @@
 //! every call on the deepest and on the largest records, on a thread with no more.
 
 use record_engine::{LONGEST_RECORD, Order, difference, generalize, order, rewrite, unify};
+use reference::graph::Graph;
 use reference::random;
 use reference::record;
 
@@ -10,10 +11,35 @@ const STACK: usize = 256 << 10;
 
 #[test]
 fn the_largest_records_need_little_stack() {
+    let [chain, ladder] = compare(largest());
+    assert_eq!([chain, ladder], [1 + 9 * 255 + 254, 1 + 9 * 255 + 8 * 254]);
+}
+
+/// The same with a range at every node, so that the records are longer.
+#[test]
+fn the_largest_records_with_ranges_need_little_stack() {
+    let [chain, ladder] = compare(largest().map(|mut graph| {
+        for node in &mut graph.nodes {
+            node.label.range.highest = 100;
+        }
+        graph
+    }));
+    assert_eq!(
+        [chain, ladder],
+        [1 + 11 * 255 + 254, 1 + 11 * 255 + 8 * 254]
+    );
+}
+
+/// A chain of 255 nodes, and 255 nodes with 8 links from each to the next.
+fn largest() -> [Graph; 2] {
+    [&[0][..], &[0, 9, 18, 27, 36, 45, 54, 63]].map(|features| random::ladder(255, features, 3))
+}
+
+/// Makes every call on a chain and a ladder below it, and gives their lengths.
+fn compare(graphs: [Graph; 2]) -> [usize; 2] {
     let table = random::diamond();
-    // A chain of 255 nodes, and 255 nodes with 8 links from each to the next.
-    let chain = record::write(&random::chain_graph(255, 0, 3));
-    let ladder = record::write(&random::ladder(255, &[0, 9, 18, 27, 36, 45, 54, 63], 3));
+    let [chain, ladder] = graphs.map(|graph| record::write(&graph));
+    let [chain_length, ladder_length] = [chain.len(), ladder.len()];
     let lengths = std::thread::Builder::new()
         .stack_size(STACK)
         .spawn(move || {
@@ -33,12 +59,10 @@ fn the_largest_records_need_little_stack() {
         .expect("a thread")
         .join()
         .expect("no panic");
-    let chain = 1 + 9 * 255 + 254;
-    let ladder = 1 + 9 * 255 + 8 * 254;
-    assert_eq!(
-        lengths[..5],
-        [chain, ladder, ladder, ladder, ladder].map(Ok)
-    );
-    // Each link beside the chain's says that it leads to the same node.
-    assert_eq!(lengths[5], Ok(ladder));
+    assert_eq!(lengths[0], Ok(chain_length));
+    assert_eq!(lengths[1..5], [Ok(ladder_length); 4]);
+    // Each link beside the chain's says that it leads to the same node; a range that the
+    // chain has too need not be said.
+    assert_eq!(lengths[5], Ok(1 + 9 * 255 + 8 * 254));
+    [chain_length, ladder_length]
 }

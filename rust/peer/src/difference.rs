@@ -4,6 +4,7 @@
 use crate::Refusal;
 use crate::classes::Classes;
 use crate::graph::Graph;
+use crate::range::Range;
 use crate::table::{Bounds, Table};
 
 /// No node of g enters a link.
@@ -25,10 +26,12 @@ pub fn difference(
     let mut owner = [BARE; 2048];
     let mut groups = Classes::<255>::new();
     let mut over = [top; 255];
+    let mut range_over = [Range::FULL; 255];
     for (node, &image) in map[..g.nodes].iter().enumerate() {
         let image = usize::from(image);
         let met = &mut over[image];
         *met = meets[usize::from(*met)][usize::from(g.types[node])];
+        range_over[image] = range_over[image].overlap(g.ranges[node]);
         let mut below = s.row(image);
         for place in g.row(node) {
             let feature = g.features[place];
@@ -68,7 +71,12 @@ pub fn difference(
     for node in 0..s.nodes {
         let greatest = table.wanted(s.types[node], over[node]);
         wanted[node] = greatest.ok_or(Refusal::of(13))?;
-        kept[node] = node == 0 || leaders[node] >= 2 || has_bare[node] || wanted[node] != top;
+        rest.ranges[node] = s.ranges[node].wanted(range_over[node]);
+        kept[node] = node == 0
+            || leaders[node] >= 2
+            || has_bare[node]
+            || wanted[node] != top
+            || rest.ranges[node] != Range::FULL;
     }
     keep_above(s, &leads, &mut kept);
     rest.nodes = s.nodes;

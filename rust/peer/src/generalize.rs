@@ -16,6 +16,7 @@ pub fn generalize(joins: &Bounds, a: &Graph, b: &Graph, common: &mut Graph) -> R
         let (u, v) = queue[next];
         let (u, v) = (usize::from(u), usize::from(v));
         common.types[next] = joins[usize::from(a.types[u])][usize::from(b.types[v])];
+        common.ranges[next] = a.ranges[u].hull(b.ranges[v]);
         let (mut left, mut right) = (a.row(u), b.row(v));
         while !left.is_empty() && !right.is_empty() {
             let (f, h) = (a.features[left.start], b.features[right.start]);

@@ -1,9 +1,15 @@
 //! A graph in compressed rows, and reading one from a record.
 
+use crate::range::Range;
+
+/// Bit 7 of a type byte: two bytes of a range follow it.
+pub const HAS_RANGE: u8 = 0x80;
+
 /// Node v's links are the places `first[v]` to `first[v + 1]`, features ascending.
 pub struct Graph {
     pub nodes: usize,
     pub types: [u8; 255],
+    pub ranges: [Range; 255],
     pub first: [u16; 256],
     pub features: [u8; 2048],
     pub targets: [u8; 2048],
@@ -14,6 +20,7 @@ impl Graph {
         Graph {
             nodes: 0,
             types: [0; 255],
+            ranges: [Range::FULL; 255],
             first: [0; 256],
             features: [0; 2048],
             targets: [0; 2048],
@@ -30,12 +37,13 @@ impl Graph {
         usize::from(self.first[self.nodes])
     }
 
-    /// Takes in a record's graph over n types, or gives 4 to 7.
+    /// Takes in a record's graph over n types, or gives 4 to 7; this one is empty.
     pub fn read(&mut self, n: usize, record: &[u8]) -> Result<(), u8> {
-        self.parse(record).ok_or(4)?;
+        let has_levels = self.parse(record).ok_or(4)?;
         let types = &self.types[..self.nodes];
         let targets = &self.targets[..self.links()];
-        let is_in_range = types.iter().all(|&t| t != 0 && usize::from(t) < n)
+        let is_in_range = has_levels
+            && types.iter().all(|&t| t != 0 && usize::from(t) < n)
             && targets.iter().all(|&w| usize::from(w) < self.nodes);
         if !is_in_range {
             return Err(5);
@@ -43,14 +51,26 @@ impl Graph {
         self.sources_first()
     }
 
-    fn parse(&mut self, record: &[u8]) -> Option<()> {
+    /// Takes in the rows, and tells whether every range has a level.
+    fn parse(&mut self, record: &[u8]) -> Option<bool> {
         let (&nodes, mut rest) = record.split_first()?;
         self.nodes = usize::from(nodes);
         let mut links = 0;
+        let mut has_levels = true;
         for node in 0..self.nodes {
-            let (header, after) = rest.split_first_chunk::<9>()?;
-            self.types[node] = header[0];
-            let mut map = u64::from_le_bytes(header[1..].try_into().expect("8 bytes"));
+            let (map, after) = if *rest.first()? & HAS_RANGE == 0 {
+                let (&[type_byte, map @ ..], after) = rest.split_first_chunk::<9>()?;
+                self.types[node] = type_byte;
+                (map, after)
+            } else {
+                let (&[type_byte, lowest, highest, map @ ..], after) =
+                    rest.split_first_chunk::<11>()?;
+                self.types[node] = type_byte & !HAS_RANGE;
+                self.ranges[node] = Range { lowest, highest };
+                has_levels &= lowest <= highest;
+                (map, after)
+            };
+            let mut map = u64::from_le_bytes(map);
             let count = map.count_ones() as usize;
             if links + count > 2048 || after.len() < count {
                 return None;
@@ -65,7 +85,7 @@ impl Graph {
             self.first[node + 1] = links as u16;
             rest = after;
         }
-        (nodes > 0 && rest.is_empty()).then_some(())
+        (nodes > 0 && rest.is_empty()).then_some(has_levels)
     }
 
     /// Takes nodes away whose incoming links are all taken: 6 if some stay, 7 if

@@ -11,6 +11,7 @@ mod difference;
 mod generalize;
 mod graph;
 mod order;
+mod range;
 mod table;
 mod unify;
 mod write;

@@ -45,7 +45,9 @@ fn is_below(table: &Table, s: &Graph, g: &Graph, map: &mut [u16; 255]) -> bool {
     while next < end {
         let upper = usize::from(queue[next]);
         let lower = usize::from(map[upper]);
-        if !table.is_below(s.types[lower], g.types[upper]) {
+        let is_below = table.is_below(s.types[lower], g.types[upper])
+            && s.ranges[lower].is_inside(g.ranges[upper]);
+        if !is_below {
             return false;
         }
         let mut below = s.row(lower);

@@ -3,6 +3,7 @@
 use crate::Refusal;
 use crate::classes::Classes;
 use crate::graph::Graph;
+use crate::range::Range;
 use crate::table::Bounds;
 
 /// Up to 255 nodes of each graph, and their links.
@@ -61,26 +62,31 @@ fn unify_within<const ROOM: usize>(
             rows.merge(lower, higher, &mut pending, &mut waiting);
         }
     }
-    // Each class gets a number, the root's the first, and the meet of its types.
+    // Each class gets a number, the root's the first, the meet of its types and the overlap of
+    // its ranges.
     let mut number = [u16::MAX; NODES];
     let mut representative = [0u16; NODES];
     let mut types = [0u8; NODES];
+    let mut ranges = [Range::FULL; NODES];
     let mut count = 0;
     for node in 0..total {
         let class = usize::from(classes.find(node as u16));
-        let node_type = if node < a.nodes {
-            a.types[node]
+        let (node_type, range) = if node < a.nodes {
+            (a.types[node], a.ranges[node])
         } else {
-            b.types[node - a.nodes]
+            (b.types[node - a.nodes], b.ranges[node - a.nodes])
         };
         if number[class] == u16::MAX {
             number[class] = count as u16;
             representative[count] = class as u16;
             types[count] = node_type;
+            ranges[count] = range;
             count += 1;
         } else {
-            let met = &mut types[usize::from(number[class])];
+            let number = usize::from(number[class]);
+            let met = &mut types[number];
             *met = meets[usize::from(*met)][usize::from(node_type)];
+            ranges[number] = ranges[number].overlap(range);
         }
     }
     let mut links = 0;
@@ -96,7 +102,7 @@ fn unify_within<const ROOM: usize>(
     if has_cycle(&rows, &representative[..count], &mut incoming) {
         return Err(Refusal::of(9));
     }
-    if types[..count].contains(&0) {
+    if types[..count].contains(&0) || ranges[..count].iter().any(|range| range.is_empty()) {
         return Err(Refusal::of(10));
     }
     if count > 255 || links > 2048 {
@@ -105,6 +111,7 @@ fn unify_within<const ROOM: usize>(
     let mut graph = Graph::empty();
     graph.nodes = count;
     graph.types[..count].copy_from_slice(&types[..count]);
+    graph.ranges[..count].copy_from_slice(&ranges[..count]);
     let mut place = 0;
     for (node, &class) in representative[..count].iter().enumerate() {
         let (start, end) = rows.span[usize::from(class)];

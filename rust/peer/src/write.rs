@@ -1,7 +1,8 @@
 //! Numbering by first visit, and writing.
 
 use crate::Refusal;
-use crate::graph::Graph;
+use crate::graph::{Graph, HAS_RANGE};
+use crate::range::Range;
 
 /// The nodes in the order of their numbers, and each node's number.
 struct Numbering {
@@ -48,27 +49,35 @@ fn number(graph: &Graph) -> Numbering {
 pub fn write(graph: &Graph, output: &mut [u8]) -> Result<usize, Refusal> {
     let numbering = number(graph);
     let order = &numbering.order[..numbering.count];
-    let links: usize = order
-        .iter()
-        .map(|&node| graph.row(usize::from(node)).len())
-        .sum();
-    let length = 1 + 9 * numbering.count + links;
+    let row_length = |&node: &u8| {
+        let node = usize::from(node);
+        9 + 2 * usize::from(graph.ranges[node] != Range::FULL) + graph.row(node).len()
+    };
+    let length = 1 + order.iter().map(row_length).sum::<usize>();
     let Some(mut rest) = output.get_mut(..length) else {
         return Err(Refusal::of(8));
     };
     rest[0] = numbering.count as u8;
     rest = &mut rest[1..];
     for &node in order {
-        let row = graph.row(usize::from(node));
-        let (header, after) = rest.split_at_mut(9);
+        let node = usize::from(node);
+        let row = graph.row(node);
+        let (node_type, range) = (graph.types[node], graph.ranges[node]);
+        let label_length = if range == Range::FULL {
+            rest[0] = node_type;
+            1
+        } else {
+            rest[..3].copy_from_slice(&[node_type | HAS_RANGE, range.lowest, range.highest]);
+            3
+        };
+        let (map_bytes, after) = rest[label_length..].split_at_mut(8);
         let (targets, after) = after.split_at_mut(row.len());
         let mut map = 0u64;
         for (target, place) in targets.iter_mut().zip(row) {
             map |= 1 << graph.features[place];
             *target = numbering.number[usize::from(graph.targets[place])];
         }
-        header[0] = graph.types[usize::from(node)];
-        header[1..].copy_from_slice(&map.to_le_bytes());
+        map_bytes.copy_from_slice(&map.to_le_bytes());
         rest = after;
     }
     Ok(length)
@@ -82,6 +91,7 @@ pub fn renumber(graph: &Graph, written: &mut Graph) {
     for (new, &old) in numbering.order[..numbering.count].iter().enumerate() {
         let old = usize::from(old);
         written.types[new] = graph.types[old];
+        written.ranges[new] = graph.ranges[old];
         for place in graph.row(old) {
             written.features[links] = graph.features[place];
             written.targets[links] = numbering.number[usize::from(graph.targets[place])];

@@ -3,8 +3,8 @@
 use peer::Refusal;
 use reference::calls;
 use reference::order::Order;
-use reference::random::{self, Shape, TableBytes, Xorshift};
-use reference::record::{self, LONGEST_RECORD};
+use reference::random::{self, Ranges, Shape, TableBytes, Xorshift};
+use reference::record::LONGEST_RECORD;
 use reference::reply::{self, Reply, Which};
 use reference::table::Table;
 
@@ -76,7 +76,16 @@ fn check(table: &TableBytes, first: &[u8], second: &[u8], room: usize, counts: &
 
 #[test]
 fn the_peer_answers_as_the_reference() {
-    let random = &mut Xorshift::stored(41);
+    compare(41, Ranges::Absent);
+}
+
+#[test]
+fn the_peer_answers_as_the_reference_with_ranges() {
+    compare(42, Ranges::Present);
+}
+
+fn compare(seed: u64, ranges: Ranges) {
+    let random = &mut Xorshift::stored(seed);
     let mut counts = [0; 14];
     for _ in 0..1_500 {
         let kind = random.pick(12);
@@ -90,6 +99,7 @@ fn the_peer_answers_as_the_reference() {
                 true => Shape::any(random),
                 false => Shape::small(random, 9, 4),
             };
+            let shape = shape.ranged(random, ranges);
             let n = table.n.clamp(2, 64);
             let mut records = match Table::accept(table.n, &table.bytes) {
                 Ok(accepted) => {
@@ -101,13 +111,13 @@ fn the_peer_answers_as_the_reference() {
                         }
                         _ => random::pair(random, &accepted, &shape),
                     };
-                    [record::write(&first), record::write(&second)]
+                    [first, second].map(|graph| random::record_of(random, &graph, ranges))
                 }
-                Err(_) => [0, 1].map(|_| random::valid_record(random, n)),
+                Err(_) => [0, 1].map(|_| random::valid_record(random, n, ranges)),
             };
             for record in &mut records {
                 if random.chance(1, 12) {
-                    *record = random::damaged_record(random, n);
+                    *record = random::damaged_record(random, n, ranges);
                 }
             }
             let small = random.pick(100);

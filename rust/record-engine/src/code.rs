@@ -70,7 +70,7 @@ mod tests {
         for (code, refusal) in known {
             assert_eq!(answer(code), Answer::Refused(refusal));
         }
-        assert_eq!(answer(4344), Answer::Length(4344));
+        assert_eq!(answer(4854), Answer::Length(4854));
         let four = [Order::Same, Order::Under, Order::Above, Order::Neither];
         for (code, order) in (1 << 33..).zip(four) {
             assert_eq!(answer(code), Answer::Order(order));

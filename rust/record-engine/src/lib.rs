@@ -27,15 +27,19 @@
 //! A record is a graph of up to 255 nodes. Byte 0 is the number of nodes; node 0, the
 //! root, and the others follow, each as
 //!
-//! - 1 byte: its type, 1 to n − 1;
+//! - 1 byte: its type, 1 to n − 1, in bits 0 to 6; bit 7 is set when it has a range;
+//! - 2 bytes, where bit 7 is set: its range, the lowest level and the highest, each 0 to
+//!   255 and the lowest not above the highest; without the bit it is 0 to 255, the full
+//!   range, which says nothing;
 //! - 8 bytes: its features, of 0 to 63; bit f % 8 of byte f / 8 is set when it has f;
 //! - 1 byte for each feature that it has, the lowest first: the number of the node
 //!   that the feature's link leads to;
 //!
 //! and nothing follows the last. There are at most 2,048 links, no node reaches itself,
 //! and the root reaches every node. Links may share a target. Input may number the other
-//! nodes in any way; a record that is written numbers them as they are first met from
-//! the root, lowest feature first, all below one link before the next link.
+//! nodes in any way and spell out a full range; a record that is written numbers them as
+//! they are first met from the root, lowest feature first, all below one link before the
+//! next link, and spells out no full range.
 //!
 //! ```
 //! let diamond = record_engine::table(&[0x01, 0x03, 0x05, 0x0F]).expect("at most 8 types");
@@ -44,6 +48,20 @@
 //! let mut output = [0; record_engine::LONGEST_RECORD];
 //! let length = record_engine::rewrite(4, &diamond, &record, &mut output)?;
 //! assert_eq!(output[..length], record);
+//! # Ok::<(), record_engine::Refusal>(())
+//! ```
+//!
+//! The same with the levels 10 to 200 at the root, and a full range spelled out:
+//!
+//! ```
+//! let diamond = record_engine::table(&[0x01, 0x03, 0x05, 0x0F]).expect("at most 8 types");
+//! let given = [
+//!     2, 0x80 + 3, 10, 200, 1, 0, 0, 0, 0, 0, 0, 0, 1, 0x80 + 1, 0, 255, 0, 0, 0, 0, 0, 0, 0, 0,
+//! ];
+//! let written = [2, 0x80 + 3, 10, 200, 1, 0, 0, 0, 0, 0, 0, 0, 1, 1, 0, 0, 0, 0, 0, 0, 0, 0];
+//! let mut output = [0; record_engine::LONGEST_RECORD];
+//! let length = record_engine::rewrite(4, &diamond, &given, &mut output)?;
+//! assert_eq!(output[..length], written);
 //! # Ok::<(), record_engine::Refusal>(())
 //! ```
 //!
@@ -63,7 +81,7 @@ pub use refusal::{GraphFault, Refusal, Side, TableFault};
 use code::Answer;
 
 /// The length of the longest record: an output of so many bytes is never too short.
-pub const LONGEST_RECORD: usize = 4344;
+pub const LONGEST_RECORD: usize = 4854;
 
 /// Which of two graphs is the broader, seen from the first.
 #[derive(Clone, Copy, Debug, PartialEq, Eq, Hash)]
@@ -190,7 +208,7 @@ pub fn rewrite(n: usize, table: &[u8], record: &[u8], output: &mut [u8]) -> Resu
 
 /// Which of two records is the broader, seen from the first. A graph is below
 /// another when every path of the other is a path of it, with a type below or
-/// equal, and paths that share in the other share in it.
+/// equal and a range inside, and paths that share in the other share in it.
 ///
 /// Refused by 1 to 7.
 ///
@@ -227,8 +245,8 @@ pub fn order(n: usize, table: &[u8], first: &[u8], second: &[u8]) -> Result<Orde
 }
 
 /// Writes the common part of two records, their generalization: the paths in
-/// both, each with the join of its two types, two sharing exactly when they
-/// share in both.
+/// both, each with the join of its two types and the smallest range holding both
+/// its ranges, two sharing exactly when they share in both.
 ///
 /// Refused by 1 to 7, then by 11 and 8.
 ///
@@ -253,8 +271,8 @@ pub fn generalize(
 
 /// Writes the combination of two records, their unification: sharing is the
 /// smallest equivalence that holds both records' sharing and passes down equal
-/// features, and each class has the meet of its types. It is the greatest graph
-/// below both.
+/// features, and each class has the meet of its types and the overlap of its
+/// ranges. It is the greatest graph below both.
 ///
 /// Refused by 1 to 7, then by 9, 10, 11 and 8.
 ///
@@ -269,6 +287,20 @@ pub fn generalize(
 /// assert_eq!(output[..length], a);
 /// // No type but the contradiction is below both.
 /// let clash = record_engine::unify(4, &diamond, &a, &b, &mut output);
+/// assert_eq!(clash, Err(Refusal::Clash));
+/// # Ok::<(), record_engine::Refusal>(())
+/// ```
+///
+/// Ranges that overlap, and two that do not:
+///
+/// ```
+/// use record_engine::Refusal;
+/// let diamond = record_engine::table(&[0x01, 0x03, 0x05, 0x0F]).expect("at most 8 types");
+/// let lone = |lowest, highest| [1, 0x80 + 1, lowest, highest, 0, 0, 0, 0, 0, 0, 0, 0];
+/// let mut output = [0; record_engine::LONGEST_RECORD];
+/// let length = record_engine::unify(4, &diamond, &lone(10, 100), &lone(50, 200), &mut output)?;
+/// assert_eq!(output[..length], lone(50, 100));
+/// let clash = record_engine::unify(4, &diamond, &lone(10, 100), &lone(101, 200), &mut output);
 /// assert_eq!(clash, Err(Refusal::Clash));
 /// # Ok::<(), record_engine::Refusal>(())
 /// ```

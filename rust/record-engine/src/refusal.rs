@@ -19,7 +19,8 @@ pub enum TableFault {
 pub enum GraphFault {
     /// 4: no nodes, too short, bytes left over, or more than 2,048 links.
     Malformed,
-    /// 5: a type that is 0 or at least n, or a target that is no node.
+    /// 5: a type that is 0 or at least n, a target that is no node, or a lowest level
+    /// above the highest.
     OutOfRange,
     /// 6: a node reaches itself.
     Cyclic,
@@ -47,7 +48,8 @@ pub enum Refusal {
     NoRoom,
     /// 9: combination, a class of shared paths reaches itself.
     Cycle,
-    /// 10: combination, a class of shared paths has no type, and none reaches itself.
+    /// 10: combination, a class of shared paths has no type or no level, and none reaches
+    /// itself.
     Clash,
     /// 11: the result has more than 255 nodes or 2,048 links.
     TooLarge,
@@ -120,12 +122,14 @@ impl fmt::Display for Refusal {
             Refusal::Table(TableFault::Order) => "the table is not an order of its types",
             Refusal::Table(TableFault::Bounds) => "two types have no meet or no join",
             Refusal::Graph(GraphFault::Malformed, _) => "the record is malformed",
-            Refusal::Graph(GraphFault::OutOfRange, _) => "a type or a target is out of range",
+            Refusal::Graph(GraphFault::OutOfRange, _) => {
+                "a type or a target is out of range, or a lowest level is above the highest"
+            }
             Refusal::Graph(GraphFault::Cyclic, _) => "a node reaches itself",
             Refusal::Graph(GraphFault::Unreached, _) => "the root does not reach a node",
             Refusal::NoRoom => "the output is shorter than the result",
             Refusal::Cycle => "a class of shared paths reaches itself",
-            Refusal::Clash => "a class of shared paths has no type in common",
+            Refusal::Clash => "a class of shared paths has no type or no level in common",
             Refusal::NotBelow => "the second record is not below the first",
             Refusal::NoWantedType => "a node of the second record has no wanted type",
             Refusal::TooLarge => "the result has more than 255 nodes or 2,048 links",

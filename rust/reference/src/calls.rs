@@ -1,6 +1,6 @@
 //! The calls on bytes: rewriting, order, common part, combination, difference.
 //! Checks run in document 01's order: the table (1, 2, 3), the first graph and
-//! then the second (4 to 7), then 13, 12, 9, 10, 11 and 8. The output changes
+//! then the second (4 to 7), then 12, 13, 9, 10, 11 and 8. The output changes
 //! only where a length is returned, and then only its first bytes.
 
 use crate::canonical::canonical;

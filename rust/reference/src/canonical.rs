@@ -13,7 +13,7 @@ pub fn canonical(graph: &Graph) -> Graph {
     let renumbered = |old: &usize| {
         let node = &graph.nodes[*old];
         Node {
-            node_type: node.node_type,
+            label: node.label,
             links: node
                 .links
                 .iter()

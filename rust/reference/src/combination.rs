@@ -1,11 +1,13 @@
 //! The combination of two graphs: unification, the meet in the lattice of
 //! graphs. Sharing is the smallest equivalence that holds the sharing of both
-//! and passes down equal features; a class has the meet of all types in it.
-//! A class that reaches itself is a loop (9), a class of type 0 a clash (10).
+//! and passes down equal features; a class has the meet of all types in it and
+//! the overlap of all ranges. A class that reaches itself is a loop (9), a class
+//! of type 0 or without a level a clash (10).
 
 use crate::graph::{Feature, Graph, Node, ROOT};
+use crate::label::Label;
 use crate::reply::Refusal;
-use crate::table::{CONTRADICTION, Table, Type};
+use crate::table::Table;
 use std::collections::BTreeMap;
 
 /// The combination, of any size; a loop is refused before a clash.
@@ -17,7 +19,7 @@ pub fn unification(table: &Table, first: &Graph, second: &Graph) -> Result<Graph
     if combined
         .nodes
         .iter()
-        .any(|node| node.node_type == CONTRADICTION)
+        .any(|node| node.label.is_contradiction())
     {
         return Err(Refusal::Clash);
     }
@@ -40,11 +42,11 @@ fn quotient(table: &Table, first: &Graph, second: &Graph) -> Graph {
     classes.graph()
 }
 
-/// A class of nodes: its members, the meet of their types, and for each feature
+/// A class of nodes: its members, the meet of their labels, and for each feature
 /// one of the targets, all of which are in one class or about to be merged.
 struct Class {
     members: Vec<usize>,
-    meet: Type,
+    meet: Label,
     links: BTreeMap<Feature, usize>,
 }
 
@@ -65,7 +67,7 @@ impl Classes {
             for (place, node) in graph.nodes.iter().enumerate() {
                 let class = Class {
                     members: vec![offset + place],
-                    meet: node.node_type,
+                    meet: node.label,
                     links: node
                         .links
                         .iter()
@@ -95,7 +97,7 @@ impl Classes {
             self.class_of[member] = kept;
         }
         class.members.extend(merged.members);
-        class.meet = table.meet(class.meet, merged.meet);
+        class.meet = class.meet.meet(table, merged.meet);
         let mut passed_down = Vec::new();
         for (feature, target) in merged.links {
             let present = *class.links.entry(feature).or_insert(target);
@@ -109,7 +111,7 @@ impl Classes {
     fn graph(&self) -> Graph {
         let number: BTreeMap<usize, usize> = self.standing.keys().copied().zip(0..).collect();
         let node = |class: &Class| Node {
-            node_type: class.meet,
+            label: class.meet,
             links: class
                 .links
                 .iter()

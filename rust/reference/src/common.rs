@@ -1,7 +1,7 @@
 //! The common part of two graphs: generalization, the join in the lattice of
 //! graphs. Its paths are those in both graphs, each with the join of its two
-//! types, and two paths share exactly when they share in both. A path whose
-//! node is top and unshared stays in.
+//! types and the smallest range holding both, and two paths share exactly when
+//! they share in both. A path whose node is top and unshared stays in.
 
 use crate::graph::{Graph, Node, ROOT};
 use crate::table::Table;
@@ -30,7 +30,7 @@ pub fn generalization(table: &Table, first: &Graph, second: &Graph) -> Graph {
             }
         }
         nodes.push(Node {
-            node_type: table.join(u.node_type, v.node_type),
+            label: u.label.join(table, v.label),
             links,
         });
     }

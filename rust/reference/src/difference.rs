@@ -1,14 +1,15 @@
 //! The difference of two graphs, for s below g: the most general graph that
-//! combined with g gives back s. It is a part of s with wanted types.
+//! combined with g gives back s. It is a part of s with wanted types and ranges.
 //! Document 01's rules are followed word for word: groups of incoming links,
-//! wanted types, kept links. Refusals 12, then 13 where a node of s, kept or
+//! wanted labels, kept links. Refusals 12, then 13 where a node of s, kept or
 //! not, has no wanted type (Paper 6).
 
 use crate::canonical::canonical;
 use crate::graph::{Graph, Link, Node, ROOT};
+use crate::label::Label;
 use crate::order::{Morphism, subsumption};
 use crate::reply::Refusal;
-use crate::table::{Table, Type};
+use crate::table::Table;
 use std::collections::BTreeSet;
 
 /// The difference of s from g.
@@ -19,17 +20,17 @@ pub fn difference(table: &Table, g: &Graph, s: &Graph) -> Result<Graph, Refusal>
         return Err(Refusal::NotBelow);
     };
     let overlay = Overlay::new(g, &s, &morphism);
-    let wanted: Vec<Type> = (0..s.nodes.len())
-        .map(|node| overlay.wanted_type(table, node))
+    let wanted: Vec<Label> = (0..s.nodes.len())
+        .map(|node| overlay.wanted_label(table, node))
         .collect::<Option<_>>()
         .ok_or(Refusal::NoWantedType)?;
     let kept = overlay.kept_links(table, &wanted);
-    // "Kept nodes carry their wanted types." A node that a kept link leaves is the
-    // root or is itself entered by a kept link, by the last condition for one
+    // Kept nodes carry their wanted types and ranges. A node that a kept link leaves
+    // is the root or is itself entered by a kept link, by the last condition for one
     // group. So the kept nodes are those the root reaches by kept links, and the
     // canonical form leaves out the others.
     let nodes = s.nodes.iter().enumerate().map(|(parent, node)| Node {
-        node_type: wanted[parent],
+        label: wanted[parent],
         links: node
             .links
             .iter()
@@ -81,12 +82,15 @@ impl<'a> Overlay<'a> {
     }
 
     /// The greatest type whose meet with the meet of all g types over the node
-    /// (top if none) equals the type in s, if there is a greatest.
-    fn wanted_type(&self, table: &Table, node: usize) -> Option<Type> {
-        let types_over = self.nodes_over[node]
+    /// (top if none) equals the type in s, if there is a greatest; and the widest
+    /// range whose overlap with that of all g ranges over the node (full if none)
+    /// equals the range in s.
+    fn wanted_label(&self, table: &Table, node: usize) -> Option<Label> {
+        let labels_over = self.nodes_over[node]
             .iter()
-            .map(|&over| self.g.nodes[over].node_type);
-        table.wanted(table.meet_of(types_over), self.s.nodes[node].node_type)
+            .map(|&over| self.g.nodes[over].label);
+        let over = Label::meet_of(table, labels_over);
+        Label::wanted(table, over, self.s.nodes[node].label)
     }
 
     /// The groups of the links that enter a node other than the root. Two are in
@@ -110,7 +114,7 @@ impl<'a> Overlay<'a> {
 
     /// The links of s that the difference keeps. Nodes are taken after all their
     /// targets, so which links leaving a node are kept is settled before it.
-    fn kept_links(&self, table: &Table, wanted: &[Type]) -> BTreeSet<Link> {
+    fn kept_links(&self, table: &Table, wanted: &[Label]) -> BTreeSet<Link> {
         let incoming = self.s.incoming();
         let mut kept = BTreeSet::new();
         for node in self.s.bottom_up().expect("an acyclic graph") {
@@ -127,7 +131,9 @@ impl<'a> Overlay<'a> {
                             feature,
                         })
                     });
-                    nothing_over || wanted[node] != table.top() || a_leaving_link_is_kept
+                    // The wanted type is not top, or the wanted range is not full.
+                    let something_wanted = wanted[node] != Label::top(table);
+                    nothing_over || something_wanted || a_leaving_link_is_kept
                 }
                 _ => true,
             };

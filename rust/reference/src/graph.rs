@@ -1,9 +1,9 @@
-//! Graphs in memory: nodes with a type and links, node 0 the root. Nothing here
+//! Graphs in memory: nodes with a label and links, node 0 the root. Nothing here
 //! bounds the number of nodes or links, so these are also document 01's graphs
 //! of any size. Helpers: incoming links, the nodes the root reaches, and an
 //! order of the nodes with all targets first, which exists when none loops.
 
-use crate::table::Type;
+use crate::label::Label;
 use std::collections::{BTreeMap, BTreeSet};
 
 /// A feature, 0 to 63.
@@ -12,13 +12,23 @@ pub type Feature = u8;
 /// The number of the root.
 pub const ROOT: usize = 0;
 
-/// A node: its type, and for each feature it has the target.
+/// A node: its label, and for each feature it has the target.
 #[derive(Clone, Debug, PartialEq, Eq, PartialOrd, Ord)]
 pub struct Node {
-    /// The type of the node.
-    pub node_type: Type,
+    /// The type of the node and its range.
+    pub label: Label,
     /// The links that leave the node.
     pub links: BTreeMap<Feature, usize>,
+}
+
+impl Node {
+    /// A node with a label, or with a type and the full range, and these links.
+    pub fn new(label: impl Into<Label>, links: impl IntoIterator<Item = (Feature, usize)>) -> Node {
+        Node {
+            label: label.into(),
+            links: links.into_iter().collect(),
+        }
+    }
 }
 
 /// A link, named by where it leaves. The derived order is document 01's:
@@ -40,12 +50,9 @@ pub struct Graph {
 
 impl Graph {
     /// A graph of one node without links.
-    pub fn lone(node_type: Type) -> Graph {
+    pub fn lone(label: impl Into<Label>) -> Graph {
         Graph {
-            nodes: vec![Node {
-                node_type,
-                links: BTreeMap::new(),
-            }],
+            nodes: vec![Node::new(label, [])],
         }
     }
 

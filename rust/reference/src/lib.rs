@@ -1,7 +1,8 @@
 //! A plain reference for typed map graphs (typed feature structures) and their
 //! algebra: subsumption, generalization, unification and difference, on bytes.
-//! Written from document 01 alone, sentence by sentence, for reading first and
-//! for speed second; it is meant to judge other engines on many inputs.
+//! Written from document 01 and the change requests alone, sentence by sentence,
+//! for reading first and for speed second; it is meant to judge other engines on
+//! many inputs.
 
 #![forbid(unsafe_code)]
 #![warn(missing_docs)]
@@ -13,6 +14,7 @@ pub mod common;
 pub mod difference;
 pub mod graph;
 pub mod house;
+pub mod label;
 pub mod mapcalc;
 pub mod notation;
 pub mod order;

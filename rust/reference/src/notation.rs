@@ -1,13 +1,15 @@
 //! Document 01's notation for graphs, `type[feature: value]` with equal
-//! capitals sharing, read into a graph; and hexadecimal digits read into bytes.
-//! For tests: text that has not this form stops the program.
+//! capitals sharing, read into a graph; behind a type `{lowest..highest}` is its
+//! range. And hexadecimal digits read into bytes. For tests: text that has not
+//! this form stops the program.
 
 use crate::graph::{Feature, Graph, Node};
+use crate::label::{Label, Range};
 use crate::table::Type;
 use std::collections::BTreeMap;
 
-/// The graph of a text such as `top[0: X a, 1: X]`. The types are `a` (1), `b`
-/// (2), `top` (the one given) or a number.
+/// The graph of a text such as `top[0: X a{10..200}, 1: X]`. The types are `a` (1),
+/// `b` (2), `top` (the one given) or a number; without a range it is the full one.
 pub fn graph(top: Type, text: &str) -> Graph {
     let mut parser = Parser {
         top,
@@ -41,7 +43,7 @@ pub fn bytes(digits: &str) -> Vec<u8> {
 fn tokens(text: &str) -> Vec<String> {
     let mut spaced = String::new();
     for character in text.chars() {
-        if "[]:,".contains(character) {
+        if "[]{}:,".contains(character) {
             spaced.extend([' ', character, ' ']);
         } else {
             spaced.push(character);
@@ -59,19 +61,16 @@ struct Parser {
 }
 
 impl Parser {
-    /// A value: a capital, a type, or both, then its links. A capital alone
+    /// A value: a capital, a label, or both, then its links. A capital alone
     /// stands for the node it named before.
     fn value(&mut self) -> usize {
         let capital = self.take_if(|token| token.starts_with(|c: char| c.is_ascii_uppercase()));
         if let Some(node) = capital.as_ref().and_then(|name| self.shared.get(name)) {
             return *node;
         }
-        let node_type = self.node_type();
+        let label = self.label();
         let node = self.nodes.len();
-        self.nodes.push(Node {
-            node_type,
-            links: BTreeMap::new(),
-        });
+        self.nodes.push(Node::new(label, []));
         if let Some(name) = capital {
             self.shared.insert(name, node);
         }
@@ -90,12 +89,26 @@ impl Parser {
         node
     }
 
-    fn node_type(&mut self) -> Type {
-        match self.take().as_str() {
+    /// A type, and its range where a brace opens.
+    fn label(&mut self) -> Label {
+        let node_type = match self.take().as_str() {
             "top" => self.top,
             "a" => 1,
             "b" => 2,
             number => number.parse().expect("a type"),
+        };
+        if self.take_if(|token| token == "{").is_none() {
+            return Label::from(node_type);
+        }
+        let levels = self.take();
+        let (lowest, highest) = levels.split_once("..").expect("lowest..highest");
+        assert_eq!(self.take(), "}");
+        Label {
+            node_type,
+            range: Range {
+                lowest: lowest.parse().expect("a level"),
+                highest: highest.parse().expect("a level"),
+            },
         }
     }
 

@@ -1,7 +1,8 @@
 //! The order of graphs: subsumption. Graph g subsumes s, or s is below g, when
 //! every path of g is a path of s, with a type in s below or equal to its type
-//! in g, and paths that share (corefer) in g share in s. The answer carries the
-//! map of the nodes of g into those of s, which the difference needs.
+//! in g and a range inside that in g, and paths that share (corefer) in g share
+//! in s. The answer carries the map of the nodes of g into those of s, which the
+//! difference needs.
 
 use crate::graph::{Graph, ROOT};
 use crate::table::Table;
@@ -94,7 +95,7 @@ pub fn subsumption(table: &Table, g: &Graph, s: &Graph) -> Option<Morphism> {
             continue;
         }
         image.insert(u, x);
-        if !table.below(s.nodes[x].node_type, g.nodes[u].node_type) {
+        if !s.nodes[x].label.is_below(table, g.nodes[u].label) {
             return None;
         }
         for (feature, &target) in &g.nodes[u].links {

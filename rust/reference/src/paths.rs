@@ -1,12 +1,13 @@
 //! Document 01's sentences over paths, taken literally: a graph as its set of
-//! paths, their types, and which of them share (corefer). The number of paths
-//! may be exponential, so this is for small graphs; the other modules must agree
-//! with it there.
+//! paths, their types and ranges, and which of them share (corefer). The number
+//! of paths may be exponential, so this is for small graphs; the other modules
+//! must agree with it there.
 
 use crate::canonical::canonical;
 use crate::graph::{Feature, Graph, Node, ROOT};
+use crate::label::Label;
 use crate::reply::Refusal;
-use crate::table::{CONTRADICTION, Table, Type};
+use crate::table::Table;
 use std::collections::{BTreeMap, BTreeSet};
 
 /// A list of features from the root; the empty path is the root.
@@ -15,8 +16,8 @@ pub type Path = Vec<Feature>;
 /// A graph over its paths.
 #[derive(Clone, Debug, PartialEq, Eq)]
 pub struct PathGraph {
-    /// The type of each path.
-    pub types: BTreeMap<Path, Type>,
+    /// The type and the range of each path.
+    pub labels: BTreeMap<Path, Label>,
     /// The classes of paths that share.
     pub classes: BTreeSet<BTreeSet<Path>>,
 }
@@ -42,16 +43,16 @@ fn extended(path: &Path, feature: Feature) -> Path {
 }
 
 impl PathGraph {
-    /// The paths of a graph, their types and classes.
+    /// The paths of a graph, their labels and classes.
     pub fn of(graph: &Graph) -> PathGraph {
         let mut by_node: BTreeMap<usize, BTreeSet<Path>> = BTreeMap::new();
-        let mut types = BTreeMap::new();
+        let mut labels = BTreeMap::new();
         for (path, node) in paths(graph) {
-            types.insert(path.clone(), graph.nodes[node].node_type);
+            labels.insert(path.clone(), graph.nodes[node].label);
             by_node.entry(node).or_default().insert(path);
         }
         PathGraph {
-            types,
+            labels,
             classes: by_node.into_values().collect(),
         }
     }
@@ -72,7 +73,7 @@ impl PathGraph {
                 class_of(&extended(path, feature)).map(|target| (feature, target))
             });
             Node {
-                node_type: self.types[path],
+                label: self.labels[path],
                 links: links.collect(),
             }
         });
@@ -84,47 +85,50 @@ impl PathGraph {
 }
 
 /// Whether s is below g: "every path of g is a path of s, its type in s is below
-/// or equal to its type in g, and paths that share in g share in s".
+/// or equal to its type in g, and paths that share in g share in s"; its range in s
+/// lies inside its range in g.
 pub fn below(table: &Table, s: &PathGraph, g: &PathGraph) -> bool {
-    let paths_and_types = g.types.iter().all(|(path, &upper)| {
-        s.types
+    let paths_and_labels = g.labels.iter().all(|(path, &upper)| {
+        s.labels
             .get(path)
-            .is_some_and(|&lower| table.below(lower, upper))
+            .is_some_and(|&lower| lower.is_below(table, upper))
     });
     let sharing = g
         .classes
         .iter()
         .all(|class| class.iter().all(|p| class.iter().all(|q| s.corefer(p, q))));
-    paths_and_types && sharing
+    paths_and_labels && sharing
 }
 
 /// The common part: "the paths in both, each with the join of its two types, two
-/// sharing exactly when they share in both".
+/// sharing exactly when they share in both"; each has "the smallest range holding
+/// both".
 pub fn generalization(table: &Table, first: &PathGraph, second: &PathGraph) -> PathGraph {
-    let mut types = BTreeMap::new();
-    for (path, &left) in &first.types {
-        if let Some(&right) = second.types.get(path) {
-            types.insert(path.clone(), table.join(left, right));
+    let mut labels = BTreeMap::new();
+    for (path, &left) in &first.labels {
+        if let Some(&right) = second.labels.get(path) {
+            labels.insert(path.clone(), left.join(table, right));
         }
     }
     let shares_with = |p: &Path| -> BTreeSet<Path> {
-        types
+        labels
             .keys()
             .filter(|q| first.corefer(p, q) && second.corefer(p, q))
             .cloned()
             .collect()
     };
     PathGraph {
-        classes: types.keys().map(shares_with).collect(),
-        types,
+        classes: labels.keys().map(shares_with).collect(),
+        labels,
     }
 }
 
 /// The combination: "sharing is the smallest equivalence that holds both graphs'
 /// sharing and passes down equal features; a class has the meet of all types in
-/// it". The classes grow until nothing more is passed down or a class is seen to
-/// hold a path and a longer path that begins with it: then it reaches itself.
-/// Without a loop a path is no longer than there are classes, so this ends.
+/// it", and the overlap of all ranges. The classes grow until nothing more is passed
+/// down or a class is seen to hold a path and a longer path that begins with it: then
+/// it reaches itself. Without a loop a path is no longer than there are classes, so
+/// this ends.
 pub fn unification(
     table: &Table,
     first: &PathGraph,
@@ -153,19 +157,19 @@ pub fn unification(
         }
         classes = next;
     }
-    let mut types = BTreeMap::new();
+    let mut labels = BTreeMap::new();
     for class in &classes {
-        let types_in_class = class
+        let labels_in_class = class
             .iter()
-            .flat_map(|path| [first.types.get(path), second.types.get(path)])
+            .flat_map(|path| [first.labels.get(path), second.labels.get(path)])
             .flatten();
-        let meet = table.meet_of(types_in_class.copied());
-        if meet == CONTRADICTION {
+        let meet = Label::meet_of(table, labels_in_class.copied());
+        if meet.is_contradiction() {
             return Err(Refusal::Clash);
         }
-        types.extend(class.iter().map(|path| (path.clone(), meet)));
+        labels.extend(class.iter().map(|path| (path.clone(), meet)));
     }
-    Ok(PathGraph { types, classes })
+    Ok(PathGraph { labels, classes })
 }
 
 /// The classes of the smallest equivalence that holds these sets together.

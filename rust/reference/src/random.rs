@@ -1,6 +1,6 @@
 //! A deterministic generator of inputs: type tables, graphs, records, pairs of
-//! graphs that are related, whole `mapcalc` inputs, valid and damaged. The same
-//! seed gives the same inputs on every machine. Nothing here uses the operations
+//! graphs that are related, whole `mapcalc` inputs, valid and damaged, with level
+//! ranges and without. The same seed gives the same inputs on every machine. Nothing here uses the operations
 //! on graphs: a graph above another is made by steps that plainly weaken it.
 
 mod graphs;

@@ -1,11 +1,12 @@
 //! Graph records: bytes to a graph with refusals 4 to 7, and a graph to bytes.
 //! The four refusals are looked for in that order, each over the whole record
-//! before the next. Writing keeps the numbering of the graph it is given; the
-//! written form of document 01 is that of `canonical`.
+//! before the next. Writing keeps the numbering of the graph it is given and no
+//! full range; the written form of document 01 is that of `canonical`.
 
 use crate::graph::{Feature, Graph, Node};
+use crate::label::{Label, Range};
 use crate::reader::Reader;
-use crate::table::{CONTRADICTION, Table};
+use crate::table::{Table, Type};
 use std::collections::BTreeMap;
 
 /// A record has at most this many nodes.
@@ -14,15 +15,20 @@ pub const MOST_NODES: usize = 255;
 /// A record has at most this many links.
 pub const MOST_LINKS: usize = 2048;
 
-/// The longest record: the count, 255 nodes of 9 bytes, 2,048 targets.
-pub const LONGEST_RECORD: usize = 1 + 9 * MOST_NODES + MOST_LINKS;
+/// The longest record: the count, 255 nodes of 11 bytes, 2,048 targets.
+pub const LONGEST_RECORD: usize = 1 + 11 * MOST_NODES + MOST_LINKS;
+
+/// Bit 7 of the type byte: the two bytes of a range follow it. The other bits are
+/// the type.
+pub const HAS_RANGE: u8 = 1 << 7;
 
 /// Why a record is not accepted.
 #[derive(Clone, Copy, Debug, PartialEq, Eq)]
 pub enum GraphFault {
     /// 4: N is 0, the record is short or has bytes left over, or has more than 2,048 links.
     Shape,
-    /// 5: a type that is 0 or at least n, or a target at least N.
+    /// 5: a type that is 0 or at least n, a target at least N, or a lowest level above
+    /// the highest.
     Value,
     /// 6: a node reaches itself.
     Cycle,
@@ -50,8 +56,9 @@ pub fn read(table: &Table, record: &[u8]) -> Result<Graph, GraphFault> {
     if graph.link_count() > MOST_LINKS {
         return Err(GraphFault::Shape);
     }
-    let type_stands =
-        |node: &Node| node.node_type != CONTRADICTION && usize::from(node.node_type) < table.n();
+    let label_stands = |node: &Node| {
+        !node.label.is_contradiction() && usize::from(node.label.node_type) < table.n()
+    };
     let targets_stand = |node: &Node| {
         node.links
             .values()
@@ -60,7 +67,7 @@ pub fn read(table: &Table, record: &[u8]) -> Result<Graph, GraphFault> {
     if !graph
         .nodes
         .iter()
-        .all(|node| type_stands(node) && targets_stand(node))
+        .all(|node| label_stands(node) && targets_stand(node))
     {
         return Err(GraphFault::Value);
     }
@@ -82,15 +89,32 @@ fn parse(record: &[u8]) -> Option<Graph> {
     }
     let mut nodes = Vec::new();
     for _ in 0..count {
-        let node_type = reader.byte()?;
+        let label = label(&mut reader)?;
         let map = reader.take(8)?;
         let mut links = BTreeMap::new();
         for feature in features(map) {
             links.insert(feature, usize::from(reader.byte()?));
         }
-        nodes.push(Node { node_type, links });
+        nodes.push(Node { label, links });
     }
     reader.at_end().then_some(Graph { nodes })
+}
+
+/// A type byte, and where its bit 7 stands the lowest and the highest level; without
+/// the bit the range is full.
+fn label(reader: &mut Reader) -> Option<Label> {
+    let type_byte = reader.byte()?;
+    let range = match type_byte & HAS_RANGE {
+        0 => Range::FULL,
+        _ => Range {
+            lowest: reader.byte()?,
+            highest: reader.byte()?,
+        },
+    };
+    Some(Label {
+        node_type: type_byte & !HAS_RANGE,
+        range,
+    })
 }
 
 /// The features of a map, lowest first.
@@ -100,18 +124,40 @@ fn features(map: &[u8]) -> Vec<Feature> {
         .collect()
 }
 
-/// The bytes of a graph of at most 255 nodes, in its own numbering.
+/// The bytes of a graph of at most 255 nodes, in its own numbering. "A written
+/// record never writes the full range."
 pub fn write(graph: &Graph) -> Vec<u8> {
+    write_spelling(graph, |_| false)
+}
+
+/// The same with the full range spelled out at the nodes that pass a test, as a
+/// record that is read may have it.
+pub fn write_spelling(graph: &Graph, mut spelled: impl FnMut(usize) -> bool) -> Vec<u8> {
     let byte = |number: usize| u8::try_from(number).expect("at most 255 nodes");
     let mut record = vec![byte(graph.nodes.len())];
-    for node in &graph.nodes {
+    for (number, node) in graph.nodes.iter().enumerate() {
         let mut map = [0; 8];
         for &feature in node.links.keys() {
             map[usize::from(feature / 8)] |= 1 << (feature % 8);
         }
-        record.push(node.node_type);
+        let Label { node_type, range } = node.label;
+        if range == Range::FULL && !spelled(number) {
+            record.push(type_bits(node_type));
+        } else {
+            record.extend([
+                type_bits(node_type) | HAS_RANGE,
+                range.lowest,
+                range.highest,
+            ]);
+        }
         record.extend(map);
         record.extend(node.links.values().map(|&target| byte(target)));
     }
     record
+}
+
+/// A type as bits 0 to 6 of a byte.
+fn type_bits(node_type: Type) -> u8 {
+    assert!(node_type < HAS_RANGE, "a type has 7 bits, not {node_type}");
+    node_type
 }

@@ -26,7 +26,7 @@ pub enum Refusal {
     ShortOutput,
     /// 9: combination, a class reaches itself.
     Loop,
-    /// 10: combination, a class has the contradiction for its meet, and no loop.
+    /// 10: combination, a class has type 0 for its meet or an empty overlap, and no loop.
     Clash,
     /// 11: the result has over 255 nodes or 2,048 links.
     TooLarge,

@@ -1,7 +1,7 @@
 //! Type tables: a finite lattice of types, read from bytes and checked
 //! (refusals 1 to 3), with its meets and joins, the wanted type of a type and a
-//! meet over it, and whether it admits differences (a Brouwer lattice). A set of types is a 64-bit word: bit j stands for type j,
-//! just as in a row of the table.
+//! meet over it, and whether it admits differences (a Brouwer lattice). A set of
+//! types is a 64-bit word: bit j stands for type j, just as in a row of the table.
 
 /// The number of a type.
 pub type Type = u8;
@@ -106,13 +106,6 @@ impl Table {
     /// The least upper bound.
     pub fn join(&self, a: Type, b: Type) -> Type {
         self.joins[usize::from(a)][usize::from(b)]
-    }
-
-    /// The meet of any number of types; top when there is none.
-    pub fn meet_of(&self, types: impl IntoIterator<Item = Type>) -> Type {
-        types
-            .into_iter()
-            .fold(self.top(), |meet, next| self.meet(meet, next))
     }
 
     /// All types, the contradiction included.

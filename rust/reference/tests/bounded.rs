@@ -7,13 +7,14 @@ use reference::combination::unification;
 use reference::common::generalization;
 use reference::difference::difference;
 use reference::graph::{Feature, Graph, Node};
+use reference::label::{Label, Level, Range};
 use reference::order::below;
 use reference::random::{self, TableBytes};
 use reference::table::Table;
 use std::collections::{BTreeMap, BTreeSet};
 
-/// All canonical graphs with a few nodes and features over a table, and for each
-/// the places of the graphs above and below it.
+/// All canonical graphs with a few nodes, features and ranges over a table, and for
+/// each the places of the graphs above and below it.
 struct Universe {
     table: Table,
     graphs: Vec<Graph>,
@@ -23,12 +24,25 @@ struct Universe {
 }
 
 impl Universe {
+    /// Every range is full.
     fn new(table: &TableBytes, most_nodes: usize, features: Feature) -> Universe {
+        Universe::with_ranges(table, most_nodes, features, &[Range::FULL])
+    }
+
+    fn with_ranges(
+        table: &TableBytes,
+        most_nodes: usize,
+        features: Feature,
+        ranges: &[Range],
+    ) -> Universe {
         let table = table.accepted();
+        let labels = (table.types().skip(1))
+            .flat_map(|node_type| ranges.iter().map(move |&range| Label { node_type, range }));
+        let labels: Vec<Label> = labels.collect();
         let mut graphs = Vec::new();
         for nodes in 1..=most_nodes {
             for shape in shapes(nodes, features, table.top()) {
-                graphs.extend(typings(&shape, &table));
+                graphs.extend(labellings(&shape, &labels));
             }
         }
         let place = graphs.iter().cloned().zip(0..).collect();
@@ -170,13 +184,12 @@ fn shapes(nodes: usize, features: Feature, node_type: u8) -> Vec<Graph> {
     let mut digits = vec![0; places];
     let mut shapes = Vec::new();
     loop {
-        let node = |digits: &[usize]| Node {
-            node_type,
-            links: (0..features)
+        let node = |digits: &[usize]| {
+            let links = (0..features)
                 .zip(digits)
                 .filter(|&(_, &digit)| digit > 0)
-                .map(|(feature, &digit)| (feature, digit - 1))
-                .collect(),
+                .map(|(feature, &digit)| (feature, digit - 1));
+            Node::new(node_type, links)
         };
         let graph = Graph {
             nodes: digits.chunks(usize::from(features)).map(node).collect(),
@@ -192,22 +205,48 @@ fn shapes(nodes: usize, features: Feature, node_type: u8) -> Vec<Graph> {
     }
 }
 
-/// A graph with all choices of types for its nodes.
-fn typings(shape: &Graph, table: &Table) -> Vec<Graph> {
+/// A graph with all choices of labels for its nodes.
+fn labellings(shape: &Graph, labels: &[Label]) -> Vec<Graph> {
     let mut graphs = vec![shape.clone()];
     for node in 0..shape.nodes.len() {
         graphs = graphs
             .iter()
             .flat_map(|graph| {
-                table.types().skip(1).map(|node_type| {
-                    let mut typed = graph.clone();
-                    typed.nodes[node].node_type = node_type;
-                    typed
+                labels.iter().map(|&label| {
+                    let mut labelled = graph.clone();
+                    labelled.nodes[node].label = label;
+                    labelled
                 })
             })
             .collect();
     }
     graphs
+}
+
+/// The ranges with these ends that have a level. Where 0 and 255 are among the ends,
+/// hulls, overlaps that have a level, and wanted ranges are among the ranges.
+fn ranges(lowest: &[Level], highest: &[Level]) -> Vec<Range> {
+    let with_lowest = |&lowest: &Level| {
+        let range = move |&highest: &Level| Range { lowest, highest };
+        highest.iter().map(range)
+    };
+    lowest
+        .iter()
+        .flat_map(with_lowest)
+        .filter(|range| !range.is_empty())
+        .collect()
+}
+
+/// Graphs of three nodes over one type besides the contradiction, with four ranges
+/// that all overlap; and of two nodes over the diamond, with five of which some do not.
+fn universes_with_ranges() -> [Universe; 2] {
+    let overlapping = ranges(&[0, 10], &[15, 255]);
+    let apart = ranges(&[0, 10, 20], &[15, 255]);
+    assert_eq!([overlapping.len(), apart.len()], [4, 5]);
+    [
+        Universe::with_ranges(&random::chain(2), 3, 2, &overlapping),
+        Universe::with_ranges(&random::diamond(), 2, 2, &apart),
+    ]
 }
 
 #[test]
@@ -219,17 +258,21 @@ fn the_small_graphs_are_all_there() {
     let universe = Universe::new(&random::diamond(), 3, 2);
     assert_eq!(universe.graphs.len(), 3 + 3 * 9 + 16 * 27);
     assert_eq!(universe.place.len(), universe.graphs.len());
+    let counts = universes_with_ranges().map(|universe| universe.graphs.len());
+    assert_eq!(counts, [4 + 3 * 16 + 16 * 64, 15 + 3 * 225]);
 }
 
 #[test]
 fn small_graphs_below_each_other_are_equal() {
-    let universe = Universe::new(&random::diamond(), 3, 2);
-    for place in universe.places() {
-        let equal: Vec<usize> = universe.above[place]
-            .intersection(&universe.below[place])
-            .copied()
-            .collect();
-        assert_eq!(equal, [place]);
+    let [first, second] = universes_with_ranges();
+    for universe in [Universe::new(&random::diamond(), 3, 2), first, second] {
+        for place in universe.places() {
+            let equal: Vec<usize> = universe.above[place]
+                .intersection(&universe.below[place])
+                .copied()
+                .collect();
+            assert_eq!(equal, [place]);
+        }
     }
 }
 
@@ -249,6 +292,13 @@ fn common_parts_over_other_lattices() {
     }
     let parts = Universe::new(&random::chain(2), 4, 2).check_common_parts();
     assert!(parts > 1);
+}
+
+#[test]
+fn common_parts_with_ranges() {
+    let parts = universes_with_ranges().map(|universe| universe.check_common_parts());
+    assert!(parts[0] > 1076, "parts of more than three nodes come up");
+    assert_eq!(parts[1], 690, "every graph is a common part");
 }
 
 #[test]
@@ -275,6 +325,15 @@ fn combinations_over_other_lattices() {
 }
 
 #[test]
+fn combinations_with_ranges() {
+    let [tops, apart] = universes_with_ranges().map(|universe| universe.check_combinations());
+    assert!(tops.0 > 1076, "combinations of more than three nodes");
+    assert!(apart.0 > 690, "combinations of more than two nodes");
+    // Over one type and overlapping ranges nothing clashes, so every refusal is a loop.
+    assert!(tops.1 > 0 && apart.1 > tops.1, "{tops:?} {apart:?}");
+}
+
+#[test]
 fn differences_over_the_diamond() {
     let checked = Universe::new(&random::diamond(), 3, 2).check_differences();
     assert!(checked > 1000);
@@ -286,4 +345,12 @@ fn differences_over_chains() {
     assert!(checked > 100);
     let checked = Universe::new(&random::chain(2), 4, 2).check_differences();
     assert!(checked > 100);
+}
+
+#[test]
+fn differences_with_ranges() {
+    for universe in universes_with_ranges() {
+        let checked = universe.check_differences();
+        assert!(checked > 10_000, "{checked}");
+    }
 }

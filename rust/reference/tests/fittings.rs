@@ -42,7 +42,7 @@ fn notation_and_tables_are_those_of_the_document() {
     assert_eq!(over_diamond(Q), bytes(Q_BYTES));
     assert_eq!(over_diamond(R), bytes(R_BYTES));
     assert_eq!(random::diamond(), diamond());
-    assert_eq!(record::LONGEST_RECORD, 4344);
+    assert_eq!(record::LONGEST_RECORD, 4854);
 }
 
 #[test]
@@ -178,6 +178,33 @@ fn three_types_over_one_keep_the_refusal() {
     // 12 comes first, and equal types want the greatest.
     assert_eq!(result(&one, &two), Err(Refusal::NotBelow));
     assert_eq!(result(&one, &one), Ok(record::write(&Graph::lone(5))));
+}
+
+/// Paper 7: two ranges that overlap and two that do not, a common part that widens, a
+/// difference that keeps a node for its range alone, a full range spelled out.
+#[test]
+fn level_ranges() {
+    let combined = on_diamond(calls::combination, "a{10..100}", "top{50..200}");
+    assert_eq!(combined, Ok(bytes("01 81 32 64 0000000000000000")));
+    let clash = on_diamond(calls::combination, "a{10..100}", "a{101..200}");
+    assert_eq!(clash, Err(Refusal::Clash));
+    let common = on_diamond(calls::common_part, "a{10..20}", "a{90..100}");
+    assert_eq!(common, Ok(bytes("01 81 0A 64 0000000000000000")));
+    // One end is shared and need not be said again; the root has nothing to say.
+    let rest = on_diamond(
+        calls::difference,
+        "a[0: b{10..200}, 1: b]",
+        "a[0: b{10..100}, 1: b]",
+    );
+    let expected = "02 03 0100000000000000 01 83 00 64 0000000000000000";
+    assert_eq!(rest, Ok(bytes(expected)));
+    assert_eq!(over_diamond("top[0: top{0..100}]"), bytes(expected));
+    let table = diamond();
+    let mut output = [0xEE; 12];
+    let spelled_out = bytes("01 81 00 FF 0000000000000000");
+    let reply = calls::rewrite(4, &table.bytes, &spelled_out, &mut output);
+    assert_eq!(reply, Reply::Length(10));
+    assert_eq!(output[..], bytes("01 01 0000000000000000 EE EE"));
 }
 
 #[test]

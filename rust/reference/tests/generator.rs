@@ -2,23 +2,29 @@
 //! and broken in all the ways there are.
 
 use reference::graph::Graph;
+use reference::label::Range;
 use reference::mapcalc;
 use reference::order::below;
-use reference::random::{self, Shape, Xorshift};
-use reference::record;
+use reference::random::{self, Ranges, Shape, Xorshift};
+use reference::record::{self, HAS_RANGE};
 use reference::table::Table;
 use std::collections::{BTreeMap, BTreeSet};
 
+/// Without ranges, and with them.
+const BOTH: [Ranges; 2] = [Ranges::Absent, Ranges::Present];
+
 #[test]
 fn equal_seeds_give_equal_inputs() {
-    let inputs = |seed: u64| -> Vec<Vec<u8>> {
+    let inputs = |seed: u64, ranges: Ranges| -> Vec<Vec<u8>> {
         let mut random = Xorshift::new(seed);
         (0..50)
-            .map(|_| random::mapcalc_input(&mut random))
+            .map(|_| random::mapcalc_input(&mut random, ranges))
             .collect()
     };
-    assert_eq!(inputs(1), inputs(1));
-    assert_ne!(inputs(1), inputs(2));
+    for ranges in BOTH {
+        assert_eq!(inputs(1, ranges), inputs(1, ranges));
+        assert_ne!(inputs(1, ranges), inputs(2, ranges));
+    }
     // The first words of one sequence, so that it stays the same.
     let mut random = Xorshift::new(0);
     let words: Vec<u64> = (0..3).map(|_| random.word()).collect();
@@ -75,35 +81,131 @@ fn valid_tables_are_accepted_and_damaged_ones_break_each_rule() {
 fn valid_records_are_accepted_and_damaged_ones_break_each_rule() {
     let mut random = Xorshift::stored(5);
     let table = random::diamond().accepted();
-    let mut largest = 0;
+    for ranges in BOTH {
+        let mut largest = 0;
+        for _ in 0..500 {
+            let record = random::valid_record(&mut random, 4, ranges);
+            assert!(record::read(&table, &record).is_ok());
+            largest = largest.max(record.len());
+        }
+        assert!(largest > 3000, "{largest}");
+        let mut faults: BTreeMap<u8, usize> = BTreeMap::new();
+        for _ in 0..2000 {
+            let record = random::damaged_record(&mut random, 4, ranges);
+            let fault = record::read(&table, &record).map_or_else(|f| f.number(), |_| 0);
+            *faults.entry(fault).or_default() += 1;
+        }
+        for number in 4..=7 {
+            assert!(faults[&number] > 50, "{faults:?}");
+        }
+    }
+}
+
+/// Records with a range, records with a full one spelled out, and records with neither
+/// all come up where ranges are to be present, and only the last where they are not.
+#[test]
+fn records_have_ranges_where_they_are_to_be_present() {
+    let mut random = Xorshift::stored(8);
+    let table = random::diamond().accepted();
+    let (mut ranged, mut spelled, mut plain) = (0, 0, 0);
     for _ in 0..500 {
-        let record = random::valid_record(&mut random, 4);
-        assert!(record::read(&table, &record).is_ok());
-        largest = largest.max(record.len());
+        let without = random::valid_record(&mut random, 4, Ranges::Absent);
+        let graph = record::read(&table, &without).expect("a record that is accepted");
+        assert!(graph.nodes.iter().all(|n| n.label.range == Range::FULL));
+        assert_eq!(record::write(&graph), without);
+        let with = random::valid_record(&mut random, 4, Ranges::Present);
+        let graph = record::read(&table, &with).expect("a record that is accepted");
+        let has_range = graph.nodes.iter().any(|n| n.label.range != Range::FULL);
+        let spells_out = record::write(&graph) != with;
+        ranged += usize::from(has_range);
+        spelled += usize::from(spells_out);
+        plain += usize::from(!has_range && !spells_out);
     }
-    assert!(largest > 3000, "{largest}");
-    let mut faults: BTreeMap<u8, usize> = BTreeMap::new();
+    let counts = [ranged, spelled, plain];
+    assert!(counts.iter().all(|&count| count > 50), "{counts:?}");
+}
+
+/// The ways in which Paper 7 adds to what a record may have wrong, each often enough: a
+/// lowest level above the highest, type 0 with bit 7, a last type byte with bit 7 and
+/// without the levels.
+#[test]
+fn damaged_records_have_ranges_that_are_wrong() {
+    let mut random = Xorshift::stored(9);
+    let table = random::diamond().accepted();
+    let mut counts = [0; 3];
     for _ in 0..2000 {
-        let record = random::damaged_record(&mut random, 4);
+        let record = random::damaged_record(&mut random, 4, Ranges::Present);
         let fault = record::read(&table, &record).map_or_else(|f| f.number(), |_| 0);
-        *faults.entry(fault).or_default() += 1;
+        let (rows, is_whole) = rows(&record);
+        let has_range = |row: &[u8]| row[0] & HAS_RANGE != 0;
+        if fault == 5 {
+            let is_empty = |row: &[u8]| has_range(row) && row[1] > row[2];
+            counts[0] += usize::from(rows.iter().any(|row| is_empty(row)));
+            counts[1] += usize::from(rows.iter().any(|row| row[0] == HAS_RANGE));
+        }
+        let last_has_range = rows.last().is_some_and(|row| has_range(row));
+        counts[2] += usize::from(fault == 4 && !is_whole && last_has_range);
     }
-    for number in 4..=7 {
-        assert!(faults[&number] > 50, "{faults:?}");
+    assert!(counts.iter().all(|&count| count > 50), "{counts:?}");
+}
+
+/// The rows of a record from the type byte on, as far as they go, and whether the last
+/// of them is whole.
+fn rows(record: &[u8]) -> (Vec<&[u8]>, bool) {
+    let Some((&count, mut rest)) = record.split_first() else {
+        return (Vec::new(), false);
+    };
+    let mut rows = Vec::new();
+    for _ in 0..count {
+        if rest.is_empty() {
+            return (rows, false);
+        }
+        let map = if rest[0] & HAS_RANGE == 0 { 1 } else { 3 };
+        let links = rest.get(map..map + 8).map_or(0, |map| {
+            map.iter().map(|byte| byte.count_ones()).sum::<u32>() as usize
+        });
+        let length = map + 8 + links;
+        if rest.len() < length {
+            rows.push(rest);
+            return (rows, false);
+        }
+        let (row, behind) = rest.split_at(length);
+        rows.push(row);
+        rest = behind;
     }
+    (rows, true)
 }
 
 #[test]
 fn graphs_above_are_above() {
     let mut random = Xorshift::stored(6);
-    for _ in 0..300 {
+    for round in 0..600 {
         let table = random::valid_table(&mut random).accepted();
-        let shape = Shape::any(&mut random);
+        let shape = Shape::any(&mut random).ranged(&mut random, BOTH[round % 2]);
         let graph = random::graph(&mut random, table.n(), &shape);
         let above = random::graph_above(&mut random, &table, &graph);
-        assert!(below(&table, &graph, &above));
-        assert!(record::read(&table, &record::write(&above)).is_ok());
+        let well_above = random::graph_well_above(&mut random, &table, &graph);
+        for upper in [above, well_above] {
+            assert!(below(&table, &graph, &upper));
+            assert!(record::read(&table, &record::write(&upper)).is_ok());
+        }
     }
+}
+
+#[test]
+fn ranges_are_not_empty_and_often_share_an_end() {
+    let mut random = Xorshift::stored(10);
+    let (mut apart, mut inside, mut an_end) = (0, 0, 0);
+    for _ in 0..1000 {
+        let [a, b] = [0, 1].map(|_| random::range(&mut random));
+        let around = random::range_around(&mut random, a);
+        assert!(!a.is_empty() && a.is_inside(around));
+        apart += usize::from(a.overlap(b).is_empty());
+        inside += usize::from(a != b && a.is_inside(b));
+        an_end += usize::from(a.lowest == b.lowest || a.highest == b.highest);
+    }
+    let counts = [apart, inside, an_end];
+    assert!(counts.iter().all(|&count| count > 100), "{counts:?}");
 }
 
 #[test]
@@ -117,10 +219,16 @@ fn ladders_and_chains_have_their_links() {
 
 #[test]
 fn whole_inputs_bring_up_every_kind_of_line() {
+    for ranges in BOTH {
+        every_kind_of_line(ranges);
+    }
+}
+
+fn every_kind_of_line(ranges: Ranges) {
     let mut random = Xorshift::stored(7);
     let mut kinds: BTreeMap<String, usize> = BTreeMap::new();
     for _ in 0..6000 {
-        let line = mapcalc::line(&random::mapcalc_input(&mut random));
+        let line = mapcalc::line(&random::mapcalc_input(&mut random, ranges));
         let kind = match line.strip_prefix("ok ") {
             None => line,
             Some(rest) => {

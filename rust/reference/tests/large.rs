@@ -3,7 +3,8 @@
 use reference::calls::{self, Call, written};
 use reference::canonical::canonical;
 use reference::graph::Graph;
-use reference::random::{self, Shape, TableBytes, Xorshift};
+use reference::label::Range;
+use reference::random::{self, Ranges, Shape, TableBytes, Xorshift};
 use reference::record;
 use reference::reply::{Refusal, Reply};
 
@@ -57,6 +58,12 @@ fn the_longest_record_is_read_and_written() {
         longest.nodes[number].links.insert(1, number + 1);
     }
     assert_eq!(longest.link_count(), 2048);
+    let combined = over_diamond(calls::combination, &longest, &longest_ladder());
+    assert_eq!(combined, Ok(record::write(&longest)));
+    // A range at every node.
+    for (lowest, node) in (1..=255).zip(&mut longest.nodes) {
+        node.label.range.lowest = lowest;
+    }
     let record = record::write(&longest);
     assert_eq!(record.len(), record::LONGEST_RECORD);
     let combined = over_diamond(calls::combination, &longest, &longest_ladder());
@@ -70,12 +77,31 @@ fn the_longest_record_is_read_and_written() {
 fn a_type_at_the_end_of_a_ladder_is_kept_by_one_path() {
     let general = longest_ladder();
     let mut specific = general.clone();
-    specific.nodes[254].node_type = 1;
+    specific.nodes[254].label.node_type = 1;
     assert!(is_below(&specific, &general));
     assert!(!is_below(&general, &specific));
     let difference = over_diamond(calls::difference, &general, &specific);
     let mut expected = random::chain_graph(255, 0, TOP);
-    expected.nodes[254].node_type = 1;
+    expected.nodes[254].label.node_type = 1;
+    assert_eq!(difference, Ok(record::write(&expected)));
+    let restored = over_diamond(calls::combination, &general, &expected);
+    assert_eq!(restored, Ok(record::write(&specific)));
+}
+
+#[test]
+fn a_range_at_the_end_of_a_ladder_is_kept_by_one_path() {
+    let mut general = longest_ladder();
+    general.nodes[254].label.range = Range {
+        lowest: 7,
+        highest: 200,
+    };
+    let mut specific = general.clone();
+    specific.nodes[254].label.range.highest = 100;
+    assert!(is_below(&specific, &general));
+    assert!(!is_below(&general, &specific));
+    let difference = over_diamond(calls::difference, &general, &specific);
+    let mut expected = random::chain_graph(255, 0, TOP);
+    expected.nodes[254].label.range.highest = 100;
     assert_eq!(difference, Ok(record::write(&expected)));
     let restored = over_diamond(calls::combination, &general, &expected);
     assert_eq!(restored, Ok(record::write(&specific)));
@@ -107,7 +133,7 @@ fn merging_passes_down_two_long_chains() {
                 node.links.values_mut().for_each(|target| *target += offset);
                 nodes.push(node);
             }
-            nodes[offset + 126].node_type = end;
+            nodes[offset + 126].label.node_type = end;
         }
         Graph { nodes }
     };
@@ -118,7 +144,7 @@ fn merging_passes_down_two_long_chains() {
     let combined = over_diamond(calls::combination, &two_chains(1, TOP), &shared);
     let mut expected = random::chain_graph(128, 0, TOP);
     expected.nodes[0].links.insert(1, 1);
-    expected.nodes[127].node_type = 1;
+    expected.nodes[127].label.node_type = 1;
     assert_eq!(combined, Ok(record::write(&expected)));
 }
 
@@ -135,7 +161,9 @@ fn large_random_graphs_keep_the_laws() {
             features: (0..random.between(2, 16) as u8).collect(),
             spread: *random.choose(&[1, 2, 5, 255]),
             tops: 2,
+            ranges: 0,
         };
+        let shape = shape.ranged(&mut random, Ranges::Present);
         let s = random::graph(&mut random, table.n, &shape);
         let g = random::graph_above(&mut random, &accepted, &s);
         let written_s = record::write(&canonical(&s));

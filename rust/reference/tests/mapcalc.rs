@@ -46,6 +46,44 @@ fn results_are_printed_with_length_and_digits() {
 }
 
 #[test]
+fn ranges_are_printed_behind_the_type() {
+    assert_eq!(
+        line(&ask(COMBINE, "a{10..100}", "top{50..200}")),
+        "ok 12 018132640000000000000000"
+    );
+    assert_eq!(
+        line(&ask(COMMON, "a{10..20}", "b{90..255}")),
+        "ok 12 01830aff0000000000000000"
+    );
+    assert_eq!(line(&ask(COMMON, "a{0..20}", "a{90..255}")), LONE_A);
+    assert_eq!(
+        line(&ask(DIFFERENCE, "a{10..200}", "a{10..100}")),
+        "ok 12 018300640000000000000000"
+    );
+    assert_eq!(line(&ask(COMBINE, "a{0..9}", "a{10..255}")), "refused 10");
+    assert_eq!(line(&ask(ORDER, "a{0..9}", "a")), "under");
+    assert_eq!(line(&ask(ORDER, "a", "a{9..9}")), "above");
+    assert_eq!(line(&ask(DIFFERENCE, "a{0..9}", "a")), "refused 12");
+}
+
+#[test]
+fn the_longest_line_has_the_longest_record() {
+    let mut longest = random::ladder(255, &[0, 9, 18, 27, 36, 45, 54, 63], 3);
+    for number in 0..16 {
+        longest.nodes[number].links.insert(1, number + 1);
+    }
+    for node in &mut longest.nodes {
+        node.label.range.highest = 254;
+    }
+    let longest = record::write(&longest);
+    assert_eq!(longest.len(), 4854);
+    let table = random::diamond();
+    let printed = line(&input(COMBINE, 4, &table.bytes, &longest, &longest));
+    assert!(printed.starts_with("ok 4854 ff8300fe"));
+    assert_eq!(printed.len(), "ok 4854 ".len() + 2 * 4854);
+}
+
+#[test]
 fn the_order_tells_which_is_the_broader() {
     assert_eq!(line(&ask(ORDER, "a", "a")), "same");
     assert_eq!(line(&ask(ORDER, "a", "top")), "under");

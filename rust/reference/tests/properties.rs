@@ -8,16 +8,17 @@ use reference::combination::unification;
 use reference::common::generalization;
 use reference::difference::difference;
 use reference::graph::{Graph, Node, ROOT};
+use reference::label::{Label, Level, Range};
 use reference::order::{Order, below, order, strictly_more_general, subsumption};
 use reference::paths::{self, PathGraph};
-use reference::random::{self, Shape, TableBytes, Xorshift};
+use reference::random::{self, Ranges, Shape, TableBytes, Xorshift};
 use reference::record;
 use reference::reply::{Refusal, Reply};
 use reference::table::{Table, Type};
 use std::collections::{BTreeMap, BTreeSet};
 
-/// Calls the property with many random pairs of small graphs, over all kinds of
-/// accepted tables.
+/// Calls the property with many random pairs of small graphs, half of them with
+/// ranges, over all kinds of accepted tables.
 fn for_pairs(seed: u64, count: usize, property: impl FnMut(&Table, &Graph, &Graph)) {
     for_pairs_over(seed, count, random::valid_table, property);
 }
@@ -32,8 +33,9 @@ fn for_pairs_over(
     let mut random = Xorshift::stored(seed);
     for _ in 0..count {
         let table = table(&mut random).accepted();
-        for _ in 0..10 {
-            let shape = Shape::small(&mut random, 6, 3);
+        for round in 0..10 {
+            let ranges = [Ranges::Absent, Ranges::Present][round % 2];
+            let shape = Shape::small(&mut random, 6, 3).ranged(&mut random, ranges);
             let (first, second) = random::pair(&mut random, &table, &shape);
             property(&table, &first, &second);
         }
@@ -119,7 +121,7 @@ fn rewriting_is_idempotent_and_forgets_the_numbering() {
     };
     for _ in 0..300 {
         let table = random::valid_table(&mut random);
-        let shape = Shape::any(&mut random);
+        let shape = Shape::any(&mut random).ranged(&mut random, Ranges::Present);
         let graph = random::graph(&mut random, table.n, &shape);
         let record = record::write(&graph);
         let once = rewrite(table.n, &table.bytes, &record);
@@ -130,6 +132,65 @@ fn rewriting_is_idempotent_and_forgets_the_numbering() {
         let order = calls::order(table.n, &table.bytes, &record, &once);
         assert_eq!(order, Reply::Order(Order::Same));
     }
+}
+
+/// A record that spells out full ranges means what the one without them means, to
+/// every call, and no result spells one out.
+#[test]
+fn full_ranges_may_be_spelled_out_and_are_never_written() {
+    let mut random = Xorshift::stored(20);
+    let mut spelled_out = 0;
+    for_pairs(21, 200, |table, first, second| {
+        let [plain_first, plain_second] = [first, second].map(record::write);
+        let [long_first, long_second] =
+            [first, second].map(|graph| record::write_spelling(graph, |_| random.chance(1, 2)));
+        spelled_out += usize::from(long_first.len() > plain_first.len());
+        let read = |record: &[u8]| record::read(table, record);
+        assert_eq!(read(&long_first), read(&plain_first));
+        let (n, bytes) = (table.n(), table_bytes(table));
+        assert_eq!(
+            calls::order(n, &bytes, &long_first, &plain_first),
+            Reply::Order(Order::Same)
+        );
+        for call in [calls::common_part, calls::combination, calls::difference] {
+            let result = written(call, n, &bytes, &plain_first, &plain_second);
+            let same = written(call, n, &bytes, &long_first, &long_second);
+            assert_eq!(result, same);
+            if let Ok(record) = result {
+                let graph = read(&record).expect("what is written is accepted");
+                assert_eq!(record::write(&graph), record);
+            }
+        }
+    });
+    assert!(spelled_out > 1000, "{spelled_out}");
+}
+
+/// The bytes of a table.
+fn table_bytes(table: &Table) -> Vec<u8> {
+    TableBytes::of_relation(table.n(), |j, i| table.below(j as Type, i as Type)).bytes
+}
+
+/// Graphs without ranges have results without ranges: no type byte has bit 7.
+#[test]
+fn without_ranges_nothing_gets_one() {
+    let mut results = 0;
+    for_pairs(22, 300, |table, first, second| {
+        let full = |graph: &Graph| {
+            let is_full = |node: &Node| node.label.range == Range::FULL;
+            graph.nodes.iter().all(is_full)
+        };
+        if !full(first) || !full(second) {
+            return;
+        }
+        assert!(full(&generalization(table, first, second)));
+        let combined = unification(table, first, second);
+        let rest = difference(table, first, second);
+        for result in [combined, rest].into_iter().flatten() {
+            assert!(full(&result));
+            results += 1;
+        }
+    });
+    assert!(results > 1000, "{results}");
 }
 
 #[test]
@@ -230,15 +291,17 @@ fn common_part_and_combination_absorb_each_other() {
     });
 }
 
-/// All graphs one step above a graph: a link dropped, a type raised, or a shared
-/// node parted in two copies between which its incoming links are shared out.
+/// All graphs one step above a graph: a link dropped, a type raised, a range widened
+/// by a level, or a shared node parted in two copies between which its incoming links
+/// are shared out.
 ///
 /// Every graph c strictly above d is above one of these, so if none of them
 /// restores s from g, no graph strictly more general than d does: were c to
 /// restore s, so would all graphs between d and c. Why c is above one of them:
 /// take the morphism from c into d. If no link of c lies over some link of d, that
 /// link can be dropped. If the meet of the types over some node is not the type
-/// of that node, its type can be raised to the meet. Else, as c is not d, two
+/// of that node, its type can be raised to the meet. If the overlap of the ranges over
+/// some node is not its range, it is wider, by a level or more. Else, as c is not d, two
 /// nodes of c lie over one node of d; take such a node above which there is no
 /// other. Over each of its incoming links lies exactly one link of c, so the
 /// links can be shared out by the nodes of c they lead to.
@@ -251,12 +314,23 @@ fn weakenings(table: &Table, graph: &Graph) -> Vec<Graph> {
             without.nodes[number].links.remove(feature);
             weaker.push(canonical(&without));
         }
+        let Label { node_type, range } = node.label;
         for raised in table.types() {
-            if raised != node.node_type && table.below(node.node_type, raised) {
+            if raised != node_type && table.below(node_type, raised) {
                 let mut typed = graph.clone();
-                typed.nodes[number].node_type = raised;
+                typed.nodes[number].label.node_type = raised;
                 weaker.push(typed);
             }
+        }
+        if let Some(lowest) = range.lowest.checked_sub(1) {
+            let mut widened = graph.clone();
+            widened.nodes[number].label.range.lowest = lowest;
+            weaker.push(widened);
+        }
+        if let Some(highest) = range.highest.checked_add(1) {
+            let mut widened = graph.clone();
+            widened.nodes[number].label.range.highest = highest;
+            weaker.push(widened);
         }
         // Each way to move some of the incoming links, but not the first, to a copy.
         let links = &incoming[number];
@@ -310,7 +384,7 @@ fn difference_and_combination_give_back_the_bytes() {
     for _ in 0..400 {
         let table = random::brouwer_table(&mut random);
         let accepted = table.accepted();
-        let shape = Shape::any(&mut random);
+        let shape = Shape::any(&mut random).ranged(&mut random, Ranges::Present);
         let s = random::graph(&mut random, table.n, &shape);
         let g = random::graph_above(&mut random, &accepted, &s);
         let (s_record, g_record) = (record::write(&s), record::write(&g));
@@ -341,14 +415,15 @@ fn difference_is_refused_where_a_node_has_no_wanted_type() {
     let (mut refused, mut restored) = (0, 0);
     while refused + restored < 600 {
         let table = random::rival_table(&mut random).accepted();
-        let shape = Shape::small(&mut random, 6, 3);
+        let shape = Shape::small(&mut random, 6, 3).ranged(&mut random, Ranges::Present);
         let s = canonical(&random::low_graph(&mut random, table.n(), &shape));
         let g = random::graph_well_above(&mut random, &table, &s);
         let image = subsumption(&table, &g, &s).expect("s below g").image;
         let has_wanted = |node: usize| {
             let over = (0..g.nodes.len()).filter(|&y| image[y] == node);
-            let q = table.meet_of(over.map(|y| g.nodes[y].node_type));
-            greatest(&table, |c| table.meet(c, q) == s.nodes[node].node_type).is_some()
+            let q = Label::meet_of(&table, over.map(|y| g.nodes[y].label)).node_type;
+            let p = s.nodes[node].label.node_type;
+            greatest(&table, |c| table.meet(c, q) == p).is_some()
         };
         match difference(&table, &g, &s) {
             Ok(rest) => {
@@ -437,6 +512,60 @@ fn wanted_types_over_the_diamond() {
     assert_eq!(table.residual(b, a), Some(b));
 }
 
+/// Every range that has a level.
+fn ranges() -> impl Iterator<Item = Range> {
+    (0..=Level::MAX)
+        .flat_map(|lowest| (lowest..=Level::MAX).map(move |highest| Range { lowest, highest }))
+}
+
+#[test]
+fn ranges_have_the_overlaps_hulls_and_wanted_ranges_of_their_levels() {
+    let mut random = Xorshift::stored(23);
+    let (mut overlapping, mut apart) = (0, 0);
+    for _ in 0..200 {
+        let [a, b] = [0, 1].map(|_| random::range(&mut random));
+        let holds = |range: Range, level: Level| range.lowest <= level && level <= range.highest;
+        let overlap = a.overlap(b);
+        for level in 0..=Level::MAX {
+            let in_both = holds(a, level) && holds(b, level);
+            assert_eq!(in_both, holds(overlap, level));
+        }
+        let hull = a.hull(b);
+        for range in ranges() {
+            let holds_both = a.is_inside(range) && b.is_inside(range);
+            assert_eq!(holds_both, hull.is_inside(range));
+        }
+        if overlap.is_empty() {
+            apart += 1;
+            continue;
+        }
+        // The widest range whose overlap with `a` is that of both, by trying all.
+        let wanted = Range::wanted(a, overlap);
+        assert_eq!(wanted.overlap(a), overlap);
+        for range in ranges().filter(|range| range.overlap(a) == overlap) {
+            assert!(range.is_inside(wanted));
+        }
+        overlapping += 1;
+    }
+    assert!(overlapping > 50 && apart > 20, "{overlapping} {apart}");
+}
+
+#[test]
+fn wanted_ranges_by_hand() {
+    let range = |lowest: Level, highest: Level| Range { lowest, highest };
+    for (over, p, wanted) in [
+        (range(0, 255), range(0, 255), range(0, 255)),
+        (range(0, 255), range(10, 200), range(10, 200)),
+        (range(10, 200), range(10, 200), range(0, 255)),
+        (range(10, 200), range(10, 100), range(0, 100)),
+        (range(10, 200), range(50, 200), range(50, 255)),
+        (range(10, 200), range(50, 100), range(50, 100)),
+        (range(5, 10), range(5, 5), range(0, 5)),
+    ] {
+        assert_eq!(Range::wanted(over, p), wanted, "{over:?} {p:?}");
+    }
+}
+
 #[test]
 fn the_output_beyond_the_record_and_under_a_refusal_is_unchanged() {
     let mut random = Xorshift::stored(18);
@@ -447,11 +576,13 @@ fn the_output_beyond_the_record_and_under_a_refusal_is_unchanged() {
             false => random::valid_table(&mut random),
         };
         let types = table.n.clamp(2, 64);
+        let ranges = [Ranges::Absent, Ranges::Present][round / 4 % 2];
         let record = |random: &mut Xorshift| match random.chance(1, 5) {
-            true => random::damaged_record(random, types),
+            true => random::damaged_record(random, types, ranges),
             false => {
-                let shape = Shape::small(random, 5, 2);
-                record::write(&random::graph(random, types, &shape))
+                let shape = Shape::small(random, 5, 2).ranged(random, ranges);
+                let graph = random::graph(random, types, &shape);
+                random::record_of(random, &graph, ranges)
             }
         };
         let (first, second) = (record(&mut random), record(&mut random));
@@ -469,6 +600,7 @@ fn the_output_beyond_the_record_and_under_a_refusal_is_unchanged() {
                 let graph = record::read(&table.accepted(), &after[..written]);
                 let graph = graph.expect("what is written is accepted");
                 assert_eq!(canonical(&graph), graph);
+                assert_eq!(record::write(&graph), after[..written]);
             }
             _ => assert_eq!(after, before),
         }
@@ -500,6 +632,7 @@ fn graphs_of_any_size_go_by_the_same_rules() {
         features: vec![0, 1, 2, 3],
         spread: 4,
         tops: 2,
+        ranges: 2,
     };
     let mut random = Xorshift::stored(19);
     let mut largest = 0;
@@ -515,16 +648,22 @@ fn graphs_of_any_size_go_by_the_same_rules() {
 
 #[test]
 fn notation_reads_what_it_says() {
-    let read = reference::notation::graph(3, "top[0: X a[2: b], 1: X, 63: Y 3]");
-    let node = |node_type: Type, links: &[(u8, usize)]| Node {
-        node_type,
-        links: links.iter().copied().collect(),
+    let read = reference::notation::graph(3, "top[0: X a{5..9}[2: b], 1: X, 63: Y 3{0..255}]");
+    let range = Range {
+        lowest: 5,
+        highest: 9,
     };
     let nodes = vec![
-        node(3, &[(0, 1), (1, 1), (63, 3)]),
-        node(1, &[(2, 2)]),
-        node(2, &[]),
-        node(3, &[]),
+        Node::new(3, [(0, 1), (1, 1), (63, 3)]),
+        Node::new(
+            Label {
+                node_type: 1,
+                range,
+            },
+            [(2, 2)],
+        ),
+        Node::new(2, []),
+        Node::new(3, []),
     ];
     assert_eq!(read, Graph { nodes });
     assert_eq!(read.reached().len(), 4);

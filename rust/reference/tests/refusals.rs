@@ -4,13 +4,14 @@
 use reference::calls::{self, Call, written};
 use reference::canonical::canonical;
 use reference::graph::{Graph, Node};
+use reference::label::{Label, Range};
 use reference::notation::{bytes, graph};
 use reference::order::Order;
 use reference::random::{self, TableBytes};
 use reference::record::{self, GraphFault};
 use reference::reply::{Refusal, Reply, Which};
 use reference::table::{Table, TableFault};
-use std::collections::{BTreeMap, BTreeSet};
+use std::collections::BTreeSet;
 
 const CALLS: [Call; 3] = [calls::common_part, calls::combination, calls::difference];
 
@@ -191,10 +192,37 @@ fn refusal_4_no_nodes() {
 #[test]
 fn refusal_4_short_at_every_length() {
     let whole = record::write(&graph(3, "top[0: X a[63: b], 1: X, 9: top]"));
-    for length in 0..whole.len() {
-        assert_record_refused(&whole[..length], GraphFault::Shape);
+    let ranged = record::write(&graph(
+        3,
+        "top{1..2}[0: X a[63: b{0..9}], 1: X, 9: top{7..7}]",
+    ));
+    for whole in [whole, ranged] {
+        for length in 0..whole.len() {
+            assert_record_refused(&whole[..length], GraphFault::Shape);
+        }
     }
     assert_record_refused(&bytes("FF 03 0000000000000000"), GraphFault::Shape);
+}
+
+#[test]
+fn refusal_4_bit_7_and_no_levels() {
+    // A lone node and the last of two, with as many bytes as without a range.
+    for record in [
+        "01 83 0000000000000000",
+        "02 03 0100000000000000 01 81 0000000000000000",
+        // One byte of the range, with the map behind it and without.
+        "01 83 07 0000000000000000",
+        "01 83 07",
+        "01 83",
+        // The first of two: the bytes are taken from its map on.
+        "02 83 0100000000000000 01 81 00FF 0000000000000000",
+    ] {
+        assert_record_refused(&bytes(record), GraphFault::Shape);
+    }
+    // Bytes of a range and no bit 7.
+    for record in ["01 03 00FF 0000000000000000", "01 03 0007 0000000000000000"] {
+        assert_record_refused(&bytes(record), GraphFault::Shape);
+    }
 }
 
 #[test]
@@ -203,6 +231,9 @@ fn refusal_4_bytes_left_over() {
     let mut doubled = record::write(&graph(3, "top[0: a]"));
     doubled.extend(doubled.clone());
     assert_record_refused(&doubled, GraphFault::Shape);
+    let mut ranged = record::write(&graph(3, "top[0: a{3..4}]"));
+    ranged.push(0);
+    assert_record_refused(&ranged, GraphFault::Shape);
 }
 
 /// Nodes in a row, each with up to 64 links to the next, so many links in all.
@@ -213,15 +244,10 @@ fn many_links(links: usize) -> Graph {
         let count = left.min(64);
         left -= count;
         let next = nodes.len() + 1;
-        nodes.push(Node {
-            node_type: 3,
-            links: (0..count as u8).map(|feature| (feature, next)).collect(),
-        });
+        let features = 0..count as u8;
+        nodes.push(Node::new(3, features.map(|feature| (feature, next))));
     }
-    nodes.push(Node {
-        node_type: 3,
-        links: BTreeMap::new(),
-    });
+    nodes.push(Node::new(3, []));
     Graph { nodes }
 }
 
@@ -235,22 +261,62 @@ fn refusal_4_more_links_than_2048() {
     assert_record_refused(&record::write(&many_links(2049)), GraphFault::Shape);
     assert_record_refused(&record::write(&many_links(2112)), GraphFault::Shape);
     // 255 nodes with all 64 features each.
-    let full = Node {
-        node_type: 3,
-        links: (0..64).map(|feature| (feature, 0)).collect(),
-    };
+    let full = Node::new(3, (0..64).map(|feature| (feature, 0)));
     let nodes = vec![full; 255];
     assert_record_refused(&record::write(&Graph { nodes }), GraphFault::Shape);
 }
 
 #[test]
 fn refusal_5_a_type_that_is_none() {
-    for bad in [0, 4, 5, 64, 255] {
-        let lone = record::write(&Graph::lone(bad));
+    for bad in [0, 4, 5, 64, 127] {
+        for range in [Range::FULL, levels(7, 9)] {
+            let label = Label {
+                node_type: bad,
+                range,
+            };
+            let lone = Graph::lone(label);
+            assert_record_refused(&record::write(&lone), GraphFault::Value);
+            let spelled_out = record::write_spelling(&lone, |_| true);
+            assert_record_refused(&spelled_out, GraphFault::Value);
+            let mut below = graph(3, "top[0: a, 1: b]");
+            below.nodes[2].label = label;
+            assert_record_refused(&record::write(&below), GraphFault::Value);
+        }
+    }
+    // Bit 7 is no bit of the type: 0x80 has type 0, 0x84 has type n.
+    assert_record_refused(&bytes("01 80 0708 0000000000000000"), GraphFault::Value);
+    assert_record_refused(&bytes("01 84 0708 0000000000000000"), GraphFault::Value);
+}
+
+fn levels(lowest: u8, highest: u8) -> Range {
+    Range { lowest, highest }
+}
+
+#[test]
+fn refusal_5_a_lowest_level_above_the_highest() {
+    for range in [levels(1, 0), levels(255, 254), levels(255, 0), levels(8, 7)] {
+        let label = Label {
+            node_type: 1,
+            range,
+        };
+        let lone = record::write(&Graph::lone(label));
         assert_record_refused(&lone, GraphFault::Value);
         let mut below = graph(3, "top[0: a, 1: b]");
-        below.nodes[2].node_type = bad;
+        below.nodes[2].label.range = range;
         assert_record_refused(&record::write(&below), GraphFault::Value);
+    }
+    // One level is a range.
+    let table = random::diamond();
+    for level in [0, 7, 255] {
+        let lone = Graph::lone(Label {
+            node_type: 1,
+            range: levels(level, level),
+        });
+        let record = record::write(&lone);
+        let mut output = [0; 12];
+        let reply = calls::rewrite(4, &table.bytes, &record, &mut output);
+        assert_eq!(reply, Reply::Length(12));
+        assert_eq!(output[..], record);
     }
 }
 
@@ -268,10 +334,7 @@ fn refusal_5_a_target_that_is_none() {
 
 /// Nodes of type top with these links.
 fn linked(links: &[&[(u8, usize)]]) -> Graph {
-    let node = |links: &&[(u8, usize)]| Node {
-        node_type: 3,
-        links: links.iter().copied().collect(),
-    };
+    let node = |links: &&[(u8, usize)]| Node::new(3, links.iter().copied());
     Graph {
         nodes: links.iter().map(node).collect(),
     }
@@ -317,15 +380,26 @@ fn refusal_7_a_node_the_root_does_not_reach() {
 fn faults_of_a_record_are_told_in_order_over_the_whole_record() {
     // 4 before 5, 6 and 7: a wrong type, a wrong target and a loop, then a byte too many.
     let mut all = linked(&[&[(0, 0), (1, 9)], &[]]);
-    all.nodes[0].node_type = 0;
+    all.nodes[0].label.node_type = 0;
     let mut record = record::write(&all);
     assert_record_refused(&record, GraphFault::Value);
     record.push(0);
     assert_record_refused(&record, GraphFault::Shape);
     // 5 before 6 and 7: a loop and an unreached node come first, the bad type last.
     let mut last_bad = linked(&[&[(0, 0)], &[], &[]]);
-    last_bad.nodes[2].node_type = 4;
+    last_bad.nodes[2].label.node_type = 4;
     assert_record_refused(&record::write(&last_bad), GraphFault::Value);
+    last_bad.nodes[2].label = Label {
+        node_type: 3,
+        range: levels(9, 8),
+    };
+    let mut record = record::write(&last_bad);
+    assert_record_refused(&record, GraphFault::Value);
+    // 4 before 5: a range that is none comes first, the row of the last node is short.
+    last_bad.nodes.swap(1, 2);
+    record = record::write(&last_bad);
+    record.pop();
+    assert_record_refused(&record, GraphFault::Shape);
     // 6 before 7: an unreached node, then a loop in another unreached part.
     let loop_last = linked(&[&[], &[], &[(0, 2)]]);
     assert_record_refused(&record::write(&loop_last), GraphFault::Cycle);
@@ -385,6 +459,17 @@ fn refusals_of_results_in_the_order_of_the_checks() {
     // 12 before 8, and 8 where the difference exists.
     assert_eq!(refused(&diamond, calls::difference, &one, &two), Some(12));
     assert_eq!(refused(&diamond, calls::difference, &one, &one), Some(8));
+    // 12 before 13 for a range that does not lie inside, and a range does not matter to 13.
+    let [ranged_one, ranged_two] = [1, 2].map(|node_type| {
+        Graph::lone(Label {
+            node_type,
+            range: levels(7, 9),
+        })
+    });
+    let refused_rivals = |g: &Graph, s: &Graph| refused(&rivals, calls::difference, g, s);
+    assert_eq!(refused_rivals(&ranged_two, &one), Some(12));
+    assert_eq!(refused_rivals(&two, &ranged_one), Some(13));
+    assert_eq!(refused_rivals(&ranged_two, &ranged_one), Some(13));
     // 10 before 11: two long chains that clash at the root.
     let long = |feature: u8, node_type: u8| random::chain_graph(200, feature, node_type);
     assert_eq!(
@@ -435,13 +520,8 @@ fn layered(layers: usize, features: u8, step: impl Fn(usize, usize) -> usize) ->
             let next = step(state, usize::from(feature));
             (feature, (layer + 1) * states + next)
         };
-        Node {
-            node_type: 3,
-            links: (0..features)
-                .filter(|_| layer + 1 < layers)
-                .map(target)
-                .collect(),
-        }
+        let features = (0..features).filter(|_| layer + 1 < layers);
+        Node::new(3, features.map(target))
     };
     let nodes = (0..layers * states).map(node).collect();
     canonical(&Graph { nodes })

@@ -1,6 +1,7 @@
 //! Examples worked by hand where the rules of document 01 are easily taken
 //! otherwise: the numbering as written, ties between links, groups closed
-//! transitively, kept top nodes, wanted types, sharing in the common part.
+//! transitively, kept top nodes, wanted types and ranges, sharing in the common
+//! part.
 
 use reference::calls::{self, Call, written};
 use reference::graph::Graph;
@@ -205,4 +206,148 @@ fn a_loop_far_below_is_told_before_a_clash_at_the_root() {
         "b[0: top[0: Z top, 1: top[7: Z]]]",
     );
     assert_eq!(result, Err(Refusal::Loop));
+}
+
+/// The order over the diamond.
+fn ordered(first: &str, second: &str) -> Order {
+    let table = random::diamond();
+    let [first, second] = [first, second].map(|text| record::write(&graph(3, text)));
+    match calls::order(table.n, &table.bytes, &first, &second) {
+        Reply::Order(order) => order,
+        reply => panic!("{reply:?}"),
+    }
+}
+
+#[test]
+fn a_range_belongs_to_the_meaning_as_the_type_does() {
+    assert_eq!(ordered("a{10..20}", "a{10..20}"), Order::Same);
+    assert_eq!(ordered("a{10..20}", "a{10..21}"), Order::Under);
+    assert_eq!(ordered("a{9..20}", "a{10..20}"), Order::Above);
+    assert_eq!(ordered("a{10..20}", "a{11..21}"), Order::Neither);
+    assert_eq!(ordered("a{10..20}", "a{30..40}"), Order::Neither);
+    // Type and range must both be below.
+    assert_eq!(ordered("a{10..20}", "top"), Order::Under);
+    assert_eq!(ordered("a", "top{10..20}"), Order::Neither);
+    assert_eq!(ordered("a{10..20}", "b{0..30}"), Order::Neither);
+    // The full range is the same spelled out or not.
+    assert_eq!(ordered("a{0..255}", "a"), Order::Same);
+    // Below the root too.
+    assert_eq!(
+        ordered(
+            "top[0: X a{10..20}, 1: X]",
+            "top[0: a{10..20}, 1: a{0..20}]"
+        ),
+        Order::Under
+    );
+}
+
+#[test]
+fn a_range_of_one_level_is_not_empty() {
+    assert_gives(calls::combination, "a{0..7}", "a{7..255}", "a{7..7}");
+    assert_gives(calls::combination, "a{0..0}", "a", "a{0..0}");
+    assert_gives(calls::combination, "a{255..255}", "a", "a{255..255}");
+    let apart = make(
+        &random::diamond(),
+        calls::combination,
+        "a{0..7}",
+        "a{8..255}",
+    );
+    assert_eq!(apart, Err(Refusal::Clash));
+}
+
+#[test]
+fn a_combination_overlaps_all_ranges_of_a_class() {
+    assert_gives(
+        calls::combination,
+        "top[0: X top{0..200}, 1: X]",
+        "top[0: top{10..255}, 1: a{5..100}]",
+        "top[0: X a{10..100}, 1: X]",
+    );
+    // Each two overlap with the shared node, and not with each other.
+    let clash = make(
+        &random::diamond(),
+        calls::combination,
+        "top[0: X top, 1: X]",
+        "top[0: top{0..99}, 1: top{100..255}]",
+    );
+    assert_eq!(clash, Err(Refusal::Clash));
+}
+
+#[test]
+fn a_loop_is_told_before_ranges_that_do_not_overlap() {
+    let result = make(
+        &random::diamond(),
+        calls::combination,
+        "top{0..5}[0: X top, 1: X]",
+        "top{6..9}[0: Z top, 1: top[0: Z]]",
+    );
+    assert_eq!(result, Err(Refusal::Loop));
+}
+
+#[test]
+fn a_common_part_has_the_smallest_range_holding_both() {
+    assert_gives(
+        calls::common_part,
+        "a{10..20}[0: b{7..7}, 1: a{0..9}]",
+        "b{15..30}[0: b{9..9}, 1: a{200..255}]",
+        "top{10..30}[0: b{7..9}, 1: a]",
+    );
+}
+
+#[test]
+fn a_difference_wants_the_widest_range() {
+    for (g, s, wanted) in [
+        ("a", "a{10..20}", "top{10..20}"),
+        ("a{10..20}", "a{10..20}", "top"),
+        ("a{5..20}", "a{10..20}", "top{10..255}"),
+        ("a{10..30}", "a{10..20}", "top{0..20}"),
+        ("a{5..30}", "a{10..20}", "top{10..20}"),
+        ("top{5..30}", "a{5..30}", "a"),
+        ("a{5..10}", "a{5..5}", "top{0..5}"),
+    ] {
+        assert_gives(calls::difference, g, s, wanted);
+    }
+}
+
+#[test]
+fn a_difference_keeps_a_node_for_its_range_alone() {
+    assert_gives(
+        calls::difference,
+        "a[0: b[1: a], 2: b]",
+        "a[0: b[1: a{0..9}], 2: b]",
+        "top[0: top[1: top{0..9}]]",
+    );
+    // The ranges of all nodes of g over one of s count together.
+    assert_gives(
+        calls::difference,
+        "top[0: top{10..255}, 1: top{0..20}]",
+        "top[0: X top{10..20}, 1: X]",
+        "top[0: X top, 1: X]",
+    );
+    assert_gives(
+        calls::difference,
+        "top[0: top{10..255}, 1: top{0..20}]",
+        "top[0: X top{10..15}, 1: X]",
+        "top[0: X top{0..15}, 1: X]",
+    );
+}
+
+#[test]
+fn a_range_comes_before_the_map_and_behind_the_type() {
+    // a{10..200}[7: b{0..5}], and 63: top with the full range.
+    let written = "03 81 0A C8 8000000000000080 01 02
+                   82 00 05 0000000000000000 03 0000000000000000";
+    let spelled_out = "03 81 0A C8 8000000000000080 02 01
+                       83 00 FF 0000000000000000 82 00 05 0000000000000000";
+    assert_eq!(
+        record::write(&graph(3, "a{10..200}[7: b{0..5}, 63: top]")),
+        bytes(written)
+    );
+    assert_eq!(rewritten(&bytes(written)), bytes(written));
+    let table = random::diamond();
+    let mut output = bytes(spelled_out);
+    let reply = calls::rewrite(table.n, &table.bytes, &bytes(spelled_out), &mut output);
+    assert_eq!(reply, Reply::Length(bytes(written).len()));
+    assert_eq!(output[..bytes(written).len()], bytes(written));
+    assert_eq!(output[bytes(written).len()..], [0, 0]);
 }

@@ -1,7 +1,8 @@
--- Over a table that admits differences every node has a wanted type, the residual, so that the difference is what it was by residuals.
+-- Over a table that admits differences every node has a wanted label, with the residual for its type, so that the difference is what it was by residuals.
 use mathlib.Core.Path.{_≡_, refl, sym, _∙_, ap, fun-ext}
 use mathlib.Core.Bool.{Bool, true, false, cond}
 use mathlib.Core.List.{List}
+use mathlib.Core.Option.{Option, Option·map, Option·getD}
 use Prim.Native.Nat.{ℕ}
 use native.Mathlib.Omega.{arith}
 use lib.Dec.{eqb}
@@ -11,68 +12,72 @@ use Rattle.graphs.specs.Rows.{Row, from}
 use Rattle.graphs.specs.Number.{canonical}
 use Rattle.graphs.specs.Order.{subsumes}
 use Rattle.graphs.specs.Difference.{byNumber, meetOver, difference}
-use Rattle.lattice.specs.Label.{Label}
+use Rattle.lattice.specs.Label.{Label, noLabel}
 use Rattle.lattice.specs.declared.Opened.{Opened}
 use Rattle.lattice.specs.declared.Opened.the-variants.{Accepted, Refused}
 use Rattle.lattice.specs.Table as table
 use Rattle.lattice.specs.Reply.{opened}
-use Rattle.lattice.specs.Labels.{typeLabels}
+use Rattle.lattice.specs.Labels.{tableLabels, wantedRange, wantedLabel}
 use Rattle.lattice.proofs.Every.{every-all}
+use Rattle.lattice.proofs.Lawful.{inside}
 use Rattle.lattice.proofs.Laws.{zero-type, residual-exists, wanted-residual}
 use Rattle.lattice.proofs.Residuals.{opened-accepted}
 use Rattle.encode.specs.Encode.{Outcome, encoded, writtenOut}
 use Rattle.record.specs.Read.{Reading, refused, accepted, graphOfRows, reading}
-use Rattle.record.proofs.Accepted.{Rules, accepted-rules, rules-of-any-size, rules-fit}
+use Rattle.record.proofs.Accepted.{Rules, accepted-rules, rules-of-any-size, rules-types, rules-fit}
 use Rattle.record.proofs.Theorems.{written-reads}
 use Rattle.graphs.proofs.Lists.{tells-eqb}
 use Rattle.difference.specs.Promise.{wantedAlong, allWantedAlong, differenceAlong}
 use Rattle.engine.specs.declared.Reply.{Reply}
 use Rattle.engine.specs.declared.Reply.the-variants.{NotBelow, NoWantedType}
 use Rattle.engine.specs.Reply.{Result, refusal, resultOf, refusing, checked, readBoth}
-use Rattle.engine.specs.Difference.{over, wantedType, allWanted, differenceRows, differed, numbered, differedRows, differing}
-use Rattle.engine.specs.Before.{residualRows, differedBefore, differingBefore}
+use Rattle.engine.specs.Difference.{over, wantedAt, allWanted, differenceRows, differed, numbered, differedRows, differing}
+use Rattle.engine.specs.Before.{residualLabel, residualRows, differedBefore, differingBefore}
 use Rattle.engine.proofs.Orders.{order-test}
 use Rattle.engine.proofs.Readings.{both-same}
 use Rattle.engine.proofs.Tables.{label-known}
 use Rattle.engine.proofs.Demanded.Combination.{other-refusal}
-use Rattle.engine.proofs.Demanded.Wanted.{meet-type, label-below}
+use Rattle.engine.proofs.Demanded.Wanted.{meet-known, label-below}
 
 module _ (n : ℕ) (t : List ℕ) (ok : table.accepted n t ≡ true) (differ : table.admits n t ≡ true) where
   module _ (g s : List (Row Label)) (general : Rules n g) (specific : Rules n s)
-      (below : Below (typeLabels n t) (graphOfRows s) (graphOfRows g)) where
-    abbrev meetAt : ℕ → ℕ
-    meetAt v = meetOver (typeLabels n t) eqb (graphOfRows g) (from 0 (length g)) (over s g) v
+      (below : Below (tableLabels n t) (graphOfRows s) (graphOfRows g)) where
+    abbrev meetAt : ℕ → Label
+    meetAt v = meetOver (tableLabels n t) eqb (graphOfRows g) (from 0 (length g)) (over s g) v
 
-    -- the wanted type of each node is the residual
-    wanted-is : (v : ℕ) → wantedType n t s g v ≡ table.residual n t (graphOfRows s .label v) (meetAt v)
-    unfolding wantedAlong
+    -- the wanted label of each node has the residual for its type
+    wanted-is : (v : ℕ) → wantedAt n t s g v ≡ residualLabel n t (graphOfRows s .label v) (meetAt v)
+    unfolding wantedAlong wantedLabel
     wanted-is v =
-        wanted-residual n t ok differ (graphOfRows s .label v) (meetAt v) (label-known (zero-type n t ok) specific v)
-        (meet-type n t ok g s general specific below v) (label-below n t ok g s general specific below v)
+        ap (Option·map (wantedRange (graphOfRows s .label v) (meetAt v)))
+        (wanted-residual n t ok differ (graphOfRows s .label v .type) (meetAt v .type) (label-known (zero-type n t ok) specific v .type)
+        (meet-known n t ok g s general specific below v .type)
+        (inside n t (graphOfRows s .label v) (meetAt v) (label-below n t ok g s general specific below v) .type))
 
     admits-wanted : allWanted n t s g ≡ true
     unfolding allWantedAlong
     admits-wanted =
-        every-all (λ v. table.found (wantedType n t s g v)) (length s) λ v _.
+        every-all (λ v. table.found (wantedAt n t s g v)) (length s) λ v _.
         ap table.found
         (wanted-is v ∙
-        residual-exists n t ok differ (graphOfRows s .label v) (meetAt v) (label-known (zero-type n t ok) specific v)
-        (meet-type n t ok g s general specific below v) .1 .is)
+        ap (Option·map (wantedRange (graphOfRows s .label v) (meetAt v)))
+        (residual-exists n t ok differ (graphOfRows s .label v .type) (meetAt v .type) (label-known (zero-type n t ok) specific v .type)
+        (meet-known n t ok g s general specific below v .type) .1 .is))
 
     residual-rows : differenceRows n t g s ≡ residualRows n t g s
     unfolding differenceAlong residualRows
     residual-rows =
         ap
-        (λ (w : ℕ → ℕ). difference (typeLabels n t) eqb eqb byNumber (graphOfRows s) (from 0 (length s)) (graphOfRows g) (from 0 (length g))
+        (λ (w : ℕ → Label). difference (tableLabels n t) eqb eqb byNumber (graphOfRows s) (from 0 (length s)) (graphOfRows g) (from 0 (length g))
         (over s g) w)
-        (fun-ext λ v. ap table.cell (wanted-is v))
+        (fun-ext λ v. ap (λ (o : Option Label). Option·getD o noLabel) (wanted-is v))
 
   differed-before : (out : List ℕ) (g s : List (Row Label)) → Rules n g → Rules n s → differed n t out g s ≡ differedBefore n t out g s
   unfolding differed differedBefore
   differed-before out g s general specific = go lies refl ∙ sym (ap before differ)
     where
       lies : Bool
-      lies = subsumes (typeLabels n t) eqb eqb (graphOfRows s) (graphOfRows g) (length g)
+      lies = subsumes (tableLabels n t) eqb eqb (graphOfRows s) (graphOfRows g) (length g)
 
       old : Result
       old = resultOf (writtenOut (canonical eqb (residualRows n t g s)) out)
@@ -97,7 +102,7 @@ module _ (n : ℕ) (t : List ℕ) (ok : table.accepted n t ≡ true) (differ : t
   unfolding differedRows
   rows-before out g s general specific =
       let (form, fits) = rules-fit n s specific in
-      let reads = written-reads n t eqb tells-eqb (graphOfRows s) (rules-of-any-size n s specific t) form fits .0 in
+      let reads = written-reads n t eqb tells-eqb (graphOfRows s) (rules-of-any-size n s specific t) form fits (rules-types n s specific) .0 in
       ap (λ c. differed n t out g (numbered c)) fits ∙
       differed-before out g form general (accepted-rules n (encoded form) form reads) ∙
       sym (ap (λ c. differedBefore n t out g (numbered c)) fits)
@@ -126,7 +131,7 @@ module _ (n : ℕ) (t : List ℕ) (differ : table.admits n t ≡ true) (out : Li
   unfolding differedBefore
   before-other g s =
       rw differ
-      (go (subsumes (typeLabels n t) eqb eqb (graphOfRows s) (graphOfRows g) (length g)) (writtenOut (canonical eqb (residualRows n t g s)) out))
+      (go (subsumes (tableLabels n t) eqb eqb (graphOfRows s) (graphOfRows g) (length g)) (writtenOut (canonical eqb (residualRows n t g s)) out))
     where
       go : (lies : Bool) (o : Outcome) → Other (cond lies (resultOf o) (refusing NotBelow out))
       go false o e = let z : _≡_ {A = ℕ} 0 1 = cc in omega arith

@@ -20,7 +20,7 @@ use Rattle.graphs.proofs.Unification.Beside.{same-beside}
 use Rattle.lattice.specs.Label.{Label}
 use Rattle.lattice.specs.Table as table
 use Rattle.lattice.specs.Reply.{opened}
-use Rattle.lattice.specs.Labels.{typeLabels, OfAnySize, GreatestOfAnySize, IsCombination, TypeClash}
+use Rattle.lattice.specs.Labels.{tableLabels, OfAnySize, GreatestOfAnySize, IsCombination, LabelClash}
 use Rattle.lattice.proofs.Residuals.{opened-accepted}
 use Rattle.lattice.proofs.AnySize.{
   answer,
@@ -44,7 +44,7 @@ use Rattle.engine.specs.declared.Reply.the-variants as replies
 use Rattle.engine.specs.Reply.{Result, refusal, refusing, replyOf, resultOf}
 use Rattle.engine.specs.Unification.{sameEither, combined, unifiedRows, unifying}
 use Rattle.engine.specs.Demand.{Given, Writes, NoneBelow, Combination}
-use Rattle.engine.proofs.Results.{resultFor, result-writes}
+use Rattle.engine.proofs.Results.{resultFor, result-writes, seven-bits}
 use Rattle.engine.proofs.Demanded.Order.{order-exact}
 
 pub tells-either : Tells sameEither
@@ -96,7 +96,7 @@ module _ (n : ℕ) (t a b : List ℕ) (g h : List (Row Label)) (given : Given n 
     unifying-is =
         rw (given .opens, given .first, given .second)
         (sym
-        (ap₂ (λ (gs hs : List ℕ). combined (unification (typeLabels n t) eqb eqb (graphOfRows g) gs (graphOfRows h) hs) out)
+        (ap₂ (λ (gs hs : List ℕ). combined (unification (tableLabels n t) eqb eqb (graphOfRows g) gs (graphOfRows h) hs) out)
         (accepted-nodes n a g (given .first) t) (accepted-nodes n b h (given .second) t)))
 
     reply-cycle : (unifying n t a b out .reply ≡ replies.Cycle) ↔ (joint ≡ cycle)
@@ -104,7 +104,7 @@ module _ (n : ℕ) (t a b : List ℕ) (g h : List (Row Label)) (given : Given n 
         subst (λ (r : Result). (r .reply ≡ replies.Cycle) ↔ (joint ≡ cycle)) (sym unifying-is) (combined-cycle out joint)
 
     -- 9 exactly where a class reaches itself
-    pub cycle-exact : (unifying n t a b out .reply ≡ replies.Cycle) ↔ Cycle (typeLabels n t) (graphOfRows g) (graphOfRows h)
+    pub cycle-exact : (unifying n t a b out .reply ≡ replies.Cycle) ↔ Cycle (tableLabels n t) (graphOfRows g) (graphOfRows h)
     cycle-exact =
         Iff·trans reply-cycle
         (unification-cycle n t accepts eqb eqb tells-eqb tells-eqb (graphOfRows g) (graphOfRows h) first-size second-size)
@@ -115,7 +115,7 @@ module _ (n : ℕ) (t a b : List ℕ) (g h : List (Row Label)) (given : Given n 
 
     -- 10 exactly where none does, and the meet of a class is type 0
     pub clash-exact : (unifying n t a b out .reply ≡ replies.Clash) ↔
-        ((Cycle (typeLabels n t) (graphOfRows g) (graphOfRows h) → ⊥) × TypeClash n t (graphOfRows g) (graphOfRows h))
+        ((Cycle (tableLabels n t) (graphOfRows g) (graphOfRows h) → ⊥) × LabelClash n t (graphOfRows g) (graphOfRows h))
     clash-exact =
         Iff·trans reply-clash
         (unification-clash n t accepts eqb eqb tells-eqb tells-eqb (graphOfRows g) (graphOfRows h) first-size second-size)
@@ -170,11 +170,12 @@ module _ (n : ℕ) (t a b : List ℕ) (g h : List (Row Label)) (given : Given n 
           unification-greatest n t accepts eqb eqb tells-eqb tells-eqb (graphOfRows g) (graphOfRows h) first-size second-size w e in
           unifying-is ∙ ap (λ (o : Unified Label (ℕ ⊎ ℕ)). combined o out) e ∙
           ap (λ (c : Canonical Label). resultOf (writtenOut c out))
-          (same-canonical (typeLabels n t) sameEither same tells-either tells w u
+          (same-canonical (tableLabels n t) sameEither same tells-either tells w u
           (greatest-unique n t accepts (graphOfRows g) (graphOfRows h) w u other best))
 
       pub greatest-writes : Writes n t same u out (unifying n t a b out)
-      greatest-writes = subst (Writes n t same u out) (sym greatest-result) (result-writes n t same tells u (best .of-any-size) out)
+      greatest-writes = subst (Writes n t same u out) (sym greatest-result)
+          (result-writes n t same tells u (best .of-any-size) (seven-bits n t accepts u (best .of-any-size)) out)
 
     -- a length is replied where there is a combination
     length-other : (l : ℕ) → unifying n t a b out .reply ≡ replies.Length l →

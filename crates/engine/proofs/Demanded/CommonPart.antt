@@ -11,7 +11,7 @@ use Rattle.graphs.proofs.Product.{product-is-generalization, same-generalizatio
 use Rattle.lattice.specs.Label.{Label}
 use Rattle.lattice.specs.Table as table
 use Rattle.lattice.specs.Reply.{opened}
-use Rattle.lattice.specs.Labels.{typeLabels, LeastOfAnySize}
+use Rattle.lattice.specs.Labels.{tableLabels, LeastOfAnySize}
 use Rattle.lattice.proofs.Residuals.{opened-accepted}
 use Rattle.lattice.proofs.AnySize.{generalization-least, same-least}
 use Rattle.record.specs.Read.{reading, accepted, graphOfRows}
@@ -21,7 +21,7 @@ use Rattle.generalize.proofs.Sides.{tells-pair}
 use Rattle.engine.specs.declared.Reply.the-variants.{Length}
 use Rattle.engine.specs.Reply.{generalized, generalizing}
 use Rattle.engine.specs.Demand.{Given, Writes, common, CommonPart}
-use Rattle.engine.proofs.Results.{result-writes}
+use Rattle.engine.proofs.Results.{result-writes, seven-bits}
 use Rattle.engine.proofs.Demanded.Order.{order-exact}
 
 module _ (n : ℕ) (t a b : List ℕ) (s g : List (Row Label)) (given : Given n t a b s g) where
@@ -29,8 +29,8 @@ module _ (n : ℕ) (t a b : List ℕ) (s g : List (Row Label)) (given : Given n 
   accepts = opened-accepted n t (opened n t) refl (given .opens)
 
   -- The common part, also where it is too large to be written, has the paths in both,
-  pub common-part-paths : IsGeneralization (typeLabels n t) (graphOfRows s) (graphOfRows g) (common n t s g)
-  common-part-paths = product-is-generalization (typeLabels n t) (graphOfRows s) (graphOfRows g)
+  pub common-part-paths : IsGeneralization (tableLabels n t) (graphOfRows s) (graphOfRows g) (common n t s g)
+  common-part-paths = product-is-generalization (tableLabels n t) (graphOfRows s) (graphOfRows g)
 
   -- and is the least graph of any size above both: there always is one.
   pub common-part-exists : LeastOfAnySize n t (graphOfRows s) (graphOfRows g) (common n t s g)
@@ -43,7 +43,9 @@ module _ (n : ℕ) (t a b : List ℕ) (s g : List (Row Label)) (given : Given n 
     pub common-part-written : Writes n t samePair (common n t s g) out (generalizing n t a b out)
     unfolding generalizing generalized
     common-part-written =
-        rw (given .opens, given .first, given .second) (result-writes n t samePair tells-pair (common n t s g) (common-part-exists .of-any-size) out)
+        rw (given .opens, given .first, given .second)
+        (result-writes n t samePair tells-pair (common n t s g) (common-part-exists .of-any-size)
+        (seven-bits n t accepts (common n t s g) (common-part-exists .of-any-size)) out)
 
     -- What is written is the least graph above both, and the order agrees.
     pub common-part : (l : ℕ) → generalizing n t a b out .reply ≡ Length l →

@@ -18,7 +18,7 @@ use Rattle.graphs.proofs.Below.{same-refl, same-sym}
 use Rattle.lattice.specs.Label.{Label}
 use Rattle.lattice.specs.Table as table
 use Rattle.lattice.specs.Reply.{opened}
-use Rattle.lattice.specs.Labels.{typeLabels, SomeUnwanted}
+use Rattle.lattice.specs.Labels.{tableLabels, SomeUnwanted}
 use Rattle.lattice.proofs.Every.{not-false-true}
 use Rattle.lattice.proofs.Residuals.{opened-accepted}
 use Rattle.lattice.proofs.Relabel.{same-below-left, same-below-right}
@@ -34,7 +34,7 @@ use Rattle.engine.specs.Unification.{unifying}
 use Rattle.engine.specs.Difference.{allWanted, numbered, differenceRows, differed, differedRows, differing}
 use Rattle.engine.specs.Demand.{Given, Large, Writes, MoreGeneral, remainder, Restores, Difference}
 use Rattle.engine.proofs.Orders.{order-test}
-use Rattle.engine.proofs.Results.{resultFor, rewriting-is, result-writes}
+use Rattle.engine.proofs.Results.{resultFor, rewriting-is, result-writes, seven-bits}
 use Rattle.engine.proofs.Demanded.Order.{order-exact, above-exact}
 use Rattle.engine.proofs.Demanded.Combination.{other-refusal, greatest-result, written-combination}
 use Rattle.engine.proofs.Demanded.Wanted.{unwanted-exact, same-unwanted}
@@ -78,10 +78,10 @@ module _ (n : ℕ) (t a b : List ℕ) (g s : List (Row Label)) (given : Given n 
 
   form-reads : (reading n (encoded form) ≡ accepted form) ×
       (canonical eqb (graphOfRows form) ≡ written form) ×
-      SameMeaning (typeLabels n t) (graphOfRows s) (graphOfRows form)
+      SameMeaning (tableLabels n t) (graphOfRows s) (graphOfRows form)
   form-reads = written-accepted n t b s (given .second) form form-is
 
-  means : SameMeaning (typeLabels n t) (graphOfRows s) (graphOfRows form)
+  means : SameMeaning (tableLabels n t) (graphOfRows s) (graphOfRows form)
   means = form-reads .2
 
   remainder-is : remainder n t g s ≡ differenceRows n t g form
@@ -89,13 +89,13 @@ module _ (n : ℕ) (t a b : List ℕ) (g s : List (Row Label)) (given : Given n 
 
   -- whether s, numbered as written, is below g
   abbrev lies : Bool
-  lies = subsumes (typeLabels n t) eqb eqb (graphOfRows (numbered (canonical eqb (graphOfRows s)))) (graphOfRows g) (length g)
+  lies = subsumes (tableLabels n t) eqb eqb (graphOfRows (numbered (canonical eqb (graphOfRows s)))) (graphOfRows g) (length g)
 
-  lies-exact : (lies ≡ true) ↔ Below (typeLabels n t) (graphOfRows s) (graphOfRows g)
+  lies-exact : (lies ≡ true) ↔ Below (tableLabels n t) (graphOfRows s) (graphOfRows g)
   lies-exact =
       subst
-      (λ (rows : List (Row Label)). (subsumes (typeLabels n t) eqb eqb (graphOfRows rows) (graphOfRows g) (length g) ≡ true) ↔
-      Below (typeLabels n t) (graphOfRows s) (graphOfRows g))
+      (λ (rows : List (Row Label)). (subsumes (tableLabels n t) eqb eqb (graphOfRows rows) (graphOfRows g) (length g) ≡ true) ↔
+      Below (tableLabels n t) (graphOfRows s) (graphOfRows g))
       (sym (ap numbered form-is)) (
         λ q. same-below-left (same-sym means) (order-test n t form g general-rules .0 q),
         λ x. order-test n t form g general-rules .1 (same-below-left means x),
@@ -105,8 +105,8 @@ module _ (n : ℕ) (t a b : List ℕ) (g s : List (Row Label)) (given : Given n 
   abbrev all : Bool
   all = allWanted n t (numbered (canonical eqb (graphOfRows s))) g
 
-  module _ (below : Below (typeLabels n t) (graphOfRows s) (graphOfRows g)) where
-    form-below : Below (typeLabels n t) (graphOfRows form) (graphOfRows g)
+  module _ (below : Below (tableLabels n t) (graphOfRows s) (graphOfRows g)) where
+    form-below : Below (tableLabels n t) (graphOfRows form) (graphOfRows g)
     form-below = same-below-left means below
 
     form-rules : Rules n form
@@ -150,7 +150,7 @@ module _ (n : ℕ) (t a b : List ℕ) (g s : List (Row Label)) (given : Given n 
           })
 
   -- what means the same restores the same
-  restores-again : (d : Graph Label ℕ) (again : List (Row Label)) → SameMeaning (typeLabels n t) d (graphOfRows again) →
+  restores-again : (d : Graph Label ℕ) (again : List (Row Label)) → SameMeaning (tableLabels n t) d (graphOfRows again) →
       Restores n t d (graphOfRows g) (graphOfRows s) → Restores n t (graphOfRows again) (graphOfRows g) (graphOfRows s)
   restores-again d again same made =
       record {
@@ -171,7 +171,7 @@ module _ (n : ℕ) (t a b : List ℕ) (g s : List (Row Label)) (given : Given n 
 
     -- 12 exactly where s is not below g
     pub not-below-exact : (differing n t a b out .reply ≡ replies.NotBelow) ↔
-        (Below (typeLabels n t) (graphOfRows s) (graphOfRows g) → ⊥)
+        (Below (tableLabels n t) (graphOfRows s) (graphOfRows g) → ⊥)
     not-below-exact =
         let (there, back) =
         subst (λ (r : Result). (r .reply ≡ replies.NotBelow) ↔ (lies ≡ false)) (sym differing-is)
@@ -182,7 +182,7 @@ module _ (n : ℕ) (t a b : List ℕ) (g s : List (Row Label)) (given : Given n 
 
     -- 13 exactly where it is, and some node of s has no wanted type
     pub unwanted-reply-exact : (differing n t a b out .reply ≡ replies.NoWantedType) ↔
-        (Below (typeLabels n t) (graphOfRows s) (graphOfRows g) × SomeUnwanted n t (graphOfRows s) (graphOfRows g))
+        (Below (tableLabels n t) (graphOfRows s) (graphOfRows g) × SomeUnwanted n t (graphOfRows s) (graphOfRows g))
     unwanted-reply-exact =
         let (there, back) =
         subst (λ (r : Result). (r .reply ≡ replies.NoWantedType) ↔ ((lies ≡ true) × (all ≡ false))) (sym differing-is)
@@ -197,9 +197,9 @@ module _ (n : ℕ) (t a b : List ℕ) (g s : List (Row Label)) (given : Given n 
     -- the three results: 12, 13, or what is written where neither is due
     pub data Told : Type 0 where
       not-below : differing n t a b out ≡ refusing replies.NotBelow out → Told
-      not-wanted : Below (typeLabels n t) (graphOfRows s) (graphOfRows g) → all ≡ false →
+      not-wanted : Below (tableLabels n t) (graphOfRows s) (graphOfRows g) → all ≡ false →
           differing n t a b out ≡ refusing replies.NoWantedType out → Told
-      differs : Below (typeLabels n t) (graphOfRows s) (graphOfRows g) → all ≡ true → Told
+      differs : Below (tableLabels n t) (graphOfRows s) (graphOfRows g) → all ≡ true → Told
 
     pub difference-told : Told
     difference-told = go lies all refl refl
@@ -211,7 +211,7 @@ module _ (n : ℕ) (t a b : List ℕ) (g s : List (Row Label)) (given : Given n 
             (differing-is ∙ ap₂ (λ (z w : Bool). chosen z w (writtenOut (canonical eqb (remainder n t g s)) out) out) p q)
         go true true p q = differs (lies-exact .0 p) q
 
-    module _ (below : Below (typeLabels n t) (graphOfRows s) (graphOfRows g)) (wants : all ≡ true) where
+    module _ (below : Below (tableLabels n t) (graphOfRows s) (graphOfRows g)) (wants : all ≡ true) where
       -- then the difference is what the call writes
       pub remainder-result : differing n t a b out ≡ resultFor eqb (remainder n t g s) out
       remainder-result =
@@ -221,10 +221,11 @@ module _ (n : ℕ) (t a b : List ℕ) (g s : List (Row Label)) (given : Given n 
       pub remainder-writes : Writes n t eqb (remainder n t g s) out (differing n t a b out)
       remainder-writes =
           subst (Writes n t eqb (remainder n t g s) out) (sym remainder-result)
-          (result-writes n t eqb tells-eqb (remainder n t g s) (remainder-restores below wants .of-any-size) out)
+          (result-writes n t eqb tells-eqb (remainder n t g s) (remainder-restores below wants .of-any-size)
+          (seven-bits n t accepts (remainder n t g s) (remainder-restores below wants .of-any-size)) out)
 
     -- s below g gives 13 for a node without a wanted type, or a difference that restores and is most general.
-    pub unwanted-or-restored : Below (typeLabels n t) (graphOfRows s) (graphOfRows g) →
+    pub unwanted-or-restored : Below (tableLabels n t) (graphOfRows s) (graphOfRows g) →
         ((differing n t a b out .reply ≡ replies.NoWantedType) × SomeUnwanted n t (graphOfRows s) (graphOfRows g)) ⊎
         (Restores n t (remainder n t g s) (graphOfRows g) (graphOfRows s) × Writes n t eqb (remainder n t g s) out (differing n t a b out))
     unwanted-or-restored below = go all refl

@@ -1,4 +1,4 @@
--- A graph's difference from itself is a lone top. Every node has the wanted type top; the difference lies below a lone top, and were it
+-- A graph's difference from itself is a lone top. Every node has the wanted label top; the difference lies below a lone top, and were it
 -- strictly below, the lone top would be more general and restore too.
 use mathlib.Core.Path.{_≡_, refl, sym, _∙_, ap, subst}
 use mathlib.Core.Bool.{true}
@@ -21,16 +21,19 @@ use Rattle.graphs.proofs.Below.{same-sym}
 use Rattle.graphs.proofs.Order.{subsumes-exact}
 use Rattle.graphs.proofs.Form.Large.{canonical-fits}
 use Rattle.graphs.proofs.Form.Canonical.{canonical-exact}
-use Rattle.lattice.specs.Label.{Label}
+use Rattle.lattice.specs.Label.{Label, plain}
 use Rattle.lattice.specs.declared.Opened.the-variants.{Accepted}
 use Rattle.lattice.specs.Table as table
 use Rattle.lattice.specs.Reply.{opened}
-use Rattle.lattice.specs.Labels.{typeLabels, OfAnySize, SomeUnwanted}
+use Rattle.lattice.specs.Labels.{typeLabels, tableLabels, Known, OfAnySize, SomeUnwanted}
 use Rattle.lattice.proofs.Every.{not-false-true}
-use Rattle.lattice.proofs.Laws.{accepted-size, top-type, below-reflexive, below-antisymmetric, top-greatest, meet-unique}
+use Rattle.lattice.proofs.Laws.{accepted-size, top-type, top-greatest}
+use Rattle.lattice.proofs.Lawful.{inside-le, le-antisymmetric, le-reflexive, plain-known}
+use Rattle.lattice.proofs.Plain.{contradiction-plain}
+use Rattle.lattice.proofs.WantedLabels.{wanted-at, wanted-label-of-same}
 use Rattle.lattice.proofs.Relabel.{same-below-right}
 use Rattle.lattice.proofs.Residuals.{opened-accepted}
-use Rattle.encode.specs.Encode.{bitsFrom, encodedRow, encodedRows, encoded, fitted, writtenOut}
+use Rattle.encode.specs.Encode.{bitsFrom, isFull, encodedLabel, encodedRow, encodedRows, encoded, fitted, writtenOut}
 use Rattle.record.specs.Read.{reading, accepted, graphOfRows}
 use Rattle.record.proofs.Accepted.{accepted-rules}
 use Rattle.record.proofs.Theorems.{accepted-of-any-size, written-reads}
@@ -38,6 +41,7 @@ use Rattle.engine.specs.Reply.{resultOf}
 use Rattle.engine.specs.Difference.{differing}
 use Rattle.engine.specs.Demand.{Given, loneTop, remainder, Restores}
 use Rattle.engine.proofs.Orders.{short}
+use Rattle.engine.proofs.Results.{seven-bits}
 use Rattle.engine.proofs.Demanded.Difference.{all-wanted, remainder-small, remainder-restores, remainder-result}
 
 -- a graph of one node
@@ -55,19 +59,27 @@ lone-form : (c : Label) → canonical eqb (lone c) ≡ written ((c, []) ∷ [])
 unfolding canonical visit each member indexOf outDegree linkCount rowOf linksOf target from bind
 lone-form c = refl
 
-lone-encoded : (n : ℕ) → encoded ((n - 1, []) ∷ []) ≡ loneTop n
-unfolding encoded encodedRows encodedRow bitsFrom from target
+lone-encoded : (n : ℕ) → encoded ((plain (n - 1), []) ∷ []) ≡ loneTop n
+unfolding encoded encodedRows encodedRow encodedLabel isFull bitsFrom from target
 lone-encoded n = refl
 
 module _ (n : ℕ) (t : List ℕ) (ok : table.accepted n t ≡ true) where
   abbrev top : Graph Label ℕ
-  top = lone (n - 1)
+  top = lone (plain (n - 1))
+
+  top-known : Known n (plain (n - 1))
+  top-known = plain-known n (n - 1) (top-type n t ok)
+
+  -- every label of the table is below the greatest
+  under-top : (x : Label) → Known n x → tableLabels n t .le x (plain (n - 1)) ≡ true
+  under-top x k =
+      inside-le n t x (plain (n - 1)) (record { type = top-greatest n t ok (x .type) (k .type); lowest = omega arith; highest = k .highest })
 
   top-listed : (v : ℕ) → Reached top v ↔ List·Memᴰ v (0 ∷ [])
   unfolding follow
   top-listed v = (
     λ (p, e).
-        List·Memᴰ·head (sym (some-injective (subst (λ (q : List ℕ). walk top q ≡ some v) (lone-path (n - 1) p v e) e))),
+        List·Memᴰ·head (sym (some-injective (subst (λ (q : List ℕ). walk top q ≡ some v) (lone-path (plain (n - 1)) p v e) e))),
     λ m. ⊎-elim (λ (e : v ≡ 0). ([], ap some (sym e))) (λ i. absurd (List·Memᴰ·not-nil i)) (List·Memᴰ·cases-cons m),
   )
 
@@ -80,33 +92,34 @@ module _ (n : ℕ) (t : List ℕ) (ok : table.accepted n t ≡ true) where
               nodes = 0 ∷ [];
               listed = top-listed;
               features = λ v w f r e. none-some e;
-              consistent = λ v r. ne-eqb (n - 1) 0 (λ e. omega (arith, accepted-size n t ok .0));
+              consistent = λ v r.
+                  contradiction-plain (typeLabels n t) (n - 1) ∙ ne-eqb (n - 1) 0 (λ e. omega (arith, accepted-size n t ok .0));
               acyclic = λ v f p r e. none-some (sym (follow-none (top .link) p) ∙ e);
             };
-        typed = λ v r. top-type n t ok;
+        typed = λ v r. top-known;
       }
 
-  -- every graph of types lies below it
-  below-top : {A : Type 0} (g : Graph Label A) → OfAnySize n t g → Below (typeLabels n t) g top
+  -- every graph of labels of the table lies below it
+  below-top : {A : Type 0} (g : Graph Label A) → OfAnySize n t g → Below (tableLabels n t) g top
   unfolding follow
   below-top {A} g size =
       record {
         paths = λ p v e.
-            subst (λ (q : List ℕ). (w : A) × (walk g q ≡ some w) × (table.below t (g .label w) (n - 1) ≡ true)) (sym (lone-path (n - 1) p v e))
-            (g .root, refl, top-greatest n t ok (g .label (g .root)) (size .typed (g .root) (reached-root g)));
+            subst (λ (q : List ℕ). (w : A) × (walk g q ≡ some w) × (tableLabels n t .le (g .label w) (plain (n - 1)) ≡ true)) (sym (lone-path (plain (n - 1)) p v e))
+            (g .root, refl, under-top (g .label (g .root)) (size .typed (g .root) (reached-root g)));
         corefers = λ p q (v, d, e). (
           g .root,
-          ap (walk g) (lone-path (n - 1) p v d),
-          ap (walk g) (lone-path (n - 1) q v e),
+          ap (walk g) (lone-path (plain (n - 1)) p v d),
+          ap (walk g) (lone-path (plain (n - 1)) q v e),
         );
       }
 
-  below-self : {A : Type 0} (g : Graph Label A) → OfAnySize n t g → Below (typeLabels n t) g g
+  below-self : {A : Type 0} (g : Graph Label A) → OfAnySize n t g → Below (tableLabels n t) g g
   below-self g size =
-      record { paths = λ p v e. (v, e, below-reflexive n t ok (g .label v) (size .typed v (p, e))); corefers = λ p q c. c }
+      record { paths = λ p v e. (v, e, le-reflexive n t ok (g .label v) (size .typed v (p, e))); corefers = λ p q c. c }
 
   -- what a lone top lies below means a lone top
-  same-top : {A : Type 0} (d : Graph Label A) → OfAnySize n t d → Below (typeLabels n t) top d → SameMeaning (typeLabels n t) top d
+  same-top : {A : Type 0} (d : Graph Label A) → OfAnySize n t d → Below (tableLabels n t) top d → SameMeaning (tableLabels n t) top d
   same-top d size below =
       record {
         there = λ p v e.
@@ -118,29 +131,21 @@ module _ (n : ℕ) (t : List ℕ) (ok : table.accepted n t ≡ true) where
         corefers = λ p q. (below-top d size .corefers p q, below .corefers p q);
       }
     where
-      label : (w : _) → Reached d w → table.below t (n - 1) (d .label w) ≡ true → n - 1 ≡ d .label w
+      label : (w : _) → Reached d w → tableLabels n t .le (plain (n - 1)) (d .label w) ≡ true → plain (n - 1) ≡ d .label w
       label w r l =
-          below-antisymmetric n t ok (n - 1) (d .label w) (top-type n t ok) (size .typed w r) l (top-greatest n t ok (d .label w) (size .typed w r))
+          le-antisymmetric n t ok (plain (n - 1)) (d .label w) top-known (size .typed w r) l (under-top (d .label w) (size .typed w r))
 
-  -- over a graph itself every node has a wanted type, top
+  -- over a graph itself every node has a wanted label, the greatest
   none-unwanted : {A : Type 0} (s : Graph Label A) → OfAnySize n t s → SomeUnwanted n t s s → ⊥
   none-unwanted s size (v, (p, d), nothing) =
       let known = size .typed v (p, d) in
-      nothing (n - 1)
+      nothing (plain (n - 1))
+      (wanted-at n t ok s s v (s .label v)
       (record {
-        over = s .label v;
-        is-over =
-            record {
-              type = known;
-              under = λ q y i j. ap (λ w. table.below t (s .label v) (s .label w)) (some-unique j i) ∙ below-reflexive n t ok (s .label v) known;
-              greatest = λ b l under. under p v d d;
-            };
-        type = top-type n t ok;
-        restores =
-            meet-unique n t ok (n - 1) (s .label v) (s .label v) (top-type n t ok) known known (top-greatest n t ok (s .label v) known)
-            (below-reflexive n t ok (s .label v) known) (λ c l f e. e);
-        greatest = λ c l e. top-greatest n t ok c l;
-      })
+        known = known;
+        under = λ q y i j. ap (λ w. tableLabels n t .le (s .label v) (s .label w)) (some-unique j i) ∙ le-reflexive n t ok (s .label v) known;
+        greatest = λ b l under. under p v d d;
+      }) known (le-reflexive n t ok (s .label v) known) (plain (n - 1)) .0 (wanted-label-of-same n t ok (s .label v) known))
 
 module _ (n : ℕ) (t a : List ℕ) (s : List (Row Label)) (opens : opened n t ≡ Accepted) (reads : reading n a ≡ accepted s) where
   given : Given n t a a s s
@@ -152,7 +157,7 @@ module _ (n : ℕ) (t a : List ℕ) (s : List (Row Label)) (opens : opened n t �
   size : OfAnySize n t (graphOfRows s)
   size = accepted-of-any-size n a s reads t
 
-  below : Below (typeLabels n t) (graphOfRows s) (graphOfRows s)
+  below : Below (tableLabels n t) (graphOfRows s) (graphOfRows s)
   below = below-self n t ok (graphOfRows s) size
 
   abbrev d : Graph Label ℕ
@@ -162,7 +167,7 @@ module _ (n : ℕ) (t a : List ℕ) (s : List (Row Label)) (opens : opened n t �
   restores = remainder-restores n t a a s s given below (all-wanted n t a a s s given below (none-unwanted n t ok (graphOfRows s) size))
 
   -- that it is not above a lone top is refuted
-  not-strict : (Below (typeLabels n t) (top n t ok) d → ⊥) → ⊥
+  not-strict : (Below (tableLabels n t) (top n t ok) d → ⊥) → ⊥
   not-strict strict =
       restores .most-general (top n t ok) (top-size n t ok) (below-top n t ok d (restores .of-any-size), strict) (graphOfRows s)
       (record {
@@ -173,19 +178,19 @@ module _ (n : ℕ) (t a : List ℕ) (s : List (Row Label)) (opens : opened n t �
       }) .1 below
 
   -- so, the order being decided, it means a lone top
-  means-top : SameMeaning (typeLabels n t) (top n t ok) d
+  means-top : SameMeaning (tableLabels n t) (top n t ok) d
   means-top =
       let small = remainder-small n t a a s s given below (all-wanted n t a a s s given below (none-unwanted n t ok (graphOfRows s) size)) in
       let (form, fits) =
       canonical-fits eqb tells-eqb d (restores .of-any-size .any-size .features) .0 (λ m. small (inl m), λ m. small (inr m)) in
-      let (reads, means) = written-reads n t eqb tells-eqb d (restores .of-any-size) form fits in
+      let (reads, means) = written-reads n t eqb tells-eqb d (restores .of-any-size) form fits (seven-bits n t ok d (restores .of-any-size)) in
       let rules = accepted-rules n (encoded form) form reads in
       let exact =
-      subsumes-exact (typeLabels n t) eqb eqb tells-eqb tells-eqb (top n t ok) (graphOfRows form)
+      subsumes-exact (tableLabels n t) eqb eqb tells-eqb tells-eqb (top n t ok) (graphOfRows form)
       (accepted-of-any-size n (encoded form) form reads t .any-size .features) (length form) (short n t form form rules) in
       same-top n t ok d (restores .of-any-size)
       (same-below-right (same-sym means) (exact .0
-      (not-false-true (subsumes (typeLabels n t) eqb eqb (top n t ok) (graphOfRows form) (length form))
+      (not-false-true (subsumes (tableLabels n t) eqb eqb (top n t ok) (graphOfRows form) (length form))
       (λ e. not-strict (λ lies. true-false (exact .1 (same-below-right means lies)) e)))))
 
   pub itself : (out : List ℕ) → differing n t a a out ≡ resultOf (fitted (loneTop n) out)
@@ -193,6 +198,6 @@ module _ (n : ℕ) (t a : List ℕ) (s : List (Row Label)) (opens : opened n t �
   itself out =
       remainder-result n t a a s s given out below (all-wanted n t a a s s given below (none-unwanted n t ok (graphOfRows s) size)) ∙
       ap (λ c. resultOf (writtenOut c out))
-      (canonical-exact (typeLabels n t) eqb eqb tells-eqb tells-eqb (top n t ok) d (top-size n t ok .any-size .features)
-      (restores .of-any-size .any-size .features) ((n - 1, []) ∷ []) (lone-form (n - 1)) .0 means-top) ∙
+      (canonical-exact (tableLabels n t) eqb eqb tells-eqb tells-eqb (top n t ok) d (top-size n t ok .any-size .features)
+      (restores .of-any-size .any-size .features) ((plain (n - 1), []) ∷ []) (lone-form (plain (n - 1))) .0 means-top) ∙
       ap (λ (bytes : List ℕ). resultOf (fitted bytes out)) (lone-encoded n)

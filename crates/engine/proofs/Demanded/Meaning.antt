@@ -17,13 +17,13 @@ use Rattle.graphs.proofs.Form.Invariant.{same-canonical}
 use Rattle.lattice.specs.Label.{Label}
 use Rattle.lattice.specs.declared.Opened.the-variants.{Accepted}
 use Rattle.lattice.specs.Reply.{opened}
-use Rattle.lattice.specs.Labels.{typeLabels}
+use Rattle.lattice.specs.Labels.{tableLabels}
 use Rattle.lattice.proofs.Residuals.{opened-accepted}
 use Rattle.lattice.proofs.AnySize.{below-both}
 use Rattle.encode.specs.Encode.{encoded, fitted, writtenOut}
 use Rattle.record.specs.Read.{reading, accepted, graphOfRows}
 use Rattle.record.proofs.Rewritten.{form-again}
-use Rattle.record.proofs.Theorems.{accepted-of-any-size, accepted-fits}
+use Rattle.record.proofs.Theorems.{accepted-of-any-size, accepted-fits, accepted-types}
 use Rattle.record.proofs.Theorems as record-theorems
 use Rattle.engine.specs.declared.Reply.the-variants.{Length, Same}
 use Rattle.engine.specs.Reply.{Result, resultOf, ordering, rewriting}
@@ -37,20 +37,20 @@ module _ (n : ℕ) (t a : List ℕ) (rows : List (Row Label)) (opens : opened n 
   pub rewriting-writes : Writes n t eqb (graphOfRows rows) out (rewriting n t a out)
   rewriting-writes =
       subst (Writes n t eqb (graphOfRows rows) out) (sym (rewriting-is n t a rows opens reads out))
-      (result-writes n t eqb tells-eqb (graphOfRows rows) (accepted-of-any-size n a rows reads t) out)
+      (result-writes n t eqb tells-eqb (graphOfRows rows) (accepted-of-any-size n a rows reads t) (accepted-types n a rows reads) out)
 
 module _ (n : ℕ) (t a b : List ℕ) (s g : List (Row Label)) (given : Given n t a b s g) where
   -- equal meaning is the same reply and output
-  same-rewriting : SameMeaning (typeLabels n t) (graphOfRows s) (graphOfRows g) → (out : List ℕ) → rewriting n t a out ≡ rewriting n t b out
+  same-rewriting : SameMeaning (tableLabels n t) (graphOfRows s) (graphOfRows g) → (out : List ℕ) → rewriting n t a out ≡ rewriting n t b out
   same-rewriting m out =
       rewriting-is n t a s (given .opens) (given .first) out ∙
       ap (λ (c : Canonical Label). resultOf (writtenOut c out))
-      (same-canonical (typeLabels n t) eqb eqb tells-eqb tells-eqb (graphOfRows s) (graphOfRows g) m) ∙
+      (same-canonical (tableLabels n t) eqb eqb tells-eqb tells-eqb (graphOfRows s) (graphOfRows g) m) ∙
       sym (rewriting-is n t b g (given .opens) (given .second) out)
 
   -- equal bytes, whatever the output
   pub bytes-exact : (out : List ℕ) (l m : ℕ) → rewriting n t a out .reply ≡ Length l → rewriting n t b out .reply ≡ Length m →
-      SameMeaning (typeLabels n t) (graphOfRows s) (graphOfRows g) ↔
+      SameMeaning (tableLabels n t) (graphOfRows s) (graphOfRows g) ↔
       (take l (rewriting n t a out .output) ≡ take m (rewriting n t b out .output))
   bytes-exact out l m p q =
       let first = rewriting-writes n t a s (given .opens) (given .first) out .wrote l p in
@@ -62,12 +62,12 @@ module _ (n : ℕ) (t a b : List ℕ) (s g : List (Row Label)) (given : Given n 
       )
 
   -- and so for all outputs at once
-  pub meaning-exact : SameMeaning (typeLabels n t) (graphOfRows s) (graphOfRows g) ↔
+  pub meaning-exact : SameMeaning (tableLabels n t) (graphOfRows s) (graphOfRows g) ↔
       ((out : List ℕ) → rewriting n t a out ≡ rewriting n t b out)
   meaning-exact = (same-rewriting, λ all. go all (accepted-fits n a s (given .first)))
     where
       go : ((out : List ℕ) → rewriting n t a out ≡ rewriting n t b out) → (form : List (Row Label)) × (canonical eqb (graphOfRows s) ≡ written form) →
-          SameMeaning (typeLabels n t) (graphOfRows s) (graphOfRows g)
+          SameMeaning (tableLabels n t) (graphOfRows s) (graphOfRows g)
       go all (form, e) =
           let room : List ℕ = encoded form in
           let writes = rewriting-writes n t a s (given .opens) (given .first) room in
@@ -80,7 +80,7 @@ module _ (n : ℕ) (t a b : List ℕ) (s g : List (Row Label)) (given : Given n 
           (ap (λ (r : Result). take (length (encoded form)) (r .output)) (all room))
 
   -- "Graphs of equal meaning, and no others, are below each other."
-  pub order-same : (ordering n t a b ≡ Same) ↔ SameMeaning (typeLabels n t) (graphOfRows s) (graphOfRows g)
+  pub order-same : (ordering n t a b ≡ Same) ↔ SameMeaning (tableLabels n t) (graphOfRows s) (graphOfRows g)
   order-same =
       let accepts = opened-accepted n t (opened n t) refl (given .opens) in
       let (there, back) =
@@ -113,7 +113,7 @@ module _ (n : ℕ) (t a : List ℕ) (one : WrittenRecord n a) where
 
   -- one meaning has one such record
   pub one-form : (b : List ℕ) (other : WrittenRecord n b) →
-      SameMeaning (typeLabels n t) (graphOfRows (one .form)) (graphOfRows (other .form)) ↔ (a ≡ b)
+      SameMeaning (tableLabels n t) (graphOfRows (one .form)) (graphOfRows (other .form)) ↔ (a ≡ b)
   one-form b other =
       let (there, back) =
       record-theorems.meaning-exact n t a b (one .form) (other .form) (one .reads) (other .reads) (one .form) (other .form) (one .own) (other .own) in (

@@ -14,7 +14,7 @@ use Rattle.lattice.specs.Label.{Label}
 use Rattle.lattice.specs.declared.Opened.{Opened}
 use Rattle.lattice.specs.declared.Opened.the-variants as opened
 use Rattle.lattice.specs.Reply as table
-use Rattle.lattice.specs.Labels.{typeLabels}
+use Rattle.lattice.specs.Labels.{tableLabels}
 use Rattle.record.specs.Read.{Reading, refused, accepted, reading, graphOfRows}
 use Rattle.record.specs.declared.GraphFault.{GraphFault}
 use Rattle.record.proofs.Accepted.{accepted-rules}
@@ -64,16 +64,16 @@ module _ (n : ℕ) (t a b : List ℕ) (s g : List (Row Label)) (given : Given n 
   ordering-is = rw (given .opens, given .first, given .second)
 
   -- each test is of the order over paths
-  lower : (rowsBelow n t s g ≡ true) ↔ Below (typeLabels n t) (graphOfRows s) (graphOfRows g)
+  lower : (rowsBelow n t s g ≡ true) ↔ Below (tableLabels n t) (graphOfRows s) (graphOfRows g)
   lower = order-test n t s g (accepted-rules n b g (given .second))
 
-  upper : (rowsBelow n t g s ≡ true) ↔ Below (typeLabels n t) (graphOfRows g) (graphOfRows s)
+  upper : (rowsBelow n t g s ≡ true) ↔ Below (tableLabels n t) (graphOfRows g) (graphOfRows s)
   upper = order-test n t g s (accepted-rules n a s (given .first))
 
-  not-lower : (rowsBelow n t s g ≡ false) ↔ (Below (typeLabels n t) (graphOfRows s) (graphOfRows g) → ⊥)
+  not-lower : (rowsBelow n t s g ≡ false) ↔ (Below (tableLabels n t) (graphOfRows s) (graphOfRows g) → ⊥)
   not-lower = (λ q x. true-false (lower .1 x) q, λ none. not-true (rowsBelow n t s g) (λ q. none (lower .0 q)))
 
-  not-upper : (rowsBelow n t g s ≡ false) ↔ (Below (typeLabels n t) (graphOfRows g) (graphOfRows s) → ⊥)
+  not-upper : (rowsBelow n t g s ≡ false) ↔ (Below (tableLabels n t) (graphOfRows g) (graphOfRows s) → ⊥)
   not-upper = (λ q x. true-false (upper .1 x) q, λ none. not-true (rowsBelow n t g s) (λ q. none (upper .0 q)))
 
   -- an answer is given exactly where the tests give it
@@ -85,36 +85,36 @@ module _ (n : ℕ) (t a b : List ℕ) (s g : List (Row Label)) (given : Given n 
 
   -- Each of the four exactly where it is true over paths:
   pub same-exact : (ordering n t a b ≡ Same) ↔
-      (Below (typeLabels n t) (graphOfRows s) (graphOfRows g) × Below (typeLabels n t) (graphOfRows g) (graphOfRows s))
+      (Below (tableLabels n t) (graphOfRows s) (graphOfRows g) × Below (tableLabels n t) (graphOfRows g) (graphOfRows s))
   same-exact = (
     λ e. let (p, q) = answer-exact true true .0 e in (lower .0 p, upper .0 q),
     λ (x, y). answer-exact true true .1 (lower .1 x, upper .1 y),
   )
 
   pub under-exact : (ordering n t a b ≡ Under) ↔
-      (Below (typeLabels n t) (graphOfRows s) (graphOfRows g) × (Below (typeLabels n t) (graphOfRows g) (graphOfRows s) → ⊥))
+      (Below (tableLabels n t) (graphOfRows s) (graphOfRows g) × (Below (tableLabels n t) (graphOfRows g) (graphOfRows s) → ⊥))
   under-exact = (
     λ e. let (p, q) = answer-exact true false .0 e in (lower .0 p, not-upper .0 q),
     λ (x, y). answer-exact true false .1 (lower .1 x, not-upper .1 y),
   )
 
   pub above-exact : (ordering n t a b ≡ Above) ↔
-      (Below (typeLabels n t) (graphOfRows g) (graphOfRows s) × (Below (typeLabels n t) (graphOfRows s) (graphOfRows g) → ⊥))
+      (Below (tableLabels n t) (graphOfRows g) (graphOfRows s) × (Below (tableLabels n t) (graphOfRows s) (graphOfRows g) → ⊥))
   above-exact = (
     λ e. let (p, q) = answer-exact false true .0 e in (upper .0 q, not-lower .0 p),
     λ (x, y). answer-exact false true .1 (not-lower .1 y, upper .1 x),
   )
 
   pub neither-exact : (ordering n t a b ≡ Neither) ↔
-      ((Below (typeLabels n t) (graphOfRows s) (graphOfRows g) → ⊥) × (Below (typeLabels n t) (graphOfRows g) (graphOfRows s) → ⊥))
+      ((Below (tableLabels n t) (graphOfRows s) (graphOfRows g) → ⊥) × (Below (tableLabels n t) (graphOfRows g) (graphOfRows s) → ⊥))
   neither-exact = (
     λ e. let (p, q) = answer-exact false false .0 e in (not-lower .0 p, not-upper .0 q),
     λ (x, y). answer-exact false false .1 (not-lower .1 x, not-upper .1 y),
   )
 
   -- The order answers same or under exactly where the first graph is below the second, and above or neither exactly where it is not.
-  pub order-exact : (AnswersBelow n t a b ↔ Below (typeLabels n t) (graphOfRows s) (graphOfRows g)) ×
-      (AnswersNotBelow n t a b ↔ (Below (typeLabels n t) (graphOfRows s) (graphOfRows g) → ⊥))
+  pub order-exact : (AnswersBelow n t a b ↔ Below (tableLabels n t) (graphOfRows s) (graphOfRows g)) ×
+      (AnswersNotBelow n t a b ↔ (Below (tableLabels n t) (graphOfRows s) (graphOfRows g) → ⊥))
   order-exact = (
     (
       λ answer. ⊎-elim (λ (e : ordering n t a b ≡ Same). same-exact .0 e .0) (λ (e : ordering n t a b ≡ Under). under-exact .0 e .0) answer,

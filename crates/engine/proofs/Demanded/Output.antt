@@ -1,22 +1,24 @@
 -- What the calls leave in the output, whatever is handed in: a refusal leaves it as it was, and beside a length stands a record that is
 -- accepted when it is read. And 11 is no reply of the difference or of rewriting.
 use mathlib.Core.Path.{_≡_, refl, sym, _∙_, ap, subst}
-use mathlib.Core.Bool.{Bool}
+use mathlib.Core.Bool.{Bool, true}
 use mathlib.Core.List.{List}
 use mathlib.Core.Logic.{inl, inr, ⊎-elim}
 use mathlib.Core.Option.{some}
-use Prim.Native.Nat.{ℕ, _≤_}
+use Prim.Native.Nat.{ℕ, _≤_, _<_}
 use native.Mathlib.Omega.{arith}
 use lib.Dec.{eqb}
 use lib.ListN.{length, take}
-use Rattle.graphs.specs.Graph.{Graph, Tells}
+use Rattle.graphs.specs.Graph.{Graph, Tells, Reached}
 use Rattle.graphs.specs.Rows.{Row}
 use Rattle.graphs.proofs.Lists.{tells-eqb}
 use Rattle.lattice.specs.Label.{Label}
 use Rattle.lattice.specs.declared.TableFault.{TableFault}
 use Rattle.lattice.specs.declared.Opened.{Opened}
 use Rattle.lattice.specs.declared.Opened.the-variants as opened
+use Rattle.lattice.specs.Table as types
 use Rattle.lattice.specs.Reply as table
+use Rattle.lattice.proofs.Residuals.{opened-accepted}
 use Rattle.lattice.specs.Labels.{OfAnySize}
 use Rattle.encode.specs.Encode.{encoded}
 use Rattle.encode.proofs.Lengths.{longest}
@@ -25,7 +27,7 @@ use Rattle.record.specs.Read.{Reading, refused, accepted, reading, graphNumber,
 use Rattle.record.proofs.Nodes.{few-nodes, few-links}
 use Rattle.record.proofs.Accepted.{rules-linked, accepted-rules}
 use Rattle.record.proofs.Rewritten.{written-injective, form-again}
-use Rattle.record.proofs.Theorems.{accepted-of-any-size}
+use Rattle.record.proofs.Theorems.{accepted-of-any-size, accepted-types}
 use Rattle.generalize.specs.Pairs.{samePair}
 use Rattle.generalize.proofs.Sides.{tells-pair}
 use Rattle.engine.specs.declared.Side.{Side}
@@ -36,7 +38,7 @@ use Rattle.engine.specs.Reply.{Result, refusal, refusing, checked, readB
 use Rattle.engine.specs.Unification.{sameEither, unifiedRows, unifying}
 use Rattle.engine.specs.Difference.{differedRows, differing}
 use Rattle.engine.specs.Demand.{Given, Leaves, Large, common, remainder}
-use Rattle.engine.proofs.Results.{resultFor, result-writes}
+use Rattle.engine.proofs.Results.{resultFor, result-writes, seven-bits}
 use Rattle.engine.proofs.Demanded.CommonPart.{common-part-exists}
 use Rattle.engine.proofs.Demanded.Combination.{refused-cycle, refused-clash, written, tells-either, combination-told}
 use Rattle.engine.proofs.Demanded.Combination as Combined
@@ -53,7 +55,7 @@ use Rattle.engine.proofs.Demanded.Difference as Differed
 
 module _ (n : ℕ) (out : List ℕ) where
   -- the record beside a length is accepted, so it is no longer than the longest
-  pub length-bounded : (r : Result) → Leaves n out r → (l : ℕ) → r .reply ≡ replies.Length l → l ≤ 4344
+  pub length-bounded : (r : Result) → Leaves n out r → (l : ℕ) → r .reply ≡ replies.Length l → l ≤ 4854
   length-bounded r leaves l q =
       let record-is = leaves .holds l q in
       let rules = accepted-rules n (take l (r .output)) (record-is .form) (record-is .reads) in
@@ -72,9 +74,9 @@ module _ (n : ℕ) (out : List ℕ) where
       none l q = let z : _≡_ {A = ℕ} 0 1 = cc (e, ap refusal q) in omega arith
 
   graph-leaves : (t : List ℕ) {C : Type 0} (same : C → C → Bool) → Tells same → (k : Graph Label C) → OfAnySize n t k →
-      Leaves n out (resultFor same k out)
-  graph-leaves t same tells k size =
-      let writes = result-writes n t same tells k size out in
+      ((v : C) → Reached k v → k .label v .type < 128) → Leaves n out (resultFor same k out)
+  graph-leaves t same tells k size types =
+      let writes = result-writes n t same tells k size types out in
       record {
         refused = λ i q.
             ⊎-elim (λ e. writes .unchanged (inl e))
@@ -100,7 +102,7 @@ module _ (n : ℕ) (out : List ℕ) where
   -- What holds of a call: what holds of every refusal of what is handed in, and of accepted records over an accepted table.
   module _ (t : List ℕ) (P : Result → Type 0) (table-refused : (fault : TableFault) → P (refusing (replies.Table fault) out))
       (graph-refused : (fault : GraphFault) (side : Side) → P (refusing (replies.Graph fault side) out)) where
-    of-one : (bytes : List ℕ) →
+    pub of-one : (bytes : List ℕ) →
         ((rows : List (Row Label)) → reading n bytes ≡ accepted rows → P (resultFor eqb (graphOfRows rows) out)) →
         P (rewriting n t bytes out)
     unfolding rewriting
@@ -114,7 +116,7 @@ module _ (n : ℕ) (out : List ℕ) where
         go (opened.Refused fault) = table-refused fault
         go opened.Accepted = read (reading n bytes) refl
 
-    of-two : (a b : List ℕ) (next : List (Row Label) → List (Row Label) → Result) → ((g h : List (Row Label)) → Given n t a b g h → P (next g h)) →
+    pub of-two : (a b : List ℕ) (next : List (Row Label) → List (Row Label) → Result) → ((g h : List (Row Label)) → Given n t a b g h → P (next g h)) →
         P (checked (λ r. refusing r out) (table.opened n t) (readBoth (λ r. refusing r out) (reading n a) (reading n b) next))
     of-two a b next holds = go (table.opened n t) refl
       where
@@ -135,9 +137,13 @@ module _ (n : ℕ) (t a b : List ℕ) {g h : List (Row Label)} (given : Given n 
   unfolding unifying
   unifying-next = rw (given .opens, given .first, given .second)
 
-  differing-next : differing n t a b out ≡ differedRows n t out g h
+  pub differing-next : differing n t a b out ≡ differedRows n t out g h
   unfolding differing
   differing-next = rw (given .opens, given .first, given .second)
+
+-- the table is accepted
+accepts : {n : ℕ} {t a b : List ℕ} {g h : List (Row Label)} → Given n t a b g h → types.accepted n t ≡ true
+accepts {n} {t} given = opened-accepted n t (table.opened n t) refl (given .opens)
 
 -- Every refusal leaves the output as it was, and beside a length stands a record.
 module _ (n : ℕ) (t : List ℕ) (out : List ℕ) where
@@ -150,14 +156,16 @@ module _ (n : ℕ) (t : List ℕ) (out : List ℕ) where
   pub rewriting-leaves : (bytes : List ℕ) → Leaves n out (rewriting n t bytes out)
   rewriting-leaves bytes =
       of-one n out t (Leaves n out) table-leaves graph-fault-leaves bytes
-      (λ rows e. graph-leaves n out t eqb tells-eqb (graphOfRows rows) (accepted-of-any-size n bytes rows e t))
+      (λ rows e. graph-leaves n out t eqb tells-eqb (graphOfRows rows) (accepted-of-any-size n bytes rows e t) (accepted-types n bytes rows e))
 
   module _ (a b : List ℕ) where
     pub generalizing-leaves : Leaves n out (generalizing n t a b out)
     unfolding generalizing generalized
     generalizing-leaves =
         of-two n out t (Leaves n out) table-leaves graph-fault-leaves a b (generalized n t out)
-        (λ g h given. graph-leaves n out t samePair tells-pair (common n t g h) (common-part-exists n t a b g h given .of-any-size))
+        (λ g h given.
+        let size = common-part-exists n t a b g h given .of-any-size in
+        graph-leaves n out t samePair tells-pair (common n t g h) size (seven-bits n t (accepts given) (common n t g h) size))
 
     pub unifying-leaves : Leaves n out (unifying n t a b out)
     unfolding unifying
@@ -169,7 +177,7 @@ module _ (n : ℕ) (t : List ℕ) (out : List ℕ) where
         leaves g h given (refused-cycle e) = subst (Leaves n out) (sym e) (refusing-leaves n out replies.Cycle 9 refl)
         leaves g h given (refused-clash e) = subst (Leaves n out) (sym e) (refusing-leaves n out replies.Clash 10 refl)
         leaves g h given (written u is best e) =
-            subst (Leaves n out) (sym e) (graph-leaves n out t sameEither tells-either u (best .of-any-size))
+            subst (Leaves n out) (sym e) (graph-leaves n out t sameEither tells-either u (best .of-any-size) (seven-bits n t (accepts given) u (best .of-any-size)))
 
     pub differing-leaves : Leaves n out (differing n t a b out)
     unfolding differing
@@ -182,7 +190,8 @@ module _ (n : ℕ) (t : List ℕ) (out : List ℕ) where
         leaves g s given (not-below e) = subst (Leaves n out) (sym e) (refusing-leaves n out replies.NotBelow 12 refl)
         leaves g s given (differs below wants) =
             subst (Leaves n out) (sym (remainder-result n t a b g s given out below wants))
-            (graph-leaves n out t eqb tells-eqb (remainder n t g s) (remainder-restores n t a b g s given below wants .of-any-size))
+            (let size = remainder-restores n t a b g s given below wants .of-any-size in
+            graph-leaves n out t eqb tells-eqb (remainder n t g s) size (seven-bits n t (accepts given) (remainder n t g s) size))
 
 -- 11 does not occur where the result is no larger than an accepted record.
 abbrev NotLarge : Result → Type 0
@@ -195,15 +204,16 @@ module _ (n : ℕ) (t : List ℕ) (out : List ℕ) where
   graph-fault-small : (fault : GraphFault) (side : Side) → NotLarge (refusing (replies.Graph fault side) out)
   graph-fault-small fault side e = let z : _≡_ {A = ℕ} 0 1 = cc in omega arith
 
-  graph-small : (k : Graph Label ℕ) → OfAnySize n t k → (Large k → ⊥) → NotLarge (resultFor eqb k out)
-  graph-small k size small e = small (result-writes n t eqb tells-eqb k size out .too-large .0 e)
+  graph-small : (k : Graph Label ℕ) → OfAnySize n t k → ((v : ℕ) → Reached k v → k .label v .type < 128) → (Large k → ⊥) →
+      NotLarge (resultFor eqb k out)
+  graph-small k size types small e = small (result-writes n t eqb tells-eqb k size types out .too-large .0 e)
 
   pub rewriting-small : (bytes : List ℕ) → rewriting n t bytes out .reply ≡ replies.TooLarge → ⊥
   rewriting-small bytes =
       of-one n out t NotLarge table-small graph-fault-small bytes
       (λ rows e.
       let rules = accepted-rules n bytes rows e in
-      graph-small (graphOfRows rows) (accepted-of-any-size n bytes rows e t)
+      graph-small (graphOfRows rows) (accepted-of-any-size n bytes rows e t) (accepted-types n bytes rows e)
       (⊎-elim (few-nodes rows (rules-linked rules) (rules .short)) (few-links rows (rules .links))))
 
   pub differing-small : (a b : List ℕ) → differing n t a b out .reply ≡ replies.TooLarge → ⊥
@@ -217,5 +227,6 @@ module _ (n : ℕ) (t : List ℕ) (out : List ℕ) where
       small g s given (not-below e) = subst NotLarge (sym e) (λ q. let z : _≡_ {A = ℕ} 0 1 = cc in omega arith)
       small g s given (differs below wants) =
           subst NotLarge (sym (remainder-result n t a b g s given out below wants))
-          (graph-small (remainder n t g s) (remainder-restores n t a b g s given below wants .of-any-size)
+          (let size = remainder-restores n t a b g s given below wants .of-any-size in
+          graph-small (remainder n t g s) size (seven-bits n t (accepts given) (remainder n t g s) size)
           (remainder-small n t a b g s given below wants))

@@ -1,10 +1,10 @@
--- The difference of rows that keep the rules of accepted records, s below g, where every node of s has a wanted type: it is the difference
--- that the theory of graphs speaks of, over the table's lattice of types.
+-- The difference of rows that keep the rules of accepted records, s below g, where every node of s has a wanted label: it is the difference
+-- that the theory of graphs speaks of, over the table's lattice of labels.
 use mathlib.Core.Path.{_≡_, refl, sym, _∙_, ap, ap₂, subst}
 use mathlib.Core.Bool.{true}
 use mathlib.Core.List.{List}
 use mathlib.Core.Logic.{inl, inr, ⊎-elim}
-use mathlib.Core.Option.{some}
+use mathlib.Core.Option.{Option, some, Option·getD}
 use Prim.Native.Nat.{ℕ, _<_}
 use lib.Dec.{eqb}
 use lib.ListN.{length}
@@ -15,11 +15,11 @@ use Rattle.graphs.proofs.Walk.{some-injective, snoc-induction, follow-nil, foll
 use Rattle.graphs.proofs.Lists.{tells-eqb}
 use Rattle.graphs.proofs.Difference.ByNumber.{by-number-order}
 use Rattle.graphs.proofs.Difference.Computed.{Setting}
-use Rattle.lattice.specs.Label.{Label}
+use Rattle.lattice.specs.Label.{Label, noLabel}
 use Rattle.lattice.specs.Table as table
-use Rattle.lattice.specs.Labels.{typeLabels, OfAnySize, GreatestOfAnySize}
-use Rattle.lattice.proofs.Laws.{wanted-type}
-use Rattle.lattice.proofs.Lawful.{TypeBelow, lawful, lawful-lattice, lawful-wanted}
+use Rattle.lattice.specs.Labels.{tableLabels, Known, wantedLabel, OfAnySize, GreatestOfAnySize}
+use Rattle.lattice.proofs.WantedLabels.{lawful-wanted}
+use Rattle.lattice.proofs.Lawful.{KnownLabel, lawful, lawful-lattice}
 use Rattle.lattice.proofs.Transfer.{lift, map-lift, lift-any-size}
 use Rattle.lattice.proofs.AnySize.{
   difference-of-any-size,
@@ -35,10 +35,10 @@ use Rattle.record.specs.Read.{graphOfRows}
 use Rattle.record.proofs.Nodes.{few-nodes, few-links}
 use Rattle.record.proofs.Accepted.{Rules, rules-linked}
 use Rattle.difference.specs.Promise.{wantedAlong, differenceAlong}
-use Rattle.engine.specs.Difference.{over, wantedType, allWanted, differenceRows}
+use Rattle.engine.specs.Difference.{over, wantedAt, allWanted, differenceRows}
 use Rattle.engine.specs.Demand.{Large, Restores}
 use Rattle.engine.proofs.Over.{over-map}
-use Rattle.engine.proofs.Demanded.Wanted.{general-size, specific-size, operands, labelOver, meet-number, s-number, wanted-found}
+use Rattle.engine.proofs.Demanded.Wanted.{general-size, specific-size, operands, labelOver, meet-label, s-label, label-below, wanted-exact, wanted-found}
 
 -- a graph whose links are links of another from the same root reaches no more of it
 fewer-reached : {L A : Type 0} (d s : Graph L A) → d .root ≡ s .root →
@@ -70,7 +70,7 @@ fewer-large d s same links (inr (ls, distinct, all, many)) =
     )
 
 module _ (n : ℕ) (t : List ℕ) (ok : table.accepted n t ≡ true) (g s : List (Row Label)) (general : Rules n g) (specific : Rules n s)
-    (below : Below (typeLabels n t) (graphOfRows s) (graphOfRows g)) where
+    (below : Below (tableLabels n t) (graphOfRows s) (graphOfRows g)) where
   abbrev g-size : OfAnySize n t (graphOfRows g)
   g-size = general-size n t ok g s general specific below
 
@@ -78,41 +78,44 @@ module _ (n : ℕ) (t : List ℕ) (ok : table.accepted n t ≡ true) (g s : List
   s-size = specific-size n t ok g s general specific below
 
   module _ (all : allWanted n t s g ≡ true) where
-    found : (v : ℕ) → (c : ℕ) × (wantedType n t s g v ≡ some c)
+    found : (v : ℕ) → (c : Label) × (wantedAt n t s g v ≡ some c)
     found = wanted-found n t ok g s general specific below all
 
-    -- the wanted types, as labels
-    wanted-low : (v : ℕ) → table.cell (wantedType n t s g v) < n
-    unfolding wantedAlong
-    wanted-low v =
+    abbrev orNone : Option Label → Label
+    orNone o = Option·getD o noLabel
+
+    -- the wanted labels, as those of the lattice
+    wanted-known : (v : ℕ) → Known n (orNone (wantedAt n t s g v))
+    wanted-known v =
         let (c, e) = found v in
-        subst (λ (x : ℕ). x < n) (sym (ap table.cell e))
-        (wanted-type n t (graphOfRows s .label v) (meetOver (typeLabels n t) eqb (graphOfRows g) (from 0 (length g)) (over s g) v) c e)
+        subst (Known n) (sym (ap orNone e)) (wanted-exact n t ok g s general specific below v c .0 e .known)
 
-    abbrev wantedLabel : ℕ → TypeBelow n
-    wantedLabel v = (table.cell (wantedType n t s g v), wanted-low v)
+    abbrev wantedOf : ℕ → KnownLabel n
+    wantedOf v = (orNone (wantedAt n t s g v), wanted-known v)
 
-    wanted-label : (v : ℕ) →
-        IsWanted (lawful n t ok) (labelOver n t ok g s general specific below v) (lift n t ok (graphOfRows s) .label v) (wantedLabel v)
+    wanted-is : (v : ℕ) →
+        IsWanted (lawful n t ok) (labelOver n t ok g s general specific below v) (lift n t ok (graphOfRows s) .label v) (wantedOf v)
     unfolding wantedAlong
-    wanted-label v =
+    wanted-is v =
         let (c, e) = found v in
-        lawful-wanted n t ok (labelOver n t ok g s general specific below v) (lift n t ok (graphOfRows s) .label v) (wantedLabel v)
-        (ap₂ (table.wanted n t) (s-number n t ok g s general specific below v) (sym (meet-number n t ok g s general specific below v)) ∙ e ∙
-        ap some (sym (ap table.cell e)))
+        lawful-wanted n t ok (labelOver n t ok g s general specific below v) (lift n t ok (graphOfRows s) .label v) (wantedOf v)
+        (ap₂ (tableLabels n t .le) (s-label n t ok g s general specific below v) (sym (meet-label n t ok g s general specific below v)) ∙
+        label-below n t ok g s general specific below v)
+        (ap₂ (wantedLabel n t) (s-label n t ok g s general specific below v) (sym (meet-label n t ok g s general specific below v)) ∙ e ∙
+        ap some (sym (ap orNone e)))
 
-    -- the difference by those types
-    abbrev byTypes : Graph Label ℕ
-    byTypes =
-        difference (typeLabels n t) eqb eqb byNumber (graphOfRows s) (from 0 (length s)) (graphOfRows g) (from 0 (length g)) (over s g)
-        (λ v. wantedLabel v .0)
+    -- the difference by those labels
+    abbrev byLabels : Graph Label ℕ
+    byLabels =
+        difference (tableLabels n t) eqb eqb byNumber (graphOfRows s) (from 0 (length s)) (graphOfRows g) (from 0 (length g)) (over s g)
+        (λ v. wantedOf v .0)
 
-    rows-difference : differenceRows n t g s ≡ byTypes
+    rows-difference : differenceRows n t g s ≡ byLabels
     unfolding differenceAlong
     rows-difference = refl
 
     setting : Setting (lawful n t ok) eqb eqb byNumber (lift n t ok (graphOfRows s)) (from 0 (length s)) (lift n t ok (graphOfRows g))
-        (from 0 (length g)) (over s g) wantedLabel
+        (from 0 (length g)) (over s g) wantedOf
     setting =
         record {
           lattice = lawful-lattice n t ok;
@@ -120,7 +123,7 @@ module _ (n : ℕ) (t : List ℕ) (ok : table.accepted n t ≡ true) (g s : List
           order = by-number-order;
           sound = lift-any-size n t ok (graphOfRows s) s-size;
           map = map-lift n t ok (graphOfRows s) (graphOfRows g) (s-size .typed) (g-size .typed) (over s g) .0 (over-map n t g s general below);
-          wants = λ v _. wanted-label v;
+          wants = λ v _. wanted-is v;
         }
 
     -- It is no larger than s, so that it always can be written.
@@ -128,8 +131,8 @@ module _ (n : ℕ) (t : List ℕ) (ok : table.accepted n t ≡ true) (g s : List
     unfolding difference
     rows-small large =
         ⊎-elim (few-nodes s (rules-linked specific) (specific .short)) (few-links s (specific .links))
-        (fewer-large byTypes (graphOfRows s) refl
-        (difference-links n t ok eqb eqb byNumber (graphOfRows s) (from 0 (length s)) (graphOfRows g) (from 0 (length g)) (over s g) wantedLabel
+        (fewer-large byLabels (graphOfRows s) refl
+        (difference-links n t ok eqb eqb byNumber (graphOfRows s) (from 0 (length s)) (graphOfRows g) (from 0 (length g)) (over s g) wantedOf
         s-size g-size setting)
         (subst (λ (k : Graph Label ℕ). Large k) rows-difference large))
 
@@ -142,21 +145,21 @@ module _ (n : ℕ) (t : List ℕ) (ok : table.accepted n t ≡ true) (g s : List
           restores = best;
           most-general = λ e c (above, strict) u is.
               difference-most-general n t ok eqb eqb byNumber (graphOfRows s) (from 0 (length s)) (graphOfRows g) (from 0 (length g)) (over s g)
-              wantedLabel s-size g-size setting e c above strict u is;
+              wantedOf s-size g-size setting e c above strict u is;
           combines = λ same tells e c (above, _).
               let (u, q) =
               unification-exists n t ok same eqb tells tells-eqb e (graphOfRows g) c g-size (graphOfRows s) s-size
-              (below-transitive n t ok (graphOfRows s) byTypes e s-size size c (best .left) above) below in
+              (below-transitive n t ok (graphOfRows s) byLabels e s-size size c (best .left) above) below in
               let (bounded, is) = unification-combination n t ok same eqb tells tells-eqb e (graphOfRows g) c g-size u q in
               (u, is, combination-greatest n t ok e (graphOfRows g) c g-size u bounded is);
         })
       where
-        size : OfAnySize n t byTypes
+        size : OfAnySize n t byLabels
         size =
             difference-of-any-size n t ok eqb eqb byNumber (graphOfRows s) (from 0 (length s)) (graphOfRows g) (from 0 (length g)) (over s g)
-            wantedLabel s-size g-size setting
+            wantedOf s-size g-size setting
 
-        best : GreatestOfAnySize n t byTypes (graphOfRows g) (graphOfRows s)
+        best : GreatestOfAnySize n t byLabels (graphOfRows g) (graphOfRows s)
         best =
             difference-restores n t ok eqb eqb byNumber (graphOfRows s) (from 0 (length s)) (graphOfRows g) (from 0 (length g)) (over s g)
-            wantedLabel s-size g-size setting
+            wantedOf s-size g-size setting

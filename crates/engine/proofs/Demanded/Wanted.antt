@@ -1,4 +1,4 @@
--- The wanted types of the nodes of s, for rows that keep the rules of accepted records, s below g: what is computed over the lists of
+-- The wanted labels of the nodes of s, for rows that keep the rules of accepted records, s below g: what is computed over the lists of
 -- nodes is what the graphs say over their paths.
 use mathlib.Core.Path.{_≡_, refl, sym, _∙_, ap, ap₂, subst}
 use mathlib.Core.Bool.{Bool, true, false, cond, _&&_}
@@ -21,17 +21,18 @@ use Rattle.graphs.proofs.Search.{true-false, not-true}
 use Rattle.graphs.proofs.Below.{walk-map, same-sym}
 use Rattle.graphs.proofs.Unification.Beside.{Operands}
 use Rattle.graphs.proofs.Difference.Wanted.{meetOver-under, label-under}
-use Rattle.lattice.specs.Label.{Label}
+use Rattle.lattice.specs.Label.{Label, plain, noLabel}
 use Rattle.lattice.specs.Table as table
-use Rattle.lattice.specs.Labels.{typeLabels, OfAnySize, BelowOver, MeetOver, WantedAt, SomeUnwanted}
+use Rattle.lattice.specs.Labels.{tableLabels, Known, wantedLabel, OfAnySize, BelowOver, MeetOver, WantedAt, SomeUnwanted}
 use Rattle.lattice.proofs.Every.{every-at, every-fails, found-some}
-use Rattle.lattice.proofs.Laws.{zero-type, below-antisymmetric, wanted-sound, wanted-unique, wanted-by-top}
-use Rattle.lattice.proofs.Lawful.{TypeBelow, typed-number, lawful, lawful-lattice}
-use Rattle.lattice.proofs.Transfer.{lift, map-lift, meetOver-number}
+use Rattle.lattice.proofs.Laws.{zero-type}
+use Rattle.lattice.proofs.WantedLabels.{wanted-at, wanted-label-by-top}
+use Rattle.lattice.proofs.Lawful.{KnownLabel, known-label, plain-known, lawful, lawful-lattice}
+use Rattle.lattice.proofs.Transfer.{lift, map-lift, meetOver-label}
 use Rattle.record.specs.Read.{graphOfRows}
 use Rattle.record.proofs.Accepted.{Rules, rules-of-any-size, rules-nodes}
 use Rattle.difference.specs.Promise.{wantedAlong, allWantedAlong}
-use Rattle.engine.specs.Difference.{over, wantedType, allWanted}
+use Rattle.engine.specs.Difference.{over, wantedAt, allWanted}
 use Rattle.engine.proofs.Tables.{label-known}
 use Rattle.engine.proofs.Over.{over-map}
 
@@ -59,19 +60,19 @@ every-missed p (suc n) e = go (p n) refl (every-missed p n)
     go false q before = (n, omega arith, q)
     go true q before = let (k, l, r) = before (first (table.every n p) (p n) q e) in (k, omega arith, r)
 
--- Graphs of one meaning have the same wanted types, whatever lies over them.
-module _ (n : ℕ) (t : List ℕ) {A C B : Type 0} {s : Graph Label A} {r : Graph Label C} (g : Graph Label B) (same : SameMeaning (typeLabels n t) s r) where
+-- Graphs of one meaning have the same wanted labels, whatever lies over them.
+module _ (n : ℕ) (t : List ℕ) {A C B : Type 0} {s : Graph Label A} {r : Graph Label C} (g : Graph Label B) (same : SameMeaning (tableLabels n t) s r) where
   -- a path that leads to w in r leads to the node v of s that a path leads to together with w
   same-path : {v : A} {w : C} (p q : List ℕ) → walk s p ≡ some v → walk r p ≡ some w → walk r q ≡ some w → walk s q ≡ some v
   same-path {v} {w} p q d e f =
       let (x, i, j) = same .corefers p q .1 (w, e, f) in
       subst (λ y. walk s q ≡ some y) (some-unique i d) j
 
-  same-over : {v : A} {w : C} (p : List ℕ) → walk s p ≡ some v → walk r p ≡ some w → (a : ℕ) → BelowOver n t s g v a → BelowOver n t r g w a
+  same-over : {v : A} {w : C} (p : List ℕ) → walk s p ≡ some v → walk r p ≡ some w → (a : Label) → BelowOver n t s g v a → BelowOver n t r g w a
   same-over p d e a under q y f i = under q y (same-path p q d e f) i
 
-same-wanted : (n : ℕ) (t : List ℕ) {A C B : Type 0} (s : Graph Label A) (r : Graph Label C) (g : Graph Label B) → SameMeaning (typeLabels n t) s r →
-    (p : List ℕ) (v : A) (w : C) → walk s p ≡ some v → walk r p ≡ some w → (c : ℕ) → WantedAt n t r g w c → WantedAt n t s g v c
+same-wanted : (n : ℕ) (t : List ℕ) {A C B : Type 0} (s : Graph Label A) (r : Graph Label C) (g : Graph Label B) → SameMeaning (tableLabels n t) s r →
+    (p : List ℕ) (v : A) (w : C) → walk s p ≡ some v → walk r p ≡ some w → (c : Label) → WantedAt n t r g w c → WantedAt n t s g v c
 same-wanted n t s r g same p v w d e c is =
     let (x, i, labels) = same .there p v d in
     let label : s .label v ≡ r .label w = labels ∙ ap (r .label) (some-unique i e) in
@@ -79,23 +80,23 @@ same-wanted n t s r g same p v w d e c is =
       over = is .over;
       is-over =
           record {
-            type = is .is-over .type;
+            known = is .is-over .known;
             under = same-over n t g (same-sym same) p e d (is .over) (is .is-over .under);
             greatest = λ b l under. is .is-over .greatest b l (same-over n t g same p d e b under);
           };
-      type = is .type;
-      restores = is .restores ∙ ap some (sym label);
-      greatest = λ b l f. is .greatest b l (f ∙ ap some label);
+      known = is .known;
+      restores = is .restores ∙ sym label;
+      greatest = λ b l f. is .greatest b l (f ∙ label);
     }
 
-pub same-unwanted : (n : ℕ) (t : List ℕ) {A C B : Type 0} (s : Graph Label A) (r : Graph Label C) (g : Graph Label B) → SameMeaning (typeLabels n t) s r →
+pub same-unwanted : (n : ℕ) (t : List ℕ) {A C B : Type 0} (s : Graph Label A) (r : Graph Label C) (g : Graph Label B) → SameMeaning (tableLabels n t) s r →
     SomeUnwanted n t s g → SomeUnwanted n t r g
 same-unwanted n t s r g same (v, (p, d), nothing) =
     let (w, e, _) = same .there p v d in
     (w, (p, e), λ c is. nothing c (same-wanted n t s r g same p v w d e c is))
 
 module _ (n : ℕ) (t : List ℕ) (ok : table.accepted n t ≡ true) (g s : List (Row Label)) (general : Rules n g) (specific : Rules n s)
-    (below : Below (typeLabels n t) (graphOfRows s) (graphOfRows g)) where
+    (below : Below (tableLabels n t) (graphOfRows s) (graphOfRows g)) where
   pub general-size : OfAnySize n t (graphOfRows g)
   general-size = rules-of-any-size n g general t
 
@@ -123,99 +124,89 @@ module _ (n : ℕ) (t : List ℕ) (ok : table.accepted n t ≡ true) (g s : List
   node-inside : (v : ℕ) → Reached (graphOfRows s) v → v < length s
   node-inside v r = omega (arith, from-range 0 (length s) v (operands .lists-left .listed v .0 r))
 
-  -- the meet of the types of g over v, as it is computed, and the same among the labels of the lattice
-  abbrev meetAt : ℕ → ℕ
-  meetAt v = meetOver (typeLabels n t) eqb (graphOfRows g) (from 0 (length g)) (over s g) v
+  -- the meet of the labels of g over v, as it is computed, and the same among the labels of the lattice
+  abbrev meetAt : ℕ → Label
+  meetAt v = meetOver (tableLabels n t) eqb (graphOfRows g) (from 0 (length g)) (over s g) v
 
-  abbrev pub labelOver : ℕ → TypeBelow n
+  abbrev pub labelOver : ℕ → KnownLabel n
   labelOver v = meetOver (lawful n t ok) eqb (lift n t ok (graphOfRows g)) (from 0 (length g)) (over s g) v
 
-  pub meet-number : (v : ℕ) → meetAt v ≡ labelOver v .0
-  meet-number v =
-      meetOver-number n t ok eqb (graphOfRows g) (from 0 (length g)) (over s g) (λ w _. label-known (zero-type n t ok) general w) v
+  pub meet-label : (v : ℕ) → meetAt v ≡ labelOver v .0
+  meet-label v =
+      meetOver-label n t ok eqb (graphOfRows g) (from 0 (length g)) (over s g) (λ w _. label-known (zero-type n t ok) general w) v
 
-  pub meet-type : (v : ℕ) → meetAt v < n
-  meet-type v = subst (λ (q : ℕ). q < n) (sym (meet-number v)) (labelOver v .1)
+  pub meet-known : (v : ℕ) → Known n (meetAt v)
+  meet-known v = subst (Known n) (sym (meet-label v)) (labelOver v .1)
 
-  -- the number of a label of g, and of s
-  g-number : (y : ℕ) → lift n t ok (graphOfRows g) .label y .0 ≡ graphOfRows g .label y
-  g-number y = typed-number n t ok (graphOfRows g .label y) (label-known (zero-type n t ok) general y)
+  -- a label of g, and of s
+  g-label : (y : ℕ) → lift n t ok (graphOfRows g) .label y .0 ≡ graphOfRows g .label y
+  g-label y = known-label n t ok (graphOfRows g .label y) (label-known (zero-type n t ok) general y)
 
-  pub s-number : (v : ℕ) → lift n t ok (graphOfRows s) .label v .0 ≡ graphOfRows s .label v
-  s-number v = typed-number n t ok (graphOfRows s .label v) (label-known (zero-type n t ok) specific v)
+  pub s-label : (v : ℕ) → lift n t ok (graphOfRows s) .label v .0 ≡ graphOfRows s .label v
+  s-label v = known-label n t ok (graphOfRows s .label v) (label-known (zero-type n t ok) specific v)
 
-  -- It is the meet of all types of g over v.
+  -- It is the meet of all labels of g over v.
   meet-over : (v : ℕ) → MeetOver n t (graphOfRows s) (graphOfRows g) v (meetAt v)
   meet-over v =
       record {
-        type = meet-type v;
+        known = meet-known v;
         under = λ p y d e.
-            ap₂ (table.below t) (meet-number v) (sym (g-number y)) ∙
+            ap₂ (tableLabels n t .le) (meet-label v) (sym (g-label y)) ∙
             meetOver-under (lawful-lattice n t ok) operands (over s g) v (labelOver v) .0
             (lawful-lattice n t ok .le-refl (labelOver v)) y (p, e)
             (some-unique (walk-map (over-map n t g s general below) p y e) d);
         greatest = λ b l under.
-            ap (table.below t b) (meet-number v) ∙
+            ap (tableLabels n t .le b) (meet-label v) ∙
             meetOver-under (lawful-lattice n t ok) operands (over s g) v (b, l) .1
             (λ y (p, e) o.
-            ap (table.below t b) (g-number y) ∙
+            ap (tableLabels n t .le b) (g-label y) ∙
             under p y (walk-map (over-map n t g s general below) p y e ∙ ap some o) e);
       }
 
-  -- The wanted type that is computed is the wanted type of the node.
-  pub wanted-exact : (v c : ℕ) → (wantedType n t s g v ≡ some c) ↔ WantedAt n t (graphOfRows s) (graphOfRows g) v c
+  -- the label in s is below the meet over it
+  pub label-below : (v : ℕ) → tableLabels n t .le (graphOfRows s .label v) (meetAt v) ≡ true
+  label-below v =
+      ap₂ (tableLabels n t .le) (sym (s-label v)) (meet-label v) ∙
+      label-under (lawful-lattice n t ok) operands (over s g)
+      (map-lift n t ok (graphOfRows s) (graphOfRows g) (specific-size .typed) (general-size .typed) (over s g) .0
+      (over-map n t g s general below)) v
+
+  -- The wanted label that is computed is the wanted label of the node.
+  pub wanted-exact : (v : ℕ) (c : Label) → (wantedAt n t s g v ≡ some c) ↔ WantedAt n t (graphOfRows s) (graphOfRows g) v c
   unfolding wantedAlong
-  wanted-exact v c = (
-    λ e.
-        let w = wanted-sound n t ok (graphOfRows s .label v) (meetAt v) c (meet-type v) e in
-        record { over = meetAt v; is-over = meet-over v; type = w .type; restores = w .exact; greatest = w .greatest },
-    λ is.
-        let same : is .over ≡ meetAt v =
-        below-antisymmetric n t ok (is .over) (meetAt v) (is .is-over .type) (meet-type v)
-        (meet-over v .greatest (is .over) (is .is-over .type) (is .is-over .under))
-        (is .is-over .greatest (meetAt v) (meet-type v) (meet-over v .under)) in
-        sym (ap (table.wanted n t (graphOfRows s .label v)) same) ∙
-        wanted-unique n t ok (graphOfRows s .label v) (is .over) c (is .is-over .type) (is .type) (is .restores) (is .greatest),
-  )
+  wanted-exact v c =
+      wanted-at n t ok (graphOfRows s) (graphOfRows g) v (meetAt v) (meet-over v) (label-known (zero-type n t ok) specific v) (label-below v) c
 
   -- Some node has none exactly where the test of all nodes fails.
   pub unwanted-exact : (allWanted n t s g ≡ false) ↔ SomeUnwanted n t (graphOfRows s) (graphOfRows g)
   unfolding allWantedAlong
   unwanted-exact = (
     λ e.
-        let (v, l, missed) = every-missed (λ v. table.found (wantedType n t s g v)) (length s) e in
+        let (v, l, missed) = every-missed (λ v. table.found (wantedAt n t s g v)) (length s) e in
         (v, specific .reached v l, λ c is. true-false (ap table.found (wanted-exact v c .1 is)) missed),
     λ (v, r, nothing).
-        every-fails (λ v. table.found (wantedType n t s g v)) (length s) v (node-inside v r)
-        (not-true (table.found (wantedType n t s g v))
-        (λ q. let (c, e) = found-some (wantedType n t s g v) q in nothing c (wanted-exact v c .0 e))),
+        every-fails (λ v. table.found (wantedAt n t s g v)) (length s) v (node-inside v r)
+        (not-true (table.found (wantedAt n t s g v))
+        (λ q. let (c, e) = found-some (wantedAt n t s g v) q in nothing c (wanted-exact v c .0 e))),
   )
 
-  -- the type in s is below the meet over it
-  pub label-below : (v : ℕ) → table.below t (graphOfRows s .label v) (meetAt v) ≡ true
-  label-below v =
-      ap₂ (table.below t) (sym (s-number v)) (meet-number v) ∙
-      label-under (lawful-lattice n t ok) operands (over s g)
-      (map-lift n t ok (graphOfRows s) (graphOfRows g) (specific-size .typed) (general-size .typed) (over s g) .0
-      (over-map n t g s general below)) v
-
-  -- past the nodes of s there is no type, nothing of g lies over, and type 0 is found
-  wanted-past : (v : ℕ) → length s ≤ v → wantedType n t s g v ≡ some 0
+  -- past the nodes of s there is no label, nothing of g lies over, and that of no node is found
+  wanted-past : (v : ℕ) → length s ≤ v → wantedAt n t s g v ≡ some noLabel
   unfolding wantedAlong meetOver
   wanted-past v past =
-      let label : graphOfRows s .label v ≡ 0 = ap (λ (r : Row Label). r .0) (List·getD-eq-default s (0, []) past) in
-      let top : meetAt v ≡ n - 1 =
-      meetWhere-none (typeLabels n t) (λ y. eqb (over s g y) v) (graphOfRows g .label) (from 0 (length g)) (λ y m. ne-eqb (over s g y) v (λ e.
+      let label : graphOfRows s .label v ≡ noLabel = ap (λ (r : Row Label). r .0) (List·getD-eq-default s (noLabel, []) past) in
+      let top : meetAt v ≡ plain (n - 1) =
+      meetWhere-none (tableLabels n t) (λ y. eqb (over s g y) v) (graphOfRows g .label) (from 0 (length g)) (λ y m. ne-eqb (over s g y) v (λ e.
       let (p, d) = operands .lists-right .listed y .1 m in
       let inside : over s g y < length s = node-inside (over s g y) (p, walk-map (over-map n t g s general below) p y d) in
       omega arith)) in
-      ap₂ (table.wanted n t) label top ∙ wanted-by-top n t ok 0 (zero-type n t ok)
+      ap₂ (wantedLabel n t) label top ∙ wanted-label-by-top n t ok noLabel (plain-known n 0 (zero-type n t ok))
 
-  -- where every node has a wanted type
-  pub wanted-found : allWanted n t s g ≡ true → (v : ℕ) → (c : ℕ) × (wantedType n t s g v ≡ some c)
+  -- where every node has a wanted label
+  pub wanted-found : allWanted n t s g ≡ true → (v : ℕ) → (c : Label) × (wantedAt n t s g v ≡ some c)
   unfolding allWantedAlong
   wanted-found all v = go (decLt v (length s))
     where
-      go : Dec (v < length s) → (c : ℕ) × (wantedType n t s g v ≡ some c)
-      go (yes h) = found-some (wantedType n t s g v) (every-at (λ v. table.found (wantedType n t s g v)) (length s) v all h)
-      go (no h) = (0, wanted-past v (omega arith))
+      go : Dec (v < length s) → (c : Label) × (wantedAt n t s g v ≡ some c)
+      go (yes h) = found-some (wantedAt n t s g v) (every-at (λ v. table.found (wantedAt n t s g v)) (length s) v all h)
+      go (no h) = (noLabel, wanted-past v (omega arith))

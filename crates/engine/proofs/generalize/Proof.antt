@@ -1,8 +1,8 @@
 -- The common part on bytes: the table is opened, and its joins are handed on.
 use mathlib.Core.Path.{refl, sym, _∙_}
 use borrow.Author.Needs.{needs}
-use Rattle.engine.proofs.Tables.{few-types}
-use Rattle.engine.proofs.CommonParts.{generalizing-refused, generalizing-accepted}
+use Rattle.lattice.proofs.Residuals.{opened-accepted}
+use Rattle.engine.proofs.CommonParts.{generalizing-refused, generalizing-accepted, joinable}
 use Rattle.engine.proofs.generalize.Statement.{statement}
 use Rattle.engine.proofs.generalize.Tie as tie
 
@@ -18,7 +18,9 @@ enum-told c = search needs
 generalize-over-requires : tie.Need-generalize-over-requires
 generalize-over-requires c κs =
     let start = c .before .before .before .before .before .before .before .before .before .before in
-    few-types (start .args .n) (start .args .table .now) _ (c .before .before .before .before .open-joins .ensures .answers) (c .before .before .enum-told .given .1)
+    joinable (start .args .n) (start .args .table .now) _
+    (opened-accepted (start .args .n) (start .args .table .now) _ (c .before .before .before .before .open-joins .ensures .answers) (c .before .before .enum-told .given .1))
+    refl (c .before .before .before .before .open-joins .ensures .holds)
 
 returns : tie.Need-returns
 returns c =

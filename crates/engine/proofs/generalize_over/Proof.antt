@@ -1,8 +1,8 @@
 -- Two records are read, and their common part is written where both are accepted.
 use Rattle.engine.specs.Pair.{joined}
-use Rattle.engine.proofs.Readings.{both-accept, ready}
+use Rattle.engine.proofs.Readings.{both-accept}
 use Rattle.engine.proofs.Replies.{refused-both}
-use Rattle.engine.proofs.CommonParts.{joined-as}
+use Rattle.engine.proofs.CommonParts.{joined-as, ready-to-join}
 use borrow.Author.Needs.{needs}
 use Rattle.engine.proofs.generalize_over.Statement.{statement}
 use Rattle.engine.proofs.generalize_over.Tie as tie
@@ -34,7 +34,7 @@ slice-aggregate-generalize-2 c = search needs
 
 -- src/lib.rt:143:39
 generalize-requires : tie.Need-generalize-requires
-generalize-requires c κs = ready (c .before .before .before .before .before .before .before .before .before .before .before .pre) (both-accept (c .before .before .before .before .before .read-both .ensures) (c .before .before .before .enum-told .given .1))
+generalize-requires c κs = ready-to-join (c .before .before .before .before .before .before .before .before .before .before .before .args .joins .now) (c .before .before .before .before .before .before .before .before .before .before .before .pre) (both-accept (c .before .before .before .before .before .read-both .ensures) (c .before .before .before .enum-told .given .1))
 
 -- src/lib.rt:143:30
 reply-of-requires : tie.Need-reply-of-requires

@@ -2,7 +2,7 @@
 use Prim.Native.Nat.{ℕ, _-_, _≤_}
 use native.Mathlib.Omega.{arith}
 use lib.ListN.{length-replicate, getD-replicate}
-use Rattle.layout.specs.Layout.{rowFrom}
+use Rattle.layout.specs.Layout.{longest, rowFrom}
 use Rattle.classes.proofs.Roots.{flattened}
 use Rattle.groups.specs.Cover.{Grouping}
 use Rattle.groups.proofs.Covering.{grouping-start, grouping-row, grouping-end, grouping-same, grouping-owned}
@@ -29,7 +29,7 @@ cast-nodes : tie.Need-cast-nodes Inv-loop μ-loop
 cast-nodes c = omega (arith, c .before .before .before .before .before .pre .0 .upper .small)
 
 loop-holds : tie.Need-loop-holds Inv-loop μ-loop
-loop-holds c = (omega arith, grouping-start (c .before .before .before .before .before .pre .0) (length-replicate {A = ℕ} 2560 65535) (λ j h. getD-replicate {A = ℕ} 2560 j 65535 0 h) (c .before .separate .ensures .0) (c .before .separate .ensures .1))
+loop-holds c = (omega arith, grouping-start (c .before .before .before .before .before .pre .0) (length-replicate {A = ℕ} longest 65535) (λ j h. getD-replicate {A = ℕ} longest j 65535 0 h) (c .before .separate .ensures .0) (c .before .separate .ensures .1))
 
 cover-row-requires : tie.Need-cover-row-requires Inv-loop μ-loop
 cover-row-requires c κs = ((c .before .before .before .before .before .before .before .before .before .pre .0, c .before .before .loop-test .taken), c .before .before .before .loop .inv .1)

@@ -32,10 +32,10 @@ put-reply-requires : tie.Need-put-reply-requires
 put-reply-requires c κs =
     let a = c .before .before .before in
     let s = a .before .before .before .before .before .before .before .args in
-    let size : length (a .answer .last .1 .1 .1 .1 .1 .0) ≡ 4344 = omega arith in (
+    let size : length (a .answer .last .1 .1 .1 .1 .1 .0) ≡ 4854 = omega arith in (
       λ l e.
-          let fits = answering-bounded (s .parts .n) _ _ _ (s .operation) (replicate 4344 0) l (sym (ap (λ (x : Result). x .reply) (a .answer .ensures)) ∙ e) in
-          omega (arith, size, fits, length-replicate {A = ℕ} 4344 0),
+          let fits = answering-bounded (s .parts .n) _ _ _ (s .operation) (replicate 4854 0) l (sym (ap (λ (x : Result). x .reply) (a .answer .ensures)) ∙ e) in
+          omega (arith, size, fits, length-replicate {A = ℕ} 4854 0),
       (omega arith, search needs),
     )
 

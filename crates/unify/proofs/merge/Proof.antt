@@ -46,13 +46,13 @@ slice-aggregate-merge-within : tie.Need-slice-aggregate-merge-within
 slice-aggregate-merge-within c = search needs
 
 merge-within-requires : tie.Need-merge-within-requires
-merge-within-requires c κs = (c .before .before .before .before .before .before .before .before .before .pre .0, (c .before .before .before .before .before .before .before .before .before .pre .1 .0, (c .before .before .before .before .before .before .before .before .before .pre .1 .1 .0, (c .before .before .before .before .before .before .before .before .before .pre .1 .1 .1 .0, (omega (arith, c .before .before .if1 .taken, c .before .before .before .before .before .before .word-count .ensures, c .before .before .before .before .before .word-count2 .ensures, length-replicate {A = ℕ} 5376 0), c .before .before .before .before .before .before .before .before .before .pre .1 .1 .1 .1)))))
+merge-within-requires c κs = (c .before .before .before .before .before .before .before .before .before .pre .0, (c .before .before .before .before .before .before .before .before .before .pre .1 .0, (c .before .before .before .before .before .before .before .before .before .pre .1 .1 .0, (c .before .before .before .before .before .before .before .before .before .pre .1 .1 .1 .0, (omega (arith, c .before .before .if1 .taken, c .before .before .before .before .before .before .word-count .ensures, c .before .before .before .before .before .word-count2 .ensures, length-replicate {A = ℕ} 5456 0), c .before .before .before .before .before .before .before .before .before .pre .1 .1 .1 .1)))))
 
 slice-aggregate-merge-within-2 : tie.Need-slice-aggregate-merge-within-2
 slice-aggregate-merge-within-2 c = search needs
 
 merge-within-requires-2 : tie.Need-merge-within-requires-2
-merge-within-requires-2 c κs = (c .before .before .before .before .before .before .before .before .before .pre .0, (c .before .before .before .before .before .before .before .before .before .pre .1 .0, (c .before .before .before .before .before .before .before .before .before .pre .1 .1 .0, (c .before .before .before .before .before .before .before .before .before .pre .1 .1 .1 .0, (omega (arith, c .before .before .before .before .before .before .before .before .before .pre .1 .1 .0 .recorded .small, c .before .before .before .before .before .before .before .before .before .pre .1 .1 .1 .0 .recorded .small, words-few (c .before .before .before .before .before .before .before .before .before .pre .1 .1 .0 .recorded), words-few (c .before .before .before .before .before .before .before .before .before .pre .1 .1 .1 .0 .recorded), words-are (c .before .before .before .before .before .before .before .before .before .pre .1 .1 .0 .recorded), words-are (c .before .before .before .before .before .before .before .before .before .pre .1 .1 .1 .0 .recorded), length-replicate {A = ℕ} 37182 0), c .before .before .before .before .before .before .before .before .before .pre .1 .1 .1 .1)))))
+merge-within-requires-2 c κs = (c .before .before .before .before .before .before .before .before .before .pre .0, (c .before .before .before .before .before .before .before .before .before .pre .1 .0, (c .before .before .before .before .before .before .before .before .before .pre .1 .1 .0, (c .before .before .before .before .before .before .before .before .before .pre .1 .1 .1 .0, (omega (arith, c .before .before .before .before .before .before .before .before .before .pre .1 .1 .0 .recorded .small, c .before .before .before .before .before .before .before .before .before .pre .1 .1 .1 .0 .recorded .small, words-few (c .before .before .before .before .before .before .before .before .before .pre .1 .1 .0 .recorded), words-few (c .before .before .before .before .before .before .before .before .before .pre .1 .1 .1 .0 .recorded), words-are (c .before .before .before .before .before .before .before .before .before .pre .1 .1 .0 .recorded), words-are (c .before .before .before .before .before .before .before .before .before .pre .1 .1 .1 .0 .recorded), length-replicate {A = ℕ} 37692 0), c .before .before .before .before .before .before .before .before .before .pre .1 .1 .1 .1)))))
 
 returns : tie.Need-returns
 returns c = c .before .merge-within .ensures

@@ -3,6 +3,7 @@ use mathlib.Core.Path.{_∙_}
 use Prim.Native.Nat.{ℕ}
 use native.Mathlib.Omega.{arith}
 use lib.ListN.{length-replicate}
+use Rattle.lattice.proofs.Lawful.{known-more}
 use Rattle.layout.proofs.Order.{directory}
 use Rattle.layout.proofs.Sums.{words-few}
 use Rattle.unify.proofs.Words.{words-are}
@@ -44,13 +45,13 @@ class-labels-requires : tie.Need-class-labels-requires
 class-labels-requires c κs = (c .before .before .before .before .before .before .before .before .before .before .before .before .before .before .before .before .before .before .before .before .before .before .before .before .before .before .before .pre .0, (c .before .before .before .before .before .before .before .before .before .before .before .before .before .before .before .before .before .before .before .before .before .before .before .before .before .before .before .pre .1 .0, (c .before .before .before .before .before .before .before .before .before .before .before .before .before .before .before .before .before .before .before .before .before .before .before .before .before .before .before .pre .1 .1 .0, (c .before .before .before .before .before .before .before .before .before .before .before .before .before .before .before .before .before .before .before .before .before .before .before .before .before .before .before .pre .1 .1 .1 .0, closed-fillable (c .before .before .before .close .ensures) .classed))))
 
 quotient-requires : tie.Need-quotient-requires
-quotient-requires c κs = ((c .before .before .before .before .before .before .before .before .before .before .before .before .before .before .before .before .before .before .before .before .before .before .before .before .before .before .before .before .before .before .before .before .before .before .pre .1 .1 .1 .1 .1, λ x h. omega (arith, c .before .before .before .before .before .before .class-labels .ensures .0 x h, c .before .before .before .before .before .before .before .before .before .before .before .before .before .before .before .before .before .before .before .before .before .before .before .before .before .before .before .before .before .before .before .before .before .before .pre .0 .1)), closed-fillable (c .before .before .before .before .before .before .before .before .before .before .close .ensures))
+quotient-requires c κs = ((c .before .before .before .before .before .before .before .before .before .before .before .before .before .before .before .before .before .before .before .before .before .before .before .before .before .before .before .before .before .before .before .before .before .before .pre .1 .1 .1 .1 .1, c .before .before .before .before .before .before .class-labels .ensures .0 .1, λ x h. known-more (omega (arith, c .before .before .before .before .before .before .before .before .before .before .before .before .before .before .before .before .before .before .before .before .before .before .before .before .before .before .before .before .before .before .before .before .before .before .pre .0 .1)) (c .before .before .before .before .before .before .class-labels .ensures .0 .0 x h)), closed-fillable (c .before .before .before .before .before .before .before .before .before .before .close .ensures))
 
 same-length : tie.Need-same-length
 same-length c = c .before .before .before .before .before .before .before .before .before .before .before .close .kept .1 .1 .1 .1 .1 .0 ∙ c .before .before .before .before .before .before .before .before .before .before .before .before .before .before .before .before .before .before .before .before .before .before .before .before .copy-words2 .ensures .long ∙ c .before .before .before .before .before .before .before .before .before .before .before .before .before .before .before .before .before .before .before .before .before .before .before .before .before .before .before .before .copy-words .ensures .long
 
 returns : tie.Need-returns
-returns c = let s = lay (c .before .before .before .before .before .before .before .before .before .before .before .before .before .before .before .before .before .before .before .before .before .before .before .before .before .before .before .before .before .before .before .before .before .before .before .pre .1 .1 .0 .recorded) (c .before .before .before .before .before .before .before .before .before .before .before .before .before .before .before .before .before .before .before .before .before .before .before .before .before .before .before .before .before .before .before .before .before .before .before .pre .1 .1 .1 .0 .recorded) (c .before .before .before .before .before .before .before .before .before .before .before .before .before .before .before .before .before .before .before .before .before .before .before .before .before .before .before .before .copy-words .ensures) (c .before .before .before .before .before .before .before .before .before .before .before .before .before .before .before .before .before .before .before .before .before .before .before .before .copy-words2 .ensures) (c .before .before .before .before .before .before .before .before .before .before .before .before .before .before .before .before .before .before .before .copy-spans .ensures) (c .before .before .before .before .before .before .before .before .before .before .before .before .before .before .before .before .copy-spans2 .ensures) (c .before .before .before .before .before .before .before .before .before .before .before .before .before .before .before .before .copy-spans2 .ensures .start-long ∙ c .before .before .before .before .before .before .before .before .before .before .before .before .before .before .before .before .before .before .before .copy-spans .ensures .start-long ∙ length-replicate {A = ℕ} 510 0) (c .before .before .before .before .before .before .before .before .before .before .before .before .before .before .before .before .copy-spans2 .ensures .end-long ∙ c .before .before .before .before .before .before .before .before .before .before .before .before .before .before .before .before .before .before .before .copy-spans .ensures .end-long ∙ length-replicate {A = ℕ} 510 0) in record { class = _; labels = c .before .before .before .before .before .before .before .class-labels .result; start = _; end = _; pool = _; start′ = _; end′ = _; pool′ = _; used = _; first = s .first; second = s .second; closed = c .before .before .before .before .before .before .before .before .before .before .before .close .ensures; lowers = c .before .before .before .before .before .before .before .class-labels .ensures .1; below = λ x h. omega (arith, c .before .before .before .before .before .before .before .class-labels .ensures .0 x h, c .before .before .before .before .before .before .before .before .before .before .before .before .before .before .before .before .before .before .before .before .before .before .before .before .before .before .before .before .before .before .before .before .before .before .before .pre .0 .1); built = c .quotient .ensures }
+returns c = let s = lay (c .before .before .before .before .before .before .before .before .before .before .before .before .before .before .before .before .before .before .before .before .before .before .before .before .before .before .before .before .before .before .before .before .before .before .before .pre .1 .1 .0 .recorded) (c .before .before .before .before .before .before .before .before .before .before .before .before .before .before .before .before .before .before .before .before .before .before .before .before .before .before .before .before .before .before .before .before .before .before .before .pre .1 .1 .1 .0 .recorded) (c .before .before .before .before .before .before .before .before .before .before .before .before .before .before .before .before .before .before .before .before .before .before .before .before .before .before .before .before .copy-words .ensures) (c .before .before .before .before .before .before .before .before .before .before .before .before .before .before .before .before .before .before .before .before .before .before .before .before .copy-words2 .ensures) (c .before .before .before .before .before .before .before .before .before .before .before .before .before .before .before .before .before .before .before .copy-spans .ensures) (c .before .before .before .before .before .before .before .before .before .before .before .before .before .before .before .before .copy-spans2 .ensures) (c .before .before .before .before .before .before .before .before .before .before .before .before .before .before .before .before .copy-spans2 .ensures .start-long ∙ c .before .before .before .before .before .before .before .before .before .before .before .before .before .before .before .before .before .before .before .copy-spans .ensures .start-long ∙ length-replicate {A = ℕ} 510 0) (c .before .before .before .before .before .before .before .before .before .before .before .before .before .before .before .before .copy-spans2 .ensures .end-long ∙ c .before .before .before .before .before .before .before .before .before .before .before .before .before .before .before .before .before .before .before .copy-spans .ensures .end-long ∙ length-replicate {A = ℕ} 510 0) in record { class = _; labels = c .before .before .before .before .before .before .before .class-labels .result; start = _; end = _; pool = _; start′ = _; end′ = _; pool′ = _; used = _; first = s .first; second = s .second; closed = c .before .before .before .before .before .before .before .before .before .before .before .close .ensures; lowers = c .before .before .before .before .before .before .before .class-labels .ensures .1; below = λ x h. known-more (omega (arith, c .before .before .before .before .before .before .before .before .before .before .before .before .before .before .before .before .before .before .before .before .before .before .before .before .before .before .before .before .before .before .before .before .before .before .before .pre .0 .1)) (c .before .before .before .before .before .before .before .class-labels .ensures .0 .0 x h); built = c .quotient .ensures }
 
 pub merge-within-spec : {M : Type 1} → statement M
 merge-within-spec =

@@ -9,7 +9,7 @@ use Rattle.unify.proofs.unify.Statement.{statement}
 use Rattle.unify.proofs.unify.Tie as tie
 
 merge-requires : tie.Need-merge-requires
-merge-requires c κs = (c .before .before .before .before .pre .0, (c .before .before .before .before .pre .1 .0, (c .before .before .before .before .pre .1 .1 .0, (c .before .before .before .before .pre .1 .1 .1, length-replicate {A = ℕ} 5118 0))))
+merge-requires c κs = (c .before .before .before .before .pre .0, (c .before .before .before .before .pre .1 .0, (c .before .before .before .before .pre .1 .1 .0, (c .before .before .before .before .pre .1 .1 .1, length-replicate {A = ℕ} 5628 0))))
 
 slice-aggregate-has-cycle : tie.Need-slice-aggregate-has-cycle
 slice-aggregate-has-cycle c = sym (c .before .merge .ensures .built .long)

@@ -1,11 +1,22 @@
-//! Random graphs of a wanted shape, graphs above a given one, and pairs of both
-//! kinds. All of them are graphs that a record can hold.
+//! Random graphs of a wanted shape, with level ranges or without, graphs above a
+//! given one, and pairs of both kinds. All of them are graphs that a record can
+//! hold.
 
 use super::Xorshift;
 use crate::graph::{Feature, Graph, Node, ROOT};
+use crate::label::{Label, Level, Range};
 use crate::record::{MOST_LINKS, MOST_NODES};
 use crate::table::{Table, Type};
 use std::collections::BTreeMap;
+
+/// Whether random inputs have ranges.
+#[derive(Clone, Copy, Debug, PartialEq, Eq)]
+pub enum Ranges {
+    /// Every range is full, and none is spelled out.
+    Absent,
+    /// Some nodes have a range, and some full ranges may be spelled out.
+    Present,
+}
 
 /// What a random graph is to be like.
 #[derive(Clone, Debug, PartialEq, Eq)]
@@ -20,10 +31,12 @@ pub struct Shape {
     pub spread: usize,
     /// Of four nodes so many are top, the others of any type.
     pub tops: usize,
+    /// Of four nodes so many have a range, the others the full one.
+    pub ranges: usize,
 }
 
 impl Shape {
-    /// A shape of a few nodes and features.
+    /// A shape of a few nodes and features, without ranges.
     pub fn small(random: &mut Xorshift, most_nodes: usize, most_features: usize) -> Shape {
         let features = random.between(1, most_features);
         let most_extra = *random.choose(&[1, most_nodes, 4 * most_nodes]);
@@ -33,10 +46,22 @@ impl Shape {
             features: (0..features as Feature).collect(),
             spread: random.between(1, most_nodes),
             tops: *random.choose(&[0, 2, 2, 4]),
+            ranges: 0,
         }
     }
 
-    /// Mostly small shapes, some of any size that a record can have.
+    /// The same shape with ranges on some nodes, where they are to be present.
+    pub fn ranged(self, random: &mut Xorshift, ranges: Ranges) -> Shape {
+        match ranges {
+            Ranges::Absent => self,
+            Ranges::Present => Shape {
+                ranges: *random.choose(&[0, 1, 2, 4]),
+                ..self
+            },
+        }
+    }
+
+    /// Mostly small shapes, some of any size that a record can have, without ranges.
     pub fn any(random: &mut Xorshift) -> Shape {
         let most_nodes = *random.choose(&[3, 5, 5, 8, 8, 16, 40, 120, MOST_NODES]);
         let mut shape = Shape::small(random, most_nodes, 6);
@@ -68,10 +93,7 @@ fn any_features(random: &mut Xorshift) -> Vec<Feature> {
 pub fn graph(random: &mut Xorshift, n: usize, shape: &Shape) -> Graph {
     let mut nodes: Vec<Node> = Vec::new();
     for number in 0..shape.nodes.min(MOST_NODES) {
-        nodes.push(Node {
-            node_type: node_type(random, n, shape.tops),
-            links: BTreeMap::new(),
-        });
+        nodes.push(Node::new(label(random, n, shape), []));
         if number > ROOT {
             let nearest = number.saturating_sub(shape.spread);
             let parent = random.between(nearest, number - 1);
@@ -98,8 +120,34 @@ pub fn graph(random: &mut Xorshift, n: usize, shape: &Shape) -> Graph {
     renumbered(random, &Graph { nodes })
 }
 
+/// A label that a node of this shape can have.
+pub(super) fn label(random: &mut Xorshift, n: usize, shape: &Shape) -> Label {
+    let node_type = node_type(random, n, shape.tops);
+    let range = match shape.ranges > 0 && random.chance(shape.ranges, 4) {
+        true => range(random),
+        false => Range::FULL,
+    };
+    Label { node_type, range }
+}
+
+/// A range that is not empty and seldom full. Few levels come up often, so that ranges
+/// have ends in common; most ranges overlap.
+pub fn range(random: &mut Xorshift) -> Range {
+    let low = *random.choose(&[0, 1, 10, 100]);
+    let high = *random.choose(&[120, 200, 254, 255]);
+    let any = [random.byte(), random.byte()];
+    let (lowest, highest) = match random.pick(10) {
+        0 => (0, low),
+        1 => (high, 255),
+        2 => (any[0].min(any[1]), any[0].max(any[1])),
+        3 => (high, high),
+        _ => (low, high),
+    };
+    Range { lowest, highest }
+}
+
 /// A type that a node can have, top in so many of four cases and otherwise any.
-pub(super) fn node_type(random: &mut Xorshift, n: usize, tops: usize) -> Type {
+fn node_type(random: &mut Xorshift, n: usize, tops: usize) -> Type {
     if random.chance(tops, 4) {
         (n - 1) as Type
     } else {
@@ -113,7 +161,7 @@ pub fn renumbered(random: &mut Xorshift, graph: &Graph) -> Graph {
     random.shuffle(&mut old[1..]);
     let number: BTreeMap<usize, usize> = old.iter().copied().zip(0..).collect();
     let nodes = old.iter().map(|&old| Node {
-        node_type: graph.nodes[old].node_type,
+        label: graph.nodes[old].label,
         links: graph.nodes[old]
             .links
             .iter()
@@ -133,22 +181,18 @@ pub fn chain_graph(nodes: usize, feature: Feature, node_type: Type) -> Graph {
 /// Nodes of one type in a row, each with a link to the next for every feature: with
 /// two features or more the paths are exponentially many.
 pub fn ladder(nodes: usize, features: &[Feature], node_type: Type) -> Graph {
-    let node = |number: usize| Node {
-        node_type,
-        links: features
-            .iter()
-            .filter(|_| number + 1 < nodes)
-            .map(|&feature| (feature, number + 1))
-            .collect(),
+    let node = |number: usize| {
+        let features = features.iter().filter(|_| number + 1 < nodes);
+        Node::new(node_type, features.map(|&feature| (feature, number + 1)))
     };
     Graph {
         nodes: (0..nodes).map(node).collect(),
     }
 }
 
-/// A graph above the one given, by one step: a type raised, a link dropped with
-/// what only it reaches, or a shared node parted in two. Nothing where the step
-/// drawn cannot be taken.
+/// A graph above the one given, by one step: a type raised, a range widened, a link
+/// dropped with what only it reaches, or a shared node parted in two. Nothing where
+/// the step drawn cannot be taken.
 pub fn weakened(random: &mut Xorshift, table: &Table, graph: &Graph) -> Option<Graph> {
     match random.pick(5) {
         0 | 1 => Some(raised(random, table, graph)),
@@ -157,13 +201,28 @@ pub fn weakened(random: &mut Xorshift, table: &Table, graph: &Graph) -> Option<G
     }
 }
 
-/// The graph with the type of a node raised, or left as it is.
+/// The graph with the type of a node raised or its range widened, or left as it is.
 fn raised(random: &mut Xorshift, table: &Table, graph: &Graph) -> Graph {
     let mut weaker = graph.clone();
     let node = random.pick(graph.nodes.len());
-    let other = random.pick(table.n()) as Type;
-    weaker.nodes[node].node_type = table.join(graph.nodes[node].node_type, other);
+    let label = &mut weaker.nodes[node].label;
+    if label.range != Range::FULL && random.chance(1, 2) {
+        label.range = range_around(random, label.range);
+    } else {
+        let other = random.pick(table.n()) as Type;
+        label.node_type = table.join(label.node_type, other);
+    }
     weaker
+}
+
+/// A range that the one given lies inside, which may be the same.
+pub fn range_around(random: &mut Xorshift, inner: Range) -> Range {
+    let below = random.between(0, usize::from(inner.lowest)) as Level;
+    let above = random.between(usize::from(inner.highest), 255) as Level;
+    Range {
+        lowest: *random.choose(&[0, inner.lowest, below]),
+        highest: *random.choose(&[255, inner.highest, above]),
+    }
 }
 
 /// One of the types above or equal to the one given.
@@ -177,18 +236,23 @@ pub fn low_graph(random: &mut Xorshift, n: usize, shape: &Shape) -> Graph {
     let mut low = graph(random, n, shape);
     for node in &mut low.nodes {
         if random.chance(1, 3) {
-            node.node_type = 1;
+            node.label.node_type = 1;
         }
     }
     low
 }
 
-/// A graph above the one given, by a few steps and with every other type raised.
+/// A graph above the one given, by a few steps and with every other type raised and
+/// every other range widened.
 pub fn graph_well_above(random: &mut Xorshift, table: &Table, graph: &Graph) -> Graph {
     let mut above = graph_above(random, table, graph);
     for node in &mut above.nodes {
+        let label = &mut node.label;
         if random.chance(1, 2) {
-            node.node_type = type_above(random, table, node.node_type);
+            label.node_type = type_above(random, table, label.node_type);
+        }
+        if label.range != Range::FULL && random.chance(1, 2) {
+            label.range = range_around(random, label.range);
         }
     }
     above
@@ -235,7 +299,7 @@ fn parted(random: &mut Xorshift, graph: &Graph) -> Option<Graph> {
 fn without_unreached(graph: &Graph) -> Graph {
     let number: BTreeMap<usize, usize> = graph.reached().into_iter().zip(0..).collect();
     let nodes = number.keys().map(|&old| Node {
-        node_type: graph.nodes[old].node_type,
+        label: graph.nodes[old].label,
         links: graph.nodes[old]
             .links
             .iter()

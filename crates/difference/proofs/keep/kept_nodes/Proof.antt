@@ -6,7 +6,7 @@ use Rattle.difference.proofs.keep.kept_nodes.Statement.{statement}
 use Rattle.difference.proofs.keep.kept_nodes.Tie as tie
 use Rattle.difference.proofs.keep.keep_below.Reads as keep-below-reads
 use Rattle.difference.proofs.keep.keep_entered.Reads as keep-entered-reads
-use Rattle.difference.proofs.keep.keep_typed.Reads as keep-typed-reads
+use Rattle.difference.proofs.keep.keep_labelled.Reads as keep-labelled-reads
 use Rattle.visits.proofs.cycle.has_cycle.Reads as has-cycle-reads
 
 -- src/keep.rt:150:5
@@ -18,16 +18,16 @@ keep-entered-requires : tie.Need-keep-entered-requires
 keep-entered-requires c κs = search needs
 
 -- src/keep.rt:152:26
-shared-slice-read-keep-typed : tie.Need-shared-slice-read-keep-typed
-shared-slice-read-keep-typed c = let shaped = c .before .before .before .before .before .pre .1 .0 .0 .sound .shaped in omega (arith, shaped .node 0 (shaped .nonempty) .listed)
+shared-slice-read-keep-labelled : tie.Need-shared-slice-read-keep-labelled
+shared-slice-read-keep-labelled c = let shaped = c .before .before .before .before .before .pre .1 .0 .0 .sound .shaped in omega (arith, shaped .node 0 (shaped .nonempty) .listed)
 
 -- src/keep.rt:152:26
-cast-keep-typed : tie.Need-cast-keep-typed
-cast-keep-typed c = search needs
+cast-keep-labelled : tie.Need-cast-keep-labelled
+cast-keep-labelled c = search needs
 
 -- src/keep.rt:152:5
-keep-typed-requires : tie.Need-keep-typed-requires
-keep-typed-requires c κs = search needs
+keep-labelled-requires : tie.Need-keep-labelled-requires
+keep-labelled-requires c κs = search needs
 
 -- src/keep.rt:155:5
 has-cycle-requires : tie.Need-has-cycle-requires
@@ -35,11 +35,11 @@ has-cycle-requires c κs = search needs
 
 -- src/keep.rt:156:5
 keep-below-requires : tie.Need-keep-below-requires
-keep-below-requires c κs = (ready-with (c .before .before .before .before .before .before .before .before .before .before .before .pre .1 .0 .0) (c .before .before .before .before .keep-typed .ensures .long), sorted-from (c .before .before .has-cycle .ensures .0) (c .before .before .before .before .before .before .before .before .before .before .before .pre .1 .1), c .before .before .has-cycle .ensures .1)
+keep-below-requires c κs = (ready-with (c .before .before .before .before .before .before .before .before .before .before .before .pre .1 .0 .0) (c .before .before .before .before .keep-labelled .ensures .long), sorted-from (c .before .before .has-cycle .ensures .0) (c .before .before .before .before .before .before .before .before .before .before .before .pre .1 .1), c .before .before .has-cycle .ensures .1)
 
 -- src/keep.rt:137:1
 returns : tie.Need-returns
-returns c = let start = c .before .before .before .before .before .before .before .before .before .before .before .before in keeps-all (start .args .n) (start .args .table .now) (start .args .s .now) (start .args .marks .now) (start .args .types .now) (start .args .keep .now) (start .pre .1 .0 .0 .small) (start .pre .1 .0 .0 .keep-long) (start .pre .1 .0 .1) (c .before .before .before .before .before .before .before .before .keep-entered .ensures) (c .before .before .before .before .before .keep-typed .ensures) (c .keep-below .ensures)
+returns c = let start = c .before .before .before .before .before .before .before .before .before .before .before .before in keeps-all (start .args .n) (start .args .table .now) (start .args .s .now) (start .args .marks .now) (start .args .labels .now) (start .args .keep .now) (start .pre .1 .0 .0 .small) (start .pre .1 .0 .0 .keep-long) (start .pre .1 .0 .1) (c .before .before .before .before .before .before .before .before .keep-entered .ensures) (c .before .before .before .before .before .keep-labelled .ensures) (c .keep-below .ensures)
 
 pub kept-nodes-spec : {M : Type 1} → statement M
 kept-nodes-spec =
@@ -47,9 +47,9 @@ kept-nodes-spec =
     (tie.spec
     element-write-keep
     keep-entered-requires
-    shared-slice-read-keep-typed
-    cast-keep-typed
-    keep-typed-requires
+    shared-slice-read-keep-labelled
+    cast-keep-labelled
+    keep-labelled-requires
     has-cycle-requires
     keep-below-requires
     returns)

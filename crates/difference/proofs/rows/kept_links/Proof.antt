@@ -1,9 +1,11 @@
-use borrow.Author.Needs.{needs}
 -- `kept_links` meets its contract. The loop's invariant: the rows before v hold their kept links.
-use Prim.Native.Nat.{ℕ, _-_, _≤_}
+use borrow.Author.Needs.{needs}
+use Prim.Native.Nat.{_-_, _≤_}
 use native.Mathlib.Omega.{arith}
-use mathlib.Core.Path.{_∙_}
-use lib.ListN.{getD, length-set}
+use mathlib.Core.Path.{_∙_, ap}
+use lib.ListN.{length}
+use Rattle.layout.specs.Builder.{putLabel}
+use Rattle.layout.proofs.Builder.{length-put}
 use Rattle.difference.specs.Keeping.{Ready}
 use Rattle.difference.specs.Thinning.{Rows}
 use Rattle.difference.proofs.Keeping.{node-known}
@@ -11,102 +13,123 @@ use Rattle.difference.proofs.Thinning.{row-known, rows-start, rows-next
 use Rattle.difference.proofs.rows.kept_links.Statement.{statement}
 use Rattle.difference.proofs.rows.kept_links.Tie as tie
 use Rattle.difference.proofs.rows.keep_row.Reads as keep-row-reads
+use Rattle.layout.proofs.label_from.Reads as label-from-reads
+use Rattle.layout.proofs.put_label.Reads as put-label-reads
 
 abbrev Inv-loop : tie.InvT-loop
-Inv-loop s marks keep types words₀ nodes at₀ v₀ words at v = (v ≤ nodes) × Ready s marks keep × Rows s marks keep types v words at
+Inv-loop s marks keep labels words₀ nodes at₀ v₀ words at v = (v ≤ nodes) × Ready s marks keep × Rows s marks keep labels v words at
 
 abbrev μ-loop : tie.MeasureT-loop
-μ-loop s marks keep types words₀ nodes at₀ v₀ words at v = nodes - v
+μ-loop s marks keep labels words₀ nodes at₀ v₀ words at v = nodes - v
 
--- src/rows.rt:48:17
+-- src/rows.rt:50:17
 shared-slice-read-nodes : tie.Need-shared-slice-read-nodes Inv-loop μ-loop
 shared-slice-read-nodes c = let node = node-known (c .before .before .pre .0) 0 (c .before .before .pre .0 .sound .shaped .nonempty) in omega (arith, node .node .listed)
 
--- src/rows.rt:48:17
+-- src/rows.rt:50:17
 cast-nodes : tie.Need-cast-nodes Inv-loop μ-loop
 cast-nodes c = omega (arith, c .before .before .pre .0 .small)
 
--- src/rows.rt:49:18
+-- src/rows.rt:51:18
 shared-slice-read-at : tie.Need-shared-slice-read-at Inv-loop μ-loop
 shared-slice-read-at c = let node = node-known (c .before .before .before .pre .0) 0 (c .before .before .before .pre .0 .sound .shaped .nonempty) in omega (arith, node .node .listed)
 
--- src/rows.rt:49:18
+-- src/rows.rt:51:18
 cast-at : tie.Need-cast-at Inv-loop μ-loop
 cast-at c = let node = node-known (c .before .before .before .pre .0) 0 (c .before .before .before .pre .0 .sound .shaped .nonempty) in omega (arith, node .node .begun, node .ended)
 
--- src/rows.rt:50:16
+-- src/rows.rt:52:16
 cast-words : tie.Need-cast-words Inv-loop μ-loop
 cast-words c = omega (arith, c .before .before .before .pre .0 .small)
 
--- src/rows.rt:50:5
+-- src/rows.rt:52:5
 element-write-words : tie.Need-element-write-words Inv-loop μ-loop
 element-write-words c = search needs
 
--- src/rows.rt:51:16
+-- src/rows.rt:53:16
 cast-words-2 : tie.Need-cast-words-2 Inv-loop μ-loop
 cast-words-2 c = let node = node-known (c .before .before .before .pre .0) 0 (c .before .before .before .pre .0 .sound .shaped .nonempty) in omega (arith, node .node .begun, node .ended)
 
--- src/rows.rt:51:5
+-- src/rows.rt:53:5
 element-write-words-2 : tie.Need-element-write-words-2 Inv-loop μ-loop
 element-write-words-2 c = search needs
 
--- src/rows.rt:53:5
+-- src/rows.rt:55:5
 loop-holds : tie.Need-loop-holds Inv-loop μ-loop
 loop-holds c = (omega arith, c .before .before .before .pre .0, rows-start (c .before .before .before .args .words .now) (c .before .before .before .pre .0) (c .before .before .before .pre .1 .1))
 
--- src/rows.rt:54:21
-element-copy-out-words : tie.Need-element-copy-out-words Inv-loop μ-loop
-element-copy-out-words c = let known = row-known (c .before .loop .inv .1) (c .loop-test .taken) (c .before .loop .inv .2) in known .small
+-- src/rows.rt:56:65
+mul-label-from : tie.Need-mul-label-from Inv-loop μ-loop
+mul-label-from c =
+    let known = row-known (c .before .before .before .loop .inv .1) (c .before .before .loop-test .taken) (c .before .before .before .loop .inv .2) in
+    omega (arith, known .small)
 
--- src/rows.rt:54:21
-cast-words-3 : tie.Need-cast-words-3 Inv-loop μ-loop
-cast-words-3 c = omega (arith, c .before .before .before .before .before .before .pre .1 .0 .1 (c .before .before .loop .v) (c .before .loop-test .taken))
+-- src/rows.rt:56:38
+label-from-requires : tie.Need-label-from-requires Inv-loop μ-loop
+label-from-requires c κs =
+    let turn = c .before .before .before .loop in
+    let start = c .before .before .before .before .before .before .before .pre .1 .0 in
+    (omega (arith, start .0, row-known (c .before .before .before .loop .inv .1) (c .before .before .loop-test .taken) (c .before .before .before .loop .inv .2) .small), start .1 (turn .v) (c .before .before .loop-test .taken))
 
--- src/rows.rt:54:9
-mul-words : tie.Need-mul-words Inv-loop μ-loop
-mul-words c = let known = row-known (c .before .before .loop .inv .1) (c .before .loop-test .taken) (c .before .before .loop .inv .2) in omega (arith, known .room)
+-- src/rows.rt:56:9
+put-label-requires : tie.Need-put-label-requires Inv-loop μ-loop
+put-label-requires c κs = omega (arith, c .before .before .before .before .loop .inv .2 .long, row-known (c .before .before .before .before .loop .inv .1) (c .before .before .before .loop-test .taken) (c .before .before .before .before .loop .inv .2) .room)
 
--- src/rows.rt:54:9
-element-write-words-3 : tie.Need-element-write-words-3 Inv-loop μ-loop
-element-write-words-3 c = let known = row-known (c .before .before .loop .inv .1) (c .before .loop-test .taken) (c .before .before .loop .inv .2) in known .room
-
--- src/rows.rt:55:42
+-- src/rows.rt:57:42
 add-keep-row : tie.Need-add-keep-row Inv-loop μ-loop
-add-keep-row c = let known = row-known (c .before .before .loop .inv .1) (c .before .loop-test .taken) (c .before .before .loop .inv .2) in omega (arith, known .room)
-
--- src/rows.rt:55:9
-keep-row-requires : tie.Need-keep-row-requires Inv-loop μ-loop
-keep-row-requires c κs = let known = row-known (c .before .before .before .loop .inv .1) (c .before .before .loop-test .taken) (c .before .before .before .loop .inv .2) in ((c .before .before .before .loop .inv .1, c .before .before .loop-test .taken), (length-set {A = ℕ} (c .before .before .before .loop .words) (c .before .before .before .loop .at) (getD (c .before .before .before .before .before .before .before .args .types .now) (c .before .before .before .loop .v) 0) ∙ c .before .before .before .loop .inv .2 .long, known .before))
-
--- src/rows.rt:56:24
-cast-words-4 : tie.Need-cast-words-4 Inv-loop μ-loop
-cast-words-4 c = let known = row-known (c .before .before .before .before .loop .inv .1) (c .before .before .before .loop-test .taken) (c .before .before .before .before .loop .inv .2) in omega (arith, c .keep-row .ensures .short, known .ended)
-
--- src/rows.rt:56:15
-add-words : tie.Need-add-words Inv-loop μ-loop
-add-words c = let known = row-known (c .before .before .before .before .loop .inv .1) (c .before .before .before .loop-test .taken) (c .before .before .before .before .loop .inv .2) in omega (arith, known .small)
-
--- src/rows.rt:56:9
-mul-words-2 : tie.Need-mul-words-2 Inv-loop μ-loop
-mul-words-2 c = let known = row-known (c .before .before .before .before .loop .inv .1) (c .before .before .before .loop-test .taken) (c .before .before .before .before .loop .inv .2) in omega (arith, known .small)
-
--- src/rows.rt:56:9
-element-write-words-4 : tie.Need-element-write-words-4 Inv-loop μ-loop
-element-write-words-4 c = let known = row-known (c .before .before .before .before .loop .inv .1) (c .before .before .before .loop-test .taken) (c .before .before .before .before .loop .inv .2) in omega (arith, known .small)
+add-keep-row c =
+    let known = row-known (c .before .before .before .before .before .loop .inv .1) (c .before .before .before .before .loop-test .taken) (c .before .before .before .before .before .loop .inv .2) in
+    omega (arith, known .room)
 
 -- src/rows.rt:57:9
+keep-row-requires : tie.Need-keep-row-requires Inv-loop μ-loop
+keep-row-requires c κs =
+    let turn = c .before .before .before .before .before .before .loop in
+    let known = row-known (c .before .before .before .before .before .before .loop .inv .1) (c .before .before .before .before .before .loop-test .taken) (c .before .before .before .before .before .before .loop .inv .2) in
+    ((turn .inv .1, c .before .before .before .before .before .loop-test .taken), (ap length (c .before .put-label .ensures) ∙ length-put (turn .words) (turn .at) _ ∙ turn .inv .2 .long, known .before))
+
+-- src/rows.rt:58:24
+cast-words-3 : tie.Need-cast-words-3 Inv-loop μ-loop
+cast-words-3 c =
+    let known = row-known (c .before .before .before .before .before .before .before .loop .inv .1) (c .before .before .before .before .before .before .loop-test .taken) (c .before .before .before .before .before .before .before .loop .inv .2) in
+    omega (arith, c .keep-row .ensures .short, known .ended)
+
+-- src/rows.rt:58:15
+add-words : tie.Need-add-words Inv-loop μ-loop
+add-words c =
+    let known = row-known (c .before .before .before .before .before .before .before .loop .inv .1) (c .before .before .before .before .before .before .loop-test .taken) (c .before .before .before .before .before .before .before .loop .inv .2) in
+    omega (arith, known .small)
+
+-- src/rows.rt:58:9
+mul-words : tie.Need-mul-words Inv-loop μ-loop
+mul-words c =
+    let known = row-known (c .before .before .before .before .before .before .before .loop .inv .1) (c .before .before .before .before .before .before .loop-test .taken) (c .before .before .before .before .before .before .before .loop .inv .2) in
+    omega (arith, known .small)
+
+-- src/rows.rt:58:9
+element-write-words-3 : tie.Need-element-write-words-3 Inv-loop μ-loop
+element-write-words-3 c =
+    let known = row-known (c .before .before .before .before .before .before .before .loop .inv .1) (c .before .before .before .before .before .before .loop-test .taken) (c .before .before .before .before .before .before .before .loop .inv .2) in
+    omega (arith, known .small)
+
+-- src/rows.rt:59:9
 add-v : tie.Need-add-v Inv-loop μ-loop
-add-v c = let known = row-known (c .before .before .before .before .loop .inv .1) (c .before .before .before .loop-test .taken) (c .before .before .before .before .loop .inv .2) in omega (arith, known .small)
+add-v c =
+    let known = row-known (c .before .before .before .before .before .before .before .loop .inv .1) (c .before .before .before .before .before .before .loop-test .taken) (c .before .before .before .before .before .before .before .loop .inv .2) in
+    omega (arith, known .small)
 
--- src/rows.rt:53:5
+-- src/rows.rt:55:5
 loop-less : tie.Need-loop-less Inv-loop μ-loop
-loop-less c = omega (arith, c .before .before .before .loop-test .taken)
+loop-less c = omega (arith, c .before .before .before .before .before .before .loop-test .taken)
 
--- src/rows.rt:53:5
+-- src/rows.rt:55:5
 loop-again : tie.Need-loop-again Inv-loop μ-loop
-loop-again c = (omega (arith, c .before .before .before .loop-test .taken), c .before .before .before .before .loop .inv .1, rows-next (c .before .before .before .before .loop .inv .1) (c .before .before .before .loop-test .taken) (c .before .before .before .before .loop .inv .2) (c .keep-row .ensures))
+loop-again c =
+    let turn = c .before .before .before .before .before .before .before .loop in
+    let test = c .before .before .before .before .before .before .loop-test .taken in
+    (omega (arith, test), turn .inv .1, rows-next (turn .inv .1) test (turn .inv .2) (c .before .before .put-label .ensures ∙ ap (putLabel (turn .words) (turn .at)) (c .before .before .before .label-from .ensures)) (c .keep-row .ensures))
 
--- src/rows.rt:37:1
+-- src/rows.rt:38:1
 returns : tie.Need-returns Inv-loop μ-loop
 returns c = rows-done (c .before .loop .inv .2) (c .before .loop .inv .0) (c .loop-test .left)
 
@@ -125,16 +148,15 @@ kept-links-spec =
     cast-words-2
     element-write-words-2
     loop-holds
-    element-copy-out-words
-    cast-words-3
-    mul-words
-    element-write-words-3
+    mul-label-from
+    label-from-requires
+    put-label-requires
     add-keep-row
     keep-row-requires
-    cast-words-4
+    cast-words-3
     add-words
-    mul-words-2
-    element-write-words-4
+    mul-words
+    element-write-words-3
     add-v
     loop-less
     loop-again

@@ -3,8 +3,9 @@ use mathlib.Core.Path.{_∙_}
 use Prim.Native.Nat.{_-_, _≤_}
 use native.Mathlib.Omega.{arith}
 use borrow.Author.Needs.{needs}
-use lib.ListN.{length-set}
-use Rattle.encode.specs.NumberedRows.{Visited}
+use lib.ListN.{take, length-set}
+use Rattle.encode.specs.NumberedRows.{Visited, numberedRows}
+use Rattle.encode.proofs.Lengths.{encoded-length}
 use Rattle.encode.proofs.WrittenRows.{Progress, progress-start, progress-room, progress-step, progress-done, visited-small}
 use Rattle.encode.proofs.encoder.encode.Statement.{statement}
 use Rattle.encode.proofs.encoder.encode.Tie as tie
@@ -19,7 +20,7 @@ cast-out : tie.Need-cast-out Inv-loop μ-loop
 cast-out c = search needs
 
 slice-write-out : tie.Need-slice-write-out Inv-loop μ-loop
-slice-write-out c = omega (arith, c .before .before .pre .1)
+slice-write-out c = omega (arith, c .before .before .pre .1, encoded-length (numberedRows (c .before .before .args .graph .now) (c .before .before .args .numbers .now) (take (c .before .before .args .count) (c .before .before .args .visited .now))))
 
 loop-holds : tie.Need-loop-holds Inv-loop μ-loop
 loop-holds c = (c .before .before .pre .0, omega arith, progress-start (c .before .before .args .graph .now) (c .before .before .args .numbers .now) (c .before .before .args .visited .now) _)
@@ -52,8 +53,7 @@ loop-again c = (
   c .before .before .before .before .before .before .loop .inv .0,
   omega (arith, c .before .before .before .before .before .loop-test .taken),
   progress-step (c .before .before .before .before .before .before .before .before .before .args .graph .now) (c .before .before .before .before .before .before .before .before .before .args .numbers .now) (c .before .before .before .before .before .before .before .before .before .args .visited .now) (c .before .before .before .before .before .before .loop .number)
-      (omega (arith, c .before .before .before .before .before .before .loop .inv .0 .few, c .before .before .before .before .before .before .loop .inv .0 .long, c .before .before .before .before .before .loop-test .taken)) (c .before .before .before .before .before .before .loop .inv .0 .sound)
-      (c .before .before .before .before .before .before .loop .inv .0 .nodes (c .before .before .before .before .before .before .loop .number) (c .before .before .before .before .before .loop-test .taken)) (c .before .before .before .before .before .before .loop .inv .2) (c .before .before .encode-row .ensures),
+      (omega (arith, c .before .before .before .before .before .before .loop .inv .0 .few, c .before .before .before .before .before .before .loop .inv .0 .long, c .before .before .before .before .before .loop-test .taken)) (c .before .before .before .before .before .before .loop .inv .2) (c .before .before .encode-row .ensures),
 )
 
 same-length : tie.Need-same-length Inv-loop μ-loop

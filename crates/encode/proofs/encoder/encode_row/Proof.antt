@@ -1,19 +1,18 @@
--- `encode_row` meets its contract: in a turn one target is stored and one bit of the map added.
+-- `encode_row` meets its contract: behind the label, in a turn one target is stored and one bit of the map added.
 use mathlib.Core.Path.{_∙_}
 use Prim.Native.Nat.{_+_, _-_, _<_}
 use native.Mathlib.Omega.{arith}
 use borrow.Author.Needs.{needs}
-use lib.ListN.{length-set}
-use Rattle.layout.specs.Layout.{header, labelAt}
-use Rattle.encode.proofs.WrittenRows.{Turn, row-placed, turn-start, turn-step, turn-done}
+use Rattle.layout.specs.Layout.{header}
+use Rattle.encode.proofs.WrittenRows.{Turn, label-room, map-room, row-start, turn-step, row-done}
 use Rattle.encode.proofs.encoder.encode_row.Statement.{statement}
 use Rattle.encode.proofs.encoder.encode_row.Tie as tie
 
 abbrev Inv-loop : tie.InvT-loop
-Inv-loop graph numbers v at out₀ row end label map₀ next₀ k₀ out map next k = (end < 65536) × Turn graph numbers at (row + header) end out₀ out map next k
+Inv-loop graph numbers v at out₀ row end mapAt word₀ next₀ k₀ out word next k = (end < 65536) × Turn graph numbers mapAt (row + header) end out₀ out word next k
 
 abbrev μ-loop : tie.MeasureT-loop
-μ-loop graph numbers v at out₀ row end label map₀ next₀ k₀ out map next k = end - k
+μ-loop graph numbers v at out₀ row end mapAt word₀ next₀ k₀ out word next k = end - k
 
 add-row : tie.Need-add-row Inv-loop μ-loop
 add-row c = omega (arith, c .before .before .pre .0 .1, c .before .before .pre .0 .0 .shaped .few)
@@ -39,26 +38,26 @@ shared-slice-read-end c = c .before .before .before .before .pre .0 .0 .shaped .
 cast-end : tie.Need-cast-end Inv-loop μ-loop
 cast-end c = omega (arith, c .shared-slice-known3 .given (c .before .before .before .before .args .v + 2))
 
-mul-label : tie.Need-mul-label Inv-loop μ-loop
-mul-label c = omega (arith, c .before .shared-slice-known2 .given (c .before .before .before .before .args .v + 1))
+label-at-requires : tie.Need-label-at-requires Inv-loop μ-loop
+label-at-requires c κs = (c .before .before .before .before .pre .0 .0 .shaped, c .before .before .before .before .pre .0 .1)
 
-shared-slice-read-label : tie.Need-shared-slice-read-label Inv-loop μ-loop
-shared-slice-read-label c = omega (arith, c .before .before .before .before .before .pre .0 .0 .shaped .node (c .before .before .before .before .before .args .v) (c .before .before .before .before .before .pre .0 .1) .begun, c .before .before .before .before .before .pre .0 .0 .shaped .node (c .before .before .before .before .before .args .v) (c .before .before .before .before .before .pre .0 .1) .ended)
-
-cast-out : tie.Need-cast-out Inv-loop μ-loop
-cast-out c = omega (arith, c .before .before .before .before .before .pre .0 .0 .shaped .labelled (c .before .before .before .before .before .args .v) (c .before .before .before .before .before .pre .0 .1))
-
-slice-write-out : tie.Need-slice-write-out Inv-loop μ-loop
-slice-write-out c = omega (arith, c .before .before .before .before .before .pre .1)
+put-label-requires : tie.Need-put-label-requires Inv-loop μ-loop
+put-label-requires c κs =
+    let start = c .before .before .before .before .before .before in
+    label-room (start .pre .0 .0) (start .args .v) (start .pre .0 .1) (start .args .numbers .now) (start .args .at) (c .before .label-at .ensures) (start .args .out .now) (start .pre .1)
 
 add-next : tie.Need-add-next Inv-loop μ-loop
-add-next c = omega (arith, c .before .before .before .before .before .pre .1, c .before .before .before .before .before .good .1 .1 .1 .1 .0)
+add-next c =
+    let start = c .before .before .before .before .before .before .before .before .before in
+    omega (arith, map-room (start .pre .0 .0) (start .args .v) (start .pre .0 .1) (start .args .numbers .now) (start .args .at) (c .before .before .before .before .label-at .ensures) (start .args .out .now) (start .pre .1) (c .before .before .put-label .ensures), start .good .1 .1 .1 .1 .0)
 
 add-k : tie.Need-add-k Inv-loop μ-loop
-add-k c = omega (arith, c .before .before .shared-slice-known2 .given (c .before .before .before .before .before .args .v + 1))
+add-k c = omega (arith, c .before .before .before .before .before .before .shared-slice-known2 .given (c .before .before .before .before .before .before .before .before .before .args .v + 1))
 
 loop-holds : tie.Need-loop-holds Inv-loop μ-loop
-loop-holds c = (omega (arith, c .before .shared-slice-known3 .given (c .before .before .before .before .before .args .v + 2)), turn-start (row-placed (c .before .before .before .before .before .pre .0 .0) (c .before .before .before .before .before .args .v) (c .before .before .before .before .before .pre .0 .1)) (simp length-set (c .before .before .before .before .before .pre .1)))
+loop-holds c =
+    let start = c .before .before .before .before .before .before .before .before .before in
+    (omega (arith, c .before .before .before .before .before .shared-slice-known3 .given (start .args .v + 2)), row-start (start .pre .0 .0) (start .args .v) (start .pre .0 .1) (start .args .numbers .now) (start .args .at) (c .before .before .before .before .label-at .ensures) (start .args .out .now) (start .pre .1) (c .before .before .put-label .ensures))
 
 mul-w : tie.Need-mul-w Inv-loop μ-loop
 mul-w c = omega (arith, c .before .loop .inv .0, c .loop-test .taken)
@@ -84,14 +83,14 @@ mul-number c = omega (arith, c .before .before .loop .inv .1 .placed .within (c 
 element-copy-out-number : tie.Need-element-copy-out-number Inv-loop μ-loop
 element-copy-out-number c = c .before .before .loop .inv .1 .placed .within (c .before .before .loop .k) (c .before .before .loop .inv .1 .low) (c .before .loop-test .taken)
 
-cast-out-2 : tie.Need-cast-out-2 Inv-loop μ-loop
-cast-out-2 c = search needs
+cast-out : tie.Need-cast-out Inv-loop μ-loop
+cast-out c = search needs
 
-slice-write-out-2 : tie.Need-slice-write-out-2 Inv-loop μ-loop
-slice-write-out-2 c = omega (arith, c .before .before .before .loop .inv .1 .next-is, c .before .before .before .loop .inv .1 .low, c .before .before .before .loop .inv .1 .length-is, c .before .before .before .loop .inv .1 .room, c .before .before .loop-test .taken)
+slice-write-out : tie.Need-slice-write-out Inv-loop μ-loop
+slice-write-out c = omega (arith, c .before .before .before .loop .inv .1 .next-is, c .before .before .before .loop .inv .1 .low, c .before .before .before .loop .inv .1 .length-is, c .before .before .before .loop .inv .1 .room, c .before .before .loop-test .taken)
 
 add-next-2 : tie.Need-add-next-2 Inv-loop μ-loop
-add-next-2 c = omega (arith, c .before .before .before .loop .inv .1 .next-is, c .before .before .before .loop .inv .1 .low, c .before .before .before .loop .inv .1 .length-is, c .before .before .before .loop .inv .1 .room, c .before .before .loop-test .taken, c .before .before .before .before .before .before .before .before .before .good .1 .1 .1 .1 .0)
+add-next-2 c = omega (arith, c .before .before .before .loop .inv .1 .next-is, c .before .before .before .loop .inv .1 .low, c .before .before .before .loop .inv .1 .length-is, c .before .before .before .loop .inv .1 .room, c .before .before .loop-test .taken, c .before .before .before .before .before .before .before .before .before .before .before .before .before .good .1 .1 .1 .1 .0)
 
 add-k-2 : tie.Need-add-k-2 Inv-loop μ-loop
 add-k-2 c = omega (arith, c .before .before .before .loop .inv .0, c .before .before .loop-test .taken)
@@ -102,17 +101,16 @@ loop-less c = omega (arith, c .before .before .loop-test .taken)
 loop-again : tie.Need-loop-again Inv-loop μ-loop
 loop-again c = (c .before .before .before .loop .inv .0, turn-step (c .before .before .before .loop .inv .1) (c .before .before .loop-test .taken))
 
-add-put-map : tie.Need-add-put-map Inv-loop μ-loop
-add-put-map c = search needs
-
 put-map-requires : tie.Need-put-map-requires Inv-loop μ-loop
 put-map-requires c κs = omega (arith, c .before .before .loop .inv .1 .length-is, c .before .before .loop .inv .1 .room)
 
 same-length : tie.Need-same-length Inv-loop μ-loop
-same-length c = c .before .before .put-map .kept .1 .1 .0 ∙ c .before .before .before .before .before .loop .inv .1 .length-is ∙ length-set (c .before .before .before .before .before .before .before .before .before .before .before .args .out .now) (c .before .before .before .before .before .before .before .before .before .before .before .args .at) (labelAt (c .before .before .before .before .before .before .before .before .before .before .before .args .graph .now) (c .before .before .before .before .before .before .before .before .before .before .before .args .v))
+same-length c = c .before .before .put-map .kept .1 .1 .0 ∙ c .before .before .before .before .before .loop .inv .1 .length-is ∙ c .before .before .before .before .before .before .before .before .put-label .kept .1 .1 .0
 
 returns : tie.Need-returns Inv-loop μ-loop
-returns c = turn-done (c .before .before .before .before .before .before .before .before .before .before .before .pre .0 .0) (c .before .before .before .before .before .before .before .before .before .before .before .args .v) (c .before .before .before .before .before .before .before .before .before .before .before .pre .0 .1) (c .before .before .before .before .before .before .before .before .before .before .before .args .out .now) (c .before .before .before .before .before .loop .inv .1) (c .before .before .before .before .loop-test .left) (c .before .before .put-map .ensures)
+returns c =
+    let start = c .before .before .before .before .before .before .before .before .before .before .before .before .before .before .before in
+    row-done (start .pre .0 .0) (start .args .v) (start .pre .0 .1) (start .args .numbers .now) (start .args .at) (c .before .before .before .before .before .before .before .before .before .before .label-at .ensures) (start .args .out .now) (start .pre .1) (c .before .before .before .before .before .before .before .before .put-label .ensures) (c .before .before .before .before .before .loop .inv .1) (c .before .before .before .before .loop-test .left) (c .before .before .put-map .ensures)
 
 pub encode-row-spec : {M : Type 1} → statement M
 encode-row-spec =
@@ -128,10 +126,8 @@ encode-row-spec =
     mul-end
     shared-slice-read-end
     cast-end
-    mul-label
-    shared-slice-read-label
-    cast-out
-    slice-write-out
+    label-at-requires
+    put-label-requires
     add-next
     add-k
     loop-holds
@@ -143,13 +139,12 @@ encode-row-spec =
     cast-target
     mul-number
     element-copy-out-number
-    cast-out-2
-    slice-write-out-2
+    cast-out
+    slice-write-out
     add-next-2
     add-k-2
     loop-less
     loop-again
-    add-put-map
     put-map-requires
     same-length
     returns)

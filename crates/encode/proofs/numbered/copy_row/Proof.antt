@@ -1,6 +1,8 @@
 -- `copy_row` meets its contract. The loop's invariant: the links of the places before k are copied.
+use mathlib.Core.Path.{_∙_, ap}
 use Prim.Native.Nat.{_+_, _-_, _<_}
 use native.Mathlib.Omega.{arith}
+use Rattle.layout.specs.Builder.{putLabel}
 use Rattle.encode.proofs.CopiedRows.{Turn, turn-start, turn-step, turn-done, turn-ended, turn-feature, turn-number, turn-room, turn-target}
 use Rattle.encode.proofs.numbered.copy_row.Statement.{statement}
 use Rattle.encode.proofs.numbered.copy_row.Tie as tie
@@ -35,26 +37,20 @@ shared-slice-read-end c = c .before .before .before .pre .0 .sound .shaped .node
 cast-end : tie.Need-cast-end Inv-loop μ-loop
 cast-end c = omega (arith, c .shared-slice-known3 .given (c .before .before .before .args .v + 2))
 
-mul-new : tie.Need-mul-new Inv-loop μ-loop
-mul-new c = omega (arith, c .before .shared-slice-known2 .given (c .before .before .before .args .v + 1))
+label-at-requires : tie.Need-label-at-requires Inv-loop μ-loop
+label-at-requires c κs = (c .before .before .before .pre .0 .sound .shaped, c .before .before .before .pre .0 .inside)
 
-shared-slice-read-new : tie.Need-shared-slice-read-new Inv-loop μ-loop
-shared-slice-read-new c = omega (arith, c .before .before .before .before .pre .0 .sound .shaped .node (c .before .before .before .before .args .v) (c .before .before .before .before .pre .0 .inside) .begun, c .before .before .before .before .pre .0 .sound .shaped .node (c .before .before .before .before .args .v) (c .before .before .before .before .pre .0 .inside) .ended)
-
-mul-new-2 : tie.Need-mul-new-2 Inv-loop μ-loop
-mul-new-2 c = omega (arith, c .before .before .before .before .pre .1 .0)
-
-element-write-new : tie.Need-element-write-new Inv-loop μ-loop
-element-write-new c = omega (arith, c .before .before .before .before .pre .1 .0, c .before .before .before .before .pre .1 .1)
+put-label-requires : tie.Need-put-label-requires Inv-loop μ-loop
+put-label-requires c κs = omega (arith, c .before .before .before .before .before .pre .1 .0, c .before .before .before .before .before .pre .1 .1)
 
 add-next : tie.Need-add-next Inv-loop μ-loop
-add-next c = omega (arith, c .before .before .before .before .pre .1 .0)
+add-next c = omega (arith, c .before .before .before .before .before .before .pre .1 .0)
 
 add-k : tie.Need-add-k Inv-loop μ-loop
-add-k c = omega (arith, c .before .before .shared-slice-known2 .given (c .before .before .before .before .args .v + 1))
+add-k c = omega (arith, c .before .before .before .before .shared-slice-known2 .given (c .before .before .before .before .before .before .args .v + 1))
 
 loop-holds : tie.Need-loop-holds Inv-loop μ-loop
-loop-holds c = (omega (arith, c .before .shared-slice-known3 .given (c .before .before .before .before .args .v + 2)), turn-start (c .before .before .before .before .args .new .now) (c .before .before .before .before .pre .0) (c .before .before .before .before .pre .1 .0) (c .before .before .before .before .pre .1 .1))
+loop-holds c = (omega (arith, c .before .before .before .shared-slice-known3 .given (c .before .before .before .before .before .before .args .v + 2)), turn-start (c .before .before .before .before .before .before .args .new .now) (c .before .before .before .before .before .before .pre .0) (c .before .before .before .before .before .before .pre .1 .0) (c .before .before .before .before .before .before .pre .1 .1) (c .put-label .ensures ∙ ap (putLabel (c .before .before .before .before .before .before .args .new .now) (c .before .before .before .before .before .before .args .at)) (c .before .before .label-at .ensures)))
 
 mul-w : tie.Need-mul-w Inv-loop μ-loop
 mul-w c = omega (arith, c .before .loop .inv .0, c .loop-test .taken)
@@ -74,11 +70,11 @@ element-copy-out-number c = turn-target (c .before .before .loop .inv .1) (c .be
 link-requires : tie.Need-link-requires Inv-loop μ-loop
 link-requires c κs = (turn-feature (c .before .before .before .loop .inv .1) (c .before .before .loop-test .taken), omega (arith, turn-number (c .before .before .before .loop .inv .1) (c .before .before .loop-test .taken)))
 
-mul-new-3 : tie.Need-mul-new-3 Inv-loop μ-loop
-mul-new-3 c = omega (arith, turn-room (c .before .before .before .before .loop .inv .1) (c .before .before .before .loop-test .taken))
+mul-new : tie.Need-mul-new Inv-loop μ-loop
+mul-new c = omega (arith, turn-room (c .before .before .before .before .loop .inv .1) (c .before .before .before .loop-test .taken))
 
-element-write-new-2 : tie.Need-element-write-new-2 Inv-loop μ-loop
-element-write-new-2 c = omega (arith, turn-room (c .before .before .before .before .loop .inv .1) (c .before .before .before .loop-test .taken), c .before .before .before .before .loop .inv .1 .long)
+element-write-new : tie.Need-element-write-new Inv-loop μ-loop
+element-write-new c = omega (arith, turn-room (c .before .before .before .before .loop .inv .1) (c .before .before .before .loop-test .taken), c .before .before .before .before .loop .inv .1 .long)
 
 add-next-2 : tie.Need-add-next-2 Inv-loop μ-loop
 add-next-2 c = omega (arith, turn-room (c .before .before .before .before .loop .inv .1) (c .before .before .before .loop-test .taken))
@@ -93,7 +89,7 @@ loop-again : tie.Need-loop-again Inv-loop μ-loop
 loop-again c = (c .before .before .before .before .loop .inv .0, turn-step (c .before .before .before .before .loop .inv .1) (c .before .before .before .loop-test .taken) (c .link .ensures))
 
 returns : tie.Need-returns Inv-loop μ-loop
-returns c = turn-done (c .before .before .before .before .before .before .args .new .now) (c .before .loop .inv .1) (c .loop-test .left)
+returns c = turn-done (c .before .before .before .before .before .before .before .before .args .new .now) (c .before .before .put-label .ensures ∙ ap (putLabel (c .before .before .before .before .before .before .before .before .args .new .now) (c .before .before .before .before .before .before .before .before .args .at)) (c .before .before .before .before .label-at .ensures)) (c .before .loop .inv .1) (c .loop-test .left)
 
 pub copy-row-spec : {M : Type 1} → statement M
 copy-row-spec =
@@ -109,10 +105,8 @@ copy-row-spec =
     mul-end
     shared-slice-read-end
     cast-end
-    mul-new
-    shared-slice-read-new
-    mul-new-2
-    element-write-new
+    label-at-requires
+    put-label-requires
     add-next
     add-k
     loop-holds
@@ -122,8 +116,8 @@ copy-row-spec =
     mul-number
     element-copy-out-number
     link-requires
-    mul-new-3
-    element-write-new-2
+    mul-new
+    element-write-new
     add-next-2
     add-k-2
     loop-less

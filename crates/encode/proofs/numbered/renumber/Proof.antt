@@ -15,31 +15,31 @@ returns c =
     let numbered = c .before .number .ensures in
     (renumbers-nodes (too-many (start .pre .0) (numbered .0) (numbered .1 .1) (c .if1 .taken)), start .pre .1)
 
-link-count-requires : tie.Need-link-count-requires
-link-count-requires c κs =
+extent-of-requires : tie.Need-extent-of-requires
+extent-of-requires c κs =
     let start = c .before .before .before .before .before .before in
     let numbered = c .before .before .number .ensures in
     visited-nodes (start .pre .0) (numbered .0) (numbered .1 .1) (c .before .if1 .left)
 
 returns-2 : tie.Need-returns-2
 returns-2 c =
-    let start = c .before .before .before .before .before .before .before .before in
-    let numbered = c .before .before .before .before .number .ensures in
-    (renumbers-links (many-links (start .pre .0) (numbered .0) (numbered .1 .1) (c .before .before .before .if1 .left) (omega (arith, c .before .link-count .ensures, c .if2 .taken))), start .pre .1)
+    let start = c .before .before .before .before .before .before .before .before .before in
+    let numbered = c .before .before .before .before .before .number .ensures in
+    (renumbers-links (many-links (start .pre .0) (numbered .0) (numbered .1 .1) (c .before .before .before .before .if1 .left) (omega (arith, c .before .before .extent-of .ensures, c .if2 .taken))), start .pre .1)
 
 copy-rows-requires : tie.Need-copy-rows-requires
 copy-rows-requires c κs =
-    let start = c .before .before .before .before .before .before .before .before .before .before .before in
-    let numbered = c .before .before .before .before .before .before .before .number .ensures in
-    (visited-numbered (start .pre .0) (numbered .0) (numbered .1 .1) (c .before .before .before .before .before .before .if1 .left) (c .before .before .before .before .link-count .ensures) (c .before .before .before .if2 .left), start .pre .1)
+    let start = c .before .before .before .before .before .before .before .before .before .before .before .before in
+    let numbered = c .before .before .before .before .before .before .before .before .number .ensures in
+    (visited-numbered (start .pre .0) (numbered .0) (numbered .1 .1) (c .before .before .before .before .before .before .before .if1 .left) (c .before .before .before .before .before .extent-of .ensures .0) (c .before .before .before .if2 .left), start .pre .1)
 
 returns-3 : tie.Need-returns-3
 returns-3 c =
-    let start = c .before .before .before .before .before .before .before .before .before .before .before .before in
-    let numbered = c .before .before .before .before .before .before .before .before .number .ensures in
-    (renumbered (start .pre .0) (numbered .0) (numbered .1 .1) (c .before .before .before .before .before .before .before .if1 .left) (c .before .before .before .before .before .link-count .ensures) (c .before .before .before .before .if2 .left) (c .copy-rows .ensures), c .copy-rows .ensures .long)
+    let start = c .before .before .before .before .before .before .before .before .before .before .before .before .before in
+    let numbered = c .before .before .before .before .before .before .before .before .before .number .ensures in
+    (renumbered (start .pre .0) (numbered .0) (numbered .1 .1) (c .before .before .before .before .before .before .before .before .if1 .left) (c .before .before .before .before .before .before .extent-of .ensures .0) (c .before .before .before .before .if2 .left) (c .copy-rows .ensures), c .copy-rows .ensures .long)
 
 pub renumber-spec : {M : Type 1} → statement M
 renumber-spec =
     tie.close
-    (tie.spec number-requires returns link-count-requires returns-2 copy-rows-requires returns-3)
+    (tie.spec number-requires returns extent-of-requires returns-2 copy-rows-requires returns-3)

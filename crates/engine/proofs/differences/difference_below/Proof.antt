@@ -1,4 +1,4 @@
--- The difference goes on only where s is below g, along the order's node map, and where every node of s has a wanted type.
+-- The difference goes on only where s is below g, along the order's node map, and where every node of s has a wanted label.
 use mathlib.Core.Path.{sym, _∙_}
 use Prim.Native.Nat.{ℕ}
 use borrow.Author.Tests.{not-true, not-false}
@@ -11,7 +11,7 @@ use borrow.Author.Needs.{needs}
 use Rattle.engine.proofs.differences.difference_below.Statement.{statement}
 use Rattle.engine.proofs.differences.difference_below.Tie as tie
 use Rattle.difference.proofs.difference.Reads as difference-reads
-use Rattle.difference.proofs.wanted.wanted_types.Reads as wanted-types-reads
+use Rattle.difference.proofs.wanted.wanted_labels.Reads as wanted-labels-reads
 use Rattle.engine.proofs.reply_of.Reads as reply-of-reads
 use Rattle.subsume.proofs.subsume.Reads as subsume-reads
 
@@ -32,12 +32,12 @@ returns c =
     differed-refused (start .args .n) (start .args .table .now) (start .args .out .now) (start .args .g .now) (start .args .s .now)
     (loaded-accepts (start .pre .0 .general)) (c .before .before .subsume .ensures (start .args .n)) (c .enum-told2 .given .1)
 
-wanted-types-requires : tie.Need-wanted-types-requires
-wanted-types-requires c κs =
+wanted-labels-requires : tie.Need-wanted-labels-requires
+wanted-labels-requires c κs =
     let start = c .before .before .before .before .before .before .before .before .before .before in
     let asked =
     ready-below (start .args .n) (start .args .table .now) (start .args .g .now) (start .args .s .now) (start .pre .0) (c .before .before .before .before .before .subsume .ensures (start .args .n)) (c .before .before .before .enum-told .given .1) in
-    (asked, length-replicate {A = ℕ} 255 0)
+    (asked, length-replicate {A = ℕ} 510 0)
 
 returns-2 : tie.Need-returns-2
 returns-2 c =
@@ -46,14 +46,14 @@ returns-2 c =
     ready-below (start .args .n) (start .args .table .now) (start .args .g .now) (start .args .s .now) (start .pre .0) (c .before .before .before .before .before .before .before .subsume .ensures (start .args .n)) (c .before .before .before .before .before .enum-told .given .1) in
     differed-unwanted (start .args .n) (start .args .table .now) (start .args .out .now) (start .args .g .now) (start .args .s .now)
     (loaded-accepts (start .pre .0 .general)) (c .before .before .before .before .before .before .before .subsume .ensures (start .args .n)) (c .before .before .before .before .before .enum-told .given .1)
-    (sym (not-true _ (c .if1 .taken)) ∙ answers-wanted asked (c .before .wanted-types .ensures))
+    (sym (not-true _ (c .if1 .taken)) ∙ answers-wanted asked (c .before .wanted-labels .ensures))
 
 difference-requires : tie.Need-difference-requires
 difference-requires c κs =
     let start = c .before .before .before .before .before .before .before .before .before .before .before .before .before .before .before .before in
     let asked =
     ready-below (start .args .n) (start .args .table .now) (start .args .g .now) (start .args .s .now) (start .pre .0) (c .before .before .before .before .before .before .before .before .before .before .before .subsume .ensures (start .args .n)) (c .before .before .before .before .before .before .before .before .before .enum-told .given .1) in
-    ((asked, c .before .before .before .before .before .wanted-types .ensures .wants (not-false _ (c .before .before .before .before .if1 .left))), start .pre .1)
+    ((asked, c .before .before .before .before .before .wanted-labels .ensures .wants (not-false _ (c .before .before .before .before .if1 .left))), start .pre .1)
 
 reply-of-requires : tie.Need-reply-of-requires
 reply-of-requires c κs = search needs
@@ -68,7 +68,7 @@ returns-3 c =
     ready-below (start .args .n) (start .args .table .now) (start .args .g .now) (start .args .s .now) (start .pre .0) (c .before .before .before .before .before .before .before .before .before .before .before .before .before .before .before .subsume .ensures (start .args .n)) (c .before .before .before .before .before .before .before .before .before .before .before .before .before .enum-told .given .1) in
     differed-as (start .args .n) (start .args .table .now) (start .args .out .now) (start .args .g .now) (start .args .s .now)
     (loaded-accepts (start .pre .0 .general)) (c .before .before .before .before .before .before .before .before .before .before .before .before .before .before .before .subsume .ensures (start .args .n)) (c .before .before .before .before .before .before .before .before .before .before .before .before .before .enum-told .given .1)
-    (sym (not-false _ (c .before .before .before .before .before .before .before .before .if1 .left)) ∙ answers-wanted asked (c .before .before .before .before .before .before .before .before .before .wanted-types .ensures))
+    (sym (not-false _ (c .before .before .before .before .before .before .before .before .if1 .left)) ∙ answers-wanted asked (c .before .before .before .before .before .before .before .before .before .wanted-labels .ensures))
     (c .before .before .before .difference .ensures) (c .reply-of .ensures)
 
 pub difference-below-spec : {M : Type 1} → statement M
@@ -79,7 +79,7 @@ difference-below-spec =
     enum-told
     enum-told-2
     returns
-    wanted-types-requires
+    wanted-labels-requires
     returns-2
     difference-requires
     reply-of-requires

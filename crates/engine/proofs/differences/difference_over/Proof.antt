@@ -26,7 +26,7 @@ slice-aggregate-renumber c = search needs
 renumber-requires : tie.Need-renumber-requires
 renumber-requires c κs =
     let given = both-accept (c .before .before .before .before .read-both .ensures) (c .before .before .enum-told .given .1) in
-    (given .1 .sound, length-replicate {A = ℕ} 2560 0)
+    (given .1 .sound, length-replicate {A = ℕ} 2815 0)
 
 slice-aggregate-difference-below : tie.Need-slice-aggregate-difference-below
 slice-aggregate-difference-below c = search needs

@@ -17,19 +17,30 @@ returns c =
       parsed .parse .ensures .1,
     )
 
-count-incoming-requires : tie.Need-count-incoming-requires
-count-incoming-requires c κs =
-    let tried = c .before .before .before in
+has-ranges-requires : tie.Need-has-ranges-requires
+has-ranges-requires c κs =
+    let tried = c .before .before in
     let parsed = tried .before in
     let start = parsed .before .before .before in
-    counted-start
-    (judging.shaped (start .args .n) (start .args .bytes .now) (parsed .parse .ensures .0) (not-false (parsed .parse .result) (tried .if1 .left)))
-    (judging.small (start .args .n) (start .args .bytes .now) (parsed .parse .ensures .0) (not-false (parsed .parse .result) (tried .if1 .left)))
+    judging.shaped (start .args .n) (start .args .bytes .now) (parsed .parse .ensures .0) (not-false (parsed .parse .result) (tried .if1 .left))
+
+count-incoming-requires : tie.Need-count-incoming-requires
+count-incoming-requires c κs =
+    let told = c .before .before .before in
+    let tried = told .before .before .before in
+    let parsed = tried .before in
+    let start = parsed .before .before .before in (
+      judging.levels-ordered (start .args .n) (start .args .bytes .now) (parsed .parse .ensures .0) (not-false (parsed .parse .result) (tried .if1 .left))
+          (told .has-ranges .ensures),
+      counted-start
+          (judging.shaped (start .args .n) (start .args .bytes .now) (parsed .parse .ensures .0) (not-false (parsed .parse .result) (tried .if1 .left)))
+          (judging.small (start .args .n) (start .args .bytes .now) (parsed .parse .ensures .0) (not-false (parsed .parse .result) (tried .if1 .left))),
+    )
 
 returns-2 : tie.Need-returns-2
 returns-2 c =
     let counted = c .before in
-    let tried = counted .before .before .before .before in
+    let tried = counted .before .before .before .before .before .before .before in
     let parsed = tried .before in
     let start = parsed .before .before .before in (
       judging.out-of-range (start .args .n) (start .args .bytes .now) (parsed .parse .ensures .0)
@@ -41,7 +52,7 @@ sources-first-requires : tie.Need-sources-first-requires
 sources-first-requires c κs =
     let passed = c .before .before .before in
     let counted = passed .before in
-    let tried = counted .before .before .before .before in
+    let tried = counted .before .before .before .before .before .before .before in
     let parsed = tried .before in
     let start = parsed .before .before .before in (
       judging.sound (start .args .n) (start .args .bytes .now) (parsed .parse .ensures .0) (not-false (parsed .parse .result) (tried .if1 .left))
@@ -64,7 +75,7 @@ returns-3 c =
     let found = c .before .before in
     let passed = found .before .before .before .before in
     let counted = passed .before in
-    let tried = counted .before .before .before .before in
+    let tried = counted .before .before .before .before .before .before .before in
     let parsed = tried .before in
     let start = parsed .before .before .before in (
       judging.with-cycle (start .args .n) (start .args .bytes .now) (parsed .parse .ensures .0) (not-false (parsed .parse .result) (tried .if1 .left))
@@ -78,7 +89,7 @@ returns-4 c =
     let found = c .before .before in
     let passed = found .before .before .before .before in
     let counted = passed .before in
-    let tried = counted .before .before .before .before in
+    let tried = counted .before .before .before .before .before .before .before in
     let parsed = tried .before in
     let start = parsed .before .before .before in (
       judging.unreached (start .args .n) (start .args .bytes .now) (parsed .parse .ensures .0) (not-false (parsed .parse .result) (tried .if1 .left))
@@ -92,7 +103,7 @@ returns-5 c =
     let found = c .before .before in
     let passed = found .before .before .before .before in
     let counted = passed .before in
-    let tried = counted .before .before .before .before in
+    let tried = counted .before .before .before .before .before .before .before in
     let parsed = tried .before in
     let start = parsed .before .before .before in (
       judging.accepts (start .args .n) (start .args .bytes .now) (parsed .parse .ensures .0) (not-false (parsed .parse .result) (tried .if1 .left))
@@ -107,6 +118,7 @@ read-spec =
     (tie.spec
     parse-requires
     returns
+    has-ranges-requires
     count-incoming-requires
     returns-2
     sources-first-requires

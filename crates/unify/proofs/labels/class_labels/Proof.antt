@@ -1,44 +1,53 @@
--- `class_labels` meets its contract: the second graph's nodes lower the labels, then the first's.
-use mathlib.Core.Path.{_∙_, ap}
-use Prim.Native.Nat.{ℕ, _+_, _-_}
+-- `class_labels` meets its contract: all labels are top, then the second graph's nodes lower them, then the first's.
+use mathlib.Core.Path.{_∙_, ap, subst, sym}
+use Prim.Native.Nat.{ℕ, _+_, _-_, _*_, _<_, _≤_}
 use native.Mathlib.Omega.{arith}
 use lib.ListN.{length-replicate, getD-replicate}
 use Rattle.layout.specs.Layout.{size}
 use Rattle.unify.specs.Lowered.{lowered}
+use Rattle.unify.proofs.Lowering.{blank-below}
 use Rattle.layout.proofs.Order.{directory}
 use borrow.Author.Needs.{needs}
 use Rattle.unify.proofs.labels.class_labels.Statement.{statement}
 use Rattle.unify.proofs.labels.class_labels.Tie as tie
 
-sub-labels : tie.Need-sub-labels
-sub-labels c = search needs
-
-cast-labels : tie.Need-cast-labels
-cast-labels c = search needs
-
 shared-slice-read-shift : tie.Need-shared-slice-read-shift
 shared-slice-read-shift c = omega (arith, directory (c .before .before .before .pre .1 .1 .0 .recorded .sound .shaped))
 
 cast-shift : tie.Need-cast-shift
-cast-shift c = omega (arith, c .before .before .before .pre .1 .1 .0 .recorded .small)
+cast-shift c = search needs
+
+shared-slice-read-clear : tie.Need-shared-slice-read-clear
+shared-slice-read-clear c = omega (arith, directory (c .before .before .before .before .pre .1 .1 .1 .0 .recorded .sound .shaped))
+
+cast-clear : tie.Need-cast-clear
+cast-clear c = search needs
+
+add-clear : tie.Need-add-clear
+add-clear c = search needs
+
+clear-requires : tie.Need-clear-requires
+clear-requires c κs = let p = c .before .before .before .before .before .pre in ((p .0 .0, p .0 .1, omega (arith, p .1 .1 .0 .recorded .small, p .1 .1 .1 .0 .recorded .small), length-replicate {A = ℕ} 1020 0, blank-below (p .0 .0)))
 
 lower-requires : tie.Need-lower-requires
-lower-requires c κs = (c .before .before .before .before .pre .1 .1 .1 .0 .recorded, ((c .before .before .before .before .pre .1 .1 .0 .recorded .small, length-replicate {A = ℕ} 510 (c .before .before .before .before .args .n - 1)), ((_, (record { few = c .before .before .before .before .pre .0 .1; meets-below = c .before .before .before .before .pre .1 .0; labelled = c .before .before .before .before .pre .1 .1 .1 .0 .labelled; below = (λ x h. omega (arith, getD-replicate {A = ℕ} 510 x (c .before .before .before .before .args .n - 1) 0 h, c .before .before .before .before .pre .0 .0)) })), λ v h. c .before .before .before .before .pre .1 .1 .1 .1 (size (c .before .before .before .before .args .a .now) + v) (omega (arith, h)))))
+lower-requires c κs = let p = c .before .before .before .before .before .before .before .pre in let e = c .before .clear .ensures in (p .1 .1 .1 .0 .recorded, ((p .1 .1 .0 .recorded .small, e .0 .0), ((_, record { few = p .0 .1; meets-below = p .1 .0; labelled = p .1 .1 .1 .0 .labelled; below = e .0 .1 }), λ v h. p .1 .1 .1 .1 (size (c .before .before .before .before .before .before .before .args .a .now) + v) (omega (arith, h)))))
 
 lower-requires-2 : tie.Need-lower-requires-2
-lower-requires-2 c κs = (c .before .before .before .before .before .before .pre .1 .1 .0 .recorded, ((omega arith, c .before .lower .ensures .0), ((_, (record { few = c .before .before .before .before .before .before .pre .0 .1; meets-below = c .before .before .before .before .before .before .pre .1 .0; labelled = c .before .before .before .before .before .before .pre .1 .1 .0 .labelled; below = c .before .lower .ensures .1 .0 _ (record { few = c .before .before .before .before .before .before .pre .0 .1; meets-below = c .before .before .before .before .before .before .pre .1 .0; labelled = c .before .before .before .before .before .before .pre .1 .1 .1 .0 .labelled; below = (λ x h. omega (arith, getD-replicate {A = ℕ} 510 x (c .before .before .before .before .before .before .args .n - 1) 0 h, c .before .before .before .before .before .before .pre .0 .0)) }) })), λ v h. c .before .before .before .before .before .before .pre .1 .1 .1 .1 (0 + v) (omega (arith, h)))))
+lower-requires-2 c κs = let p = c .before .before .before .before .before .before .before .before .before .pre in let e = c .before .before .before .clear .ensures in let f = c .before .lower .ensures in (p .1 .1 .0 .recorded, ((omega arith, f .0), ((_, record { few = p .0 .1; meets-below = p .1 .0; labelled = p .1 .1 .0 .labelled; below = f .1 .0 _ (record { few = p .0 .1; meets-below = p .1 .0; labelled = p .1 .1 .1 .0 .labelled; below = e .0 .1 }) }), λ v h. p .1 .1 .1 .1 (0 + v) (omega (arith, h)))))
 
 returns : tie.Need-returns
-returns c = (c .lower2 .ensures .1 .0 _ (record { few = c .before .before .before .before .before .before .before .pre .0 .1; meets-below = c .before .before .before .before .before .before .before .pre .1 .0; labelled = c .before .before .before .before .before .before .before .pre .1 .1 .0 .labelled; below = c .before .before .lower .ensures .1 .0 _ (record { few = c .before .before .before .before .before .before .before .pre .0 .1; meets-below = c .before .before .before .before .before .before .before .pre .1 .0; labelled = c .before .before .before .before .before .before .before .pre .1 .1 .1 .0 .labelled; below = (λ x h. omega (arith, getD-replicate {A = ℕ} 510 x (c .before .before .before .before .before .before .before .args .n - 1) 0 h, c .before .before .before .before .before .before .before .pre .0 .0)) }) }), λ x h. c .lower2 .ensures .1 .1 x h ∙ ap (lowered (c .before .before .before .before .before .before .before .args .meets .now) (c .before .before .before .before .before .before .before .args .a .now) (c .before .before .before .before .before .before .before .args .class .now) 0 x) (c .before .before .lower .ensures .1 .1 x h ∙ ap (lowered (c .before .before .before .before .before .before .before .args .meets .now) (c .before .before .before .before .before .before .before .args .b .now) (c .before .before .before .before .before .before .before .args .class .now) (size (c .before .before .before .before .before .before .before .args .a .now)) x) (getD-replicate {A = ℕ} 510 x (c .before .before .before .before .before .before .before .args .n - 1) 0 h)))
+returns c = let p = c .before .before .before .before .before .before .before .before .before .before .pre in let a = c .before .before .before .before .before .before .before .before .before .before .args in let e = c .before .before .before .before .clear .ensures in let f = c .before .before .lower .ensures in let g = c .lower2 .ensures in ((g .1 .0 _ (record { few = p .0 .1; meets-below = p .1 .0; labelled = p .1 .1 .0 .labelled; below = f .1 .0 _ (record { few = p .0 .1; meets-below = p .1 .0; labelled = p .1 .1 .1 .0 .labelled; below = e .0 .1 }) }), g .0), λ x h. let l : x < 510 = omega (arith, p .1 .1 .0 .recorded .small, p .1 .1 .1 .0 .recorded .small) in g .1 .1 x l ∙ ap (lowered (a .meets .now) (a .a .now) (a .class .now) 0 x) (f .1 .1 x l ∙ ap (lowered (a .meets .now) (a .b .now) (a .class .now) (size (a .a .now)) x) (e .1 x h)))
 
 pub class-labels-spec : {M : Type 1} → statement M
 class-labels-spec =
     tie.close
     (tie.spec
-    sub-labels
-    cast-labels
     shared-slice-read-shift
     cast-shift
+    shared-slice-read-clear
+    cast-clear
+    add-clear
+    clear-requires
     lower-requires
     lower-requires-2
     returns)

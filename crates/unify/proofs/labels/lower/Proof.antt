@@ -1,8 +1,16 @@
 -- `lower` meets its contract: the nodes from v on have lowered the labels of their classes.
-use Prim.Native.Nat.{_+_, _-_}
+use mathlib.Core.Path.{_∙_, ap, ap₂, subst, sym}
+use Prim.Native.Nat.{_+_, _-_, _*_}
 use native.Mathlib.Omega.{arith}
+use lib.ListN.{getD}
+use Rattle.lattice.specs.Label.{Label}
+use Rattle.lattice.specs.Labels.{Known}
+use Rattle.lattice.proofs.Lawful.{known-more}
+use Rattle.layout.specs.Layout.{header}
+use Rattle.layout.specs.Builder.{putLabel}
 use Rattle.layout.proofs.Order.{directory}
-use Rattle.unify.proofs.Lowering.{Lowering, lower-start, lower-step, lower-done}
+use Rattle.unify.specs.Lowered.{meetLabels}
+use Rattle.unify.proofs.Lowering.{Lowering, lower-start, lower-step, lower-done, node-known, class-known}
 use Rattle.unify.proofs.labels.lower.Statement.{statement}
 use Rattle.unify.proofs.labels.lower.Tie as tie
 
@@ -14,73 +22,52 @@ abbrev μ-loop : tie.MeasureT-loop
 μ-loop meets graph class shift labels₀ v₀ labels v = v
 
 shared-slice-read-v : tie.Need-shared-slice-read-v Inv-loop μ-loop
-shared-slice-read-v c = omega (arith, directory (c .before .pre .0 .sound .shaped))
+shared-slice-read-v c = omega (arith, directory (c .before .before .pre .0 .sound .shaped))
 
 cast-v : tie.Need-cast-v Inv-loop μ-loop
-cast-v c = omega (arith, c .before .pre .0 .small)
+cast-v c = omega (arith, c .before .before .pre .0 .small)
 
 loop-holds : tie.Need-loop-holds Inv-loop μ-loop
-loop-holds c = lower-start _ _ _ _ _ (c .before .pre .1 .0 .1)
+loop-holds c = lower-start _ _ _ _ _ (c .before .before .pre .1 .0 .1)
 
 sub-v : tie.Need-sub-v Inv-loop μ-loop
 sub-v c = omega (arith, c .loop-test .taken)
 
 add-c : tie.Need-add-c Inv-loop μ-loop
-add-c c = omega (arith, c .before .before .before .pre .1 .0 .0, c .before .loop .inv .most, c .before .before .before .pre .0 .small)
+add-c c = omega (arith, c .before .before .before .before .pre .1 .0 .0, c .before .loop .inv .most, c .before .before .before .before .pre .0 .small)
 
 mul-c : tie.Need-mul-c Inv-loop μ-loop
-mul-c c = omega (arith, c .before .before .before .pre .1 .0 .0, c .before .loop .inv .most, c .before .before .before .pre .0 .small)
+mul-c c = omega (arith, c .before .before .before .before .pre .1 .0 .0, c .before .loop .inv .most, c .before .before .before .before .pre .0 .small)
 
 element-copy-out-c : tie.Need-element-copy-out-c Inv-loop μ-loop
-element-copy-out-c c = omega (arith, c .loop-test .taken, c .before .before .before .pre .1 .0 .0, c .before .loop .inv .most, c .before .before .before .pre .0 .small)
+element-copy-out-c c = omega (arith, c .loop-test .taken, c .before .before .before .before .pre .1 .0 .0, c .before .loop .inv .most, c .before .before .before .before .pre .0 .small)
 
 cast-c : tie.Need-cast-c Inv-loop μ-loop
-cast-c c = omega (arith, c .before .before .before .before .pre .1 .1 .1 (c .before .before .loop .v - 1) (omega (arith, c .before .loop-test .taken, c .before .before .loop .inv .most)))
+cast-c c = omega (arith, (c .before .before .before .before .before .pre .1 .1 .1 (c .before .before .loop .v - 1) (omega (arith, c .before .loop-test .taken, c .before .before .loop .inv .most))))
 
-add-row : tie.Need-add-row Inv-loop μ-loop
-add-row c = omega (arith, c .before .before .loop .inv .most, c .before .before .before .before .pre .0 .small)
+label-at-requires : tie.Need-label-at-requires Inv-loop μ-loop
+label-at-requires c κs = (c .before .before .before .before .before .pre .0 .sound .shaped, (omega (arith, c .before .loop-test .taken, c .before .before .loop .inv .most)))
 
-mul-row : tie.Need-mul-row Inv-loop μ-loop
-mul-row c = omega (arith, c .before .before .loop .inv .most, c .before .before .before .before .pre .0 .small)
+mul-label-from : tie.Need-mul-label-from Inv-loop μ-loop
+mul-label-from c = omega (arith, (c .before .before .before .before .before .before .before .before .pre .1 .1 .1 (c .before .before .before .before .before .loop .v - 1) (omega (arith, c .before .before .before .before .loop-test .taken, c .before .before .before .before .before .loop .inv .most))))
 
-shared-slice-read-row : tie.Need-shared-slice-read-row Inv-loop μ-loop
-shared-slice-read-row c = omega (arith, directory (c .before .before .before .before .before .pre .0 .sound .shaped), c .before .before .before .loop .inv .most)
+label-from-requires : tie.Need-label-from-requires Inv-loop μ-loop
+label-from-requires c κs = (omega (arith, (c .before .before .before .before .before .before .before .before .pre .1 .1 .1 (c .before .before .before .before .before .loop .v - 1) (omega (arith, c .before .before .before .before .loop-test .taken, c .before .before .before .before .before .loop .inv .most))), c .before .before .before .before .before .loop .inv .long), let able = c .before .before .before .before .before .before .before .before .pre .1 .1 .0 .1 in known-more (omega (arith, able .few)) (class-known (c .before .before .before .before .before .loop .inv) able (c .before .before .before .before .loop-test .taken) (c .before .before .before .before .before .before .before .before .pre .1 .1 .1 (c .before .before .before .before .before .loop .v - 1) (omega (arith, c .before .before .before .before .loop-test .taken, c .before .before .before .before .before .loop .inv .most)))))
 
-cast-row : tie.Need-cast-row Inv-loop μ-loop
-cast-row c = omega (arith, c .shared-slice-known2 .given ((c .before .before .before .loop .v - 1) + 1))
+meet-requires : tie.Need-meet-requires Inv-loop μ-loop
+meet-requires c κs = let able = c .before .before .before .before .before .before .before .before .before .pre .1 .1 .0 .1 in let s = c .before .before .before .before .before .before .loop .inv in let h = c .before .before .before .before .before .loop-test .taken in let p = (c .before .before .before .before .before .before .before .before .before .pre .1 .1 .1 (c .before .before .before .before .before .before .loop .v - 1) (omega (arith, c .before .before .before .before .before .loop-test .taken, c .before .before .before .before .before .before .loop .inv .most))) in (omega (arith, ap (λ (l : Label). l .type) (c .before .before .before .label-at .ensures), node-known s able h p .type, able .few), omega (arith, ap (λ (l : Label). l .type) (c .label-from .ensures), class-known s able h p .type, able .few))
 
-mul-i : tie.Need-mul-i Inv-loop μ-loop
-mul-i c = omega (arith, c .shared-slice-known2 .given ((c .before .before .before .loop .v - 1) + 1))
+mul-put-label : tie.Need-mul-put-label Inv-loop μ-loop
+mul-put-label c = omega (arith, (c .before .before .before .before .before .before .before .before .before .before .before .pre .1 .1 .1 (c .before .before .before .before .before .before .before .before .loop .v - 1) (omega (arith, c .before .before .before .before .before .before .before .loop-test .taken, c .before .before .before .before .before .before .before .before .loop .inv .most))))
 
-shared-slice-read-i : tie.Need-shared-slice-read-i Inv-loop μ-loop
-shared-slice-read-i c = let node = c .before .before .before .before .before .before .pre .0 .sound .shaped .node (c .before .before .before .before .loop .v - 1) (omega (arith, c .before .before .before .loop-test .taken, c .before .before .before .before .loop .inv .most)) in omega (arith, node .begun, node .ended)
-
-cast-i : tie.Need-cast-i Inv-loop μ-loop
-cast-i c = omega (arith, c .before .before .before .before .before .before .pre .1 .1 .0 .1 .labelled (c .before .before .before .before .loop .v - 1) (omega (arith, c .before .before .before .loop-test .taken, c .before .before .before .before .loop .inv .most)), c .before .before .before .before .before .before .pre .1 .1 .0 .1 .few)
-
-element-copy-out-j : tie.Need-element-copy-out-j Inv-loop μ-loop
-element-copy-out-j c = c .before .before .before .before .before .before .pre .1 .1 .1 (c .before .before .before .before .loop .v - 1) (omega (arith, c .before .before .before .loop-test .taken, c .before .before .before .before .loop .inv .most))
-
-cast-j : tie.Need-cast-j Inv-loop μ-loop
-cast-j c = omega (arith, c .before .before .before .before .before .loop .inv .below _ (c .before .before .before .before .before .before .before .pre .1 .1 .0 .1) _ (c .before .before .before .before .before .before .before .pre .1 .1 .1 (c .before .before .before .before .before .loop .v - 1) (omega (arith, c .before .before .before .before .loop-test .taken, c .before .before .before .before .before .loop .inv .most))), c .before .before .before .before .before .before .before .pre .1 .1 .0 .1 .few)
-
-mul-labels : tie.Need-mul-labels Inv-loop μ-loop
-mul-labels c = omega (arith, c .before .before .before .before .before .before .before .pre .1 .1 .0 .1 .labelled (c .before .before .before .before .before .loop .v - 1) (omega (arith, c .before .before .before .before .loop-test .taken, c .before .before .before .before .before .loop .inv .most)), c .before .before .before .before .before .before .before .pre .1 .1 .0 .1 .few)
-
-index-1-labels : tie.Need-index-1-labels Inv-loop μ-loop
-index-1-labels c = omega (arith, c .before .before .before .before .before .before .before .pre .1 .1 .0 .1 .labelled (c .before .before .before .before .before .loop .v - 1) (omega (arith, c .before .before .before .before .loop-test .taken, c .before .before .before .before .before .loop .inv .most)), c .before .before .before .before .before .before .before .pre .1 .1 .0 .1 .few)
-
-index-2-labels : tie.Need-index-2-labels Inv-loop μ-loop
-index-2-labels c = omega (arith, c .before .before .before .before .before .before .before .pre .1 .1 .0 .1 .labelled (c .before .before .before .before .before .loop .v - 1) (omega (arith, c .before .before .before .before .loop-test .taken, c .before .before .before .before .before .loop .inv .most)), c .before .before .before .before .before .loop .inv .below _ (c .before .before .before .before .before .before .before .pre .1 .1 .0 .1) _ (c .before .before .before .before .before .before .before .pre .1 .1 .1 (c .before .before .before .before .before .loop .v - 1) (omega (arith, c .before .before .before .before .loop-test .taken, c .before .before .before .before .before .loop .inv .most))), c .before .before .before .before .before .before .before .pre .1 .1 .0 .1 .few)
-
-element-write-labels : tie.Need-element-write-labels Inv-loop μ-loop
-element-write-labels c = omega (arith, c .before .before .before .before .before .before .before .before .pre .1 .1 .1 (c .before .before .before .before .before .before .loop .v - 1) (omega (arith, c .before .before .before .before .before .loop-test .taken, c .before .before .before .before .before .before .loop .inv .most)), c .before .before .before .before .before .before .loop .inv .long)
+put-label-requires : tie.Need-put-label-requires Inv-loop μ-loop
+put-label-requires c κs = omega (arith, (c .before .before .before .before .before .before .before .before .before .before .before .pre .1 .1 .1 (c .before .before .before .before .before .before .before .before .loop .v - 1) (omega (arith, c .before .before .before .before .before .before .before .loop-test .taken, c .before .before .before .before .before .before .before .before .loop .inv .most))), c .before .before .before .before .before .before .before .before .loop .inv .long)
 
 loop-less : tie.Need-loop-less Inv-loop μ-loop
-loop-less c = omega (arith, c .before .before .before .before .before .loop-test .taken)
+loop-less c = omega (arith, c .before .before .before .before .before .before .before .before .loop-test .taken)
 
 loop-again : tie.Need-loop-again Inv-loop μ-loop
-loop-again c = lower-step (c .before .before .before .before .before .before .loop .inv) (c .before .before .before .before .before .loop-test .taken) (c .before .before .before .before .before .before .before .before .pre .1 .1 .1 (c .before .before .before .before .before .before .loop .v - 1) (omega (arith, c .before .before .before .before .before .loop-test .taken, c .before .before .before .before .before .before .loop .inv .most)))
+loop-again c = let w = c .before .before .before .before .before .before .before .before .before .before .before .before in let x = c .before .before .before .before .before .before .before .before .before .loop in lower-step (x .inv) (w .pre .1 .1 .0 .1) (c .before .before .before .before .before .before .before .before .loop-test .taken) (c .before .before .before .before .before .before .before .before .before .before .before .before .pre .1 .1 .1 (c .before .before .before .before .before .before .before .before .before .loop .v - 1) (omega (arith, c .before .before .before .before .before .before .before .before .loop-test .taken, c .before .before .before .before .before .before .before .before .before .loop .inv .most))) (c .put-label .ensures ∙ ap (putLabel (x .labels) (header * getD (w .args .class .now) (w .args .shift + (x .v - 1)) 0)) (c .before .before .meet .ensures ∙ ap₂ (meetLabels (w .args .meets .now)) (c .before .before .before .before .before .before .label-at .ensures) (c .before .before .before .label-from .ensures)))
 
 returns : tie.Need-returns Inv-loop μ-loop
 returns c = (c .before .loop .inv .long, (c .before .loop .inv .below, lower-done (c .before .loop .inv) (omega (arith, c .loop-test .left))))
@@ -99,19 +86,12 @@ lower-spec =
     mul-c
     element-copy-out-c
     cast-c
-    add-row
-    mul-row
-    shared-slice-read-row
-    cast-row
-    mul-i
-    shared-slice-read-i
-    cast-i
-    element-copy-out-j
-    cast-j
-    mul-labels
-    index-1-labels
-    index-2-labels
-    element-write-labels
+    label-at-requires
+    mul-label-from
+    label-from-requires
+    meet-requires
+    mul-put-label
+    put-label-requires
     loop-less
     loop-again
     returns)

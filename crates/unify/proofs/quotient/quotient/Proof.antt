@@ -1,8 +1,10 @@
 use borrow.Author.Needs.{needs}
 -- `quotient` meets its contract: the rows of the nodes before x are built.
+use mathlib.Core.Path.{_∙_, ap}
 use Prim.Native.Nat.{_-_}
 use native.Mathlib.Omega.{arith}
-use Rattle.unify.proofs.Filling.{Filling, fill-start, fill-room, fill-asks, fill-bound, fill-step, fill-done}
+use Rattle.layout.specs.Builder.{putLabel}
+use Rattle.unify.proofs.Filling.{Filling, fill-start, fill-room, fill-asks, fill-bound, fill-step, fill-done, label-known}
 use Rattle.unify.proofs.quotient.quotient.Statement.{statement}
 use Rattle.unify.proofs.quotient.quotient.Tie as tie
 
@@ -29,7 +31,7 @@ element-write-graph-2 : tie.Need-element-write-graph-2 Inv-loop μ-loop
 element-write-graph-2 c = search needs
 
 loop-holds : tie.Need-loop-holds Inv-loop μ-loop
-loop-holds c = fill-start (c .before .pre .1) (c .before .args .labels .now) (c .before .args .graph .now) (c .before .pre .0 .0)
+loop-holds c = fill-start (c .before .pre .1) (c .before .pre .0 .2) (c .before .args .graph .now) (c .before .pre .0 .0)
 
 mul-c : tie.Need-mul-c Inv-loop μ-loop
 mul-c c = omega (arith, c .loop-test .taken, c .before .loop .inv .given .few)
@@ -38,58 +40,55 @@ element-copy-out-c : tie.Need-element-copy-out-c Inv-loop μ-loop
 element-copy-out-c c = omega (arith, c .loop-test .taken, c .before .loop .inv .given .few)
 
 cast-c : tie.Need-cast-c Inv-loop μ-loop
-cast-c c = omega (arith, c .before .before .loop .inv .given .classed (c .before .before .loop .x) (c .before .loop-test .taken))
+cast-c c = omega (arith, (c .before .before .loop .inv .given .classed (c .before .before .loop .x) (c .before .loop-test .taken)))
 
-element-copy-out-graph : tie.Need-element-copy-out-graph Inv-loop μ-loop
-element-copy-out-graph c = c .before .before .loop .inv .given .classed (c .before .before .loop .x) (c .before .loop-test .taken)
+mul-label-from : tie.Need-mul-label-from Inv-loop μ-loop
+mul-label-from c = omega (arith, (c .before .before .before .before .loop .inv .given .classed (c .before .before .before .before .loop .x) (c .before .before .before .loop-test .taken)))
 
-cast-graph-3 : tie.Need-cast-graph-3 Inv-loop μ-loop
-cast-graph-3 c = omega (arith, c .before .before .before .before .before .pre .0 .1 _ (c .before .before .before .loop .inv .given .classed (c .before .before .before .loop .x) (c .before .before .loop-test .taken)))
+label-from-requires : tie.Need-label-from-requires Inv-loop μ-loop
+label-from-requires c κs = (omega (arith, (c .before .before .before .before .loop .inv .given .classed (c .before .before .before .before .loop .x) (c .before .before .before .loop-test .taken)), c .before .before .before .before .before .before .pre .0 .1), label-known (c .before .before .before .before .loop .inv) (c .before .before .before .loop-test .taken))
 
-mul-graph : tie.Need-mul-graph Inv-loop μ-loop
-mul-graph c = omega (arith, fill-room (c .before .before .before .loop .inv) (c .before .before .loop-test .taken), c .before .before .before .loop .inv .long)
-
-element-write-graph-3 : tie.Need-element-write-graph-3 Inv-loop μ-loop
-element-write-graph-3 c = omega (arith, fill-room (c .before .before .before .loop .inv) (c .before .before .loop-test .taken), c .before .before .before .loop .inv .long)
+put-label-requires : tie.Need-put-label-requires Inv-loop μ-loop
+put-label-requires c κs = omega (arith, fill-room (c .before .before .before .before .before .loop .inv) (c .before .before .before .before .loop-test .taken))
 
 mul-row-start : tie.Need-mul-row-start Inv-loop μ-loop
-mul-row-start c = omega (arith, c .before .before .loop-test .taken, c .before .before .before .loop .inv .given .few)
+mul-row-start c = omega (arith, c .before .before .before .before .before .loop-test .taken, c .before .before .before .before .before .before .loop .inv .given .few)
 
 element-copy-out-row-start : tie.Need-element-copy-out-row-start Inv-loop μ-loop
-element-copy-out-row-start c = omega (arith, c .before .before .loop-test .taken, c .before .before .before .loop .inv .given .few)
+element-copy-out-row-start c = omega (arith, c .before .before .before .before .before .loop-test .taken, c .before .before .before .before .before .before .loop .inv .given .few)
 
 cast-row-start : tie.Need-cast-row-start Inv-loop μ-loop
-cast-row-start c = omega (arith, c .before .before .before .before .loop .inv .given .rising (c .before .before .before .before .loop .x) (c .before .before .before .loop-test .taken))
+cast-row-start c = omega (arith, c .before .before .before .before .before .before .before .loop .inv .given .rising (c .before .before .before .before .before .before .before .loop .x) (c .before .before .before .before .before .before .loop-test .taken))
 
 end-of-row-requires : tie.Need-end-of-row-requires Inv-loop μ-loop
-end-of-row-requires c κs = ((omega (arith, c .before .before .before .before .loop .inv .given .few, c .before .before .before .loop-test .taken), c .before .before .before .before .loop .inv .given .classed (c .before .before .before .before .loop .x) (c .before .before .before .loop-test .taken)), (c .before .before .before .before .loop .inv .given .rising (c .before .before .before .before .loop .x) (c .before .before .before .loop-test .taken) .0, c .before .before .before .before .loop .inv .given .rising (c .before .before .before .before .loop .x) (c .before .before .before .loop-test .taken) .1))
+end-of-row-requires c κs = let r = c .before .before .before .before .before .before .before .loop .inv .given .rising (c .before .before .before .before .before .before .before .loop .x) (c .before .before .before .before .before .before .loop-test .taken) in ((omega (arith, c .before .before .before .before .before .before .before .loop .inv .given .few, c .before .before .before .before .before .before .loop-test .taken), (c .before .before .before .before .before .before .before .loop .inv .given .classed (c .before .before .before .before .before .before .before .loop .x) (c .before .before .before .before .before .before .loop-test .taken))), (r .0, r .1))
 
 add-copy-row : tie.Need-add-copy-row Inv-loop μ-loop
-add-copy-row c = omega (arith, fill-room (c .before .before .before .before .before .loop .inv) (c .before .before .before .before .loop-test .taken), c .before .before .before .before .before .loop .inv .long)
+add-copy-row c = omega (arith, fill-room (c .before .before .before .before .before .before .before .before .loop .inv) (c .before .before .before .before .before .before .before .loop-test .taken), c .before .before .before .before .before .before .before .before .loop .inv .long)
 
 copy-row-requires : tie.Need-copy-row-requires Inv-loop μ-loop
-copy-row-requires c κs = rw (c .before .end-of-row .ensures) (fill-asks (c .before .before .before .before .before .before .loop .inv) (c .before .before .before .before .before .loop-test .taken))
+copy-row-requires c κs = rw (c .before .end-of-row .ensures) (fill-asks (c .before .before .before .before .before .before .before .before .before .loop .inv) (c .before .before .before .before .before .before .before .before .loop-test .taken) (c .before .before .before .put-label .ensures ∙ ap (putLabel (c .before .before .before .before .before .before .before .before .before .loop .graph) (c .before .before .before .before .before .before .before .before .before .loop .at)) (c .before .before .before .before .label-from .ensures)))
 
-cast-graph-4 : tie.Need-cast-graph-4 Inv-loop μ-loop
-cast-graph-4 c = omega (arith, fill-bound (c .before .before .before .before .before .before .before .loop .inv) (c .before .before .before .before .before .before .loop-test .taken) (rw (c .before .before .end-of-row .ensures) at (c .copy-row .ensures)))
+cast-graph-3 : tie.Need-cast-graph-3 Inv-loop μ-loop
+cast-graph-3 c = omega (arith, fill-bound (c .before .before .before .before .before .before .before .before .before .before .loop .inv) (c .before .before .before .before .before .before .before .before .before .loop-test .taken) (c .before .before .before .before .put-label .ensures ∙ ap (putLabel (c .before .before .before .before .before .before .before .before .before .before .loop .graph) (c .before .before .before .before .before .before .before .before .before .before .loop .at)) (c .before .before .before .before .before .label-from .ensures)) (rw (c .before .before .end-of-row .ensures) at (c .copy-row .ensures)))
 
 add-graph : tie.Need-add-graph Inv-loop μ-loop
-add-graph c = omega (arith, c .before .before .before .before .before .before .loop-test .taken, c .before .before .before .before .before .before .before .loop .inv .given .few)
+add-graph c = omega (arith, c .before .before .before .before .before .before .before .before .before .loop-test .taken, c .before .before .before .before .before .before .before .before .before .before .loop .inv .given .few)
 
-mul-graph-2 : tie.Need-mul-graph-2 Inv-loop μ-loop
-mul-graph-2 c = omega (arith, c .before .before .before .before .before .before .loop-test .taken, c .before .before .before .before .before .before .before .loop .inv .given .few)
+mul-graph : tie.Need-mul-graph Inv-loop μ-loop
+mul-graph c = omega (arith, c .before .before .before .before .before .before .before .before .before .loop-test .taken, c .before .before .before .before .before .before .before .before .before .before .loop .inv .given .few)
 
-element-write-graph-4 : tie.Need-element-write-graph-4 Inv-loop μ-loop
-element-write-graph-4 c = omega (arith, c .before .before .before .before .before .before .loop-test .taken, c .before .before .before .before .before .before .before .loop .inv .given .few, fill-step (c .before .before .before .before .before .before .before .loop .inv) (c .before .before .before .before .before .before .loop-test .taken) (rw (c .before .before .end-of-row .ensures) at (c .copy-row .ensures)) .long)
+element-write-graph-3 : tie.Need-element-write-graph-3 Inv-loop μ-loop
+element-write-graph-3 c = omega (arith, c .before .before .before .before .before .before .before .before .before .loop-test .taken, c .before .before .before .before .before .before .before .before .before .before .loop .inv .given .few, fill-step (c .before .before .before .before .before .before .before .before .before .before .loop .inv) (c .before .before .before .before .before .before .before .before .before .loop-test .taken) (c .before .before .before .before .put-label .ensures ∙ ap (putLabel (c .before .before .before .before .before .before .before .before .before .before .loop .graph) (c .before .before .before .before .before .before .before .before .before .before .loop .at)) (c .before .before .before .before .before .label-from .ensures)) (rw (c .before .before .end-of-row .ensures) at (c .copy-row .ensures)) .long)
 
 add-x : tie.Need-add-x Inv-loop μ-loop
-add-x c = omega (arith, c .before .before .before .before .before .before .loop-test .taken, c .before .before .before .before .before .before .before .loop .inv .given .few)
+add-x c = omega (arith, c .before .before .before .before .before .before .before .before .before .loop-test .taken, c .before .before .before .before .before .before .before .before .before .before .loop .inv .given .few)
 
 loop-less : tie.Need-loop-less Inv-loop μ-loop
-loop-less c = search needs
+loop-less c = omega (arith, c .before .before .before .before .before .before .before .before .before .loop-test .taken)
 
 loop-again : tie.Need-loop-again Inv-loop μ-loop
-loop-again c = fill-step (c .before .before .before .before .before .before .before .loop .inv) (c .before .before .before .before .before .before .loop-test .taken) (rw (c .before .before .end-of-row .ensures) at (c .copy-row .ensures))
+loop-again c = fill-step (c .before .before .before .before .before .before .before .before .before .before .loop .inv) (c .before .before .before .before .before .before .before .before .before .loop-test .taken) (c .before .before .before .before .put-label .ensures ∙ ap (putLabel (c .before .before .before .before .before .before .before .before .before .before .loop .graph) (c .before .before .before .before .before .before .before .before .before .before .loop .at)) (c .before .before .before .before .before .label-from .ensures)) (rw (c .before .before .end-of-row .ensures) at (c .copy-row .ensures))
 
 returns : tie.Need-returns Inv-loop μ-loop
 returns c = fill-done (c .before .loop .inv) (c .loop-test .left)
@@ -109,20 +108,19 @@ quotient-spec =
     mul-c
     element-copy-out-c
     cast-c
-    element-copy-out-graph
-    cast-graph-3
-    mul-graph
-    element-write-graph-3
+    mul-label-from
+    label-from-requires
+    put-label-requires
     mul-row-start
     element-copy-out-row-start
     cast-row-start
     end-of-row-requires
     add-copy-row
     copy-row-requires
-    cast-graph-4
+    cast-graph-3
     add-graph
-    mul-graph-2
-    element-write-graph-4
+    mul-graph
+    element-write-graph-3
     add-x
     loop-less
     loop-again

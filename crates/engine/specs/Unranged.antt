@@ -1,0 +1,132 @@
+-- The calls over types alone: the definitions of the calls at the types of a table without ranges. What is said of them is that records
+-- without ranges give what they gave (document 02, Paper 7).
+use mathlib.Core.Path.{_≡_}
+use mathlib.Core.Bool.{Bool, true, cond}
+use mathlib.Core.List.{List, [], map}
+use mathlib.Core.Logic.{_⊎_}
+use mathlib.Core.Option.{Option, Option·getD}
+use Prim.Native.Nat.{ℕ}
+use lib.Dec.{eqb}
+use lib.ListN.{length, take}
+use Rattle.graphs.specs.Graph.{Graph}
+use Rattle.graphs.specs.Rows.{Row, from, graphOf}
+use Rattle.graphs.specs.Number.{Canonical, manyNodes, manyLinks, written, canonical}
+use Rattle.graphs.specs.Order.{subsumes}
+use Rattle.graphs.specs.Generalize.{generalization}
+use Rattle.graphs.specs.Unify.{Unified, cycle, clash, unified, unification}
+use Rattle.graphs.specs.Difference.{byNumber, meetOver, difference}
+use Rattle.lattice.specs.Label.{Label}
+use Rattle.lattice.specs.Table.{every, found, wanted}
+use Rattle.lattice.specs.Reply.{opened}
+use Rattle.lattice.specs.Labels.{typeLabels}
+use Rattle.encode.specs.Encode.{writtenOut}
+use Rattle.record.specs.Read.{Reading, refused, accepted}
+use Rattle.record.specs.Unranged.{unranged, plainRows, readingTypes}
+use Rattle.generalize.specs.Pairs.{samePair}
+use Rattle.engine.specs.declared.Side.the-variants.{First}
+use Rattle.engine.specs.declared.Reply.{Reply}
+use Rattle.engine.specs.declared.Reply.the-variants as reply
+use Rattle.engine.specs.Reply.{Result, resultOf, refusing, checked, readBoth, compared}
+use Rattle.engine.specs.Unification.{sameEither}
+use Rattle.engine.specs.Difference.{over}
+
+-- the types of rows
+abbrev pub typesIn : List (Row Label) → List (Row ℕ)
+typesIn rows = map (λ r. (r .0 .type, r .1)) rows
+
+-- the graph that rows of types state
+abbrev pub graphOfTypes : List (Row ℕ) → Graph ℕ ℕ
+graphOfTypes rows = graphOf 0 rows
+
+-- a written form of types is written without ranges
+abbrev pub plainForm : Canonical ℕ → Canonical Label
+plainForm manyNodes = manyNodes
+plainForm manyLinks = manyLinks
+plainForm (written rows) = written (plainRows rows)
+
+-- a graph of types as a call's result
+abbrev pub typesResult : {A : Type 0} → (A → A → Bool) → Graph ℕ A → List ℕ → Result
+typesResult same g out = resultOf (writtenOut (plainForm (canonical same g)) out)
+
+-- rewriting
+abbrev pub rewrittenTypes : Reading → List ℕ → Result
+rewrittenTypes (refused fault) out = refusing (reply.Graph fault First) out
+rewrittenTypes (accepted rows) out = typesResult eqb (graphOfTypes (typesIn rows)) out
+
+unfoldable pub rewritingTypes : ℕ → List ℕ → List ℕ → List ℕ → Result
+rewritingTypes n t bytes out = checked (λ r. refusing r out) (opened n t) (rewrittenTypes (readingTypes n bytes) out)
+
+-- what a call does with the types of two graphs
+abbrev onTypes : {X : Type 0} → (List (Row ℕ) → List (Row ℕ) → X) → List (Row Label) → List (Row Label) → X
+onTypes next g h = next (typesIn g) (typesIn h)
+
+-- the order
+abbrev pub typesBelow : ℕ → List ℕ → List (Row ℕ) → List (Row ℕ) → Bool
+typesBelow n t s g = subsumes (typeLabels n t) eqb eqb (graphOfTypes s) (graphOfTypes g) (length g)
+
+abbrev pub orderedTypes : ℕ → List ℕ → List (Row ℕ) → List (Row ℕ) → Reply
+orderedTypes n t s g = compared (typesBelow n t s g) (typesBelow n t g s)
+
+unfoldable pub orderingTypes : ℕ → List ℕ → List ℕ → List ℕ → Reply
+orderingTypes n t a b =
+    checked (λ r. r) (opened n t) (readBoth (λ r. r) (readingTypes n a) (readingTypes n b) (onTypes (orderedTypes n t)))
+
+-- the table's 1 to 3 and the graphs' 4 to 7, then what a call does with the types of the graphs
+abbrev callTypes : ℕ → List ℕ → List ℕ → List ℕ → List ℕ → (List (Row ℕ) → List (Row ℕ) → Result) → Result
+callTypes n t a b out next =
+    checked (λ r. refusing r out) (opened n t)
+    (readBoth (λ r. refusing r out) (readingTypes n a) (readingTypes n b) (onTypes next))
+
+-- the common part
+abbrev pub generalizedTypes : ℕ → List ℕ → List ℕ → List (Row ℕ) → List (Row ℕ) → Result
+generalizedTypes n t out g h = typesResult samePair (generalization (typeLabels n t) (graphOfTypes g) (graphOfTypes h)) out
+
+unfoldable pub generalizingTypes : ℕ → List ℕ → List ℕ → List ℕ → List ℕ → Result
+generalizingTypes n t a b out = callTypes n t a b out (generalizedTypes n t out)
+
+-- the combination
+abbrev pub combinedTypes : Unified ℕ (ℕ ⊎ ℕ) → List ℕ → Result
+combinedTypes cycle out = refusing reply.Cycle out
+combinedTypes clash out = refusing reply.Clash out
+combinedTypes (unified u) out = typesResult sameEither u out
+
+abbrev pub unifiedTypes : ℕ → List ℕ → List ℕ → List (Row ℕ) → List (Row ℕ) → Result
+unifiedTypes n t out g h =
+    combinedTypes
+    (unification (typeLabels n t) eqb eqb (graphOfTypes g) (from 0 (length g)) (graphOfTypes h) (from 0 (length h)))
+    out
+
+unfoldable pub unifyingTypes : ℕ → List ℕ → List ℕ → List ℕ → List ℕ → Result
+unifyingTypes n t a b out = callTypes n t a b out (unifiedTypes n t out)
+
+-- the difference: which node of s lies under one of g does not depend on labels
+abbrev pub wantedTypeAt : ℕ → List ℕ → List (Row ℕ) → List (Row ℕ) → ℕ → Option ℕ
+wantedTypeAt n t s g v =
+    wanted n t (graphOfTypes s .label v)
+    (meetOver (typeLabels n t) eqb (graphOfTypes g) (from 0 (length g)) (over (plainRows s) (plainRows g)) v)
+
+abbrev pub differenceTypes : ℕ → List ℕ → List (Row ℕ) → List (Row ℕ) → Graph ℕ ℕ
+differenceTypes n t g s =
+    difference (typeLabels n t) eqb eqb byNumber (graphOfTypes s) (from 0 (length s)) (graphOfTypes g) (from 0 (length g))
+    (over (plainRows s) (plainRows g)) (λ v. Option·getD (wantedTypeAt n t s g v) 0)
+
+abbrev pub differedTypes : ℕ → List ℕ → List ℕ → List (Row ℕ) → List (Row ℕ) → Result
+differedTypes n t out g s =
+    cond (typesBelow n t s g)
+    (cond (every (length s) λ v. found (wantedTypeAt n t s g v)) (typesResult eqb (differenceTypes n t g s) out)
+    (refusing reply.NoWantedType out))
+    (refusing reply.NotBelow out)
+
+-- s numbered as written
+abbrev pub numberedTypes : Canonical ℕ → List (Row ℕ)
+numberedTypes manyNodes = []
+numberedTypes manyLinks = []
+numberedTypes (written rows) = rows
+
+unfoldable pub differingTypes : ℕ → List ℕ → List ℕ → List ℕ → List ℕ → Result
+differingTypes n t a b out =
+    callTypes n t a b out λ g s. differedTypes n t out g (numberedTypes (canonical eqb (graphOfTypes s)))
+
+-- the record that stands in the output beside a length has no type byte with bit 7
+abbrev pub WritesUnranged : Result → Type 0
+WritesUnranged r = (l : ℕ) → r .reply ≡ reply.Length l → unranged (take l (r .output)) ≡ true
