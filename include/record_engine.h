@@ -1,4 +1,4 @@
-/* The record engine for C: five calls on bytes, and the table of the house types, in
+/* The record engine for C: eight calls on bytes, and the table of the house types, in
  * the static library librecord_engine.a, which `rt staticlib record_engine` writes to
  * target/staticlib. examples/difference.c is a whole program.
  *
@@ -30,8 +30,15 @@
  * {1, 0x83, 10, 200, 0, 0, 0, 0, 0, 0, 0, 0} is a lone node of type 3 with the levels 10
  * to 200.
  *
- * A record or an output is handed in as a pointer to its first byte and a length. A
- * pointer is not null, also where the length is 0. The output overlaps nothing
+ * An appropriateness list says which features belong to which types. It has 64 bytes;
+ * byte f is the broadest type, 0 to n - 1, that may have feature f. A node may have it
+ * when its type is below or equal to that one, so 0 forbids the feature and n - 1 allows
+ * it to all. Common parts and combinations of records that obey a list obey it. A
+ * difference need not obey it and is combined by `record_unify`: with the general record
+ * it gives the specific one, which obeys the list if it did.
+ *
+ * A record, a list or an output is handed in as a pointer to its first byte and a length.
+ * A pointer is not null, also where the length is 0. The output overlaps nothing
  * else that is handed in. The calls keep no pointer, share no state and may run
  * side by side.
  *
@@ -41,7 +48,7 @@
  * A call that writes a record answers its length, which is at most
  * RECORD_LONGEST; the output's first bytes are then the record and its other bytes
  * are unchanged. On a refusal no byte of the output is changed. Refusals have the
- * numbers of document 01:
+ * numbers of documents 01 and 02:
  *
  *    1  n is not 2 to 64, or the table's length is not 8 times n
  *    2  a bit at n or above; no order; 0 not least; n - 1 not greatest
@@ -58,9 +65,11 @@
  *   12  difference: the second graph is not below the first
  *   13  difference: some node of the second graph has no wanted type: among the types
  *       whose meet with the first graph's types over it is its own, none is the greatest
+ *   17  a list that is not of 64 bytes, or with an entry of n or more
+ *   18  a record with a link that the list forbids
  *
- * Checks run in the order 1, 2, 3; the first record's 4 to 7; the second's 4 to 7;
- * then 12, 13, 9, 10, 11, 8.
+ * Checks run in the order 1, 2, 3; 17; the first record's 4 to 7 and 18; the second's 4
+ * to 7 and 18; then 12, 13, 9, 10, 11, 8.
  */
 #ifndef RECORD_ENGINE_H
 #define RECORD_ENGINE_H
@@ -75,6 +84,9 @@ extern "C" {
 /* An output of so many bytes is never too short. */
 #define RECORD_LONGEST 4854
 
+/* The number of features, and so the length of an appropriateness list. */
+#define RECORD_FEATURES 64
+
 /* The number of the house types, and the length of their table. */
 #define RECORD_HOUSE_TYPES 64
 #define RECORD_HOUSE_TABLE 512
@@ -88,7 +100,7 @@ extern "C" {
 #define RECORD_NEITHER (RECORD_SAME + 3)
 
 /* Whether an answer is a refusal; its number; and the record that a refusal by 4 to
- * 7 tells of, 1 or 2, and 0 for the other refusals. */
+ * 7 or 18 tells of, 1 or 2, and 0 for the other refusals. */
 #define RECORD_IS_REFUSED(answer) ((answer) >> 32 == 1)
 #define RECORD_REFUSAL(answer) ((int)((answer) & 255))
 #define RECORD_SIDE(answer) ((int)((answer) >> 8 & 255))
@@ -133,6 +145,31 @@ uint64_t record_difference(size_t n, const uint8_t *table, size_t table_length,
                            const uint8_t *general, size_t general_length,
                            const uint8_t *specific, size_t specific_length,
                            uint8_t *output, size_t output_length);
+
+/* As `record_rewrite`, of a record that obeys an appropriateness list. Answers the
+ * length, or refuses by 1 to 3, by 17, by 4 to 7 and 18, then by 8. */
+uint64_t record_rewrite_appropriate(size_t n, const uint8_t *table, size_t table_length,
+                                    const uint8_t *list, size_t list_length,
+                                    const uint8_t *record, size_t record_length,
+                                    uint8_t *output, size_t output_length);
+
+/* As `record_generalize`, of two records that obey an appropriateness list. The common
+ * part obeys it too. Answers the length, or refuses by 1 to 3, by 17, by the first
+ * record's 4 to 7 and 18, by the second's, then by 11 and 8. */
+uint64_t record_generalize_appropriate(size_t n, const uint8_t *table, size_t table_length,
+                                       const uint8_t *list, size_t list_length,
+                                       const uint8_t *first, size_t first_length,
+                                       const uint8_t *second, size_t second_length,
+                                       uint8_t *output, size_t output_length);
+
+/* As `record_unify`, of two records that obey an appropriateness list. The combination
+ * obeys it too. Answers the length, or refuses by 1 to 3, by 17, by the first record's 4
+ * to 7 and 18, by the second's, then by 9, 10, 11 and 8. */
+uint64_t record_unify_appropriate(size_t n, const uint8_t *table, size_t table_length,
+                                  const uint8_t *list, size_t list_length,
+                                  const uint8_t *first, size_t first_length,
+                                  const uint8_t *second, size_t second_length,
+                                  uint8_t *output, size_t output_length);
 
 /* Writes the type table of the house types, for n = RECORD_HOUSE_TYPES, into the
  * output's first RECORD_HOUSE_TABLE bytes; its other bytes are unchanged. A house

@@ -9,7 +9,7 @@ use lib.ListN.{length}
 use Rattle.graphs.specs.Rows.{Row, from}
 use Rattle.lattice.specs.Label.{Label}
 use Rattle.graphs.specs.Unify.{Unified, cycle, clash, unified, unification}
-use Rattle.layout.specs.Layout.{size, graphOfRows, graphIn}
+use Rattle.layout.specs.Layout.{size, graphOfRows, graphIn, rowsOf}
 use Rattle.layout.proofs.Rows.{length-rows}
 use Rattle.lattice.specs.declared.TableFault.{TableFault}
 use Rattle.lattice.specs.declared.Opened.the-variants as opened
@@ -19,19 +19,21 @@ use Rattle.lattice.proofs.Laws.{accepted-size, zero-type}
 use Rattle.lattice.proofs.Transfer.{same-unification}
 use Rattle.lattice.proofs.Residuals.{opened-accepted}
 use Rattle.encode.specs.Encode.{Yield, yielding}
-use Rattle.record.specs.Read.{reading}
-use Rattle.record.proofs.Accepted.{Rules}
+use Rattle.record.specs.Read.{Reading, reading}
+use Rattle.record.proofs.Accepted.{Rules, accepted-rules}
 use Rattle.unify.specs.declared.Combined.{Combined}
 use Rattle.unify.specs.Lowered.{MeetsBelow, meetIn}
 use Rattle.unify.specs.Outcome.{meetsOf, unifiedOut}
 use Rattle.unify.specs.Rows.{Operand}
+use Rattle.engine.specs.declared.PairVerdict.{PairVerdict}
+use Rattle.engine.specs.declared.PairVerdict.the-variants as pair
 use Rattle.engine.specs.declared.Reply.{Reply}
 use Rattle.engine.specs.declared.Reply.the-variants.{Table}
 use Rattle.engine.specs.Reply.{Result, resulting, refusing, readBoth}
 use Rattle.engine.specs.Unification.{combined, unifiedRows, unifying}
-use Rattle.engine.specs.Pair.{met, meeting, combinedReply}
+use Rattle.engine.specs.Pair.{afterBoth, met, combinedReply}
 use Rattle.engine.proofs.Replies.{table-refused, table-accepted}
-use Rattle.engine.proofs.Readings.{Accepts, accepts-reached, accepts-recorded, both-next, both-same}
+use Rattle.engine.proofs.Readings.{Accepts, Ruled, accepts-reached, accepts-recorded, both-same}
 use Rattle.engine.proofs.Tables.{label-known, meets-known}
 
 -- what combining yields, as a result
@@ -49,14 +51,14 @@ abbrev byMeets : ℕ → List (List ℕ) → List ℕ → List ℕ → Unified L
 byMeets n meets g h = unification (meetsOf n meets) eqb eqb (graphIn g) (from 0 (size g)) (graphIn h) (from 0 (size h))
 
 -- the combination by a table of meets, written
-pub met-as : (n : ℕ) (a b out : List ℕ) (meets : List (List ℕ)) {g h : List ℕ} → Accepts n a g × Accepts n b h →
-    {answer : Combined} {r : Reply} {new : List ℕ} → yielding answer new ≡ unifiedOut (byMeets n meets g h) out → r ≡ combinedReply answer →
-    resulting r new ≡ meeting n meets a b out
+pub met-as : (n : ℕ) (meets : List (List ℕ)) (g h out : List ℕ) {v : PairVerdict} → v ≡ pair.Both → {answer : Combined} {r : Reply} {new : List ℕ} →
+    yielding answer new ≡ unifiedOut (byMeets n meets g h) out → r ≡ combinedReply answer →
+    resulting r new ≡ afterBoth v out (met n meets out (rowsOf g) (rowsOf h))
 unfolding met
-met-as n a b out meets {g} {h} given {new = new} yields said =
+met-as n meets g h out e {new = new} yields said =
     ap (λ (q : Reply). resulting q new) said ∙ ap combinedResult yields ∙ combined-is (byMeets n meets g h) out ∙
     sym
-    (both-next n a b (λ q. refusing q out) (met n meets out) given ∙
+    (ap (λ (v : PairVerdict). afterBoth v out (met n meets out (rowsOf g) (rowsOf h))) e ∙
     ap₂ (λ (k l : ℕ). combined (unification (meetsOf n meets) eqb eqb (graphIn g) (from 0 k) (graphIn h) (from 0 l)) out)
     (length-rows g 0 (size g)) (length-rows h 0 (size h)))
 
@@ -66,9 +68,8 @@ met-as n a b out meets {g} {h} given {new = new} yields said =
 operand : {n : ℕ} {a g : List ℕ} → n ≤ 64 → Accepts n a g → Operand n g
 operand few given = record { recorded = accepts-recorded few given; labelled = given .typed; reached = accepts-reached given }
 
-pub ready-to-combine : {n : ℕ} {a b g h : List ℕ} (meets : List (List ℕ)) → ((0 < n) × (n ≤ 64)) × MeetsBelow n meets →
-    Accepts n a g × Accepts n b h → ((0 < n) × (n ≤ 64)) × (MeetsBelow n meets × (Operand n g × Operand n h))
-ready-to-combine meets (types, below) (one, other) = (types, (below, (operand (types .1) one, operand (types .1) other)))
+pub ready-to-combine : {n : ℕ} {a b g h : List ℕ} → n ≤ 64 → Accepts n a g × Accepts n b h → Operand n g × Operand n h
+ready-to-combine few (one, other) = (operand few one, operand few other)
 
 module _ (n : ℕ) (t : List ℕ) (rows : List (List ℕ)) {meets : List (List ℕ)} (ok : accepted n t ≡ true) (long : length rows ≡ 64)
     (filling : meets ≡ filled n t (meet n t) rows) where
@@ -80,6 +81,11 @@ module _ (n : ℕ) (t : List ℕ) (rows : List (List ℕ)) {meets : List (List �
       (same-unification n t ok eqb (meetIn meets) (λ a b. a) (λ i j l s. meets-known n t rows ok long filling i j l s .0) eqb eqb
       (graphOfRows g) (from 0 (length g)) (graphOfRows h) (from 0 (length h)) (λ v _. label-known (zero-type n t ok) left v)
       (λ w _. label-known (zero-type n t ok) right w))
+
+  -- and so of two readings
+  pub met-same : {o p : Reading} → Ruled n o → Ruled n p → (out : List ℕ) →
+      readBoth (λ r. refusing r out) o p (met n meets out) ≡ readBoth (λ r. refusing r out) o p (unifiedRows n t out)
+  met-same one two out = both-same one two (λ r. refusing r out) (met n meets out) (unifiedRows n t out) (met-unified out)
 
   -- what combining asks of the table
   pub combinable : ((0 < n) × (n ≤ 64)) × MeetsBelow n meets
@@ -93,10 +99,10 @@ module _ (n : ℕ) (t a b out : List ℕ) where
 
   pub unifying-accepted : (rows : List (List ℕ)) {meets : List (List ℕ)} {r : Reply} {new : List ℕ} →
       table.opened n t ≡ opened.Accepted → length rows ≡ 64 → meets ≡ filled n t (meet n t) rows →
-      resulting r new ≡ meeting n meets a b out → resulting r new ≡ unifying n t a b out
+      resulting r new ≡ readBoth (λ r. refusing r out) (reading n a) (reading n b) (met n meets out) →
+      resulting r new ≡ unifying n t a b out
   unfolding unifying
   unifying-accepted rows {meets} e long filling h =
       h ∙
-      both-same n a b (λ r. refusing r out) (met n meets out) (unifiedRows n t out)
-      (met-unified n t rows (opened-accepted n t opened.Accepted (sym e) refl) long filling out) ∙
+      met-same n t rows (opened-accepted n t opened.Accepted (sym e) refl) long filling (accepted-rules n a) (accepted-rules n b) out ∙
       sym (table-accepted (λ r. refusing r out) (readBoth (λ r. refusing r out) (reading n a) (reading n b) (unifiedRows n t out)) e)

@@ -8,7 +8,7 @@ use Rattle.graphs.specs.Rows.{Row}
 use Rattle.graphs.specs.Number.{Canonical, canonical}
 use Rattle.graphs.specs.Generalize.{generalization}
 use Rattle.lattice.specs.Label.{Label}
-use Rattle.layout.specs.Layout.{Recorded, graphOfRows, graphIn}
+use Rattle.layout.specs.Layout.{graphOfRows, graphIn, rowsOf}
 use Rattle.lattice.specs.declared.TableFault.{TableFault}
 use Rattle.lattice.specs.declared.Opened.the-variants as opened
 use Rattle.lattice.specs.Table.{accepted, join, filled}
@@ -19,21 +19,23 @@ use Rattle.lattice.proofs.Lawful.{label-parts}
 use Rattle.lattice.proofs.Residuals.{opened-accepted}
 use Rattle.encode.specs.declared.Written.{Written}
 use Rattle.encode.specs.Encode.{yielding, writtenOut}
-use Rattle.record.specs.Read.{reading}
-use Rattle.record.proofs.Accepted.{Rules}
-use Rattle.generalize.specs.Pairs.{Joinable, JoinsBelow, joinsOf, samePair}
+use Rattle.record.specs.Read.{Reading, reading}
+use Rattle.record.proofs.Accepted.{Rules, accepted-rules}
+use Rattle.generalize.specs.Pairs.{JoinsBelow, joinsOf, samePair}
 use Rattle.generalize.proofs.Sides.{tells-pair}
+use Rattle.engine.specs.declared.PairVerdict.{PairVerdict}
+use Rattle.engine.specs.declared.PairVerdict.the-variants as pair
 use Rattle.engine.specs.declared.Reply.{Reply}
 use Rattle.engine.specs.declared.Reply.the-variants.{Table}
 use Rattle.engine.specs.Reply.{resulting, resultOf, replyOf, refusing, readBoth, generalized, generalizing}
-use Rattle.engine.specs.Pair.{joined, joining}
+use Rattle.engine.specs.Pair.{JoinsReady, afterBoth, joined}
 use Rattle.engine.proofs.Replies.{replied-as, table-refused, table-accepted}
-use Rattle.engine.proofs.Readings.{Accepts, accepts-recorded, both-next, both-same}
+use Rattle.engine.proofs.Readings.{Accepts, Ruled, accepts-recorded, both-same}
 use Rattle.engine.proofs.Tables.{label-known, joins-known, canonical-same}
 
 -- What the common part asks of two accepted graphs.
 pub ready-to-join : {n : ℕ} {a b g h : List ℕ} (joins : List (List ℕ)) → (n ≤ 64) × JoinsBelow n joins → Accepts n a g × Accepts n b h →
-    Recorded g × (Recorded h × ((m : ℕ) × Joinable m joins g h))
+    JoinsReady joins g h
 ready-to-join {n} joins (few, below) (one, other) = (
   accepts-recorded few one,
   (
@@ -43,13 +45,12 @@ ready-to-join {n} joins (few, below) (one, other) = (
 )
 
 -- the common part by a table of joins, written
-pub joined-as : (n : ℕ) (a b out : List ℕ) (joins : List (List ℕ)) {g h : List ℕ} → Accepts n a g × Accepts n b h →
-    {w : Written} {r : Reply} {new : List ℕ} →
+pub joined-as : (joins : List (List ℕ)) (g h out : List ℕ) {v : PairVerdict} → v ≡ pair.Both → {w : Written} {r : Reply} {new : List ℕ} →
     yielding w new ≡ writtenOut (canonical samePair (generalization (joinsOf joins) (graphIn g) (graphIn h))) out →
-    r ≡ replyOf w → resulting r new ≡ joining n joins a b out
+    r ≡ replyOf w → resulting r new ≡ afterBoth v out (joined joins out (rowsOf g) (rowsOf h))
 unfolding joined
-joined-as n a b out joins given yields said =
-    replied-as yields said ∙ sym (both-next n a b (λ q. refusing q out) (joined joins out) given)
+joined-as joins g h out e yields said =
+    replied-as yields said ∙ sym (ap (λ (v : PairVerdict). afterBoth v out (joined joins out (rowsOf g) (rowsOf h))) e)
 
 module _ (n : ℕ) (t : List ℕ) (rows : List (List ℕ)) {joins : List (List ℕ)} (ok : accepted n t ≡ true) (long : length rows ≡ 64)
     (filling : joins ≡ filled n t (join n t) rows) where
@@ -66,6 +67,11 @@ module _ (n : ℕ) (t : List ℕ) (rows : List (List ℕ)) {joins : List (List �
       (label-known (zero-type n t ok) right (x .1) .type) .0) refl refl)
       (λ x f. refl))
 
+  -- and so of two readings
+  pub joined-same : {o p : Reading} → Ruled n o → Ruled n p → (out : List ℕ) →
+      readBoth (λ r. refusing r out) o p (joined joins out) ≡ readBoth (λ r. refusing r out) o p (generalized n t out)
+  joined-same one two out = both-same one two (λ r. refusing r out) (joined joins out) (generalized n t out) (joined-generalized out)
+
   -- what the common part asks of the table
   pub joinable : (n ≤ 64) × JoinsBelow n joins
   joinable = (accepted-size n t ok .1, λ i j l s. joins-known n t rows ok long filling i j l s .1)
@@ -79,10 +85,10 @@ module _ (n : ℕ) (t a b out : List ℕ) where
 
   pub generalizing-accepted : (rows : List (List ℕ)) {joins : List (List ℕ)} {r : Reply} {new : List ℕ} →
       table.opened n t ≡ opened.Accepted → length rows ≡ 64 → joins ≡ filled n t (join n t) rows →
-      resulting r new ≡ joining n joins a b out → resulting r new ≡ generalizing n t a b out
+      resulting r new ≡ readBoth (λ r. refusing r out) (reading n a) (reading n b) (joined joins out) →
+      resulting r new ≡ generalizing n t a b out
   unfolding generalizing
   generalizing-accepted rows {joins} e long filling h =
       h ∙
-      both-same n a b (λ r. refusing r out) (joined joins out) (generalized n t out)
-      (joined-generalized n t rows (opened-accepted n t opened.Accepted (sym e) refl) long filling out) ∙
+      joined-same n t rows (opened-accepted n t opened.Accepted (sym e) refl) long filling (accepted-rules n a) (accepted-rules n b) out ∙
       sym (table-accepted (λ r. refusing r out) (readBoth (λ r. refusing r out) (reading n a) (reading n b) (generalized n t out)) e)

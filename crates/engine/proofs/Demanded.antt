@@ -9,3 +9,4 @@ pub mod Before
 pub mod Itself
 pub mod Output
 pub mod Meaning
+pub mod Appropriate

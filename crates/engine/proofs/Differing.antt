@@ -30,6 +30,7 @@ use Rattle.encode.specs.declared.Written.{Written}
 use Rattle.encode.specs.Encode.{encoded, writtenOut, yielding}
 use Rattle.encode.specs.Copies.{Renumbers}
 use Rattle.record.specs.declared.GraphFault.{GraphFault}
+use Rattle.record.specs.Read.{reading}
 use Rattle.record.proofs.Accepted.{Rules, accepted-rules, rules-of-any-size, rules-types, rules-fit}
 use Rattle.record.proofs.Rewritten.{form-rules, rules-read}
 use Rattle.subsume.specs.declared.Order.{Order}
@@ -197,9 +198,9 @@ module _ (n : ℕ) (t out : List ℕ) {a : List ℕ} (g s : List ℕ) (given : A
 -- Over an accepted table.
 
 -- 4 to 7
-pub parting-refused : {n : ℕ} {a b : List ℕ} {v : PairVerdict} {ws ws₂ : List ℕ} → ReadsBoth n a b v ws ws₂ → (t out : List ℕ)
+pub parting-refused : (n : ℕ) (t a b out : List ℕ) {v : PairVerdict} {ws ws₂ : List ℕ} → ReadsBoth n (reading n a) (reading n b) v ws ws₂ →
     (fault : GraphFault) (side : Side) → v ≡ pair.Refused fault side → resulting (Graph fault side) out ≡ parting n t a b out
-parting-refused {n} reads t out fault side e = sym (both-refused reads (λ r. refusing r out) (differedRows n t out) fault side e)
+parting-refused n t a b out reads fault side e = sym (both-refused reads (λ r. refusing r out) (differedRows n t out) fault side e)
 
 pub parting-both : (n : ℕ) (t a b out : List ℕ) {g s : List ℕ} → Accepts n a g × Accepts n b s → {h : List ℕ} →
     Renumbered n (rowsOf s) h → {r : Result} → r ≡ differed n t out (rowsOf g) (rowsOf h) → r ≡ parting n t a b out

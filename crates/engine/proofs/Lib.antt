@@ -2,6 +2,7 @@
 pub mod Numbers
 pub mod Readings
 pub mod Replies
+pub mod Listed
 pub mod Tables
 pub mod Orders
 pub mod Over

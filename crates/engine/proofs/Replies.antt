@@ -3,10 +3,8 @@ use mathlib.Core.Path.{_≡_, sym, _∙_, ap}
 use mathlib.Core.List.{List}
 use Prim.Native.Nat.{ℕ}
 use lib.Dec.{eqb}
-use Rattle.graphs.specs.Rows.{Row}
 use Rattle.graphs.specs.Number.{canonical}
-use Rattle.lattice.specs.Label.{Label}
-use Rattle.layout.specs.Layout.{graphIn}
+use Rattle.layout.specs.Layout.{graphIn, rowsOf}
 use Rattle.lattice.specs.declared.TableFault.{TableFault}
 use Rattle.lattice.specs.declared.Opened.{Opened}
 use Rattle.lattice.specs.declared.Opened.the-variants as opened
@@ -15,18 +13,16 @@ use Rattle.encode.specs.declared.Written.{Written}
 use Rattle.encode.specs.Encode.{Outcome, yielding, writtenOut}
 use Rattle.record.specs.declared.GraphFault.{GraphFault}
 use Rattle.record.specs.declared.reading.Verdict.{Verdict}
-use Rattle.record.specs.declared.reading.Verdict.the-variants.{Refused}
-use Rattle.record.specs.Read.{Reading, reading}
-use Rattle.record.specs.Reads.{Reads}
+use Rattle.record.specs.declared.reading.Verdict.the-variants.{Accepted, Refused}
+use Rattle.record.specs.Read.{reading}
 use Rattle.engine.specs.declared.Side.{Side}
 use Rattle.engine.specs.declared.Side.the-variants.{First}
 use Rattle.engine.specs.declared.PairVerdict.{PairVerdict}
 use Rattle.engine.specs.declared.PairVerdict.the-variants as pair
 use Rattle.engine.specs.declared.Reply.{Reply}
 use Rattle.engine.specs.declared.Reply.the-variants.{Table, Graph}
-use Rattle.engine.specs.Reply.{Result, resulting, checked, readBoth, refusing, replyOf, resultOf, rewriting, rewritten}
-use Rattle.engine.specs.Pair.{ReadsBoth}
-use Rattle.engine.proofs.Readings.{Accepts, refuses, both-refused}
+use Rattle.engine.specs.Reply.{Result, resulting, checked, refusing, replyOf, resultOf, rewriting, rewrittenRows, rewritten}
+use Rattle.engine.specs.Pair.{afterReading, afterBoth}
 
 -- what writing yields, as a result
 pub replied-as : {o : Outcome} {w : Written} {r : Reply} {new : List ℕ} → yielding w new ≡ o → r ≡ replyOf w → resulting r new ≡ resultOf o
@@ -40,21 +36,21 @@ module _ {X : Type 0} (refuse : Reply → X) (next : X) {o : Opened} where
   pub table-accepted : o ≡ opened.Accepted → checked refuse o next ≡ next
   table-accepted e = ap (λ p. checked refuse p next) e
 
--- 4 to 7 of a lone graph
-pub refused-as : {n : ℕ} {bytes ws : List ℕ} {v : Verdict} → Reads n bytes v ws → (fault : GraphFault) (out : List ℕ) →
-    v ≡ Refused fault → resulting (Graph fault First) out ≡ rewritten (reading n bytes) out
-refused-as reads fault out e = sym (ap (λ (o : Reading). rewritten o out) (refuses reads fault e))
+-- What follows reading: the refusal of a lone graph and of two,
+pub refused-after : (out : List ℕ) (next : Result) (fault : GraphFault) {v : Verdict} → v ≡ Refused fault →
+    resulting (Graph fault First) out ≡ afterReading v out next
+refused-after out next fault e = sym (ap (λ (w : Verdict). afterReading w out next) e)
 
--- 4 to 7 of two graphs
-pub refused-both : {n : ℕ} {a b : List ℕ} {v : PairVerdict} {ws ws₂ : List ℕ} → ReadsBoth n a b v ws ws₂ → (out : List ℕ)
-    (next : List (Row Label) → List (Row Label) → Result) (fault : GraphFault) (side : Side) → v ≡ pair.Refused fault side →
-    resulting (Graph fault side) out ≡ readBoth (λ r. refusing r out) (reading n a) (reading n b) next
-refused-both reads out next fault side e = sym (both-refused reads (λ r. refusing r out) next fault side e)
+pub refused-both : (out : List ℕ) (next : Result) (fault : GraphFault) (side : Side) {v : PairVerdict} → v ≡ pair.Refused fault side →
+    resulting (Graph fault side) out ≡ afterBoth v out next
+refused-both out next fault side e = sym (ap (λ (w : PairVerdict). afterBoth w out next) e)
 
--- the record in written form
-pub rewritten-as : {n : ℕ} {bytes : List ℕ} {g : List ℕ} → Accepts n bytes g → (out : List ℕ) {w : Written} {r : Reply} {new : List ℕ} →
-    yielding w new ≡ writtenOut (canonical eqb (graphIn g)) out → r ≡ replyOf w → resulting r new ≡ rewritten (reading n bytes) out
-rewritten-as given out yields said = replied-as yields said ∙ sym (ap (λ (o : Reading). rewritten o out) (given .is))
+-- and the record in written form.
+pub rewritten-after : (g out : List ℕ) {v : Verdict} → v ≡ Accepted → {w : Written} {r : Reply} {new : List ℕ} →
+    yielding w new ≡ writtenOut (canonical eqb (graphIn g)) out → r ≡ replyOf w →
+    resulting r new ≡ afterReading v out (rewrittenRows out (rowsOf g))
+rewritten-after g out e yields said =
+    replied-as yields said ∙ sym (ap (λ (w : Verdict). afterReading w out (rewrittenRows out (rowsOf g))) e)
 
 module _ (n : ℕ) (t bytes out : List ℕ) where
   pub rewriting-refused : (fault : TableFault) → table.opened n t ≡ opened.Refused fault → resulting (Table fault) out ≡ rewriting n t bytes out

@@ -1,6 +1,6 @@
 -- The change requests, one section for each paper and one theorem for each sentence, about the definitions that the calls are proved equal
--- to. The definitions that the statements use stand in `Reply`, `Unification`, `Difference`, `Before`, `Unranged` and `Demand`; the proofs
--- are cited. n and t are the table, out and out′ are the outputs lent; a, b, c and d are the records.
+-- to. The definitions that the statements use stand in `Reply`, `Unification`, `Difference`, `Before`, `Unranged`, `Appropriate` and
+-- `Demand`; the proofs are cited. n and t are the table, out and out′ are the outputs lent; a, b, c and d are the records.
 use mathlib.Core.Path.{_≡_, refl}
 use mathlib.Core.Bool.{Bool, true, false}
 use mathlib.Core.List.{List, [], _∷_}
@@ -11,7 +11,7 @@ use lib.Dec.{eqb}
 use lib.ListN.{length, getD, take}
 use Rattle.graphs.specs.Graph.{Graph, Tells, Below, SameMeaning}
 use Rattle.graphs.specs.Rows.{Row}
-use Rattle.graphs.specs.Generalize.{generalization}
+use Rattle.graphs.specs.Generalize.{IsGeneralization, generalization}
 use Rattle.lattice.specs.Label.{Label, plain}
 use Rattle.lattice.specs.declared.Opened.the-variants.{Accepted}
 use Rattle.lattice.specs.Reply.{opened}
@@ -24,12 +24,16 @@ use Rattle.house.proofs.Theorems as house
 use Rattle.decode.specs.Decode.{takeRow}
 use Rattle.encode.specs.Encode.{encodedLabel, fitted}
 use Rattle.record.specs.declared.GraphFault.{GraphFault}
+use Rattle.record.specs.declared.GraphFault.the-variants.{Inappropriate}
 use Rattle.record.specs.Read.{reading, accepted, graphOfRows}
 use Rattle.record.specs.Unranged.{unranged}
 use Rattle.record.proofs.Theorems as records
+use Rattle.record.specs.Appropriate.{listAccepted, appropriate, Appropriate}
+use Rattle.record.proofs.Accepted.{accepted-rules}
+use Rattle.record.proofs.Obeying as Obeying
 use Rattle.engine.specs.declared.Side.the-variants.{First, Second}
-use Rattle.engine.specs.declared.Reply.the-variants.{Length, Same, Under, Above, Neither, Graph as Refusal, Cycle, Clash, NotBelow, NoWantedType}
-use Rattle.engine.specs.Reply.{resultOf, rewriting, ordering, generalizing}
+use Rattle.engine.specs.declared.Reply.the-variants.{Length, Same, Under, Above, Neither, Graph as Refusal, Cycle, Clash, NotBelow, NoWantedType, TypeList}
+use Rattle.engine.specs.Reply.{resultOf, refusing, rewriting, ordering, generalizing}
 use Rattle.engine.specs.Unification.{unifying}
 use Rattle.engine.specs.Difference.{differing}
 use Rattle.engine.specs.Before.{differingBefore}
@@ -41,6 +45,7 @@ use Rattle.engine.specs.Unranged.{
   differingTypes,
   WritesUnranged,
 }
+use Rattle.engine.specs.Appropriate.{rewritingAppropriate, generalizingAppropriate, unifyingAppropriate, Passes, Breaks, Fits, Obeys}
 use Rattle.engine.specs.Demand.{Given, Writes, AnswersBelow, AnswersNotBelow, WrittenRecord, loneTop, remainder, Restores, Difference}
 use Rattle.engine.proofs.Broader.{RecordBelow, answer-below, rows-below, below-answer, below-paths}
 use Rattle.engine.proofs.Broader as Broader
@@ -50,6 +55,7 @@ use Rattle.engine.proofs.Demanded.Difference as Differed
 use Rattle.engine.proofs.Demanded.Before.{differing-before, never-unwanted}
 use Rattle.engine.proofs.Demanded.Itself.{itself}
 use Rattle.engine.proofs.Unranged as Unranged
+use Rattle.engine.proofs.Demanded.Appropriate as Listing
 
 -- Paper 1: a broader program never clashes anew. Where a is below b and c is below d, b combines with d if a combines with c; what is
 -- written of the narrower pair is below what is written of the broader one, of combinations and of common parts.
@@ -304,3 +310,96 @@ house-opened = house.meets-opened
 -- and the table admits differences.
 pub house-admits : types.admits 64 houseTable ≡ true
 house-admits = house.house-admits
+
+-- Paper 9: features belong to types. For every list, common parts and combinations of graphs of any size that obey it obey it, over paths.
+module _ (n : ℕ) (t list : List ℕ) (opens : opened n t ≡ Accepted) (listed : listAccepted n list ≡ true) {A B C : Type 0} (g : Graph Label A)
+    (h : Graph Label B) (g-size : OfAnySize n t g) (h-size : OfAnySize n t h) (g-obeys : Appropriate t list g) (h-obeys : Appropriate t list h)
+    (k : Graph Label C) where
+  -- "the paths in both, each with the join of its two types"
+  pub common-paths-obey : IsGeneralization (tableLabels n t) g h k → Appropriate t list k
+  common-paths-obey = Obeying.common-obeys n t (opened-accepted n t (opened n t) refl opens) list listed g h g-size h-size g-obeys h-obeys k
+
+  pub common-part-obeys : LeastOfAnySize n t g h k → Appropriate t list k
+  common-part-obeys = Obeying.least-obeys n t (opened-accepted n t (opened n t) refl opens) list listed g h g-size h-size g-obeys h-obeys k
+
+  -- "A class has the meet of all types in it"
+  pub combined-paths-obey : IsCombination n t g h k → Appropriate t list k
+  combined-paths-obey = Obeying.combination-obeys n t (opened-accepted n t (opened n t) refl opens) list listed g h g-size h-size g-obeys h-obeys k
+
+  pub combination-obeys : GreatestOfAnySize n t g h k → Appropriate t list k
+  combination-obeys = Obeying.greatest-obeys n t (opened-accepted n t (opened n t) refl opens) list listed g h g-size h-size g-obeys h-obeys k
+
+-- The test of an accepted record is that over paths: 18 is given for no other graph.
+pub obeys-over-paths : (n : ℕ) (t list bytes : List ℕ) (rows : List (Row Label)) → reading n bytes ≡ accepted rows →
+    (appropriate t list rows ≡ true) ↔ Appropriate t list (graphOfRows rows)
+obeys-over-paths n t list bytes rows reads = Obeying.appropriate-exact n t list rows (accepted-rules n bytes rows reads)
+
+module _ (n : ℕ) (t list out : List ℕ) where
+  -- "which otherwise replies as the plain one": where neither 17 nor 18 is given, reply and output are those of the plain call.
+  pub rewriting-otherwise : (a : List ℕ) → Passes (rewritingAppropriate n t list a out) →
+      rewritingAppropriate n t list a out ≡ rewriting n t a out
+  rewriting-otherwise = Listing.rewriting-kept n t list out
+
+  pub generalizing-otherwise : (a b : List ℕ) → Passes (generalizingAppropriate n t list a b out) →
+      generalizingAppropriate n t list a b out ≡ generalizing n t a b out
+  generalizing-otherwise = Listing.generalizing-kept n t list out
+
+  pub unifying-otherwise : (a b : List ℕ) → Passes (unifyingAppropriate n t list a b out) →
+      unifyingAppropriate n t list a b out ≡ unifying n t a b out
+  unifying-otherwise = Listing.unifying-kept n t list out
+
+  -- 17 exactly where the table is accepted and the list is not.
+  pub rewriting-list : (a : List ℕ) →
+      (rewritingAppropriate n t list a out .reply ≡ TypeList) ↔ ((opened n t ≡ Accepted) × (listAccepted n list ≡ false))
+  rewriting-list = Listing.rewriting-list n t list out
+
+  pub generalizing-list : (a b : List ℕ) →
+      (generalizingAppropriate n t list a b out .reply ≡ TypeList) ↔ ((opened n t ≡ Accepted) × (listAccepted n list ≡ false))
+  generalizing-list = Listing.generalizing-list n t list out
+
+  pub unifying-list : (a b : List ℕ) →
+      (unifyingAppropriate n t list a b out .reply ≡ TypeList) ↔ ((opened n t ≡ Accepted) × (listAccepted n list ≡ false))
+  unifying-list = Listing.unifying-list n t list out
+
+  -- Beside a length, rewriting the record with the same list gives that record: "obey it too, and this must hold for every list".
+  pub rewriting-obeys : (a : List ℕ) (l : ℕ) → rewritingAppropriate n t list a out .reply ≡ Length l →
+      Obeys n t list (take l (rewritingAppropriate n t list a out .output))
+  rewriting-obeys = Listing.rewriting-obeys n t list out
+
+  pub generalizing-obeys : (a b : List ℕ) (l : ℕ) → generalizingAppropriate n t list a b out .reply ≡ Length l →
+      Obeys n t list (take l (generalizingAppropriate n t list a b out .output))
+  generalizing-obeys = Listing.generalizing-obeys n t list out
+
+  pub unifying-obeys : (a b : List ℕ) (l : ℕ) → unifyingAppropriate n t list a b out .reply ≡ Length l →
+      Obeys n t list (take l (unifyingAppropriate n t list a b out .output))
+  unifying-obeys = Listing.unifying-obeys n t list out
+
+-- 18 "tells which graph": a graph with a link that the list forbids, straight after its 7 and before the second graph is looked at.
+module _ (n : ℕ) (t list : List ℕ) (opens : opened n t ≡ Accepted) (listed : listAccepted n list ≡ true) (out : List ℕ) where
+  pub rewriting-forbidden : (a : List ℕ) → Breaks n t list a → rewritingAppropriate n t list a out ≡ refusing (Refusal Inappropriate First) out
+  rewriting-forbidden a = Listing.rewriting-breaks n t list opens listed a out
+
+  module _ (a b : List ℕ) where
+    pub generalizing-forbidden-first : Breaks n t list a → generalizingAppropriate n t list a b out ≡ refusing (Refusal Inappropriate First) out
+    generalizing-forbidden-first = Listing.generalizing-first-breaks n t list opens listed a b out
+
+    pub generalizing-forbidden-second : Fits n t list a → Breaks n t list b →
+        generalizingAppropriate n t list a b out ≡ refusing (Refusal Inappropriate Second) out
+    generalizing-forbidden-second = Listing.generalizing-second-breaks n t list opens listed a b out
+
+    pub unifying-forbidden-first : Breaks n t list a → unifyingAppropriate n t list a b out ≡ refusing (Refusal Inappropriate First) out
+    unifying-forbidden-first = Listing.unifying-first-breaks n t list opens listed a b out
+
+    pub unifying-forbidden-second : Fits n t list a → Breaks n t list b →
+        unifyingAppropriate n t list a b out ≡ refusing (Refusal Inappropriate Second) out
+    unifying-forbidden-second = Listing.unifying-second-breaks n t list opens listed a b out
+
+-- "A difference need not obey it and is combined through the plain call, whose result then obeys": combined with a, from either side, the
+-- difference of a and b gives what rewriting b with the list gives, wherever this is neither 17 nor 18.
+module _ (n : ℕ) (t a b : List ℕ) (g s : List (Row Label)) (given : Given n t a b g s) (list out room : List ℕ) (l : ℕ)
+    (e : differing n t a b out .reply ≡ Length l) (passes : Passes (rewritingAppropriate n t list b room)) where
+  pub restored-obeys-first : unifying n t (take l (differing n t a b out .output)) a room ≡ rewritingAppropriate n t list b room
+  restored-obeys-first = Listing.restored-first n t a b g s given list out room l e passes
+
+  pub restored-obeys-second : unifying n t a (take l (differing n t a b out .output)) room ≡ rewritingAppropriate n t list b room
+  restored-obeys-second = Listing.restored-second n t a b g s given list out room l e passes

@@ -7,3 +7,4 @@ pub mod Difference
 pub mod Before
 pub mod Renumbering
 pub mod Unranged
+pub mod Appropriate

@@ -1,5 +1,5 @@
--- What the parts of the calls with two records promise: reading both, the common part by a table of joins, and the combination by a
--- table of meets.
+-- What the parts of the calls promise: reading both records, and what follows reading: the written form, the common part by a table of
+-- joins, the combination by a table of meets, and the difference.
 use mathlib.Core.Path.{_≡_}
 use mathlib.Core.List.{List}
 use Prim.Native.Nat.{ℕ}
@@ -10,13 +10,14 @@ use Rattle.graphs.specs.Number.{canonical}
 use Rattle.graphs.specs.Generalize.{generalization}
 use Rattle.graphs.specs.Unify.{unification}
 use Rattle.lattice.specs.Label.{Label}
-use Rattle.layout.specs.Layout.{graphOfRows, longest}
+use Rattle.layout.specs.Layout.{Recorded, graphOfRows, longest}
 use Rattle.encode.specs.Encode.{writtenOut}
 use Rattle.record.specs.declared.reading.Verdict.{Verdict}
 use Rattle.record.specs.declared.reading.Verdict.the-variants.{Accepted, Refused}
-use Rattle.record.specs.Read.{accepted, reading}
+use Rattle.record.specs.Read.{Reading, accepted, reading}
+use Rattle.record.specs.Appropriate.{readingAppropriate}
 use Rattle.record.specs.Reads.{Holds, verdictOf}
-use Rattle.generalize.specs.Pairs.{joinsOf, samePair}
+use Rattle.generalize.specs.Pairs.{Joinable, joinsOf, samePair}
 use Rattle.unify.specs.declared.Combined.{Combined}
 use Rattle.unify.specs.declared.Combined.the-variants as unify
 use Rattle.unify.specs.Outcome.{meetsOf}
@@ -24,7 +25,7 @@ use Rattle.engine.specs.declared.Side.the-variants.{First, Second}
 use Rattle.engine.specs.declared.PairVerdict.{PairVerdict}
 use Rattle.engine.specs.declared.PairVerdict.the-variants as pair
 use Rattle.engine.specs.declared.Reply.{Reply}
-use Rattle.engine.specs.declared.Reply.the-variants.{Cycle, Clash}
+use Rattle.engine.specs.declared.Reply.the-variants.{Graph, Cycle, Clash}
 use Rattle.engine.specs.Unification.{combined}
 use Rattle.engine.specs.Difference.{differedRows}
 use Rattle.engine.specs.Reply.{Result, replyOf, resultOf, refusing, readBoth}
@@ -35,22 +36,36 @@ jointVerdict (Refused fault) second = pair.Refused fault First
 jointVerdict Accepted (Refused fault) = pair.Refused fault Second
 jointVerdict Accepted Accepted = pair.Both
 
--- the verdict on two records, and beside the acceptance of each its graph
-pub record ReadsBoth (n : ℕ) (a b : List ℕ) (v : PairVerdict) (ws ws₂ : List ℕ) : Type 0 where
-  pub verdict : v ≡ jointVerdict (verdictOf (reading n a)) (verdictOf (reading n b))
-  pub one : (rows : List (Row Label)) → reading n a ≡ accepted rows → Holds n rows ws
-  pub other : (rows : List (Row Label)) → reading n b ≡ accepted rows → Holds n rows ws₂
+-- the verdict of two readings, and beside the acceptance of each its graph
+pub record ReadsBoth (n : ℕ) (o p : Reading) (v : PairVerdict) (ws ws₂ : List ℕ) : Type 0 where
+  pub verdict : v ≡ jointVerdict (verdictOf o) (verdictOf p)
+  pub one : (rows : List (Row Label)) → o ≡ accepted rows → Holds n rows ws
+  pub other : (rows : List (Row Label)) → p ≡ accepted rows → Holds n rows ws₂
   pub one-long : length ws ≡ longest
   pub other-long : length ws₂ ≡ longest
+
+-- the same beside a list of types for features (document 02, Paper 9)
+abbrev pub ReadsBeside : ℕ → List ℕ → List ℕ → List ℕ → List ℕ → PairVerdict → List ℕ → List ℕ → Type 0
+ReadsBeside n t list a b v ws ws₂ = ReadsBoth n (readingAppropriate n t list a) (readingAppropriate n t list b) v ws ws₂
+
+-- what follows reading a record: the refusal, or what is done with its graph
+abbrev pub afterReading : Verdict → List ℕ → Result → Result
+afterReading (Refused fault) out next = refusing (Graph fault First) out
+afterReading Accepted out next = next
+
+-- what follows reading two records
+abbrev pub afterBoth : PairVerdict → List ℕ → Result → Result
+afterBoth (pair.Refused fault side) out next = refusing (Graph fault side) out
+afterBoth pair.Both out next = next
+
+-- what the common part of two graphs by a table of joins asks
+abbrev pub JoinsReady : List (List ℕ) → List ℕ → List ℕ → Type 0
+JoinsReady joins g h = Recorded g × (Recorded h × ((n : ℕ) × Joinable n joins g h))
 
 -- the common part of two graphs in written form, by a table of joins
 unfoldable pub joined : List (List ℕ) → List ℕ → List (Row Label) → List (Row Label) → Result
 joined joins out g h =
     resultOf (writtenOut (canonical samePair (generalization (joinsOf joins) (graphOfRows g) (graphOfRows h))) out)
-
--- both graphs' 4 to 7, then their common part
-abbrev pub joining : ℕ → List (List ℕ) → List ℕ → List ℕ → List ℕ → Result
-joining n joins a b out = readBoth (λ r. refusing r out) (reading n a) (reading n b) (joined joins out)
 
 -- the combination of two graphs in written form, by a table of meets
 unfoldable pub met : ℕ → List (List ℕ) → List ℕ → List (Row Label) → List (Row Label) → Result
@@ -58,10 +73,6 @@ met n meets out g h =
     combined
     (unification (meetsOf n meets) eqb eqb (graphOfRows g) (from 0 (length g)) (graphOfRows h) (from 0 (length h)))
     out
-
--- both graphs' 4 to 7, then their combination
-abbrev pub meeting : ℕ → List (List ℕ) → List ℕ → List ℕ → List ℕ → Result
-meeting n meets a b out = readBoth (λ r. refusing r out) (reading n a) (reading n b) (met n meets out)
 
 -- both graphs' 4 to 7, then their difference
 abbrev pub parting : ℕ → List ℕ → List ℕ → List ℕ → List ℕ → Result

@@ -1,4 +1,4 @@
--- Replies: the number that document 01 gives to each ("Returned by a call"), and what each call answers and leaves in the output.
+-- Replies: the number that documents 01 ("Returned by a call") and 02 give to each, and what each call answers and leaves in the output.
 use mathlib.Core.Path.{_≡_}
 use mathlib.Core.Bool.{Bool, true, false}
 use mathlib.Core.List.{List}
@@ -26,7 +26,7 @@ use Rattle.engine.specs.declared.Side.the-variants.{First, Second}
 use Rattle.engine.specs.declared.kinds.Kind.{Kind}
 use Rattle.engine.specs.declared.kinds.Kind.the-variants as kind
 use Rattle.engine.specs.declared.Reply.{Reply}
-use Rattle.engine.specs.declared.Reply.the-variants.{Length, Same, Under, Above, Neither, Table, Graph, NoRoom, Cycle, Clash, TooLarge, NotBelow, NoWantedType}
+use Rattle.engine.specs.declared.Reply.the-variants.{Length, Same, Under, Above, Neither, Table, Graph, NoRoom, Cycle, Clash, TooLarge, NotBelow, NoWantedType, TypeList}
 
 -- what a reply tells: a refusal has a number, and one of a graph tells which of the two it is
 abbrev pub kindOf : Reply → Kind
@@ -43,6 +43,7 @@ kindOf Clash = kind.Refused 10
 kindOf TooLarge = kind.Refused 11
 kindOf NotBelow = kind.Refused 12
 kindOf NoWantedType = kind.Refused 13
+kindOf TypeList = kind.Refused 17
 
 abbrev pub refusalIn : Kind → Option ℕ
 refusalIn (kind.Length l) = none
@@ -87,16 +88,20 @@ abbrev pub checked : {X : Type 0} → (Reply → X) → Opened → X → X
 checked refuse (opened.Refused fault) next = refuse (Table fault)
 checked refuse opened.Accepted next = next
 
--- the first graph's 4 to 7, then the second's
+-- the first graph's refusals, then the second's
 abbrev pub readBoth : {X : Type 0} → (Reply → X) → graph.Reading → graph.Reading → (List (Row Label) → List (Row Label) → X) → X
 readBoth refuse (graph.refused fault) second next = refuse (Graph fault First)
 readBoth refuse (graph.accepted rows) (graph.refused fault) next = refuse (Graph fault Second)
 readBoth refuse (graph.accepted rows) (graph.accepted others) next = next rows others
 
--- over an accepted table: the graph's 4 to 7, then the record in written form
+-- a graph in written form
+abbrev pub rewrittenRows : List ℕ → List (Row Label) → Result
+rewrittenRows out rows = resultOf (writtenOut (canonical eqb (graph.graphOfRows rows)) out)
+
+-- over an accepted table: the graph's refusals, then the record in written form
 abbrev pub rewritten : graph.Reading → List ℕ → Result
 rewritten (graph.refused fault) out = refusing (Graph fault First) out
-rewritten (graph.accepted rows) out = resultOf (writtenOut (canonical eqb (graph.graphOfRows rows)) out)
+rewritten (graph.accepted rows) out = rewrittenRows out rows
 
 -- "Rewriting one record in written form is a call too": the table's 1 to 3, the graph's 4 to 7, then 8
 unfoldable pub rewriting : ℕ → List ℕ → List ℕ → List ℕ → Result

@@ -1,4 +1,4 @@
-// Replies by what they tell, with the numbers that document 01 gives to refusals ("Returned by a call").
+// Replies by what they tell, with the numbers that documents 01 ("Returned by a call") and 02 give to refusals.
 
 use crate::Reply;
 use crate::Side;
@@ -38,6 +38,7 @@ pub fn kind_of(reply: Reply) -> Kind
         Reply::TooLarge => Kind::Refused(11),
         Reply::NotBelow => Kind::Refused(12),
         Reply::NoWantedType => Kind::Refused(13),
+        Reply::TypeList => Kind::Refused(17),
     }
 }
 
@@ -59,5 +60,6 @@ fn graph_number(fault: GraphFault) -> usize
         GraphFault::OutOfRange => 5,
         GraphFault::Cyclic => 6,
         GraphFault::Unreached => 7,
+        GraphFault::Inappropriate => 18,
     }
 }

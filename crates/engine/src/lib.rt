@@ -11,12 +11,16 @@ use unify::Combined;
 ghost use mathlib.Core.Path.{_≡_};
 ghost use Prim.Native.Nat.{_≤_, _<_};
 ghost use Rattle.record.specs.Read.{reading};
-ghost use Rattle.generalize.specs.Pairs.{JoinsBelow};
+ghost use Rattle.layout.specs.Layout.{Sound, rowsOf};
+ghost use Rattle.record.specs.declared.reading.Verdict.the-variants.{Accepted};
 ghost use Rattle.unify.specs.Lowered.{MeetsBelow};
-ghost use Rattle.engine.specs.Reply.{resulting, replyOf, readBoth, rewriting, rewritten, isBelow, compared, ordering, ordered, generalizing};
+ghost use Rattle.unify.specs.Rows.{Operand};
+ghost use Rattle.engine.specs.declared.PairVerdict.the-variants.{Both};
+ghost use Rattle.engine.specs.Reply.{resulting, replyOf, readBoth, rewriting, rewrittenRows, isBelow, compared, ordering, ordered, generalizing};
 ghost use Rattle.engine.specs.Unification.{unifying};
 ghost use Rattle.engine.specs.Difference.{differing};
-ghost use Rattle.engine.specs.Pair.{joining, meeting, combinedReply};
+ghost use Rattle.engine.specs.Appropriate.{rewritingAppropriate, generalizingAppropriate, unifyingAppropriate};
+ghost use Rattle.engine.specs.Pair.{JoinsReady, afterReading, afterBoth, joined, met, combinedReply};
 
 mod both;
 mod differences;
@@ -43,6 +47,7 @@ pub enum Reply {
     TooLarge,
     NotBelow,
     NoWantedType,
+    TypeList,
 }
 
 // Whether two records are accepted; else the first refusal and which graph it tells of.
@@ -58,19 +63,46 @@ pub fn rewrite(n: usize, table: &[u8], bytes: &[u8], out: &mut [u8]) -> Reply
     let opened = lattice::accept(n, table);
     match opened {
         Opened::Refused(fault) => Reply::Table(fault),
-        Opened::Accepted => rewrite_over(n, bytes, out),
+        Opened::Accepted => {
+            let mut graph = [layout::BLANK; layout::LONGEST];
+            let verdict = record::reading::read(n, bytes, &mut graph);
+            rewrite_over(verdict, &graph, out)
+        }
     }
 }
 
-// The same over an accepted table with n types.
-fn rewrite_over(n: usize, bytes: &[u8], out: &mut [u8]) -> Reply
-    ensures { λ r. ⌜ resulting r (now (out .exit)) ≡ rewritten (reading n (now (bytes .entry))) (now (out .entry)) ⌝ }
+// The same beside a list that gives for each feature the broadest type that may have it.
+pub fn rewrite_appropriate(
+    n: usize,
+    table: &[u8],
+    list: &[u8],
+    bytes: &[u8],
+    out: &mut [u8],
+) -> Reply
+    ensures { λ r. ⌜ resulting r (now (out .exit)) ≡ rewritingAppropriate n (now (table .entry)) (now (list .entry)) (now (bytes .entry)) (now (out .entry)) ⌝ }
 {
-    let mut graph = [layout::BLANK; layout::LONGEST];
-    let verdict = record::reading::read(n, bytes, &mut graph);
+    let opened = lattice::accept(n, table);
+    match opened {
+        Opened::Refused(fault) => Reply::Table(fault),
+        Opened::Accepted => {
+            if !record::appropriate::is_list_accepted(n, list) {
+                return Reply::TypeList;
+            }
+            let mut graph = [layout::BLANK; layout::LONGEST];
+            let verdict = record::appropriate::read(n, table, list, bytes, &mut graph);
+            rewrite_over(verdict, &graph, out)
+        }
+    }
+}
+
+// What follows reading: the graph in written form where it is accepted.
+fn rewrite_over(verdict: Verdict, graph: &[u16], out: &mut [u8]) -> Reply
+    requires { ⌜ (verdict ≡ Accepted → Sound (now graph)) ⌝ }
+    ensures { λ r. ⌜ resulting r (now (out .exit)) ≡ afterReading verdict (now (out .entry)) (rewrittenRows (now (out .entry)) (rowsOf (now (graph .entry)))) ⌝ }
+{
     match verdict {
         Verdict::Refused(fault) => Reply::Graph(fault, Side::First),
-        Verdict::Accepted => reply_of(encode::canonical::write(&graph, out)),
+        Verdict::Accepted => reply_of(encode::canonical::write(graph, out)),
     }
 }
 
@@ -140,27 +172,64 @@ pub fn generalize(n: usize, table: &[u8], first: &[u8], second: &[u8], out: &mut
     let opened = lattice::open_joins(n, table, &mut joins);
     match opened {
         Opened::Refused(fault) => Reply::Table(fault),
-        Opened::Accepted => generalize_over(n, &joins, first, second, out),
+        Opened::Accepted => {
+            let mut a = [layout::BLANK; layout::LONGEST];
+            let mut b = [layout::BLANK; layout::LONGEST];
+            let verdict = both::read_both(n, first, second, &mut a, &mut b);
+            generalize_over(&joins, verdict, &a, &b, out)
+        }
     }
 }
 
-// The same with the joins of an accepted table with n types.
-fn generalize_over(
+// The same beside a list that gives for each feature the broadest type that may have it.
+pub fn generalize_appropriate(
     n: usize,
-    joins: &[[u8; 64]; 64],
+    table: &[u8],
+    list: &[u8],
     first: &[u8],
     second: &[u8],
     out: &mut [u8],
 ) -> Reply
-    requires { ⌜ (n ≤ 64) × JoinsBelow n (now joins) ⌝ }
-    ensures { λ r. ⌜ resulting r (now (out .exit)) ≡ joining n (now (joins .entry)) (now (first .entry)) (now (second .entry)) (now (out .entry)) ⌝ }
+    ensures { λ r. ⌜ resulting r (now (out .exit)) ≡ generalizingAppropriate n (now (table .entry)) (now (list .entry)) (now (first .entry)) (now (second .entry)) (now (out .entry)) ⌝ }
 {
-    let mut a = [layout::BLANK; layout::LONGEST];
-    let mut b = [layout::BLANK; layout::LONGEST];
-    let verdict = both::read_both(n, first, second, &mut a, &mut b);
+    let mut joins = [[0u8; 64]; 64];
+    let opened = lattice::open_joins(n, table, &mut joins);
+    match opened {
+        Opened::Refused(fault) => Reply::Table(fault),
+        Opened::Accepted => {
+            if !record::appropriate::is_list_accepted(n, list) {
+                return Reply::TypeList;
+            }
+            let mut a = [layout::BLANK; layout::LONGEST];
+            let mut b = [layout::BLANK; layout::LONGEST];
+            let verdict = both::read_both_appropriate(
+                n,
+                table,
+                list,
+                first,
+                second,
+                &mut a,
+                &mut b,
+            );
+            generalize_over(&joins, verdict, &a, &b, out)
+        }
+    }
+}
+
+// What follows reading: the common part, by the joins of the table, where both graphs are accepted.
+fn generalize_over<'a>(
+    joins: &'a [[u8; 64]; 64],
+    verdict: PairVerdict,
+    a: &'a [u16],
+    b: &'a [u16],
+    out: &mut [u8],
+) -> Reply
+    requires { ⌜ (verdict ≡ Both → JoinsReady (now joins) (now a) (now b)) ⌝ }
+    ensures { λ r. ⌜ resulting r (now (out .exit)) ≡ afterBoth verdict (now (out .entry)) (joined (now (joins .entry)) (now (out .entry)) (rowsOf (now (a .entry))) (rowsOf (now (b .entry)))) ⌝ }
+{
     match verdict {
         PairVerdict::Refused(fault, side) => Reply::Graph(fault, side),
-        PairVerdict::Both => reply_of(generalize::generalize(joins, &a, &b, out)),
+        PairVerdict::Both => reply_of(generalize::generalize(joins, a, b, out)),
     }
 }
 
@@ -172,28 +241,66 @@ pub fn unify(n: usize, table: &[u8], first: &[u8], second: &[u8], out: &mut [u8]
     let opened = lattice::open_meets(n, table, &mut meets);
     match opened {
         Opened::Refused(fault) => Reply::Table(fault),
-        Opened::Accepted => unify_over(n, &meets, first, second, out),
+        Opened::Accepted => {
+            let mut a = [layout::BLANK; layout::LONGEST];
+            let mut b = [layout::BLANK; layout::LONGEST];
+            let verdict = both::read_both(n, first, second, &mut a, &mut b);
+            unify_over(n, &meets, verdict, &a, &b, out)
+        }
     }
 }
 
-// The same with the meets of an accepted table with n types.
-fn unify_over(
+// The same beside a list that gives for each feature the broadest type that may have it.
+pub fn unify_appropriate(
     n: usize,
-    meets: &[[u8; 64]; 64],
+    table: &[u8],
+    list: &[u8],
     first: &[u8],
     second: &[u8],
     out: &mut [u8],
 ) -> Reply
-    requires { ⌜ (0 < n) × (n ≤ 64) ⌝ }
-    requires { ⌜ MeetsBelow n (now meets) ⌝ }
-    ensures { λ r. ⌜ resulting r (now (out .exit)) ≡ meeting n (now (meets .entry)) (now (first .entry)) (now (second .entry)) (now (out .entry)) ⌝ }
+    ensures { λ r. ⌜ resulting r (now (out .exit)) ≡ unifyingAppropriate n (now (table .entry)) (now (list .entry)) (now (first .entry)) (now (second .entry)) (now (out .entry)) ⌝ }
 {
-    let mut a = [layout::BLANK; layout::LONGEST];
-    let mut b = [layout::BLANK; layout::LONGEST];
-    let verdict = both::read_both(n, first, second, &mut a, &mut b);
+    let mut meets = [[0u8; 64]; 64];
+    let opened = lattice::open_meets(n, table, &mut meets);
+    match opened {
+        Opened::Refused(fault) => Reply::Table(fault),
+        Opened::Accepted => {
+            if !record::appropriate::is_list_accepted(n, list) {
+                return Reply::TypeList;
+            }
+            let mut a = [layout::BLANK; layout::LONGEST];
+            let mut b = [layout::BLANK; layout::LONGEST];
+            let verdict = both::read_both_appropriate(
+                n,
+                table,
+                list,
+                first,
+                second,
+                &mut a,
+                &mut b,
+            );
+            unify_over(n, &meets, verdict, &a, &b, out)
+        }
+    }
+}
+
+// What follows reading: the combination, by the meets of a table with n types, where both graphs are accepted.
+fn unify_over<'a>(
+    n: usize,
+    meets: &'a [[u8; 64]; 64],
+    verdict: PairVerdict,
+    a: &'a [u16],
+    b: &'a [u16],
+    out: &mut [u8],
+) -> Reply
+    requires { ⌜ ((0 < n) × (n ≤ 64)) × MeetsBelow n (now meets) ⌝ }
+    requires { ⌜ (verdict ≡ Both → Operand n (now a) × Operand n (now b)) ⌝ }
+    ensures { λ r. ⌜ resulting r (now (out .exit)) ≡ afterBoth verdict (now (out .entry)) (met n (now (meets .entry)) (now (out .entry)) (rowsOf (now (a .entry))) (rowsOf (now (b .entry)))) ⌝ }
+{
     match verdict {
         PairVerdict::Refused(fault, side) => Reply::Graph(fault, side),
-        PairVerdict::Both => combined_reply(unify::unify(n, meets, &a, &b, out)),
+        PairVerdict::Both => combined_reply(unify::unify(n, meets, a, b, out)),
     }
 }
 

@@ -13,3 +13,5 @@ pub mod Counting
 pub mod Passes
 pub mod Words
 pub mod Judging
+pub mod Allowed
+pub mod Obeying

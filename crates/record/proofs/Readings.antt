@@ -12,7 +12,7 @@ use borrow.Author.Tests.{leb-true, le-leb, eqb-false, ne-eqb, not-true}
 use lib.Dec.{eqb, leb}
 use lib.ListN.{length}
 use Rattle.graphs.specs.Rows.{Row}
-use Rattle.record.specs.declared.GraphFault.the-variants.{Malformed, OutOfRange, Cyclic, Unreached}
+use Rattle.record.specs.declared.GraphFault.the-variants.{Malformed, OutOfRange, Cyclic, Unreached, Inappropriate}
 use Rattle.decode.specs.Decode.{decoded}
 use Rattle.graphs.specs.Order.{allOf}
 use Rattle.graphs.proofs.Search.{both-true, true-both}
@@ -33,6 +33,7 @@ Stands n bytes (refused Unreached) =
     (inRange n rows ≡ true) ×
     (cyclic rows ≡ false) ×
     (reachesAll rows ≡ false)
+Stands n bytes (refused Inappropriate) = ⊥
 Stands n bytes (accepted rows) =
     (decoded bytes ≡ some rows) × (inRange n rows ≡ true) × (cyclic rows ≡ false) × (reachesAll rows ≡ true)
 
@@ -69,6 +70,7 @@ module _ (n : ℕ) (bytes : List ℕ) where
   stands-reading (refused OutOfRange) (rows, e, i) = rw (e, i)
   stands-reading (refused Cyclic) (rows, e, i, c) = rw (e, i, c)
   stands-reading (refused Unreached) (rows, e, i, c, a) = rw (e, i, c, a)
+  stands-reading (refused Inappropriate) never = absurd never
   stands-reading (accepted rows) (e, i, c, a) = rw (e, i, c, a)
 
   -- a reading is what it is exactly where its tests went so

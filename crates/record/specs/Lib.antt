@@ -3,3 +3,4 @@ pub mod Read
 pub mod Counts
 pub mod Reads
 pub mod Unranged
+pub mod Appropriate

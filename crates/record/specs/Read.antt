@@ -12,7 +12,7 @@ use Rattle.graphs.specs.Order.{allOf}
 use Rattle.graphs.specs.Unify.{anyOf, deep, holds}
 use Rattle.lattice.specs.Label.{Label}
 use Rattle.record.specs.declared.GraphFault.{GraphFault}
-use Rattle.record.specs.declared.GraphFault.the-variants.{Malformed, OutOfRange, Cyclic, Unreached}
+use Rattle.record.specs.declared.GraphFault.the-variants.{Malformed, OutOfRange, Cyclic, Unreached, Inappropriate}
 use Rattle.decode.specs.Decode.{decoded}
 pub use Rattle.layout.specs.Layout.{graphOfRows}
 
@@ -21,6 +21,7 @@ graphNumber Malformed = 4
 graphNumber OutOfRange = 5
 graphNumber Cyclic = 6
 graphNumber Unreached = 7
+graphNumber Inappropriate = 18
 
 -- a type that is not "0 or at least n", and levels "0 to 255" of which the lowest is not "above the highest" (document 02, Paper 7)
 unfoldable pub labelInRange : ℕ → Label → Bool

@@ -1,12 +1,14 @@
 // Reading records: a record's graph, or the first of refusals 4 to 7 that applies, each over the whole record before the next.
 
+pub mod appropriate;
 pub mod peeling;
 pub mod reading;
 
-// Why a record is no graph: document 01's refusals 4 to 7.
+// Why a record is no graph: document 01's refusals 4 to 7. The last is document 02's 18, of a graph with a link that a list forbids.
 pub enum GraphFault {
     Malformed,
     OutOfRange,
     Cyclic,
     Unreached,
+    Inappropriate,
 }

@@ -11,6 +11,7 @@ ghost use Rattle.encode.specs.Encode.{yielding};
 ghost use Rattle.engine.specs.Reply.{rewriting, ordering, generalizing};
 ghost use Rattle.engine.specs.Unification.{unifying};
 ghost use Rattle.engine.specs.Difference.{differing};
+ghost use Rattle.engine.specs.Appropriate.{rewritingAppropriate, generalizingAppropriate, unifyingAppropriate};
 ghost use Rattle.record_engine.specs.Code.{codeOf, refusalCode, sideNumber};
 ghost use Rattle.record_engine.specs.Coded.{coded};
 ghost use Rattle.record_engine.specs.House.{tabling};
@@ -21,6 +22,20 @@ pub extern "C" fn record_rewrite(n: usize, table: &[u8], bytes: &[u8], out: &mut
     ensures { λ r. ⌜ yielding r (now (out .exit)) ≡ coded (rewriting n (now (table .entry)) (now (bytes .entry)) (now (out .entry))) ⌝ }
 {
     code(engine::rewrite(n, table, bytes, out))
+}
+
+// The same beside a list that gives for each feature the broadest type that may have it.
+#[no_mangle]
+pub extern "C" fn record_rewrite_appropriate(
+    n: usize,
+    table: &[u8],
+    list: &[u8],
+    bytes: &[u8],
+    out: &mut [u8],
+) -> u64
+    ensures { λ r. ⌜ yielding r (now (out .exit)) ≡ coded (rewritingAppropriate n (now (table .entry)) (now (list .entry)) (now (bytes .entry)) (now (out .entry))) ⌝ }
+{
+    code(engine::rewrite_appropriate(n, table, list, bytes, out))
 }
 
 // The order, is the first below the second: the code of the reply.
@@ -45,6 +60,21 @@ pub extern "C" fn record_generalize(
     code(engine::generalize(n, table, first, second, out))
 }
 
+// The same beside a list that gives for each feature the broadest type that may have it.
+#[no_mangle]
+pub extern "C" fn record_generalize_appropriate(
+    n: usize,
+    table: &[u8],
+    list: &[u8],
+    first: &[u8],
+    second: &[u8],
+    out: &mut [u8],
+) -> u64
+    ensures { λ r. ⌜ yielding r (now (out .exit)) ≡ coded (generalizingAppropriate n (now (table .entry)) (now (list .entry)) (now (first .entry)) (now (second .entry)) (now (out .entry))) ⌝ }
+{
+    code(engine::generalize_appropriate(n, table, list, first, second, out))
+}
+
 // The combination in written form: the code of the reply, and the output that the engine leaves.
 #[no_mangle]
 pub extern "C" fn record_unify(
@@ -57,6 +87,21 @@ pub extern "C" fn record_unify(
     ensures { λ r. ⌜ yielding r (now (out .exit)) ≡ coded (unifying n (now (table .entry)) (now (first .entry)) (now (second .entry)) (now (out .entry))) ⌝ }
 {
     code(engine::unify(n, table, first, second, out))
+}
+
+// The same beside a list that gives for each feature the broadest type that may have it.
+#[no_mangle]
+pub extern "C" fn record_unify_appropriate(
+    n: usize,
+    table: &[u8],
+    list: &[u8],
+    first: &[u8],
+    second: &[u8],
+    out: &mut [u8],
+) -> u64
+    ensures { λ r. ⌜ yielding r (now (out .exit)) ≡ coded (unifyingAppropriate n (now (table .entry)) (now (list .entry)) (now (first .entry)) (now (second .entry)) (now (out .entry))) ⌝ }
+{
+    code(engine::unify_appropriate(n, table, list, first, second, out))
 }
 
 // The difference of the first graph, g, and the second, s, in written form: the code of the reply, and the output that the engine leaves.

@@ -83,12 +83,14 @@ use Rattle.lattice.proofs.WantedLabels.{wanted-label-found}
 use Rattle.decode.specs.Decode.{bitOf, labelLength, labelOf, takeLinks, takeRow, takeRows, decoded}
 use Rattle.encode.specs.Encode.{bitsFrom, isFull, encodedLabel, encodedRow, encodedRows, encoded, fitted, writtenOut}
 use Rattle.record.specs.Read.{labelInRange, inRange, cyclic, reachesAll, reading, accepted, graphOfRows}
+use Rattle.record.specs.Appropriate.{listAccepted, readingAppropriate, appropriate, rowAppropriate}
 use Rattle.record.proofs.Accepted.{accepted-rules}
 use Rattle.record.proofs.Theorems.{accepted-of-any-size}
 use Rattle.generalize.specs.Pairs.{samePair}
 use Rattle.difference.specs.Promise.{wantedAlong, allWantedAlong, differenceAlong}
 use Rattle.engine.specs.Reply.{rewriting, generalized, generalizing, ordered as comparing, ordering}
 use Rattle.engine.specs.Unification.{unifiedRows, unifying}
+use Rattle.engine.specs.Appropriate.{rewritingAppropriate, generalizingAppropriate}
 use Rattle.engine.specs.Difference.{firstAt, over, wantedAt, allWanted, differenceRows, differed, differedRows, differing}
 use Rattle.engine.specs.declared.Reply.the-variants.{NoWantedType}
 use Rattle.engine.proofs.Demanded.Wanted.{meet-known, label-below, wanted-exact}
@@ -109,8 +111,17 @@ unfolding
     subsumes walks fitsAt flatMap
     difference differ keptLink keeps keptItself lead leaders groupOf spread touch bare covers incoming select linksFrom leastOf
     meetOver meetWhere byNumber
+    rewritingAppropriate generalizingAppropriate listAccepted readingAppropriate appropriate rowAppropriate
 all-hold =
     refl
+    and refl
+    and refl
+    and refl
+    and refl
+    and refl
+    and refl
+    and refl
+    and refl
     and refl
     and refl
     and refl

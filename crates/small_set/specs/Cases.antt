@@ -13,6 +13,7 @@ use Rattle.engine.specs.declared.Reply.{Reply}
 use Rattle.engine.specs.Reply.{Result, refusal, resultOf, rewriting, generalizing, ordering}
 use Rattle.engine.specs.Unification.{unifying}
 use Rattle.engine.specs.Difference.{differing}
+use Rattle.engine.specs.Appropriate.{rewritingAppropriate, generalizingAppropriate}
 use Rattle.engine.specs.Demand.{loneTop}
 use Rattle.encode.specs.Encode.{fitted}
 
@@ -88,6 +89,17 @@ Call = ℕ → List ℕ → List ℕ → List ℕ → List ℕ → Result
 abbrev pub rewritingFirst : Call
 rewritingFirst n t first second out = rewriting n t first out
 
+-- the same, and the common part, beside a list that gives for each feature the broadest type that may have it
+abbrev pub rewritingBeside : List ℕ → Call
+rewritingBeside list n t first second out = rewritingAppropriate n t list first out
+
+abbrev pub generalizingBeside : List ℕ → Call
+generalizingBeside list n t first second out = generalizingAppropriate n t list first second out
+
+-- of Paper 9: feature 0 belongs to a, the others to every type
+abbrev pub zeroOfA : List ℕ
+zeroOfA = a ∷ replicate 63 top
+
 -- what a call gives: a record, or a refusal by its number
 pub data Answer : Type 0 where
   gives : List ℕ → Answer
@@ -129,7 +141,7 @@ abbrev pub overThreeMiddles : Call → List ℕ → List ℕ → Answer → Case
 overThreeMiddles call first second answer =
     record { call = call; types = threeMiddles; first = first; second = second; answer = answer }
 
--- "Cases 1 to 12 are the small set.", with case 12 and a new case as Paper 6 has them, and cases of Paper 7
+-- "Cases 1 to 12 are the small set.", with case 12 and a new case as Paper 6 has them, and cases of Papers 7 and 9
 abbrev pub cases : List Case
 cases =
     -- 1. Common part of a[0: b] and b: a lone top, 01 03 and eight 00.
@@ -181,6 +193,18 @@ cases =
     ∷ overDiamond rewritingFirst (1 ∷ ranged a 0 255) [] (gives (lone a))
     -- A lowest level above the highest: 5.
     ∷ overDiamond rewritingFirst (1 ∷ ranged a 20 10) [] (refuses 5)
+    -- Paper 9, with feature 0 of a: "A difference need not obey it". Difference of g = a, s = a[0: b]: top[0: b], which is 18, though s
+    -- obeys the list; combined with g through the plain call it gives s.
+    ∷ overDiamond (rewritingBeside zeroOfA) (2 ∷ node a 0x01 (1 ∷ []) ++ leaf b) [] (gives (2 ∷ node a 0x01 (1 ∷ []) ++ leaf b))
+    ∷ overDiamond differing (lone a) (2 ∷ node a 0x01 (1 ∷ []) ++ leaf b) (gives (2 ∷ node top 0x01 (1 ∷ []) ++ leaf b))
+    ∷ overDiamond (rewritingBeside zeroOfA) (2 ∷ node top 0x01 (1 ∷ []) ++ leaf b) [] (refuses 18)
+    ∷ overDiamond unifying (2 ∷ node top 0x01 (1 ∷ []) ++ leaf b) (lone a) (gives (2 ∷ node a 0x01 (1 ∷ []) ++ leaf b))
+    -- The second graph's 18 comes after the first's 4 to 7.
+    ∷ overDiamond (generalizingBeside zeroOfA) (lone a) (2 ∷ node top 0x01 (1 ∷ []) ++ leaf b) (refuses 18)
+    ∷ overDiamond (generalizingBeside zeroOfA) (lone 0) (2 ∷ node top 0x01 (1 ∷ []) ++ leaf b) (refuses 5)
+    -- A list of 63 bytes, and one with an entry of n: 17.
+    ∷ overDiamond (rewritingBeside (replicate 63 top)) (lone a) [] (refuses 17)
+    ∷ overDiamond (rewritingBeside (4 ∷ replicate 63 top)) (lone a) [] (refuses 17)
     ∷ []
 
 -- no difference of two graphs accepted over a table gives 13, whatever output is lent

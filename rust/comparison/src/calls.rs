@@ -8,7 +8,8 @@ use reference::record;
 use reference::reply::{self, Reply};
 use reference::table;
 
-/// A table, one or two records, an output.
+/// A table, one or two records, an output. Where a call takes a list of types for
+/// features it stands before the records.
 type Engine = fn(&TableBytes, &[&[u8]], &mut [u8]) -> Reply;
 
 /// One call, by the proved engine and by the reference.
@@ -60,6 +61,46 @@ pub const DIFFERENCE: Call = Call {
     reference: |table, records, output| judged(calls::difference, table, records, output),
 };
 
+/// A record that obeys a list in written form.
+pub const REWRITE_APPROPRIATE: Call = Call {
+    engine: |table, records, output| {
+        let [list, record] = [0, 1].map(|place| records[place]);
+        let (n, table) = (table.n, &table.bytes);
+        written(record_engine::rewrite_appropriate(
+            n, table, list, record, output,
+        ))
+    },
+    reference: |table, records, output| {
+        let [list, record] = [0, 1].map(|place| records[place]);
+        calls::rewrite_appropriate(table.n, &table.bytes, list, record, output)
+    },
+};
+
+/// The common part of two records that obey a list.
+pub const GENERALIZE_APPROPRIATE: Call = Call {
+    engine: |table, records, output| {
+        pair_by_list(
+            record_engine::generalize_appropriate,
+            table,
+            records,
+            output,
+        )
+    },
+    reference: |table, records, output| {
+        judged_by_list(calls::common_part_appropriate, table, records, output)
+    },
+};
+
+/// The combination of two records that obey a list.
+pub const UNIFY_APPROPRIATE: Call = Call {
+    engine: |table, records, output| {
+        pair_by_list(record_engine::unify_appropriate, table, records, output)
+    },
+    reference: |table, records, output| {
+        judged_by_list(calls::combination_appropriate, table, records, output)
+    },
+};
+
 /// A call of the proved engine on two records.
 type Pair = fn(usize, &[u8], &[u8], &[u8], &mut [u8]) -> Result<usize, Refusal>;
 
@@ -70,6 +111,30 @@ fn pair(call: Pair, table: &TableBytes, records: &[&[u8]], output: &mut [u8]) ->
 /// The same call of the reference.
 fn judged(call: calls::Call, table: &TableBytes, records: &[&[u8]], output: &mut [u8]) -> Reply {
     call(table.n, &table.bytes, records[0], records[1], output)
+}
+
+/// A call of the proved engine on two records with a list.
+type PairByList = fn(usize, &[u8], &[u8], &[u8], &[u8], &mut [u8]) -> Result<usize, Refusal>;
+
+fn pair_by_list(
+    call: PairByList,
+    table: &TableBytes,
+    records: &[&[u8]],
+    output: &mut [u8],
+) -> Reply {
+    let [list, first, second] = [0, 1, 2].map(|place| records[place]);
+    written(call(table.n, &table.bytes, list, first, second, output))
+}
+
+/// The same call of the reference.
+fn judged_by_list(
+    call: calls::CallWithList,
+    table: &TableBytes,
+    records: &[&[u8]],
+    output: &mut [u8],
+) -> Reply {
+    let [list, first, second] = [0, 1, 2].map(|place| records[place]);
+    call(table.n, &table.bytes, list, first, second, output)
 }
 
 /// The reply of a call of the proved engine that writes a record.
@@ -99,6 +164,7 @@ fn refused(refusal: Refusal) -> Reply {
                 GraphFault::OutOfRange => record::GraphFault::Value,
                 GraphFault::Cyclic => record::GraphFault::Cycle,
                 GraphFault::Unreached => record::GraphFault::Unreached,
+                GraphFault::Inappropriate => record::GraphFault::Inappropriate,
             };
             let which = match side {
                 Side::First => reply::Which::First,
@@ -112,5 +178,6 @@ fn refused(refusal: Refusal) -> Reply {
         Refusal::TooLarge => reply::Refusal::TooLarge,
         Refusal::NotBelow => reply::Refusal::NotBelow,
         Refusal::NoWantedType => reply::Refusal::NoWantedType,
+        Refusal::TypeList => reply::Refusal::TypeList,
     })
 }

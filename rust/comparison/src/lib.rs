@@ -8,22 +8,42 @@ pub mod cases;
 pub mod program;
 
 pub use calls::{Call, DIFFERENCE, GENERALIZE, ORDER, REWRITE, UNIFY};
+pub use calls::{GENERALIZE_APPROPRIATE, REWRITE_APPROPRIATE, UNIFY_APPROPRIATE};
 
 use reference::order::Order;
 use reference::random::{self, TableBytes, Xorshift};
 use reference::record::LONGEST_RECORD;
-use reference::reply::Reply;
+use reference::reply::{Refusal, Reply};
+use std::thread;
 
 /// Bytes on each side of an output, which no call may change.
 const MARGIN: usize = 16;
+
+/// One more than the greatest number of a refusal.
+const NUMBERS: usize = 19;
+
+/// The stack that the header, the wrapper and the README state for a call.
+const STACK: usize = 256 << 10;
+
+/// What some calls give on a thread that has the stated stack and no more.
+pub fn on_stated_stack<T: Send>(calls: impl FnOnce() -> T + Send) -> T {
+    thread::scope(|scope| {
+        let thread = thread::Builder::new()
+            .stack_size(STACK)
+            .spawn_scoped(scope, calls);
+        thread.expect("a thread").join().expect("no panic")
+    })
+}
 
 /// Both engines at one call, and how often each reply came.
 pub struct Comparison {
     call: Call,
     random: Xorshift,
     inputs: usize,
-    /// The number of replies by document 01's number, lengths at 0.
-    replies: [usize; 14],
+    /// The number of replies by the papers' number, lengths at 0.
+    replies: [usize; NUMBERS],
+    /// The number of refusals of the first graph and of the second, by the papers' number.
+    sides: [[usize; 2]; NUMBERS],
     /// The number of the order's answers, by their places in `Order::ALL`.
     answers: [usize; 4],
 }
@@ -35,7 +55,8 @@ impl Comparison {
             call,
             random: Xorshift::stored(seed),
             inputs: 0,
-            replies: [0; 14],
+            replies: [0; NUMBERS],
+            sides: [[0; 2]; NUMBERS],
             answers: [0; 4],
         }
     }
@@ -88,9 +109,13 @@ impl Comparison {
             by_engine == by_reference,
             "outputs of {room} bytes differ: {table:?}, the records {records:?}"
         );
+        let number = usize::from(reference.number().unwrap_or(0));
         match reference {
             Reply::Order(order) => self.answers[order as usize] += 1,
-            _ => self.replies[usize::from(reference.number().unwrap_or(0))] += 1,
+            _ => self.replies[number] += 1,
+        }
+        if let Reply::Refused(Refusal::Graph(_, which)) = reference {
+            self.sides[number][which as usize] += 1;
         }
         let length = match reference {
             Reply::Length(length) => length,
@@ -109,6 +134,16 @@ impl Comparison {
             };
             let enough = enough || !random::is_stored();
             assert!(enough, "reply {number}: {:?}", self.replies);
+        }
+    }
+
+    /// From the stored seeds, each of these refusals came at least so often of the first
+    /// graph and at least so often of the second.
+    pub fn assert_sides(&self, numbers: &[usize], least: usize) {
+        for &number in numbers {
+            let [first, second] = self.sides[number];
+            let enough = first.min(second) >= least || !random::is_stored();
+            assert!(enough, "reply {number}: {first} first, {second} second");
         }
     }
 

@@ -1,13 +1,12 @@
 //! A call gets by with the stack that the header, the wrapper and the README state:
-//! every call on the deepest and on the largest records, on a thread with no more.
+//! every call on the deepest and on the largest records, on a thread with no more. The
+//! calls with a list are in `appropriate.rs`.
 
+use comparison::on_stated_stack;
 use record_engine::{LONGEST_RECORD, Order, difference, generalize, order, rewrite, unify};
 use reference::graph::Graph;
 use reference::random;
 use reference::record;
-
-/// The stack that is stated.
-const STACK: usize = 256 << 10;
 
 #[test]
 fn the_largest_records_need_little_stack() {
@@ -40,25 +39,20 @@ fn compare(graphs: [Graph; 2]) -> [usize; 2] {
     let table = random::diamond();
     let [chain, ladder] = graphs.map(|graph| record::write(&graph));
     let [chain_length, ladder_length] = [chain.len(), ladder.len()];
-    let lengths = std::thread::Builder::new()
-        .stack_size(STACK)
-        .spawn(move || {
-            let mut output = vec![0; LONGEST_RECORD];
-            let (n, table) = (table.n, &table.bytes);
-            assert_eq!(order(n, table, &ladder, &chain), Ok(Order::Under));
-            assert_eq!(order(n, table, &chain, &chain), Ok(Order::Same));
-            [
-                rewrite(n, table, &chain, &mut output),
-                rewrite(n, table, &ladder, &mut output),
-                generalize(n, table, &ladder, &ladder, &mut output),
-                unify(n, table, &ladder, &ladder, &mut output),
-                unify(n, table, &ladder, &chain, &mut output),
-                difference(n, table, &chain, &ladder, &mut output),
-            ]
-        })
-        .expect("a thread")
-        .join()
-        .expect("no panic");
+    let lengths = on_stated_stack(|| {
+        let mut output = vec![0; LONGEST_RECORD];
+        let (n, table) = (table.n, &table.bytes);
+        assert_eq!(order(n, table, &ladder, &chain), Ok(Order::Under));
+        assert_eq!(order(n, table, &chain, &chain), Ok(Order::Same));
+        [
+            rewrite(n, table, &chain, &mut output),
+            rewrite(n, table, &ladder, &mut output),
+            generalize(n, table, &ladder, &ladder, &mut output),
+            unify(n, table, &ladder, &ladder, &mut output),
+            unify(n, table, &ladder, &chain, &mut output),
+            difference(n, table, &chain, &ladder, &mut output),
+        ]
+    });
     assert_eq!(lengths[0], Ok(chain_length));
     assert_eq!(lengths[1..5], [Ok(ladder_length); 4]);
     // Each link beside the chain's says that it leads to the same node; a range that the

@@ -66,6 +66,15 @@ mod tests {
             ),
             ((1 << 32) + 8, Refusal::NoRoom),
             ((1 << 32) + 11, Refusal::TooLarge),
+            ((1 << 32) + 17, Refusal::TypeList),
+            (
+                (1 << 32) + 256 + 18,
+                Refusal::Graph(GraphFault::Inappropriate, Side::First),
+            ),
+            (
+                (1 << 32) + 512 + 18,
+                Refusal::Graph(GraphFault::Inappropriate, Side::Second),
+            ),
         ];
         for (code, refusal) in known {
             assert_eq!(answer(code), Answer::Refused(refusal));

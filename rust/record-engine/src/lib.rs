@@ -1,6 +1,7 @@
 //! The record engine for Rust programs. A call takes a type table, one or two
-//! records and, where it writes a record, an output that the caller lends; it
-//! gives the length of what it wrote, an [`Order`], or a [`Refusal`].
+//! records, some calls an appropriateness list, and, where it writes a record, an
+//! output that the caller lends; it gives the length of what it wrote, an [`Order`],
+//! or a [`Refusal`].
 //!
 //! The functions behind these calls are proved (`crates/engine`); here is only
 //! the passage to them, by the static library `librecord_engine.a`, which
@@ -65,6 +66,19 @@
 //! # Ok::<(), record_engine::Refusal>(())
 //! ```
 //!
+//! # Appropriateness list
+//!
+//! [`rewrite_appropriate`], [`generalize_appropriate`] and [`unify_appropriate`] go by a
+//! list of 64 bytes that says which features belong to which types. Byte f is the
+//! broadest type, 0 to n − 1, that may have feature f: a node may have it when its type
+//! is below or equal to that one. So 0 forbids the feature and n − 1 allows it to all.
+//! A record with a link that the list forbids is refused by 18; otherwise these calls
+//! reply as [`rewrite`], [`generalize`] and [`unify`] do.
+//!
+//! Common parts and combinations of records that obey a list obey it. A difference need
+//! not obey it and is combined by [`unify`]: the general record and the difference give
+//! the specific record, which obeys the list if it did.
+//!
 //! # Stack
 //!
 //! A thread that makes a call needs 256 KiB of stack; the largest calls take up to
@@ -96,6 +110,9 @@ pub enum Order {
     Neither,
 }
 
+/// The number of features: the length of an appropriateness list.
+pub const FEATURES: usize = 64;
+
 /// The number of the house types.
 pub const HOUSE_TYPES: usize = 64;
 
@@ -108,6 +125,21 @@ type WritesPair = unsafe extern "C" fn(
     n: usize,
     table: *const u8,
     table_length: usize,
+    first: *const u8,
+    first_length: usize,
+    second: *const u8,
+    second_length: usize,
+    output: *mut u8,
+    output_length: usize,
+) -> u64;
+
+/// The same with a list behind the table.
+type WritesPairByList = unsafe extern "C" fn(
+    n: usize,
+    table: *const u8,
+    table_length: usize,
+    list: *const u8,
+    list_length: usize,
     first: *const u8,
     first_length: usize,
     second: *const u8,
@@ -165,6 +197,46 @@ unsafe extern "C" {
         n: usize,
         table: *const u8,
         table_length: usize,
+        first: *const u8,
+        first_length: usize,
+        second: *const u8,
+        second_length: usize,
+        output: *mut u8,
+        output_length: usize,
+    ) -> u64;
+
+    fn record_rewrite_appropriate(
+        n: usize,
+        table: *const u8,
+        table_length: usize,
+        list: *const u8,
+        list_length: usize,
+        record: *const u8,
+        record_length: usize,
+        output: *mut u8,
+        output_length: usize,
+    ) -> u64;
+
+    fn record_generalize_appropriate(
+        n: usize,
+        table: *const u8,
+        table_length: usize,
+        list: *const u8,
+        list_length: usize,
+        first: *const u8,
+        first_length: usize,
+        second: *const u8,
+        second_length: usize,
+        output: *mut u8,
+        output_length: usize,
+    ) -> u64;
+
+    fn record_unify_appropriate(
+        n: usize,
+        table: *const u8,
+        table_length: usize,
+        list: *const u8,
+        list_length: usize,
         first: *const u8,
         first_length: usize,
         second: *const u8,
@@ -344,6 +416,132 @@ pub fn difference(
     write_pair(record_difference, n, table, [general, specific], output)
 }
 
+/// Writes a record that obeys an appropriateness list in its one written form, as
+/// [`rewrite`] does.
+///
+/// Refused by 1 to 3, then by 17, by 4 to 7 and 18, the record counting as the first,
+/// and by 8.
+///
+/// ```
+/// use record_engine::{FEATURES, GraphFault, Refusal, Side, rewrite_appropriate};
+/// let diamond = record_engine::table(&[0x01, 0x03, 0x05, 0x0F]).expect("at most 8 types");
+/// // Feature 0 is for type 1 alone, the others are for all types.
+/// let mut list = [3; FEATURES];
+/// list[0] = 1;
+/// // A root with feature 0.
+/// let record = |root| [2, root, 1, 0, 0, 0, 0, 0, 0, 0, 1, 2, 0, 0, 0, 0, 0, 0, 0, 0];
+/// let mut output = [0; record_engine::LONGEST_RECORD];
+/// let length = rewrite_appropriate(4, &diamond, &list, &record(1), &mut output)?;
+/// assert_eq!(output[..length], record(1));
+/// // Top is not below type 1.
+/// let refused = rewrite_appropriate(4, &diamond, &list, &record(3), &mut output);
+/// assert_eq!(refused, Err(Refusal::Graph(GraphFault::Inappropriate, Side::First)));
+/// // The diamond has no type 4.
+/// let refused = rewrite_appropriate(4, &diamond, &[4; FEATURES], &record(1), &mut output);
+/// assert_eq!(refused, Err(Refusal::TypeList));
+/// # Ok::<(), record_engine::Refusal>(())
+/// ```
+pub fn rewrite_appropriate(
+    n: usize,
+    table: &[u8],
+    list: &[u8],
+    record: &[u8],
+    output: &mut [u8],
+) -> Result<usize, Refusal> {
+    // SAFETY: as in `rewrite`.
+    let code = unsafe {
+        record_rewrite_appropriate(
+            n,
+            table.as_ptr(),
+            table.len(),
+            list.as_ptr(),
+            list.len(),
+            record.as_ptr(),
+            record.len(),
+            output.as_mut_ptr(),
+            output.len(),
+        )
+    };
+    length(code)
+}
+
+/// Writes the common part of two records that obey an appropriateness list, as
+/// [`generalize`] does. It obeys the list too.
+///
+/// Refused by 1 to 3, then by 17, by the first record's 4 to 7 and 18, by the second's,
+/// then by 11 and 8.
+///
+/// ```
+/// use record_engine::{FEATURES, GraphFault, Refusal, Side, generalize_appropriate};
+/// let diamond = record_engine::table(&[0x01, 0x03, 0x05, 0x0F]).expect("at most 8 types");
+/// // Feature 0 is for type 1 alone, the others are for no type.
+/// let mut list = [0; FEATURES];
+/// list[0] = 1;
+/// // A root with feature 0, and the node that it leads to.
+/// let record = |root, leaf| [2, root, 1, 0, 0, 0, 0, 0, 0, 0, 1, leaf, 0, 0, 0, 0, 0, 0, 0, 0];
+/// let [one, two, other] = [record(1, 1), record(1, 2), record(2, 1)];
+/// let mut output = [0; record_engine::LONGEST_RECORD];
+/// let length = generalize_appropriate(4, &diamond, &list, &one, &two, &mut output)?;
+/// assert_eq!(output[..length], record(1, 3));
+/// // Type 2 is not below type 1.
+/// let refused = generalize_appropriate(4, &diamond, &list, &one, &other, &mut output);
+/// assert_eq!(refused, Err(Refusal::Graph(GraphFault::Inappropriate, Side::Second)));
+/// # Ok::<(), record_engine::Refusal>(())
+/// ```
+pub fn generalize_appropriate(
+    n: usize,
+    table: &[u8],
+    list: &[u8],
+    first: &[u8],
+    second: &[u8],
+    output: &mut [u8],
+) -> Result<usize, Refusal> {
+    let call = record_generalize_appropriate;
+    write_pair_by_list(call, n, table, list, [first, second], output)
+}
+
+/// Writes the combination of two records that obey an appropriateness list, as [`unify`]
+/// does. It obeys the list too.
+///
+/// Refused by 1 to 3, then by 17, by the first record's 4 to 7 and 18, by the second's,
+/// then by 9, 10, 11 and 8.
+///
+/// A difference need not obey the list and is combined by [`unify`]:
+///
+/// ```
+/// use record_engine::{FEATURES, GraphFault, Refusal, Side};
+/// use record_engine::{difference, unify, unify_appropriate};
+/// let diamond = record_engine::table(&[0x01, 0x03, 0x05, 0x0F]).expect("at most 8 types");
+/// // Feature 0 is for type 1 alone, the others are for no type.
+/// let mut list = [0; FEATURES];
+/// list[0] = 1;
+/// // A root with feature 0, and the node that it leads to.
+/// let record = |root, leaf| [2, root, 1, 0, 0, 0, 0, 0, 0, 0, 1, leaf, 0, 0, 0, 0, 0, 0, 0, 0];
+/// let [general, specific, rest] = [record(1, 3), record(1, 2), record(3, 2)];
+/// let mut output = [0; record_engine::LONGEST_RECORD];
+/// let length = unify_appropriate(4, &diamond, &list, &general, &specific, &mut output)?;
+/// assert_eq!(output[..length], specific);
+/// // The difference leaves type 1 to the general record, so its root is top.
+/// let length = difference(4, &diamond, &general, &specific, &mut output)?;
+/// assert_eq!(output[..length], rest);
+/// let refused = unify_appropriate(4, &diamond, &list, &general, &rest, &mut output);
+/// assert_eq!(refused, Err(Refusal::Graph(GraphFault::Inappropriate, Side::Second)));
+/// let length = unify(4, &diamond, &general, &rest, &mut output)?;
+/// assert_eq!(output[..length], specific);
+/// # Ok::<(), record_engine::Refusal>(())
+/// ```
+pub fn unify_appropriate(
+    n: usize,
+    table: &[u8],
+    list: &[u8],
+    first: &[u8],
+    second: &[u8],
+    output: &mut [u8],
+) -> Result<usize, Refusal> {
+    let call = record_unify_appropriate;
+    write_pair_by_list(call, n, table, list, [first, second], output)
+}
+
 /// Fills the output's first [`HOUSE_TABLE_LENGTH`] bytes with the table of the house
 /// types, for n = [`HOUSE_TYPES`], and gives their number; its other bytes are
 /// unchanged. A house type has three grades of 0 to 3 and is numbered
@@ -399,6 +597,35 @@ fn write_pair(
             n,
             table.as_ptr(),
             table.len(),
+            first.as_ptr(),
+            first.len(),
+            second.as_ptr(),
+            second.len(),
+            output.as_mut_ptr(),
+            output.len(),
+        )
+    };
+    length(code)
+}
+
+/// Makes a call on two records and a list.
+fn write_pair_by_list(
+    call: WritesPairByList,
+    n: usize,
+    table: &[u8],
+    list: &[u8],
+    records: [&[u8]; 2],
+    output: &mut [u8],
+) -> Result<usize, Refusal> {
+    let [first, second] = records;
+    // SAFETY: as in `rewrite`.
+    let code = unsafe {
+        call(
+            n,
+            table.as_ptr(),
+            table.len(),
+            list.as_ptr(),
+            list.len(),
             first.as_ptr(),
             first.len(),
             second.as_ptr(),

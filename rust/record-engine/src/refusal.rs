@@ -26,6 +26,8 @@ pub enum GraphFault {
     Cyclic,
     /// 7: a node that the root does not reach.
     Unreached,
+    /// 18: a link that the list forbids.
+    Inappropriate,
 }
 
 /// Which of two records; a lone record counts as the first.
@@ -42,7 +44,7 @@ pub enum Side {
 pub enum Refusal {
     /// 1 to 3: the table.
     Table(TableFault),
-    /// 4 to 7: one of the records.
+    /// 4 to 7 and 18: one of the records.
     Graph(GraphFault, Side),
     /// 8: the result exists and the output is shorter.
     NoRoom,
@@ -58,11 +60,13 @@ pub enum Refusal {
     /// 13: difference, some node of the second record has no wanted type: among the
     /// types that restore its type, none is the greatest.
     NoWantedType,
+    /// 17: the list is not of 64 bytes or has an entry of n or more.
+    TypeList,
 }
 
 impl Refusal {
     /// Every refusal.
-    pub const ALL: [Refusal; 17] = [
+    pub const ALL: [Refusal; 20] = [
         Refusal::Table(TableFault::Size),
         Refusal::Table(TableFault::Order),
         Refusal::Table(TableFault::Bounds),
@@ -74,15 +78,18 @@ impl Refusal {
         Refusal::Graph(GraphFault::Cyclic, Side::Second),
         Refusal::Graph(GraphFault::Unreached, Side::First),
         Refusal::Graph(GraphFault::Unreached, Side::Second),
+        Refusal::Graph(GraphFault::Inappropriate, Side::First),
+        Refusal::Graph(GraphFault::Inappropriate, Side::Second),
         Refusal::NoRoom,
         Refusal::Cycle,
         Refusal::Clash,
         Refusal::TooLarge,
         Refusal::NotBelow,
         Refusal::NoWantedType,
+        Refusal::TypeList,
     ];
 
-    /// The number of this refusal in document 01.
+    /// The number of this refusal in documents 01 and 02.
     ///
     /// ```
     /// use record_engine::{Refusal, TableFault};
@@ -97,16 +104,18 @@ impl Refusal {
             Refusal::Graph(GraphFault::OutOfRange, _) => 5,
             Refusal::Graph(GraphFault::Cyclic, _) => 6,
             Refusal::Graph(GraphFault::Unreached, _) => 7,
+            Refusal::Graph(GraphFault::Inappropriate, _) => 18,
             Refusal::NoRoom => 8,
             Refusal::Cycle => 9,
             Refusal::Clash => 10,
             Refusal::TooLarge => 11,
             Refusal::NotBelow => 12,
             Refusal::NoWantedType => 13,
+            Refusal::TypeList => 17,
         }
     }
 
-    /// The record that the refusal tells of, for 4 to 7.
+    /// The record that the refusal tells of, for 4 to 7 and 18.
     pub fn side(self) -> Option<Side> {
         match self {
             Refusal::Graph(_, side) => Some(side),
@@ -127,11 +136,15 @@ impl fmt::Display for Refusal {
             }
             Refusal::Graph(GraphFault::Cyclic, _) => "a node reaches itself",
             Refusal::Graph(GraphFault::Unreached, _) => "the root does not reach a node",
+            Refusal::Graph(GraphFault::Inappropriate, _) => {
+                "a node has a feature that the list does not allow its type"
+            }
             Refusal::NoRoom => "the output is shorter than the result",
             Refusal::Cycle => "a class of shared paths reaches itself",
             Refusal::Clash => "a class of shared paths has no type or no level in common",
             Refusal::NotBelow => "the second record is not below the first",
             Refusal::NoWantedType => "a node of the second record has no wanted type",
+            Refusal::TypeList => "the list has not one type for each of the 64 features",
             Refusal::TooLarge => "the result has more than 255 nodes or 2,048 links",
         };
         write!(formatter, "refused {}", self.number())?;

@@ -1,20 +1,25 @@
-//! The calls on bytes: rewriting, order, common part, combination, difference.
-//! Checks run in document 01's order: the table (1, 2, 3), the first graph and
-//! then the second (4 to 7), then 12, 13, 9, 10, 11 and 8. The output changes
+//! The calls on bytes: rewriting, order, common part, combination, difference; the
+//! first, third and fourth also with a list of types for features (Paper 9). Checks run
+//! in this order: the table (1, 2, 3), the list (17), the first graph and then the
+//! second (4 to 7, and 18 by the list), then 12, 13, 9, 10, 11 and 8. The output changes
 //! only where a length is returned, and then only its first bytes.
 
+use crate::appropriateness::Appropriateness;
 use crate::canonical::canonical;
 use crate::combination::unification;
 use crate::common::generalization;
 use crate::difference;
 use crate::graph::Graph;
 use crate::order;
-use crate::record::{self, LONGEST_RECORD, MOST_LINKS, MOST_NODES};
+use crate::record::{self, GraphFault, LONGEST_RECORD, MOST_LINKS, MOST_NODES};
 use crate::reply::{Refusal, Reply, Which};
 use crate::table::Table;
 
 /// A call that takes a table and two graphs and writes a record.
 pub type Call = fn(usize, &[u8], &[u8], &[u8], &mut [u8]) -> Reply;
+
+/// The same with a list behind the table.
+pub type CallWithList = fn(usize, &[u8], &[u8], &[u8], &[u8], &mut [u8]) -> Reply;
 
 /// Makes a call with an output as long as the longest record, and gives the
 /// record it writes there.
@@ -25,8 +30,13 @@ pub fn written(
     first: &[u8],
     second: &[u8],
 ) -> Result<Vec<u8>, Refusal> {
+    written_by(|output| call(n, table, first, second, output))
+}
+
+/// The same for any call that writes a record into the output it is lent.
+pub fn written_by(call: impl FnOnce(&mut [u8]) -> Reply) -> Result<Vec<u8>, Refusal> {
     let mut output = vec![0; LONGEST_RECORD];
-    match call(n, table, first, second, &mut output) {
+    match call(&mut output) {
         Reply::Length(length) => {
             output.truncate(length);
             Ok(output)
@@ -40,6 +50,20 @@ pub fn written(
 pub fn rewrite(n: usize, table: &[u8], graph: &[u8], output: &mut [u8]) -> Reply {
     let result = accept_table(n, table)
         .and_then(|table| accept_graph(&table, graph, Which::First))
+        .and_then(|graph| deliver(&graph, output));
+    reply(result)
+}
+
+/// Rewrites one record of a graph that obeys a list.
+pub fn rewrite_appropriate(
+    n: usize,
+    table: &[u8],
+    list: &[u8],
+    graph: &[u8],
+    output: &mut [u8],
+) -> Reply {
+    let result = accept_list(n, table, list)
+        .and_then(|(table, list)| accept_obeying(&table, &list, graph, Which::First))
         .and_then(|graph| deliver(&graph, output));
     reply(result)
 }
@@ -59,10 +83,19 @@ pub fn common_part(
     second: &[u8],
     output: &mut [u8],
 ) -> Reply {
-    let result = accept(n, table, first, second)
-        .map(|(table, first, second)| generalization(&table, &first, &second))
-        .and_then(|common| deliver(&common, output));
-    reply(result)
+    deliver_common_part(accept(n, table, first, second), output)
+}
+
+/// The common part of two graphs that obey a list.
+pub fn common_part_appropriate(
+    n: usize,
+    table: &[u8],
+    list: &[u8],
+    first: &[u8],
+    second: &[u8],
+    output: &mut [u8],
+) -> Reply {
+    deliver_common_part(accept_both_obeying(n, table, list, first, second), output)
 }
 
 /// The combination (unification) of two graphs.
@@ -73,10 +106,19 @@ pub fn combination(
     second: &[u8],
     output: &mut [u8],
 ) -> Reply {
-    let result = accept(n, table, first, second)
-        .and_then(|(table, first, second)| unification(&table, &first, &second))
-        .and_then(|combined| deliver(&combined, output));
-    reply(result)
+    deliver_combination(accept(n, table, first, second), output)
+}
+
+/// The combination of two graphs that obey a list.
+pub fn combination_appropriate(
+    n: usize,
+    table: &[u8],
+    list: &[u8],
+    first: &[u8],
+    second: &[u8],
+    output: &mut [u8],
+) -> Reply {
+    deliver_combination(accept_both_obeying(n, table, list, first, second), output)
 }
 
 /// The difference: g first, s second, for s below g.
@@ -87,16 +129,28 @@ pub fn difference(n: usize, table: &[u8], g: &[u8], s: &[u8], output: &mut [u8])
     reply(result)
 }
 
+/// A table and two graphs, or why one of them is refused.
+type Accepted = Result<(Table, Graph, Graph), Refusal>;
+
 /// The table and both graphs, where none of 1 to 7 applies.
-fn accept(
-    n: usize,
-    table: &[u8],
-    first: &[u8],
-    second: &[u8],
-) -> Result<(Table, Graph, Graph), Refusal> {
+fn accept(n: usize, table: &[u8], first: &[u8], second: &[u8]) -> Accepted {
     let table = accept_table(n, table)?;
     let first = accept_graph(&table, first, Which::First)?;
     let second = accept_graph(&table, second, Which::Second)?;
+    Ok((table, first, second))
+}
+
+/// The same where neither 17 nor 18 applies either.
+fn accept_both_obeying(
+    n: usize,
+    table: &[u8],
+    list: &[u8],
+    first: &[u8],
+    second: &[u8],
+) -> Accepted {
+    let (table, list) = accept_list(n, table, list)?;
+    let first = accept_obeying(&table, &list, first, Which::First)?;
+    let second = accept_obeying(&table, &list, second, Which::Second)?;
     Ok((table, first, second))
 }
 
@@ -106,6 +160,42 @@ fn accept_table(n: usize, bytes: &[u8]) -> Result<Table, Refusal> {
 
 fn accept_graph(table: &Table, bytes: &[u8], which: Which) -> Result<Graph, Refusal> {
     record::read(table, bytes).map_err(|fault| Refusal::Graph(fault, which))
+}
+
+/// "A list entry of n or more, or a list not of 64 bytes, is 17, after the table."
+fn accept_list(n: usize, table: &[u8], list: &[u8]) -> Result<(Table, Appropriateness), Refusal> {
+    let table = accept_table(n, table)?;
+    let list = Appropriateness::accept(&table, list).ok_or(Refusal::TypeList)?;
+    Ok((table, list))
+}
+
+/// "A graph with a link that the list forbids is 18, straight after that graph's 7,
+/// and tells which graph."
+fn accept_obeying(
+    table: &Table,
+    list: &Appropriateness,
+    bytes: &[u8],
+    which: Which,
+) -> Result<Graph, Refusal> {
+    let graph = accept_graph(table, bytes, which)?;
+    match list.is_obeyed(table, &graph) {
+        true => Ok(graph),
+        false => Err(Refusal::Graph(GraphFault::Inappropriate, which)),
+    }
+}
+
+fn deliver_common_part(accepted: Accepted, output: &mut [u8]) -> Reply {
+    let result = accepted
+        .map(|(table, first, second)| generalization(&table, &first, &second))
+        .and_then(|common| deliver(&common, output));
+    reply(result)
+}
+
+fn deliver_combination(accepted: Accepted, output: &mut [u8]) -> Reply {
+    let result = accepted
+        .and_then(|(table, first, second)| unification(&table, &first, &second))
+        .and_then(|combined| deliver(&combined, output));
+    reply(result)
 }
 
 /// Writes a result in canonical form: 11 if it is too large for a record, 8 if

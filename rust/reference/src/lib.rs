@@ -7,6 +7,7 @@
 #![forbid(unsafe_code)]
 #![warn(missing_docs)]
 
+pub mod appropriateness;
 pub mod calls;
 pub mod canonical;
 pub mod combination;

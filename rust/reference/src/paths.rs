@@ -7,7 +7,7 @@ use crate::canonical::canonical;
 use crate::graph::{Feature, Graph, Node, ROOT};
 use crate::label::Label;
 use crate::reply::Refusal;
-use crate::table::Table;
+use crate::table::{Table, Type};
 use std::collections::{BTreeMap, BTreeSet};
 
 /// A list of features from the root; the empty path is the root.
@@ -98,6 +98,17 @@ pub fn below(table: &Table, s: &PathGraph, g: &PathGraph) -> bool {
         .iter()
         .all(|class| class.iter().all(|p| class.iter().all(|q| s.corefer(p, q))));
     paths_and_labels && sharing
+}
+
+/// Whether a graph obeys a list: for each path that goes on by a feature, its type is
+/// "below or equal to" the one that the list gives for the feature.
+pub fn obeys(table: &Table, list: &[Type], graph: &PathGraph) -> bool {
+    graph.labels.keys().all(|path| match path.split_last() {
+        None => true,
+        Some((&feature, shorter)) => {
+            table.below(graph.labels[shorter].node_type, list[usize::from(feature)])
+        }
+    })
 }
 
 /// The common part: "the paths in both, each with the join of its two types, two

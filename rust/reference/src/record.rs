@@ -34,16 +34,19 @@ pub enum GraphFault {
     Cycle,
     /// 7: a node the root does not reach.
     Unreached,
+    /// 18: a link that the list of a call forbids; reading finds the others alone.
+    Inappropriate,
 }
 
 impl GraphFault {
-    /// The number of this fault in document 01.
+    /// The number of this fault in the papers.
     pub fn number(self) -> u8 {
         match self {
             GraphFault::Shape => 4,
             GraphFault::Value => 5,
             GraphFault::Cycle => 6,
             GraphFault::Unreached => 7,
+            GraphFault::Inappropriate => 18,
         }
     }
 }

@@ -1,6 +1,6 @@
 //! What a call gives back: a length, one of the order's four answers, or a refusal
-//! with the number it has in document 01. A refusal of a graph tells the kind and
-//! which graph.
+//! with the number it has in document 01 or in a change request. A refusal of a graph
+//! tells the kind and which graph.
 
 use crate::order::Order;
 use crate::record::GraphFault;
@@ -20,7 +20,7 @@ pub enum Which {
 pub enum Refusal {
     /// 1 to 3: the table.
     Table(TableFault),
-    /// 4 to 7: one of the graphs.
+    /// 4 to 7 and 18: one of the graphs.
     Graph(GraphFault, Which),
     /// 8: the result exists and the output is shorter.
     ShortOutput,
@@ -34,10 +34,12 @@ pub enum Refusal {
     NotBelow,
     /// 13: difference, some node of s has no wanted type.
     NoWantedType,
+    /// 17: the list is not of 64 bytes or has an entry of n or more.
+    TypeList,
 }
 
 impl Refusal {
-    /// The number of this refusal in document 01.
+    /// The number of this refusal in the papers.
     pub fn number(self) -> u8 {
         match self {
             Refusal::Table(fault) => fault.number(),
@@ -48,6 +50,7 @@ impl Refusal {
             Refusal::TooLarge => 11,
             Refusal::NotBelow => 12,
             Refusal::NoWantedType => 13,
+            Refusal::TypeList => 17,
         }
     }
 }
@@ -64,7 +67,7 @@ pub enum Reply {
 }
 
 impl Reply {
-    /// The number of the refusal in document 01; none for a length and for the order's answers.
+    /// The number of the refusal in the papers; none for a length and for the order's answers.
     pub fn number(self) -> Option<u8> {
         match self {
             Reply::Length(_) | Reply::Order(_) => None,

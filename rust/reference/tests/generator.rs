@@ -1,6 +1,7 @@
 //! The generator itself: the same from the same seed, valid where it says so,
 //! and broken in all the ways there are.
 
+use reference::appropriateness::Appropriateness;
 use reference::graph::Graph;
 use reference::label::Range;
 use reference::mapcalc;
@@ -189,6 +190,86 @@ fn graphs_above_are_above() {
             assert!(below(&table, &graph, &upper));
             assert!(record::read(&table, &record::write(&upper)).is_ok());
         }
+    }
+}
+
+#[test]
+fn lists_are_obeyed_broken_or_damaged_as_they_are_to_be() {
+    let mut random = Xorshift::stored(11);
+    let (mut broken, mut zeros, mut second_alone) = (0, 0, 0);
+    let mut damaged: BTreeMap<&str, usize> = BTreeMap::new();
+    for _ in 0..1000 {
+        let table = random::valid_table(&mut random).accepted();
+        let shape = Shape::small(&mut random, 6, 3);
+        let (first, second) = random::pair(&mut random, &table, &shape);
+        let obeys = |list: &[u8], graph: &Graph| {
+            let list = Appropriateness::accept(&table, list).expect("a list that is accepted");
+            list.is_obeyed(&table, graph)
+        };
+        let list = random::obeyed_list(&mut random, &table, &[&first, &second]);
+        assert!(obeys(&list, &first) && obeys(&list, &second));
+        if let Some(list) = random::broken_list(&mut random, &table, &[], &first) {
+            assert!(!obeys(&list, &first));
+            broken += 1;
+            let forbids = |&feature: &u8| list[usize::from(feature)] == 0;
+            zeros += usize::from(first.nodes.iter().any(|n| n.links.keys().any(forbids)));
+        }
+        if let Some(list) = random::broken_list(&mut random, &table, &[&first], &second) {
+            assert!(obeys(&list, &first) && !obeys(&list, &second));
+            second_alone += 1;
+        }
+        assert_eq!(
+            random::broken_list(&mut random, &table, &[&first], &first),
+            None
+        );
+        let list = random::damaged_list(&mut random, table.n(), list);
+        assert_eq!(Appropriateness::accept(&table, &list), None);
+        let kind = match list.len() {
+            63 => "63 bytes",
+            64 if list.contains(&(table.n() as u8)) => "n",
+            64 => "above n",
+            65 => "65 bytes",
+            _ => "other lengths",
+        };
+        *damaged.entry(kind).or_default() += 1;
+    }
+    let counts = [broken, zeros, second_alone];
+    assert!(counts.iter().all(|&count| count > 100), "{counts:?}");
+    assert_eq!(damaged.len(), 5, "{damaged:?}");
+    assert!(damaged.values().all(|&count| count > 50), "{damaged:?}");
+}
+
+/// Whole inputs of the calls with a list: lists that both graphs obey, that the first or
+/// the second alone breaks, and that are damaged.
+#[test]
+fn inputs_with_a_list_bring_up_every_kind_of_list() {
+    for ranges in BOTH {
+        let mut random = Xorshift::stored(12);
+        let mut counts: BTreeMap<String, usize> = BTreeMap::new();
+        for _ in 0..2000 {
+            let input = random::input_with_list(&mut random, ranges);
+            let Ok(table) = Table::accept(input.table.n, &input.table.bytes) else {
+                *counts.entry("refused table".to_string()).or_default() += 1;
+                continue;
+            };
+            let kind = match Appropriateness::accept(&table, &input.list) {
+                None => "damaged list".to_string(),
+                Some(list) => {
+                    let obeyed = input.records.each_ref().map(|record| {
+                        record::read(&table, record)
+                            .ok()
+                            .map(|graph| list.is_obeyed(&table, &graph))
+                    });
+                    match obeyed {
+                        [Some(first), Some(second)] => format!("{first} {second}"),
+                        _ => "refused graph".to_string(),
+                    }
+                }
+            };
+            *counts.entry(kind).or_default() += 1;
+        }
+        assert_eq!(counts.len(), 7, "{counts:?}");
+        assert!(counts.values().all(|&count| count > 50), "{counts:?}");
     }
 }
 

@@ -118,7 +118,7 @@ pub differing-before : (n : ℕ) (t : List ℕ) → table.admits n t ≡ true �
 unfolding differing differingBefore
 differing-before n t differ a b out =
     checked-same (λ r. refusing r out) (opened n t) _ _ λ opens.
-    both-same n a b (λ r. refusing r out) (differedRows n t out)
+    both-same (accepted-rules n a) (accepted-rules n b) (λ r. refusing r out) (differedRows n t out)
     (λ g s. differedBefore n t out g (numbered (canonical eqb (graphOfRows s))))
     (rows-before n t (opened-accepted n t (opened n t) refl opens) differ out)
 

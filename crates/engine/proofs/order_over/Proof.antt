@@ -34,7 +34,7 @@ slice-aggregate-subsume-2 c = search needs
 
 -- src/lib.rt:109:17
 subsume-requires : tie.Need-subsume-requires
-subsume-requires c κs = ready (c .before .before .before .before .before .before .before .before .before .before .pre) (both-accept (c .before .before .before .before .read-both .ensures) (c .before .before .enum-told .given .1))
+subsume-requires c κs = ready (c .before .before .before .before .before .before .before .before .before .before .pre) (both-accept (c .before .before .before .before .before .before .before .before .before .before .args .n) (c .before .before .before .before .before .before .before .before .before .before .args .first .now) (c .before .before .before .before .before .before .before .before .before .before .args .second .now) (c .before .before .before .before .read-both .ensures) (c .before .before .enum-told .given .1))
 
 -- src/lib.rt:110:49
 slice-aggregate-subsume-3 : tie.Need-slice-aggregate-subsume-3
@@ -47,7 +47,7 @@ slice-aggregate-subsume-4 c = search needs
 -- src/lib.rt:110:17
 subsume-requires-2 : tie.Need-subsume-requires-2
 subsume-requires-2 c κs =
-    let (one, other) = both-accept (c .before .before .before .before .before .before .before .read-both .ensures) (c .before .before .before .before .before .enum-told .given .1) in
+    let (one, other) = both-accept (c .before .before .before .before .before .before .before .before .before .before .before .before .before .args .n) (c .before .before .before .before .before .before .before .before .before .before .before .before .before .args .first .now) (c .before .before .before .before .before .before .before .before .before .before .before .before .before .args .second .now) (c .before .before .before .before .before .before .before .read-both .ensures) (c .before .before .before .before .before .enum-told .given .1) in
     ready (c .before .before .before .before .before .before .before .before .before .before .before .before .before .pre) (other, one)
 
 -- src/lib.rt:113:13
@@ -68,7 +68,7 @@ returns-2 c =
     let start = c .before .before .before .before .before .before .before .before .before .before .before .before .before .before .before in
     c .order-reply .ensures ∙
     replies-order (start .args .n) (start .args .table .now) (start .args .first .now) (start .args .second .now)
-    (both-accept (c .before .before .before .before .before .before .before .before .before .read-both .ensures) (c .before .before .before .before .before .before .before .enum-told .given .1))
+    (both-accept (start .args .n) (start .args .first .now) (start .args .second .now) (c .before .before .before .before .before .before .before .before .before .read-both .ensures) (c .before .before .before .before .before .before .before .enum-told .given .1))
     (c .before .before .before .before .subsume .ensures (start .args .n)) (c .before .subsume2 .ensures (start .args .n))
 
 pub order-over-spec : {M : Type 1} → statement M

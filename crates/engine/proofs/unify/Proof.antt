@@ -1,8 +1,10 @@
--- The combination on bytes: the table is opened, and its meets are handed on.
+-- The combination on bytes: the table is opened, then both records are read.
 use mathlib.Core.Path.{refl, sym, _∙_}
-use borrow.Author.Needs.{needs}
 use Rattle.lattice.proofs.Residuals.{opened-accepted}
-use Rattle.engine.proofs.Combinations.{combinable, unifying-refused, unifying-accepted}
+use Rattle.engine.specs.Pair.{met}
+use Rattle.engine.proofs.Readings.{both-accept, after-both}
+use Rattle.engine.proofs.Combinations.{unifying-refused, unifying-accepted, combinable, ready-to-combine}
+use borrow.Author.Needs.{needs}
 use Rattle.engine.proofs.unify.Statement.{statement}
 use Rattle.engine.proofs.unify.Tie as tie
 
@@ -15,27 +17,33 @@ enum-known-opened c = search needs
 enum-told : tie.Need-enum-told
 enum-told c = search needs
 
+read-both-requires : tie.Need-read-both-requires
+read-both-requires c κs = search needs
+
+slice-aggregate-unify-over : tie.Need-slice-aggregate-unify-over
+slice-aggregate-unify-over c = search needs
+
+slice-aggregate-unify-over-2 : tie.Need-slice-aggregate-unify-over-2
+slice-aggregate-unify-over-2 c = search needs
+
 unify-over-requires : tie.Need-unify-over-requires
-unify-over-requires c κs =
-    let start = c .before .before .before .before .before .before .before .before .before .before in
-    combinable (start .args .n) (start .args .table .now) _
-    (opened-accepted (start .args .n) (start .args .table .now) _ (c .before .before .before .before .open-meets .ensures .answers) (c .before .before .enum-told .given .1))
-    refl (c .before .before .before .before .open-meets .ensures .holds)
+unify-over-requires c κs = let a = c .before .before .before .before .before .before .before .before .before .before .before .before .before .before .before .args in
+    let able = combinable (a .n) (a .table .now) _ (opened-accepted (a .n) (a .table .now) _ (c .before .before .before .before .before .before .before .before .before .open-meets .ensures .answers) (c .before .before .before .before .before .before .before .enum-told .given .1)) refl (c .before .before .before .before .before .before .before .before .before .open-meets .ensures .holds) in
+    (able, λ e. ready-to-combine (able .0 .1) (both-accept (a .n) (a .first .now) (a .second .now) (c .before .before .before .before .read-both .ensures) e))
 
 returns : tie.Need-returns
-returns c =
-    let start = c .before .before .before .before .before .before .before .before .before in
-    unifying-refused (start .args .n) (start .args .table .now) (start .args .first .now) (start .args .second .now) (start .args .out .now) _
+returns c = let a = c .before .before .before .before .before .before .before .before .before .args in
+    unifying-refused (a .n) (a .table .now) (a .first .now) (a .second .now) (a .out .now) _
     (sym (c .before .before .before .open-meets .ensures .answers) ∙ c .before .opened .given .1)
 
 same-length : tie.Need-same-length
 same-length c = search needs
 
 returns-2 : tie.Need-returns-2
-returns-2 c =
-    let start = c .before .before .before .before .before .before .before .before .before .before .before .before .before in
-    unifying-accepted (start .args .n) (start .args .table .now) (start .args .first .now) (start .args .second .now) (start .args .out .now) _
-    (sym (c .before .before .before .before .before .before .before .open-meets .ensures .answers) ∙ c .before .before .before .before .before .enum-told .given .1) refl (c .before .before .before .before .before .before .before .open-meets .ensures .holds) (c .before .before .unify-over .ensures)
+returns-2 c = let a = c .before .before .before .before .before .before .before .before .before .before .before .before .before .before .before .before .before .before .args in
+    unifying-accepted (a .n) (a .table .now) (a .first .now) (a .second .now) (a .out .now) _
+    (sym (c .before .before .before .before .before .before .before .before .before .before .before .before .open-meets .ensures .answers) ∙ c .before .before .before .before .before .before .before .before .before .before .enum-told .given .1) refl (c .before .before .before .before .before .before .before .before .before .before .before .before .open-meets .ensures .holds)
+    (c .before .before .unify-over .ensures ∙ after-both (c .before .before .before .before .before .before .before .read-both .ensures) (a .out .now) (met (a .n) _ (a .out .now)))
 
 pub unify-spec : {M : Type 1} → statement M
 unify-spec =
@@ -44,6 +52,9 @@ unify-spec =
     open-meets-requires
     enum-known-opened
     enum-told
+    read-both-requires
+    slice-aggregate-unify-over
+    slice-aggregate-unify-over-2
     unify-over-requires
     returns
     same-length

@@ -226,7 +226,7 @@ pub fn range_around(random: &mut Xorshift, inner: Range) -> Range {
 }
 
 /// One of the types above or equal to the one given.
-fn type_above(random: &mut Xorshift, table: &Table, lower: Type) -> Type {
+pub(super) fn type_above(random: &mut Xorshift, table: &Table, lower: Type) -> Type {
     let above: Vec<Type> = table.types().filter(|&c| table.below(lower, c)).collect();
     *random.choose(&above)
 }

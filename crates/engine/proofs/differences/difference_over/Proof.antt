@@ -25,7 +25,7 @@ slice-aggregate-renumber c = search needs
 
 renumber-requires : tie.Need-renumber-requires
 renumber-requires c κs =
-    let given = both-accept (c .before .before .before .before .read-both .ensures) (c .before .before .enum-told .given .1) in
+    let given = both-accept (c .before .before .before .before .before .before .before .before .before .before .before .args .n) (c .before .before .before .before .before .before .before .before .before .before .before .args .first .now) (c .before .before .before .before .before .before .before .before .before .before .before .args .second .now) (c .before .before .before .before .read-both .ensures) (c .before .before .enum-told .given .1) in
     (given .1 .sound, length-replicate {A = ℕ} 2815 0)
 
 slice-aggregate-difference-below : tie.Need-slice-aggregate-difference-below
@@ -37,7 +37,7 @@ slice-aggregate-difference-below-2 c = search needs
 difference-below-requires : tie.Need-difference-below-requires
 difference-below-requires c κs =
     let start = c .before .before .before .before .before .before .before .before .before .before .before .before .before .before .before .before in
-    let given = both-accept (c .before .before .before .before .before .before .before .before .before .read-both .ensures) (c .before .before .before .before .before .before .before .enum-told .given .1) in
+    let given = both-accept (start .args .n) (start .args .first .now) (start .args .second .now) (c .before .before .before .before .before .before .before .before .before .read-both .ensures) (c .before .before .before .before .before .before .before .enum-told .given .1) in
     let renumber = c .before .before .before .before .renumber .ensures in (
       record {
         accepts = start .pre;
@@ -51,7 +51,7 @@ difference-below-requires c κs =
 returns : tie.Need-returns
 returns c =
     let start = c .before .before .before .before .before .before .before .before .before .before in
-    parting-refused (c .before .before .before .read-both .ensures) (start .args .table .now) (start .args .out .now) _ _ (c .before .verdict .given .1)
+    parting-refused (start .args .n) (start .args .table .now) (start .args .first .now) (start .args .second .now) (start .args .out .now) (c .before .before .before .read-both .ensures) _ _ (c .before .verdict .given .1)
 
 same-length : tie.Need-same-length
 same-length c = search needs
@@ -59,7 +59,7 @@ same-length c = search needs
 returns-2 : tie.Need-returns-2
 returns-2 c =
     let start = c .before .before .before .before .before .before .before .before .before .before .before .before .before .before .before .before .before .before .before in
-    let given = both-accept (c .before .before .before .before .before .before .before .before .before .before .before .before .read-both .ensures) (c .before .before .before .before .before .before .before .before .before .before .enum-told .given .1) in
+    let given = both-accept (start .args .n) (start .args .first .now) (start .args .second .now) (c .before .before .before .before .before .before .before .before .before .before .before .before .read-both .ensures) (c .before .before .before .before .before .before .before .before .before .before .enum-told .given .1) in
     parting-both (start .args .n) (start .args .table .now) (start .args .first .now) (start .args .second .now) (start .args .out .now) given
     (renumbered (start .args .n) _ (accepts-loaded (given .1)) (c .before .before .before .before .before .before .before .renumber .ensures .0)) (c .before .before .difference-below .ensures)
 

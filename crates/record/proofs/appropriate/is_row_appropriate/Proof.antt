@@ -1,0 +1,116 @@
+-- `appropriate::is_row_appropriate` meets its contract. The loop's invariant: the links of v before place k are allowed.
+use mathlib.Core.Path.{sym, _∙_, ap}
+use Prim.Native.Nat.{_+_, _-_}
+use native.Mathlib.Omega.{arith}
+use borrow.Author.Needs.{needs}
+use borrow.Author.Tests.{not-true, not-false}
+use Rattle.record.proofs.Allowed.{RowAllowed, row-start, row-kind, row-place, row-feature, row-entry, row-next, row-out, row-all}
+use Rattle.record.proofs.appropriate.is_row_appropriate.Statement.{statement}
+use Rattle.record.proofs.appropriate.is_row_appropriate.Tie as tie
+
+abbrev Inv-loop : tie.InvT-loop
+Inv-loop table list graph v kind end k₀ k = RowAllowed table list graph v kind k
+
+abbrev μ-loop : tie.MeasureT-loop
+μ-loop table list graph v kind end k₀ k = end - k
+
+label-at-requires : tie.Need-label-at-requires Inv-loop μ-loop
+label-at-requires c κs = (c .before .before .before .pre .1 .0 .sound .shaped, c .before .before .before .pre .1 .1)
+
+cast-kind : tie.Need-cast-kind Inv-loop μ-loop
+cast-kind c = search needs
+
+add-end : tie.Need-add-end Inv-loop μ-loop
+add-end c = search needs
+
+mul-end : tie.Need-mul-end Inv-loop μ-loop
+mul-end c = search needs
+
+shared-slice-read-end : tie.Need-shared-slice-read-end Inv-loop μ-loop
+shared-slice-read-end c = c .before .before .before .before .before .before .pre .1 .0 .sound .shaped .node (c .before .before .before .before .before .before .args .v) (c .before .before .before .before .before .before .pre .1 .1) .listed
+
+cast-end : tie.Need-cast-end Inv-loop μ-loop
+cast-end c = omega (arith, c .shared-slice-known4 .given (c .before .before .before .before .before .before .args .v + 2))
+
+add-k : tie.Need-add-k Inv-loop μ-loop
+add-k c = search needs
+
+mul-k : tie.Need-mul-k Inv-loop μ-loop
+mul-k c = search needs
+
+shared-slice-read-k : tie.Need-shared-slice-read-k Inv-loop μ-loop
+shared-slice-read-k c = omega (arith, c .before .before .before .before .before .before .before .pre .1 .0 .sound .shaped .node (c .before .before .before .before .before .before .before .args .v) (c .before .before .before .before .before .before .before .pre .1 .1) .listed)
+
+cast-k : tie.Need-cast-k Inv-loop μ-loop
+cast-k c = omega (arith, c .shared-slice-known5 .given (c .before .before .before .before .before .before .before .args .v + 1))
+
+add-k-2 : tie.Need-add-k-2 Inv-loop μ-loop
+add-k-2 c = omega (arith, c .shared-slice-known5 .given (c .before .before .before .before .before .before .before .args .v + 1))
+
+loop-holds : tie.Need-loop-holds Inv-loop μ-loop
+loop-holds c = row-start (c .before .before .before .before .before .before .before .pre .0) (c .before .before .before .before .before .before .before .pre .1 .0) (c .before .before .before .before .before .before .before .pre .1 .1) (ap (λ l. l .type) (c .before .before .before .label-at .ensures))
+
+mul-f : tie.Need-mul-f Inv-loop μ-loop
+mul-f c = let entry = c .before .before .before in omega (arith, entry .shared-slice-known4 .given (c .before .before .before .before .before .before .before .before .before .args .v + 2))
+
+shared-slice-read-f : tie.Need-shared-slice-read-f Inv-loop μ-loop
+shared-slice-read-f c = row-place (c .before .before .loop .inv) (c .before .loop-test .taken)
+
+cast-f : tie.Need-cast-f Inv-loop μ-loop
+cast-f c = omega (arith, c .shared-slice-known6 .given (c .before .before .loop .k))
+
+shared-slice-read-is-below : tie.Need-shared-slice-read-is-below Inv-loop μ-loop
+shared-slice-read-is-below c = omega (arith, row-feature (c .before .before .before .loop .inv) (c .before .before .loop-test .taken), c .before .before .before .loop .inv .listed .long)
+
+cast-is-below : tie.Need-cast-is-below Inv-loop μ-loop
+cast-is-below c = omega (arith, row-entry (c .before .before .before .loop .inv) (c .before .before .loop-test .taken))
+
+is-below-requires : tie.Need-is-below-requires Inv-loop μ-loop
+is-below-requires c κs = let kind = row-kind (c .before .before .before .loop .inv) in
+    let entry = row-entry (c .before .before .before .loop .inv) (c .before .before .loop-test .taken) in
+    (omega arith, omega arith)
+
+returns : tie.Need-returns Inv-loop μ-loop
+returns c = row-out (c .before .before .before .before .before .loop .inv) (c .before .before .before .before .loop-test .taken) (sym (c .before .is-below .ensures) ∙ not-true (c .before .is-below .result) (c .if1 .taken))
+
+add-k-3 : tie.Need-add-k-3 Inv-loop μ-loop
+add-k-3 c = let entry = c .before .before .before .before .before .before .before in omega (arith, entry .shared-slice-known4 .given (c .before .before .before .before .before .before .before .before .before .before .before .before .before .args .v + 2))
+
+loop-less : tie.Need-loop-less Inv-loop μ-loop
+loop-less c = omega arith
+
+loop-again : tie.Need-loop-again Inv-loop μ-loop
+loop-again c = row-next (c .before .before .before .before .before .loop .inv) (c .before .before .before .before .loop-test .taken) (sym (c .before .is-below .ensures) ∙ not-false (c .before .is-below .result) (c .if1 .left))
+
+returns-2 : tie.Need-returns-2 Inv-loop μ-loop
+returns-2 c = row-all (c .before .loop .inv) (c .loop-test .left)
+
+pub is-row-appropriate-spec : {M : Type 1} → statement M
+is-row-appropriate-spec =
+    tie.close
+    (tie.spec
+    Inv-loop
+    μ-loop
+    label-at-requires
+    cast-kind
+    add-end
+    mul-end
+    shared-slice-read-end
+    cast-end
+    add-k
+    mul-k
+    shared-slice-read-k
+    cast-k
+    add-k-2
+    loop-holds
+    mul-f
+    shared-slice-read-f
+    cast-f
+    shared-slice-read-is-below
+    cast-is-below
+    is-below-requires
+    returns
+    add-k-3
+    loop-less
+    loop-again
+    returns-2)
