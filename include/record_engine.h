@@ -1,4 +1,4 @@
-/* The record engine for C: eight calls on bytes, and the table of the house types, in
+/* The record engine for C: nine calls on bytes, and the table of the house types, in
  * the static library librecord_engine.a, which `rt staticlib record_engine` writes to
  * target/staticlib. examples/difference.c is a whole program.
  *
@@ -38,7 +38,7 @@
  * it gives the specific one, which obeys the list if it did.
  *
  * A record, a list or an output is handed in as a pointer to its first byte and a length.
- * A pointer is not null, also where the length is 0. The output overlaps nothing
+ * A pointer is not null, also where the length is 0. An output overlaps nothing
  * else that is handed in. The calls keep no pointer, share no state and may run
  * side by side.
  *
@@ -47,7 +47,7 @@
  *
  * A call that writes a record answers its length, which is at most
  * RECORD_LONGEST; the output's first bytes are then the record and its other bytes
- * are unchanged. On a refusal no byte of the output is changed. Refusals have the
+ * are unchanged. On a refusal no byte of an output is changed. Refusals have the
  * numbers of documents 01 and 02:
  *
  *    1  n is not 2 to 64, or the table's length is not 8 times n
@@ -67,9 +67,10 @@
  *       whose meet with the first graph's types over it is its own, none is the greatest
  *   17  a list that is not of 64 bytes, or with an entry of n or more
  *   18  a record with a link that the list forbids
+ *   22  difference with reasons: it has more links than bytes are lent for the reasons
  *
  * Checks run in the order 1, 2, 3; 17; the first record's 4 to 7 and 18; the second's 4
- * to 7 and 18; then 12, 13, 9, 10, 11, 8.
+ * to 7 and 18; then 12, 13, 9, 10, 11, 8, 22.
  */
 #ifndef RECORD_ENGINE_H
 #define RECORD_ENGINE_H
@@ -87,6 +88,10 @@ extern "C" {
 /* The number of features, and so the length of an appropriateness list. */
 #define RECORD_FEATURES 64
 
+/* A record has at most so many links: so many bytes are never too few for the reasons
+ * of `record_difference_explained`. */
+#define RECORD_MOST_LINKS 2048
+
 /* The number of the house types, and the length of their table. */
 #define RECORD_HOUSE_TYPES 64
 #define RECORD_HOUSE_TABLE 512
@@ -98,6 +103,17 @@ extern "C" {
 #define RECORD_UNDER (RECORD_SAME + 1)
 #define RECORD_ABOVE (RECORD_SAME + 2)
 #define RECORD_NEITHER (RECORD_SAME + 3)
+
+/* Why a difference keeps a link, the first of these that holds: nothing of the general
+ * graph lies over the link; the links that enter its node in the specific graph are in
+ * two or more groups; the node has a type or a range that the general graph does not
+ * give, or a link that leaves it is kept. A link of the general graph lies over one of
+ * the specific graph when a path of the general graph that ends with the one ends with
+ * the other in the specific graph. Two links are in one group when links of the general
+ * graph that enter one node lie over them, or when both are in one with a third. */
+#define RECORD_REASON_BARE 1
+#define RECORD_REASON_GROUPS 2
+#define RECORD_REASON_WANTED 3
 
 /* Whether an answer is a refusal; its number; and the record that a refusal by 4 to
  * 7 or 18 tells of, 1 or 2, and 0 for the other refusals. */
@@ -170,6 +186,17 @@ uint64_t record_unify_appropriate(size_t n, const uint8_t *table, size_t table_l
                                   const uint8_t *first, size_t first_length,
                                   const uint8_t *second, size_t second_length,
                                   uint8_t *output, size_t output_length);
+
+/* Writes the difference as `record_difference` does, and into the first bytes of the
+ * reasons one byte for each of its links, RECORD_REASON_BARE, RECORD_REASON_GROUPS or
+ * RECORD_REASON_WANTED, in the order of the links in the written record: node by node,
+ * and for each node by feature. The other bytes of the reasons are unchanged. Answers
+ * the record's length, or refuses by 1 to 7, 12, 13, 8 and 22. */
+uint64_t record_difference_explained(size_t n, const uint8_t *table, size_t table_length,
+                                     const uint8_t *general, size_t general_length,
+                                     const uint8_t *specific, size_t specific_length,
+                                     uint8_t *output, size_t output_length,
+                                     uint8_t *reasons, size_t reasons_length);
 
 /* Writes the type table of the house types, for n = RECORD_HOUSE_TYPES, into the
  * output's first RECORD_HOUSE_TABLE bytes; its other bytes are unchanged. A house

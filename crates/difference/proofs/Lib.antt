@@ -2,4 +2,5 @@
 pub mod Wanting
 pub mod Keeping
 pub mod Thinning
+pub mod Explaining
 pub mod Result

@@ -1,11 +1,11 @@
 -- The rows that are written are those of the difference: the marks tell the leaders, a node is kept in the one exactly where it is kept
 -- in the other, and so the two graphs are alike.
 use mathlib.Core.Path.{_≡_, refl, sym, _∙_, ap, ap₂, subst}
-use mathlib.Core.Bool.{Bool, true, false}
-use mathlib.Core.List.{List, [], _∷_}
+use mathlib.Core.Bool.{Bool, true, false, cond}
+use mathlib.Core.List.{List, [], _∷_, List·Memᴰ}
 use mathlib.Core.Logic.{_↔_}
 use mathlib.Core.Option.{Option, none, some, Option·getD}
-use Prim.Native.Nat.{ℕ, _*_, _≤_, _<_}
+use Prim.Native.Nat.{ℕ, _*_, _/_, _%_, _≤_, _<_}
 use native.Mathlib.Decide.{decLt}
 use native.Mathlib.Omega.{arith}
 use lib.Dec.{eqb}
@@ -13,39 +13,46 @@ use lib.ListN.{length, getD}
 use Rattle.graphs.specs.Graph.{Graph, AnySize, Reached, follow}
 use Rattle.graphs.specs.Rows.{from}
 use Rattle.graphs.specs.Number.{canonical}
-use Rattle.graphs.specs.Difference.{Link, difference, lead, meetOver, byNumber}
+use Rattle.graphs.specs.Difference.{Link, difference, bare, differ, lead, leaders, meetOver, byNumber}
+use Rattle.graphs.specs.Reasons.{reasonAt, alongLinks, writtenOrder}
 use Rattle.graphs.proofs.Walk.{none-some, some-unique, reached-link}
 use Rattle.graphs.proofs.Below.{walk-map}
 use Rattle.graphs.proofs.Lists.{from-member, from-range, tells-eqb}
 use Rattle.graphs.proofs.Search.{true-false}
 use Rattle.graphs.proofs.Form.Bisimilar.{Alike, absent, present, Bisimilar}
-use Rattle.graphs.proofs.Form.Invariant.{bisimilar-canonical}
+use Rattle.graphs.proofs.Form.Invariant.{Pointwise, pointwise-listed, bisimilar-canonical, bisimilar-order}
+use Rattle.graphs.proofs.Reasons.{along-same}
 use Rattle.graphs.proofs.Unification.Beside.{Operands}
 use Rattle.graphs.proofs.Difference.Induct.{children-first}
 use Rattle.graphs.proofs.Difference.Laws.{Leader, Enters, Reason, atRoot, twoGroups, bareGroup, ownLabel, keptBelow, Idle}
-use Rattle.graphs.proofs.Difference.Keeps.{keep, kept, root-kept, keep-reason, keep-idle, kept-links}
+use Rattle.graphs.proofs.Difference.Groups.{bare-enters, not-bare-enters}
+use Rattle.graphs.proofs.Difference.Keeps.{keep, kept, leaders-listed, differ-two, differ-one, root-kept, keep-reason, keep-idle, kept-links}
 use Rattle.lattice.specs.Table.{every, found}
 use Rattle.lattice.specs.Label.{Label, noLabel}
 use Rattle.lattice.proofs.Every.{every-same}
 use Rattle.lattice.proofs.Laws.{accepted-size}
 use Rattle.lattice.proofs.Lawful.{known-more}
 use Rattle.lattice.specs.Labels.{tableLabels, wantedLabel}
-use Rattle.layout.specs.Layout.{longest, labelFrom, size, labelAt, featureAt, targetAt, rowsOf, graphIn, Sound, Place}
+use Rattle.layout.specs.Layout.{longest, scale, labelFrom, size, labelAt, featureAt, targetAt, rowsOf, graphIn, Sound, Place, rowsEnd}
 use Rattle.layout.proofs.Rows.{length-rows}
 use Rattle.layout.proofs.Places.{label-at, link-at, link-place, link-known}
 use Rattle.layout.proofs.Reaching.{reached-inside}
 use Rattle.layout.proofs.Order.{place-before}
+use Rattle.encode.specs.Marks.{marksAlong}
+use Rattle.encode.proofs.WrittenForm.{marks-tell}
 use Rattle.visits.specs.Walks.{Reaches, one, more}
 use Rattle.groups.specs.Cover.{Lying}
 use Rattle.groups.specs.Marks.{Marked}
 use Rattle.groups.proofs.Leading.{At, at-one, one-at, at-link, link-stands, Says, follows-it, leads-covered, leads-bare, mark-says}
-use Rattle.difference.specs.Promise.{wantedAlong, differenceAlong, allWantedAlong}
+use Rattle.difference.specs.Promise.{wantedAlong, differenceAlong, reasonsAlong, allWantedAlong}
 use Rattle.difference.specs.Wanted.{LabelsOver, wantedAt, Wants, WantsAll, metFrom}
-use Rattle.difference.specs.Keeping.{Leads, several, alone, Stays, Why, isRoot, caused, untop, onward, Keeps, Ready}
+use Rattle.difference.specs.Keeping.{Cause, Leads, several, alone, Stays, Why, isRoot, caused, untop, onward, Keeps, Ready}
 use Rattle.difference.specs.Thinning.{Kept}
+use Rattle.difference.specs.Explaining.{Made, Copied, Explains, reasonBy}
 use Rattle.difference.specs.Asked.{Asked}
 use Rattle.difference.proofs.Wanting.{wants-known, meetWhere-same}
 use Rattle.difference.proofs.Thinning.{rows-sound, copied-feature, copied-target}
+use Rattle.difference.proofs.Explaining.{reason-one, reason-two, reason-three}
 
 -- Links lead along a path.
 module _ {ws : List ℕ} (sound : Sound ws) where
@@ -266,11 +273,9 @@ module _ {n : ℕ} {t gw sw map : List ℕ} (asked : Asked n t gw sw map) where
         true-false (later f w (at-link s-sound k (v, f) at) .0 (x .enters))
         (idle .noneBelow f w (marked-leads k (v, f) at (x .leads)))
 
-    reason-why : (v : ℕ) → Reached s v → ((f w : ℕ) → s .link v f ≡ some w → Same w) →
-        Reason (tableLabels n t) s g over first isKept want v → Why n t sw marks labels keeps v
-    unfolding Same
-    reason-why v r later (atRoot e) = isRoot e
-    reason-why v r later (twoGroups l m a b apart) =
+    -- two leaders are a cause to keep the node that they enter
+    two-cause : (v : ℕ) (l m : Link ℕ) → Leader s first v l → Leader s first v m → (l ≡ m → ⊥) → Cause sw marks (rowsEnd sw) v
+    two-cause v l m a b apart =
         let (j, atj, p, x) = leads-marked v l a in
         let (i, ati, q, y) = leads-marked v m b in
         go j atj p x i ati q y (decLt j i) (decLt i j)
@@ -280,17 +285,23 @@ module _ {n : ℕ} {t gw sw map : List ℕ} (asked : Asked n t gw sw map) where
         standing {l = l} i at h x q = record { node = l .0; place = i; link = at .place; before = h; leading = x; enters = q }
 
         go : (j : ℕ) → At sw j l → targetAt sw j ≡ v → (getD marks j 0 ≡ 0 → ⊥) → (i : ℕ) → At sw i m → targetAt sw i ≡ v →
-            (getD marks i 0 ≡ 0 → ⊥) → Dec (j < i) → Dec (i < j) → Why n t sw marks labels keeps v
+            (getD marks i 0 ≡ 0 → ⊥) → Dec (j < i) → Dec (i < j) → Cause sw marks (rowsEnd sw) v
         go j atj p x i ati q y (yes h) d =
-            caused (several (standing i ati (place-before (s-sound .shaped) (ati .place)) y q) (standing j atj h x p))
+            (several (standing i ati (place-before (s-sound .shaped) (ati .place)) y q) (standing j atj h x p))
         go j atj p x i ati q y (no h) (yes d) =
-            caused (several (standing j atj (place-before (s-sound .shaped) (atj .place)) x p) (standing i ati d y q))
+            (several (standing j atj (place-before (s-sound .shaped) (atj .place)) x p) (standing i ati d y q))
         go j atj p x i ati q y (no h) (no d) =
             let e : j ≡ i = omega arith in
             absurd (apart (at-same j l m atj (subst (λ k. At sw k m) (sym e) ati)))
           where
             at-same : (k : ℕ) (l m : Link ℕ) → At sw k l → At sw k m → l ≡ m
             at-same k l m c d = ap₂ {C = Link ℕ} (λ a b. (a, b)) (one-at s-sound k l m c d) (sym (c .feature) ∙ d .feature)
+
+    reason-why : (v : ℕ) → Reached s v → ((f w : ℕ) → s .link v f ≡ some w → Same w) →
+        Reason (tableLabels n t) s g over first isKept want v → Why n t sw marks labels keeps v
+    unfolding Same
+    reason-why v r later (atRoot e) = isRoot e
+    reason-why v r later (twoGroups l m a b apart) = caused (two-cause v l m a b apart)
     reason-why v r later (bareGroup l a nothing) =
         let (k, at, p, m) = bare-marked v l a nothing in
         caused
@@ -403,6 +414,14 @@ module _ {n : ℕ} {t gw sw map : List ℕ} (asked : Asked n t gw sw map) where
             back = λ v v′ w w′ x y e. x .1 ∙ e ∙ sym (y .1);
           }
 
+      links-alike : (v f : ℕ) → Reached s v → made .link v f ≡ result .link v f
+      unfolding difference
+      links-alike v f r = go (alike v f r)
+        where
+          go : {o p : Option ℕ} → Alike (λ x y. Reached s x × (x ≡ y)) o p → o ≡ p
+          go absent = refl
+          go (present x) = ap some (x .1)
+
       -- as it is defined, with the lengths of the lists of rows for the numbers of nodes
       named : differenceAlong n t (rowsOf sw) (rowsOf gw) (λ y. getD map y 0) ≡ made
       unfolding differenceAlong wantedAlong
@@ -416,3 +435,148 @@ module _ {n : ℕ} {t gw sw map : List ℕ} (asked : Asked n t gw sw map) where
       result-canonical =
           ap (canonical eqb) named ∙
           bisimilar-canonical eqb eqb tells-eqb tells-eqb (λ x y. Reached s x × (x ≡ y)) made result made-alike
+
+      -- Reasons.
+
+      abbrev reason : Link ℕ → ℕ → ℕ
+      reason l v = reasonAt eqb eqb s (from 0 (size sw)) g (from 0 (size gw)) over byNumber l v
+
+      module _ {reasons : List ℕ} (explained : Explains sw marks ws reasons) where
+        -- a leader that is covered enters a node with a cause exactly where leaders differ
+        abbrev apart : ℕ → Bool
+        apart v = differ eqb eqb s (from 0 (size sw)) g (from 0 (size gw)) over (leaders eqb eqb s (from 0 (size sw)) g (from 0 (size gw)) over byNumber v)
+
+        listed : (v : ℕ) (l : Link ℕ) → List·Memᴰ l (leaders eqb eqb s (from 0 (size sw)) g (from 0 (size gw)) over byNumber v) ↔ Leader s first v l
+        listed v l = leaders-listed operands over any byNumber want v l
+
+        cause-apart : (k : ℕ) (l : Link ℕ) → At sw k l → Leader s first (targetAt sw k) l → getD marks k 0 ≡ 1 →
+            Cause sw marks (rowsEnd sw) (targetAt sw k) → apart (targetAt sw k) ≡ false → ⊥
+        cause-apart k l at lead mark cause e = go cause
+          where
+            same : (x y : Link ℕ) → Leader s first (targetAt sw k) x → Leader s first (targetAt sw k) y → x ≡ y
+            same x y p q =
+                differ-one operands over any byNumber want _ e x y (listed (targetAt sw k) x .1 p) (listed (targetAt sw k) y .1 q)
+
+            leader : {m : ℕ} (a : Leads sw marks m (targetAt sw k)) → Leader s first (targetAt sw k) (a .node, featureAt sw (a .place))
+            leader a =
+                subst (λ v. Leader s first v (a .node, featureAt sw (a .place))) (a .enters)
+                (marked-leads (a .place) (a .node, featureAt sw (a .place)) (at-row (a .node) (a .place) (a .link)) (a .leading))
+
+            go : Cause sw marks (rowsEnd sw) (targetAt sw k) → ⊥
+            go (several a b) =
+                let x : Link ℕ = (b .node, featureAt sw (b .place)) in
+                let y : Link ℕ = (a .node, featureAt sw (a .place)) in
+                let z : x ≡ y = same x y (leader b) (leader a) in
+                omega (
+                  arith,
+                  b .before,
+                  at-one s-sound (b .place) (a .place) y (subst (At sw (b .place)) z (at-row (b .node) (b .place) (b .link)))
+                      (at-row (a .node) (a .place) (a .link)),
+                )
+            go (alone a m) =
+                let x : Link ℕ = (a .node, featureAt sw (a .place)) in
+                let z : x ≡ l = same x l (leader a) lead in
+                let q = at-one s-sound (a .place) k l (subst (At sw (a .place)) z (at-row (a .node) (a .place) (a .link))) at in
+                one-two (sym (ap (λ (i : ℕ). getD marks i 0) q ∙ mark) ∙ m)
+              where
+                one-two : _≡_ {A = ℕ} 1 2 → ⊥
+                one-two q = omega arith
+
+        reason-by : (k : ℕ) (l : Link ℕ) (at : At sw k l) → (getD marks k 0 ≡ 0 → ⊥) →
+            reasonBy sw marks (explained .meeting) k ≡ reason l (targetAt sw k)
+        unfolding reasonAt
+        reason-by k l at d = go (read k l at)
+          where
+            low : targetAt sw k < 255
+            low = omega (arith, s-sound .targets (l .0) k (at .place .inside) (at .place .low) (at .place .high), asked .lower .small)
+
+            meets : (getD (explained .meeting) (targetAt sw k) 0 ≡ 1) ↔ Cause sw marks (rowsEnd sw) (targetAt sw k)
+            meets = explained .meets (targetAt sw k) low
+
+            is-bare : (b : Bool) → bare eqb eqb s (from 0 (size sw)) g (from 0 (size gw)) over l ≡ b →
+                ((z : ℕ) → Enters {L = Label} g over z l → ⊥) → bare eqb eqb s (from 0 (size sw)) g (from 0 (size gw)) over l ≡ true
+            is-bare true e nothing = e
+            is-bare false e nothing = let (z, c) = not-bare-enters operands over l e in absurd (nothing z c)
+
+            not-bare : (b : Bool) → bare eqb eqb s (from 0 (size sw)) g (from 0 (size gw)) over l ≡ b → (z : ℕ) →
+                Enters {L = Label} g over z l → bare eqb eqb s (from 0 (size sw)) g (from 0 (size gw)) over l ≡ false
+            not-bare false e z c = e
+            not-bare true e z c = absurd (bare-enters operands over l e z c)
+
+            covered : getD marks k 0 ≡ 1 → Leader s first (targetAt sw k) l → (b : Bool) → apart (targetAt sw k) ≡ b →
+                reasonBy sw marks (explained .meeting) k ≡ cond (apart (targetAt sw k)) 2 3
+            covered mark lead true e =
+                let (x, y, i, j, d) = differ-two operands over any byNumber want _ e in
+                reason-two (getD marks k 0) (getD (explained .meeting) (targetAt sw k) 0) (λ q. omega (arith, mark, q))
+                (meets .1 (two-cause (targetAt sw k) x y (listed (targetAt sw k) x .0 i) (listed (targetAt sw k) y .0 j) d))
+                ∙ sym (ap (λ (b : Bool). cond b 2 3) e)
+            covered mark lead false e =
+                reason-three (getD marks k 0) (getD (explained .meeting) (targetAt sw k) 0) (λ q. omega (arith, mark, q))
+                (λ q. cause-apart k l at lead mark (meets .0 q) e)
+                ∙ sym (ap (λ (b : Bool). cond b 2 3) e)
+
+            go : says k l at → reasonBy sw marks (explained .meeting) k ≡
+                cond (bare eqb eqb s (from 0 (size sw)) g (from 0 (size gw)) over l) 1 (cond (apart (targetAt sw k)) 2 3)
+            go (follows-it e x) = absurd (d e)
+            go (leads-covered e x z c) =
+                covered e x (apart (targetAt sw k)) refl
+                ∙ sym (ap (λ (b : Bool). cond b 1 (cond (apart (targetAt sw k)) 2 3)) (not-bare _ refl z c))
+            go (leads-bare e x c) =
+                reason-one (getD marks k 0) (getD (explained .meeting) (targetAt sw k) 0) e
+                ∙ sym (ap (λ (b : Bool). cond b 1 (cond (apart (targetAt sw k)) 2 3)) (is-bare _ refl c))
+
+        reason-is : (v i : ℕ) → Place ws v i → getD reasons i 0 ≡ reason (v, featureAt ws i) (targetAt ws i)
+        reason-is v i p =
+            let (k, place, stays, c) = rows .1 .each v i (omega (arith, p .inside, rows .1 .sized)) (p .low) (p .high) in
+            explained .each v i k p place c
+            ∙ reason-by k (v, featureAt sw k) (at-row v k place) (stays .leads)
+            ∙ ap (λ (w : ℕ). reason (v, w / scale) (w % scale)) (sym c)
+
+        pub result-reasons : reasonsAlong n t (rowsOf sw) (rowsOf gw) (λ y. getD map y 0) ≡
+            marksAlong ws reasons (writtenOrder eqb result)
+        unfolding reasonsAlong differenceAlong wantedAlong
+        result-reasons =
+            ap₂ (λ (a b : ℕ).
+            alongLinks (difference (tableLabels n t) eqb eqb byNumber s (from 0 a) g (from 0 b) over
+            (λ v. Option·getD (wantedLabel n t (s .label v) (meetOver (tableLabels n t) eqb g (from 0 b) over v)) noLabel))
+            (reasonAt eqb eqb s (from 0 a) g (from 0 b) over byNumber)
+            (writtenOrder eqb (difference (tableLabels n t) eqb eqb byNumber s (from 0 a) g (from 0 b) over
+            (λ v. Option·getD (wantedLabel n t (s .label v) (meetOver (tableLabels n t) eqb g (from 0 b) over v)) noLabel))))
+            (length-rows sw 0 (size sw)) (length-rows gw 0 (size gw))
+            ∙ along-same (Reached s) made result reason links-alike order
+            ∙ marks-tell sound′ reason reasons (omega (arith, rows .1 .long, explained .long)) reason-is (writtenOrder eqb result)
+            (λ v m. inside′ v (reached-inside s-sound v (pointwise-listed order v m)))
+          where
+            order : Pointwise (λ x y. Reached s x × (x ≡ y)) (writtenOrder eqb made) (writtenOrder eqb result)
+            order = bisimilar-order eqb eqb tells-eqb tells-eqb (λ x y. Reached s x × (x ≡ y)) made result made-alike
+
+-- The rows that are made.
+module _ {n : ℕ} {t gw sw map labels marks words : List ℕ} (asked : Asked n t gw sw map) (wants : Wants n t sw gw map (size sw) labels)
+    (made : Made n t gw sw map labels marks words) where
+  few-types : n ≤ 64
+  few-types = accepted-size n t (asked .ok) .1
+
+  made-ready : Ready sw marks (made .keep)
+  made-ready = ready-words asked (made .marked .stands .long) (made .kept .long)
+
+  pub made-sound : Sound words
+  made-sound = rows-sound made-ready (λ v h. known-more (omega (arith, few-types)) (wants-known asked wants .known v h)) (made .rows)
+
+  pub made-canonical : canonical eqb (differenceAlong n t (rowsOf sw) (rowsOf gw) (λ y. getD map y 0)) ≡ canonical eqb (graphIn words)
+  made-canonical = result-canonical asked (made .marked) wants (made .kept) made-ready few-types (made .rows)
+
+  pub made-copied : Copied sw words
+  made-copied =
+      let (at, r) = made .rows in
+      record {
+        sound = made-sound;
+        sized = r .sized;
+        long = r .long;
+        from-s = λ v i p.
+            let (j, place, stays, e) = r .each v i (omega (arith, p .inside, r .sized)) (p .low) (p .high) in
+            (j, place, e);
+      }
+
+  pub made-reasons : {reasons : List ℕ} → Explains sw marks words reasons →
+      reasonsAlong n t (rowsOf sw) (rowsOf gw) (λ y. getD map y 0) ≡ marksAlong words reasons (writtenOrder eqb (graphIn words))
+  made-reasons explained = result-reasons asked (made .marked) wants (made .kept) made-ready few-types (made .rows) explained

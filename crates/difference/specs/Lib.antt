@@ -4,3 +4,4 @@ pub mod Wanted
 pub mod Asked
 pub mod Keeping
 pub mod Thinning
+pub mod Explaining

@@ -10,6 +10,7 @@ use Rattle.graphs.specs.Graph.{Graph}
 use Rattle.graphs.specs.Rows.{Row, from}
 use Rattle.graphs.specs.Number.{Canonical, canonical}
 use Rattle.graphs.specs.Difference.{difference, meetOver, byNumber}
+use Rattle.graphs.specs.Reasons.{reasonAt, alongLinks, writtenOrder}
 use Rattle.lattice.specs.Table.{every, found}
 use Rattle.lattice.specs.Label.{Label, noLabel}
 use Rattle.lattice.specs.Labels.{tableLabels, wantedLabel}
@@ -33,6 +34,17 @@ module _ (n : ℕ) (t : List ℕ) (s g : List (Row Label)) (over : ℕ → ℕ) 
   unfoldable pub allWantedAlong : Bool
   allWantedAlong = every (length s) λ v. found (wantedAlong v)
 
+  -- the reasons for the links of the difference "in record order" (document 02, Paper 13)
+  unfoldable pub reasonsAlong : List ℕ
+  reasonsAlong =
+      alongLinks differenceAlong
+      (reasonAt eqb eqb (graphOfRows s) (from 0 (length s)) (graphOfRows g) (from 0 (length g)) over byNumber)
+      (writtenOrder eqb differenceAlong)
+
 -- the canonical form of the difference, of graphs in words
 abbrev pub differenceForm : ℕ → List ℕ → List ℕ → List ℕ → List ℕ → Canonical Label
 differenceForm n t s g map = canonical eqb (differenceAlong n t (rowsOf s) (rowsOf g) λ y. getD map y 0)
+
+-- and its reasons
+abbrev pub reasonsIn : ℕ → List ℕ → List ℕ → List ℕ → List ℕ → List ℕ
+reasonsIn n t s g map = reasonsAlong n t (rowsOf s) (rowsOf g) λ y. getD map y 0

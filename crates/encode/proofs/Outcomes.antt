@@ -1,17 +1,22 @@
 -- What writing answers and leaves, for each form of a graph and each output; and laws of lists that the form's rows go by.
 use mathlib.Core.Path.{_≡_, refl, sym, _∙_, ap, ap₂}
 use mathlib.Core.Bool.{Bool, cond}
+use mathlib.Core.Logic.{_⊎_, ⊎-elim}
 use mathlib.Core.List.{List, [], _∷_, _++_, map, List·Memᴰ, List·Memᴰ·head, List·Memᴰ·tail}
 use Prim.Native.Nat.{ℕ, zero, suc, _+_, _≤_, _<_}
 use native.Mathlib.Nat.{zero-add}
 use native.Mathlib.Omega.{arith}
 use borrow.Author.Tests.{le-leb, lt-leb}
+use lib.Dec.{leb}
 use lib.ListN.{length, getD, drop}
 use lib.Seq.{sets, sets-eq}
 use Rattle.graphs.specs.Number.{Canonical, manyLinks, manyNodes}
 use Rattle.lattice.specs.Label.{Label}
 use Rattle.encode.specs.declared.Written.the-variants as outcome
+use Rattle.encode.specs.declared.Marked.{Marked}
+use Rattle.encode.specs.declared.Marked.the-variants as marked
 use Rattle.encode.specs.Encode.{Yield, yielding, fitted, writtenOut}
+use Rattle.encode.specs.Marks.{Noted, noting, fittedBoth, markedOut}
 
 pub map-listed : {X Y : Type 0} {f g : X → Y} (xs : List X) → ((x : X) → List·Memᴰ x xs → f x ≡ g x) → map f xs ≡ map g xs
 map-listed [] e = refl
@@ -31,15 +36,23 @@ member-length (List·Memᴰ·tail m) = omega arith
 pub yields-by : {A : Type 0} {y : Yield A} {a : A} {l last : List ℕ} → last ≡ l → y ≡ yielding a l → yielding a last ≡ y
 yields-by {a = a} q e = ap (yielding a) q ∙ sym e
 
+pub notes-by : {y : Noted} {a : Marked} {o last b final : List ℕ} → last ≡ o → final ≡ b → y ≡ noting a o b → noting a last final ≡ y
+notes-by {a = a} p q e = ap₂ (noting a) p q ∙ sym e
+
 -- What is too large.
 
-pub large-nodes : {form : Canonical Label} (old : List ℕ) → form ≡ manyNodes → writtenOut form old ≡ yielding outcome.TooLarge old
-unfolding writtenOut
-large-nodes old e = ap (λ (c : Canonical Label). writtenOut c old) e
+module _ {form : Canonical Label} (large : (form ≡ manyNodes) ⊎ (form ≡ manyLinks)) where
+  pub large-written : (old : List ℕ) → writtenOut form old ≡ yielding outcome.TooLarge old
+  unfolding writtenOut
+  large-written old =
+      ⊎-elim (λ (e : form ≡ manyNodes). ap (λ (c : Canonical Label). writtenOut c old) e)
+      (λ (e : form ≡ manyLinks). ap (λ (c : Canonical Label). writtenOut c old) e) large
 
-pub large-links : {form : Canonical Label} (old : List ℕ) → form ≡ manyLinks → writtenOut form old ≡ yielding outcome.TooLarge old
-unfolding writtenOut
-large-links old e = ap (λ (c : Canonical Label). writtenOut c old) e
+  pub large-marked : (marks old beside : List ℕ) → markedOut form marks old beside ≡ noting (marked.Written outcome.TooLarge) old beside
+  unfolding markedOut
+  large-marked marks old beside =
+      ⊎-elim (λ (e : form ≡ manyNodes). ap (λ (c : Canonical Label). markedOut c marks old beside) e)
+      (λ (e : form ≡ manyLinks). ap (λ (c : Canonical Label). markedOut c marks old beside) e) large
 
 -- What fits.
 
@@ -52,6 +65,10 @@ fitted-short bytes old h =
     (yielding outcome.NoRoom old))
     (lt-leb (length bytes) (length old) h)
 
+-- what is behind a run of stores stays
+stored : (xs old : List ℕ) → length xs ≤ length old → xs ++ drop (length xs) old ≡ sets old 0 xs
+stored xs old h = ap (λ (n : ℕ). xs ++ drop n old) (sym (zero-add (length xs))) ∙ sym (sets-eq xs old 0 (omega arith))
+
 pub fitted-room : (bytes old : List ℕ) → length bytes ≤ length old →
     fitted bytes old ≡ yielding (outcome.Length (length bytes)) (sets old 0 bytes)
 unfolding fitted
@@ -62,4 +79,32 @@ fitted-room bytes old h =
     (yielding outcome.NoRoom old))
     (le-leb (length bytes) (length old) h)
     ∙ ap (λ (l : List ℕ). yielding (outcome.Length (length bytes)) l)
-    (ap (λ (n : ℕ). bytes ++ drop n old) (sym (zero-add (length bytes))) ∙ sym (sets-eq bytes old 0 (omega arith)))
+    (stored bytes old h)
+
+-- What fits with its marks.
+
+module _ (bytes marks old beside : List ℕ) where
+  tested : Bool → Bool → Noted
+  tested t u =
+      cond t
+      (cond u
+      (noting (marked.Written (outcome.Length (length bytes))) (bytes ++ drop (length bytes) old) (marks ++ drop (length marks) beside))
+      (noting marked.NoMarkRoom old beside))
+      (noting (marked.Written outcome.NoRoom) old beside)
+
+  pub both-short : length old < length bytes → fittedBoth bytes marks old beside ≡ noting (marked.Written outcome.NoRoom) old beside
+  unfolding fittedBoth tested
+  both-short h = ap (λ (t : Bool). tested t (leb (length marks) (length beside))) (lt-leb (length bytes) (length old) h)
+
+  module _ (room : length bytes ≤ length old) where
+    pub both-narrow : length beside < length marks → fittedBoth bytes marks old beside ≡ noting marked.NoMarkRoom old beside
+    unfolding fittedBoth tested
+    both-narrow h = ap₂ tested (le-leb (length bytes) (length old) room) (lt-leb (length marks) (length beside) h)
+
+    pub both-room : length marks ≤ length beside →
+        fittedBoth bytes marks old beside ≡ noting (marked.Written (outcome.Length (length bytes))) (sets old 0 bytes) (sets beside 0 marks)
+    unfolding fittedBoth tested
+    both-room h =
+        ap₂ tested (le-leb (length bytes) (length old) room) (le-leb (length marks) (length beside) h)
+        ∙ ap₂ (λ (o b : List ℕ). noting (marked.Written (outcome.Length (length bytes))) o b) (stored bytes old room)
+        (stored marks beside h)

@@ -2,24 +2,27 @@
 -- that are numbered, their rows are those that are written, and their links are those that are counted. From it, what `write` answers.
 use mathlib.Core.Path.{_≡_, refl, sym, _∙_, ap, ap₂, subst}
 use mathlib.Core.Bool.{Bool, cond}
-use mathlib.Core.List.{List, [], _∷_, map, reverse, List·Memᴰ, List·Memᴰ·head, List·Memᴰ·tail, List·Memᴰ·not-nil, List·Memᴰ·append-cases}
+use mathlib.Core.List.{List, [], _∷_, _++_, map, reverse, List·Memᴰ, List·Memᴰ·head, List·Memᴰ·tail, List·Memᴰ·not-nil, List·Memᴰ·append-cases}
 use mathlib.Core.Logic.{⊎-elim}
 use mathlib.Core.Option.{Option, none, some, Option·map}
-use Prim.Native.Nat.{ℕ, _+_, _-_, _*_, _≤_, _<_}
+use Prim.Native.Nat.{ℕ, zero, suc, _+_, _-_, _*_, _≤_, _<_}
 use native.Mathlib.Omega.{arith}
 use borrow.Author.Tests.{le-leb, lt-leb}
 use lib.Dec.{eqb}
 use lib.ListN.{length, getD, take, length-map, length-reverse, List·getD-map}
-use lib.Seq.{sets, ext-getD, getD-take, length-take-le}
+use lib.Seq.{sets, slice, slice-cons, slice-empty, ext-getD, getD-take, length-take-le}
 use Rattle.graphs.specs.Graph.{Graph}
 use Rattle.graphs.specs.Rows.{Row, from, target, linksOf}
 use Rattle.graphs.specs.Number.{Canonical, canonical, counted, indexOf, linkCount, outDegree, manyLinks, manyNodes, rowOf, visit, written}
+use Rattle.graphs.specs.Difference.{Link}
+use Rattle.graphs.specs.Reasons.{alongLinks, orderIn, writtenOrder}
 use Rattle.graphs.proofs.Lists.{mem-reverse, mem-unreverse, getD-index, index-within, tells-eqb}
 use Rattle.graphs.proofs.Rows.{linksOf-length}
+use Rattle.graphs.proofs.Form.Invariant.{linksOf-cong}
 use Rattle.graphs.proofs.Form.Visited.{Grown, visit-all}
 use Rattle.lattice.specs.Label.{Label, noLabel}
-use Rattle.layout.specs.Layout.{Sound, size, linksFrom, rowEnd, targetAt, linksAt, graphIn}
-use Rattle.layout.proofs.Spans.{linkAt, links-at}
+use Rattle.layout.specs.Layout.{Sound, Place, longest, size, linksFrom, rowEnd, featureAt, targetAt, linksAt, linksBetween, graphIn}
+use Rattle.layout.proofs.Spans.{linkAt, links-at, links-none, links-cons}
 use Rattle.layout.proofs.Rows.{row-at}
 use Rattle.layout.proofs.Places.{link-known, links-are}
 use Rattle.visits.specs.Walks.{Numbers, foundIn}
@@ -28,8 +31,11 @@ use Rattle.encode.specs.declared.Written.the-variants as outcome
 use Rattle.encode.specs.Encode.{encoded, yielding, writtenOut}
 use Rattle.encode.specs.NumberedRows.{Visited, degree, degrees, numberByte, numberedRow, numberedRows, ranges, sumAlong}
 use Rattle.encode.proofs.Links.{linksOf-links, target-member}
-use Rattle.encode.proofs.Outcomes.{map-listed, getD-member, fitted-short, fitted-room}
+use Rattle.encode.proofs.Outcomes.{map-listed, getD-member, fitted-short, fitted-room, both-short, both-narrow, both-room}
 use Rattle.encode.proofs.WrittenRows.{ranges-upto, sum-reverse, row-ascending, row-degree, row-within, rows-length}
+use Rattle.encode.specs.declared.Marked.the-variants as marked
+use Rattle.encode.specs.Marks.{Fits, Noted, noting, fittedBoth, marksAlong, markedOut}
+use Rattle.encode.proofs.MarkedRows.{marks-length}
 
 module _ {ws : List ℕ} (sound : Sound ws) where
   abbrev g : Graph Label ℕ
@@ -64,6 +70,43 @@ module _ {ws : List ℕ} (sound : Sound ws) where
           ∙ ap length (row-links (λ x. x) v h)
           ∙ length-map (linksAt ws v) (λ l. (l .0, l .1))
           ∙ row-degree sound v h
+
+  -- marks that tell a value of each link
+  module _ (value : Link ℕ → ℕ → ℕ) (marks : List ℕ) (enough : length ws ≤ length marks)
+      (tell : (v k : ℕ) → Place ws v k → getD marks k 0 ≡ value (v, featureAt ws k) (targetAt ws k)) where
+    row-values : (v : ℕ) → Inside v → (n a : ℕ) → linksFrom ws v ≤ a → a + n ≡ rowEnd ws v →
+        map (λ l. value (v, l .0) (l .1)) (map {B = ℕ × ℕ} (λ l. (l .0, l .1)) (linksBetween ws a (rowEnd ws v))) ≡
+        slice a (rowEnd ws v) marks
+    row-values v h zero a low e =
+        let b : a ≡ rowEnd ws v = omega arith in
+        ap (λ (i : ℕ). map (λ l. value (v, l .0) (l .1)) (map {B = ℕ × ℕ} (λ l. (l .0, l .1)) (linksBetween ws i (rowEnd ws v)))) b
+        ∙ ap (λ (ls : List (ℕ × ℕ)). map (λ l. value (v, l .0) (l .1)) (map {B = ℕ × ℕ} (λ l. (l .0, l .1)) ls)) (links-none ws (rowEnd ws v))
+        ∙ sym (ap (λ (i : ℕ). slice i (rowEnd ws v) marks) b ∙ slice-empty (rowEnd ws v) marks)
+    row-values v h (suc n) a low e =
+        let ended = sound .shaped .node v h .ended in
+        ap (λ (ls : List (ℕ × ℕ)). map (λ l. value (v, l .0) (l .1)) (map {B = ℕ × ℕ} (λ l. (l .0, l .1)) ls))
+        (links-cons ws (rowEnd ws v) ended a (omega arith))
+        ∙ ap₂ (λ (x : ℕ) (xs : List ℕ). x ∷ xs) (sym (tell v a (record { inside = h; low = low; high = omega arith })))
+        (row-values v h n (suc a) (omega arith) (omega arith))
+        ∙ sym (slice-cons a (rowEnd ws v) marks 0 (omega arith) (omega (arith, ended)))
+
+    -- stand along the nodes as the values do
+    pub marks-tell : (vs : List ℕ) → ((v : ℕ) → List·Memᴰ v vs → Inside v) → alongLinks g value vs ≡ marksAlong ws marks vs
+    unfolding alongLinks marksAlong
+    marks-tell [] inside = refl
+    marks-tell (v ∷ vs) inside =
+        ap₂ (λ (xs ys : List ℕ). xs ++ ys)
+        (ap (λ (ls : List (ℕ × ℕ)). map (λ l. value (v, l .0) (l .1)) ls)
+        (linksOf-cong (g .link v) (λ f. Option·map (λ x. x) (g .link v f)) (λ f. option-same (g .link v f)) (from 0 64) ∙ row-links (λ x. x) v here)
+        ∙ row-values v here (rowEnd ws v - linksFrom ws v) (linksFrom ws v) (omega arith) (omega (arith, sound .shaped .node v here .begun)))
+        (marks-tell vs (λ w m. inside w (List·Memᴰ·tail m)))
+      where
+        here : Inside v
+        here = inside v (List·Memᴰ·head refl)
+
+        option-same : (o : Option ℕ) → o ≡ Option·map (λ x. x) o
+        option-same none = refl
+        option-same (some x) = refl
 
   module _ {count : ℕ} {numbers visited : List ℕ} (numbered : Numbers ws count numbers visited) (all : length visited ≡ 255) where
     start : Inside 0
@@ -201,6 +244,10 @@ module _ {ws : List ℕ} (sound : Sound ws) where
                 (omega (arith, sound .shaped .node v inside .begun)) k low high)),
           )
 
+      visited-order : writtenOrder eqb g ≡ take count visited
+      unfolding writtenOrder
+      visited-order = let (seen, e) = found in ap orderIn (visited-rows seen e) ∙ sym (visited-is seen e)
+
       -- more than 2,048 links
       pub many-links : 2048 < degrees ws (take count visited) → canonical eqb g ≡ manyLinks
       many-links h = let (seen, e) = found in seen-links seen e h
@@ -230,20 +277,71 @@ module _ {ws : List ℕ} (sound : Sound ws) where
         pub ranges-few : ranged ≤ 255
         ranges-few = omega (arith, sums .1, ranges-upto ws visited count (omega arith))
 
-        pub length-is : length (encoded rows) ≡ size-written
+        length-is : length (encoded rows) ≡ size-written
         length-is = omega (arith, bytes-length, sums .0, sums .1)
 
-        module _ (fits : links ≤ 2048) (old : List ℕ) where
-          pub too-short : length old < size-written → writtenOut (canonical eqb g) old ≡ yielding outcome.NoRoom old
-          unfolding writtenOut
-          too-short short =
-              ap (λ (form : Canonical Label). writtenOut form old) (written-rows (omega (arith, sums .0)))
-              ∙ fitted-short (encoded rows) old (omega (arith, length-is))
+        pub measured-fits : links ≤ 2048 → Fits ws numbers visited count links size-written
+        measured-fits fits =
+            record {
+              nodes = visited-nodes;
+              form = written-rows (omega (arith, sums .0));
+              order = visited-order;
+              links-are = sums .0;
+              length-is = length-is;
+            }
 
-          pub written-whole : size-written ≤ length old →
-              writtenOut (canonical eqb g) old ≡ yielding (outcome.Length size-written) (sets old 0 (encoded rows))
-          unfolding writtenOut
-          written-whole room =
-              ap (λ (form : Canonical Label). writtenOut form old) (written-rows (omega (arith, sums .0)))
-              ∙ fitted-room (encoded rows) old (omega (arith, length-is))
-              ∙ ap (λ (n : ℕ). yielding (outcome.Length n) (sets old 0 (encoded rows))) length-is
+-- What writing a graph that fits yields.
+module _ {ws numbers visited : List ℕ} {count links len : ℕ} (fits : Fits ws numbers visited count links len) (old : List ℕ) where
+  abbrev rows-written : List (Row Label)
+  rows-written = numberedRows ws numbers (take count visited)
+
+  pub too-short : length old < len → writtenOut (canonical eqb (graphIn ws)) old ≡ yielding outcome.NoRoom old
+  unfolding writtenOut
+  too-short short =
+      ap (λ (form : Canonical Label). writtenOut form old) (fits .form)
+      ∙ fitted-short (encoded rows-written) old (omega (arith, fits .length-is))
+
+  pub written-whole : len ≤ length old →
+      writtenOut (canonical eqb (graphIn ws)) old ≡ yielding (outcome.Length len) (sets old 0 (encoded rows-written))
+  unfolding writtenOut
+  written-whole room =
+      ap (λ (form : Canonical Label). writtenOut form old) (fits .form)
+      ∙ fitted-room (encoded rows-written) old (omega (arith, fits .length-is))
+      ∙ ap (λ (n : ℕ). yielding (outcome.Length n) (sets old 0 (encoded rows-written))) (fits .length-is)
+
+  -- with marks beside
+  module _ (marks : List ℕ) (short : length ws ≤ longest) (long : length marks ≡ longest) (beside : List ℕ) where
+    abbrev noted : Noted
+    noted = markedOut (canonical eqb (graphIn ws)) (marksAlong ws marks (writtenOrder eqb (graphIn ws))) old beside
+
+    abbrev marks-written : List ℕ
+    marks-written = marksAlong ws marks (take count visited)
+
+    marks-count : length marks-written ≡ links
+    marks-count =
+        let n : length (take count visited) ≡ count = length-take-le count visited (omega (arith, fits .nodes .few, fits .nodes .long)) in
+        marks-length ws marks (fits .nodes .sound) short long (take count visited)
+        (λ i h. rw (getD-take count visited i 0 (omega (arith, n))) (fits .nodes .nodes i (omega (arith, n))))
+        ∙ sym (fits .links-are)
+
+    noted-is : noted ≡ fittedBoth (encoded rows-written) marks-written old beside
+    unfolding markedOut
+    noted-is =
+        ap₂ (λ (form : Canonical Label) (vs : List ℕ). markedOut form (marksAlong ws marks vs) old beside) (fits .form) (fits .order)
+
+    pub marked-short : length old < len → noted ≡ noting (marked.Written outcome.NoRoom) old beside
+    marked-short h = noted-is ∙ both-short (encoded rows-written) marks-written old beside (omega (arith, fits .length-is))
+
+    module _ (room : len ≤ length old) where
+      pub marked-narrow : length beside < links → noted ≡ noting marked.NoMarkRoom old beside
+      marked-narrow h =
+          noted-is
+          ∙ both-narrow (encoded rows-written) marks-written old beside (omega (arith, fits .length-is)) (omega (arith, marks-count))
+
+      pub marked-whole : links ≤ length beside →
+          noted ≡ noting (marked.Written (outcome.Length len)) (sets old 0 (encoded rows-written)) (sets beside 0 marks-written)
+      marked-whole h =
+          noted-is
+          ∙ both-room (encoded rows-written) marks-written old beside (omega (arith, fits .length-is)) (omega (arith, marks-count))
+          ∙ ap (λ (n : ℕ). noting (marked.Written (outcome.Length n)) (sets old 0 (encoded rows-written)) (sets beside 0 marks-written))
+          (fits .length-is)

@@ -2,3 +2,4 @@
 pub mod Encode
 pub mod NumberedRows
 pub mod Copies
+pub mod Marks

@@ -2,6 +2,7 @@
 
 pub mod canonical;
 pub mod encoder;
+pub mod marks;
 pub mod numbered;
 
 // What writing a graph answers: the record's length, or document 01's refusals 11 and 8.
@@ -9,4 +10,10 @@ pub enum Written {
     Length(usize),
     TooLarge,
     NoRoom,
+}
+
+// What writing a graph with marks beside it answers: what writing it does, or that there is no room for the marks.
+pub enum Marked {
+    Written(Written),
+    NoMarkRoom,
 }

@@ -10,3 +10,4 @@ pub mod Itself
 pub mod Output
 pub mod Meaning
 pub mod Appropriate
+pub mod Reasons

@@ -1,6 +1,6 @@
 -- From what renumbering, the order and the difference promise to what the call replies: s in written form has the rows that renumbering
 -- reads, and the difference along the order's node map is the difference.
-use mathlib.Core.Path.{_≡_, refl, sym, _∙_, ap, subst}
+use mathlib.Core.Path.{_≡_, refl, sym, _∙_, ap, ap₂, subst, fun-ext}
 use mathlib.Core.Bool.{Bool, true, false, cond}
 use mathlib.Core.List.{List, [], List·Memᴰ}
 use mathlib.Core.Option.{Option, Option·getD}
@@ -8,14 +8,16 @@ use Prim.Native.Nat.{ℕ, _<_}
 use native.Mathlib.Omega.{arith}
 use lib.Dec.{eqb}
 use lib.ListN.{length, getD}
+use Rattle.graphs.specs.Graph.{Graph as TypedGraph}
 use Rattle.graphs.specs.Map.{NodeMap}
 use Rattle.graphs.specs.Rows.{Row, from}
 use Rattle.graphs.specs.Number.{canonical}
 use Rattle.graphs.specs.Order.{subsumes}
-use Rattle.graphs.specs.Difference.{byNumber}
+use Rattle.graphs.specs.Difference.{Link, byNumber}
+use Rattle.graphs.specs.Reasons.{alongLinks, writtenOrder}
 use Rattle.graphs.proofs.Lists.{from-range, tells-eqb}
 use Rattle.graphs.proofs.Below.{map-below}
-use Rattle.graphs.proofs.Difference.Agree.{meetOver-agree, difference-agree}
+use Rattle.graphs.proofs.Difference.Agree.{meetOver-agree, reason-agree, difference-agree}
 use Rattle.lattice.specs.Label.{Label, noLabel}
 use Rattle.layout.specs.Layout.{size, labelAt, linksAt, graphOfRows, rowsOf, graphIn}
 use Rattle.layout.proofs.Rows.{rows-member}
@@ -36,7 +38,7 @@ use Rattle.record.proofs.Rewritten.{form-rules, rules-read}
 use Rattle.subsume.specs.declared.Order.{Order}
 use Rattle.subsume.specs.declared.Order.the-variants as order
 use Rattle.subsume.specs.Promise.{Orders}
-use Rattle.difference.specs.Promise.{wantedAlong, allWantedAlong, differenceAlong}
+use Rattle.difference.specs.Promise.{wantedAlong, allWantedAlong, differenceAlong, reasonsAlong}
 use Rattle.difference.specs.Asked.{Asked}
 use Rattle.engine.specs.declared.Side.{Side}
 use Rattle.engine.specs.declared.PairVerdict.{PairVerdict}
@@ -45,6 +47,7 @@ use Rattle.engine.specs.declared.Reply.{Reply}
 use Rattle.engine.specs.declared.Reply.the-variants.{Table, Graph, NotBelow, NoWantedType}
 use Rattle.engine.specs.Reply.{Result, resulting, resultOf, replyOf, refusing}
 use Rattle.engine.specs.Difference.{over, wantedAt, allWanted, differenceRows, differed, numbered, differedRows, differing}
+use Rattle.engine.specs.Explained.{reasonsRows}
 use Rattle.engine.specs.Pair.{ReadsBoth, parting}
 use Rattle.engine.specs.Renumbering.{Acceptable, Loaded, Comparable}
 use Rattle.engine.proofs.Readings.{Accepts, accepts-rules, accepts-reached, accepts-recorded, both-refused, both-next}
@@ -129,6 +132,15 @@ module _ (n : ℕ) (t : List ℕ) (s g : List (Row Label)) (map : List ℕ) (gen
       (λ y. getD map y 0) (over s g) (λ v. Option·getD (wantedAlong n t s g (λ y. getD map y 0) v) noLabel)
       (λ v. Option·getD (wantedAt n t s g v) noLabel) (λ y m. lies y (omega (arith, from-range 0 (length g) y m)))
       (λ v. ap (λ (o : Option Label). Option·getD o noLabel) (wanted-along v))
+
+  -- with its reasons
+  pub reasons-along : reasonsAlong n t s g (λ y. getD map y 0) ≡ reasonsRows n t g s
+  unfolding reasonsAlong
+  reasons-along =
+      ap₂ (λ (d : TypedGraph Label ℕ) (value : Link ℕ → ℕ → ℕ). alongLinks d value (writtenOrder eqb d)) difference-along
+      (fun-ext λ l. fun-ext λ v.
+      reason-agree eqb eqb (graphOfRows s) (from 0 (length s)) (graphOfRows g) (from 0 (length g)) (λ y. getD map y 0) (over s g)
+      (λ y m. lies y (omega (arith, from-range 0 (length g) y m))) byNumber l v)
 
 -- what the difference asks
 pub ready-below : (n : ℕ) (t g s : List ℕ) {answer : Order} {map : List ℕ} → Comparable n t g s →

@@ -9,6 +9,7 @@ pub mod Over
 pub mod CommonParts
 pub mod Combinations
 pub mod Differing
+pub mod Explaining
 pub mod Results
 pub mod Demanded
 pub mod Demands

@@ -1,18 +1,21 @@
 -- The change requests, one section for each paper and one theorem for each sentence, about the definitions that the calls are proved equal
--- to. The definitions that the statements use stand in `Reply`, `Unification`, `Difference`, `Before`, `Unranged`, `Appropriate` and
+-- to. The definitions that the statements use stand in `Reply`, `Unification`, `Difference`, `Explained`, `Before`, `Unranged`, `Appropriate` and
 -- `Demand`; the proofs are cited. n and t are the table, out and out′ are the outputs lent; a, b, c and d are the records.
 use mathlib.Core.Path.{_≡_, refl}
 use mathlib.Core.Bool.{Bool, true, false}
-use mathlib.Core.List.{List, [], _∷_}
-use mathlib.Core.Option.{some}
+use mathlib.Core.List.{List, [], _∷_, _++_}
+use mathlib.Core.Option.{some, none}
 use mathlib.Core.Logic.{_↔_, _⊎_}
-use Prim.Native.Nat.{ℕ, _+_, _*_, _<_}
+use Prim.Native.Nat.{ℕ, _+_, _*_, _≤_, _<_}
 use lib.Dec.{eqb}
-use lib.ListN.{length, getD, take}
-use Rattle.graphs.specs.Graph.{Graph, Tells, Below, SameMeaning}
+use lib.ListN.{length, getD, take, drop}
+use Rattle.graphs.specs.Graph.{Graph, Tells, Reached, Below, SameMeaning}
 use Rattle.graphs.specs.Rows.{Row}
 use Rattle.graphs.specs.Generalize.{IsGeneralization, generalization}
 use Rattle.lattice.specs.Label.{Label, plain}
+use Rattle.graphs.specs.Number.{canonical, written}
+use Rattle.graphs.specs.Large.{linksIn}
+use Rattle.graphs.specs.Reasons.{alongLinks, writtenOrder}
 use Rattle.lattice.specs.declared.Opened.the-variants.{Accepted}
 use Rattle.lattice.specs.Reply.{opened}
 use Rattle.lattice.specs.Labels.{tableLabels, OfAnySize, LeastOfAnySize, GreatestOfAnySize, IsCombination, SomeUnwanted}
@@ -32,10 +35,11 @@ use Rattle.record.specs.Appropriate.{listAccepted, appropriate, Appropriate}
 use Rattle.record.proofs.Accepted.{accepted-rules}
 use Rattle.record.proofs.Obeying as Obeying
 use Rattle.engine.specs.declared.Side.the-variants.{First, Second}
-use Rattle.engine.specs.declared.Reply.the-variants.{Length, Same, Under, Above, Neither, Graph as Refusal, Cycle, Clash, NotBelow, NoWantedType, TypeList}
+use Rattle.engine.specs.declared.Reply.the-variants.{Length, Same, Under, Above, Neither, Graph as Refusal, Cycle, Clash, NotBelow, NoWantedType, TypeList, NoReasonRoom}
 use Rattle.engine.specs.Reply.{resultOf, refusing, rewriting, ordering, generalizing}
 use Rattle.engine.specs.Unification.{unifying}
-use Rattle.engine.specs.Difference.{differing}
+use Rattle.engine.specs.Difference.{numbered, differing}
+use Rattle.engine.specs.Explained.{explainedResult, lengthOf, reasonsOf, explaining, reasonFor, LinkReason}
 use Rattle.engine.specs.Before.{differingBefore}
 use Rattle.engine.specs.Unranged.{
   rewritingTypes,
@@ -52,6 +56,7 @@ use Rattle.engine.proofs.Broader as Broader
 use Rattle.engine.proofs.Demands.{meaning-bytes, meaning-order, written-one-form, order-exact, difference-not-below}
 use Rattle.engine.proofs.Demanded.Order as Order
 use Rattle.engine.proofs.Demanded.Difference as Differed
+use Rattle.engine.proofs.Demanded.Reasons.{no-room-exact, link-reasons, reasons-are, reasons-count, beside-room, beside-short, beside-refused}
 use Rattle.engine.proofs.Demanded.Before.{differing-before, never-unwanted}
 use Rattle.engine.proofs.Demanded.Itself.{itself}
 use Rattle.engine.proofs.Unranged as Unranged
@@ -403,3 +408,46 @@ module _ (n : ℕ) (t a b : List ℕ) (g s : List (Row Label)) (given : Given n 
 
   pub restored-obeys-second : unifying n t a (take l (differing n t a b out .output)) room ≡ rewritingAppropriate n t list b room
   restored-obeys-second = Listing.restored-second n t a b g s given list out room l e passes
+
+-- Paper 13: the reason beside each kept link. a is the general record, b the specific one, `old` the second output as it is lent.
+module _ (n : ℕ) (t a b out old : List ℕ) where
+  -- The record and its reply are those of the plain call, where that gives a length and the reasons fit, "further bytes unchanged";
+  pub explained-record : (l : ℕ) → differing n t a b out .reply ≡ Length l → length (reasonsOf n t a b) ≤ length old →
+      explaining n t a b out old ≡
+      explainedResult (Length l) (differing n t a b out .output) (reasonsOf n t a b ++ drop (length (reasonsOf n t a b)) old)
+  unfolding explaining
+  explained-record = beside-room (differing n t a b out) (reasonsOf n t a b) out old
+
+  -- "too few bytes lent for the reasons gives 22, after 8, with both buffers unchanged";
+  pub explained-short : (l : ℕ) → differing n t a b out .reply ≡ Length l → length old < length (reasonsOf n t a b) →
+      explaining n t a b out old ≡ explainedResult NoReasonRoom out old
+  unfolding explaining
+  explained-short = beside-short (differing n t a b out) (reasonsOf n t a b) out old
+
+  -- 22 exactly there;
+  pub explained-no-room : (explaining n t a b out old .reply ≡ NoReasonRoom) ↔
+      ((l : ℕ) × (differing n t a b out .reply ≡ Length l) × (length old < length (reasonsOf n t a b)))
+  explained-no-room = no-room-exact n t a b out old
+
+  -- and every other refusal is that of the plain call, with both outputs unchanged.
+  pub explained-refused : lengthOf (differing n t a b out .reply) ≡ none →
+      explaining n t a b out old ≡ explainedResult (differing n t a b out .reply) out old
+  unfolding explaining
+  explained-refused = beside-refused (differing n t a b out) (reasonsOf n t a b) out old
+
+module _ (n : ℕ) (t a b : List ℕ) (g s : List (Row Label)) (given : Given n t a b g s) where
+  -- "One byte for each of its links, in record order": the reasons are those of the links of the difference, node after node as its
+  -- record numbers them, and each node's links by feature;
+  pub reasons-in-order : reasonsOf n t a b ≡
+      alongLinks (remainder n t g s) (λ l v. reasonFor n t g (numbered (canonical eqb (graphOfRows s))) l v) (writtenOrder eqb (remainder n t g s))
+  reasons-in-order = reasons-are n t a b g s given
+
+  -- as many as the record has links.
+  pub reasons-counted : (rows : List (Row Label)) → canonical eqb (remainder n t g s) ≡ written rows → length (reasonsOf n t a b) ≡ linksIn rows
+  reasons-counted = reasons-count n t a b g s given
+
+  -- "Each byte's fact is to be shown true of the two graphs": of each link of the difference, s being numbered as written.
+  pub reasons-true : Below (tableLabels n t) (graphOfRows s) (graphOfRows g) → (u f v : ℕ) →
+      Reached (graphOfRows (numbered (canonical eqb (graphOfRows s)))) u → remainder n t g s .link u f ≡ some v →
+      LinkReason n t g (numbered (canonical eqb (graphOfRows s))) u f v
+  reasons-true = link-reasons n t a b g s given

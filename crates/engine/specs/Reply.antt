@@ -26,7 +26,7 @@ use Rattle.engine.specs.declared.Side.the-variants.{First, Second}
 use Rattle.engine.specs.declared.kinds.Kind.{Kind}
 use Rattle.engine.specs.declared.kinds.Kind.the-variants as kind
 use Rattle.engine.specs.declared.Reply.{Reply}
-use Rattle.engine.specs.declared.Reply.the-variants.{Length, Same, Under, Above, Neither, Table, Graph, NoRoom, Cycle, Clash, TooLarge, NotBelow, NoWantedType, TypeList}
+use Rattle.engine.specs.declared.Reply.the-variants.{Length, Same, Under, Above, Neither, Table, Graph, NoRoom, Cycle, Clash, TooLarge, NotBelow, NoWantedType, TypeList, NoReasonRoom}
 
 -- what a reply tells: a refusal has a number, and one of a graph tells which of the two it is
 abbrev pub kindOf : Reply → Kind
@@ -44,6 +44,7 @@ kindOf TooLarge = kind.Refused 11
 kindOf NotBelow = kind.Refused 12
 kindOf NoWantedType = kind.Refused 13
 kindOf TypeList = kind.Refused 17
+kindOf NoReasonRoom = kind.Refused 22
 
 abbrev pub refusalIn : Kind → Option ℕ
 refusalIn (kind.Length l) = none

@@ -10,6 +10,7 @@ ghost use lib.ListN.{length};
 ghost use Rattle.lattice.specs.Table.{accepted};
 ghost use Rattle.layout.specs.Layout.{longest, rowsOf};
 ghost use Rattle.engine.specs.Difference.{differed};
+ghost use Rattle.engine.specs.Explained.{beside, explainedResult, reasonsOf, reasonsRows};
 ghost use Rattle.engine.specs.Reply.{resulting};
 ghost use Rattle.engine.specs.Pair.{parting};
 ghost use Rattle.engine.specs.Renumbering.{Comparable};
@@ -62,4 +63,59 @@ fn difference_below<'a>(
         return Reply::NoWantedType;
     }
     crate::reply_of(difference::difference(n, table, g, s, &map, &labels, words, out))
+}
+
+// The difference of two records with the reasons for its links, over an accepted table with n types.
+pub fn explain_over<'a>(
+    n: usize,
+    table: &'a [u8],
+    first: &[u8],
+    second: &[u8],
+    out: &mut [u8],
+    reasons: &mut [u8],
+) -> Reply
+    requires { ⌜ accepted n (now table) ≡ true ⌝ }
+    ensures { λ r. ⌜ explainedResult r (now (out .exit)) (now (reasons .exit))
+        ≡ beside (parting n (now (table .entry)) (now (first .entry)) (now (second .entry)) (now (out .entry)))
+        (reasonsOf n (now (table .entry)) (now (first .entry)) (now (second .entry))) (now (out .entry)) (now (reasons .entry)) ⌝ }
+{
+    let mut g = [layout::BLANK; layout::LONGEST];
+    let mut given = [layout::BLANK; layout::LONGEST];
+    let verdict = crate::both::read_both(n, first, second, &mut g, &mut given);
+    match verdict {
+        PairVerdict::Refused(fault, side) => Reply::Graph(fault, side),
+        PairVerdict::Both => {
+            // an accepted graph can be written: the words alone are wanted
+            let mut s = [layout::BLANK; layout::LONGEST];
+            encode::numbered::renumber(&given, &mut s);
+            explain_below(n, table, &g, &s, out, reasons)
+        }
+    }
+}
+
+// The difference of g and s with the reasons for its links, where s is below g and each of its nodes has a wanted type.
+fn explain_below<'a>(
+    n: usize,
+    table: &'a [u8],
+    g: &'a [u16],
+    s: &'a [u16],
+    out: &mut [u8],
+    reasons: &mut [u8],
+) -> Reply
+    requires { ⌜ Comparable n (now table) (now g) (now s) ⌝ }
+    ensures { λ r. ⌜ explainedResult r (now (out .exit)) (now (reasons .exit))
+        ≡ beside (differed n (now (table .entry)) (now (out .entry)) (rowsOf (now (g .entry))) (rowsOf (now (s .entry))))
+        (reasonsRows n (now (table .entry)) (rowsOf (now (g .entry))) (rowsOf (now (s .entry)))) (now (out .entry)) (now (reasons .entry)) ⌝ }
+{
+    let ordered = subsume::subsume(table, s, g);
+    let order = ordered.order;
+    let Order::Below = order else {
+        return Reply::NotBelow;
+    };
+    let map = ordered.map;
+    let mut labels = [0u16; 510];
+    if !difference::wanted::wanted_labels(n, table, g, s, &map, &mut labels) {
+        return Reply::NoWantedType;
+    }
+    crate::marked_reply(difference::explain(n, table, g, s, &map, &labels, out, reasons))
 }

@@ -1,6 +1,7 @@
 // The public calls on bytes: a table, one or two records, and an output that the caller lends. Every call answers a `Reply`; on a
 // refusal no byte of the output is written.
 
+use encode::Marked;
 use encode::Written;
 use lattice::Opened;
 use lattice::TableFault;
@@ -21,6 +22,7 @@ ghost use Rattle.engine.specs.Unification.{unifying};
 ghost use Rattle.engine.specs.Difference.{differing};
 ghost use Rattle.engine.specs.Appropriate.{rewritingAppropriate, generalizingAppropriate, unifyingAppropriate};
 ghost use Rattle.engine.specs.Pair.{JoinsReady, afterReading, afterBoth, joined, met, combinedReply};
+ghost use Rattle.engine.specs.Explained.{explaining, explainedResult, markedReply};
 
 mod both;
 mod differences;
@@ -48,6 +50,7 @@ pub enum Reply {
     NotBelow,
     NoWantedType,
     TypeList,
+    NoReasonRoom,
 }
 
 // Whether two records are accepted; else the first refusal and which graph it tells of.
@@ -323,5 +326,35 @@ pub fn difference(n: usize, table: &[u8], first: &[u8], second: &[u8], out: &mut
     match opened {
         Opened::Refused(fault) => Reply::Table(fault),
         Opened::Accepted => differences::difference_over(n, table, first, second, out),
+    }
+}
+
+// The same, and beside the record one byte for each of its links, in record order: the reason why the link is kept (document 02, Paper
+// 13).
+pub fn difference_explained(
+    n: usize,
+    table: &[u8],
+    first: &[u8],
+    second: &[u8],
+    out: &mut [u8],
+    reasons: &mut [u8],
+) -> Reply
+    ensures { λ r. ⌜ explainedResult r (now (out .exit)) (now (reasons .exit))
+        ≡ explaining n (now (table .entry)) (now (first .entry)) (now (second .entry)) (now (out .entry)) (now (reasons .entry)) ⌝ }
+{
+    let opened = lattice::accept(n, table);
+    match opened {
+        Opened::Refused(fault) => Reply::Table(fault),
+        Opened::Accepted => differences::explain_over(n, table, first, second, out, reasons),
+    }
+}
+
+// What writing a result with reasons answers, as a reply.
+fn marked_reply(marked: Marked) -> Reply
+    ensures { λ r. ⌜ r ≡ markedReply marked ⌝ }
+{
+    match marked {
+        Marked::Written(written) => reply_of(written),
+        Marked::NoMarkRoom => Reply::NoReasonRoom,
     }
 }

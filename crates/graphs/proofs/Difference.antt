@@ -16,3 +16,4 @@ pub mod Consequences
 pub mod Unique
 pub mod Agree
 pub mod Computed
+pub mod Reasons

@@ -12,3 +12,4 @@ pub mod Search
 pub mod Unification
 pub mod Difference
 pub mod Theorems
+pub mod Reasons

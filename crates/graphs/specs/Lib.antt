@@ -10,3 +10,4 @@ pub mod Generalize
 pub mod Order
 pub mod Unify
 pub mod Difference
+pub mod Reasons

@@ -1,8 +1,22 @@
--- What the exported functions yield: the code of a reply, and the output beside it.
+-- What the exported functions yield: the code of a reply, and the output beside it, or two.
+use mathlib.Core.List.{List}
 use Prim.Native.Nat.{ℕ}
 use Rattle.encode.specs.Encode.{Yield, yielding}
 use Rattle.engine.specs.Reply.{Result}
+use Rattle.engine.specs.Explained.{Explained}
 use Rattle.record_engine.specs.Code.{codeOf}
 
 abbrev pub coded : Result → Yield ℕ
 coded result = yielding (codeOf (result .reply)) (result .output)
+
+-- a code, and what two outputs hold at the end
+pub record YieldBoth : Type 0 where
+  pub answer : ℕ
+  pub output : List ℕ
+  pub reasons : List ℕ
+
+abbrev pub yieldingBoth : ℕ → List ℕ → List ℕ → YieldBoth
+yieldingBoth answer output reasons = record { answer = answer; output = output; reasons = reasons }
+
+abbrev pub codedBoth : Explained → YieldBoth
+codedBoth result = yieldingBoth (codeOf (result .reply)) (result .output) (result .reasons)

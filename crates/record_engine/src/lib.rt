@@ -1,5 +1,5 @@
 // The engine's calls for programs in other languages: a static library whose functions take a number of types, a table, one or two
-// records and an output, each slice as a pointer and a length, and answer one number. One function gives the table of the house
+// records and an output or two, each slice as a pointer and a length, and answer one number. One function gives the table of the house
 // types.
 
 use engine::Reply;
@@ -12,8 +12,9 @@ ghost use Rattle.engine.specs.Reply.{rewriting, ordering, generalizing};
 ghost use Rattle.engine.specs.Unification.{unifying};
 ghost use Rattle.engine.specs.Difference.{differing};
 ghost use Rattle.engine.specs.Appropriate.{rewritingAppropriate, generalizingAppropriate, unifyingAppropriate};
+ghost use Rattle.engine.specs.Explained.{explaining};
 ghost use Rattle.record_engine.specs.Code.{codeOf, refusalCode, sideNumber};
-ghost use Rattle.record_engine.specs.Coded.{coded};
+ghost use Rattle.record_engine.specs.Coded.{coded, codedBoth, yieldingBoth};
 ghost use Rattle.record_engine.specs.House.{tabling};
 
 // A record in written form: the code of the reply, and the output that the engine leaves.
@@ -116,6 +117,23 @@ pub extern "C" fn record_difference(
     ensures { λ r. ⌜ yielding r (now (out .exit)) ≡ coded (differing n (now (table .entry)) (now (first .entry)) (now (second .entry)) (now (out .entry))) ⌝ }
 {
     code(engine::difference(n, table, first, second, out))
+}
+
+// The difference, and in a second output the reason for each link of its record: the code of the reply, and the outputs that the engine
+// leaves.
+#[no_mangle]
+pub extern "C" fn record_difference_explained(
+    n: usize,
+    table: &[u8],
+    first: &[u8],
+    second: &[u8],
+    out: &mut [u8],
+    reasons: &mut [u8],
+) -> u64
+    ensures { λ r. ⌜ yieldingBoth r (now (out .exit)) (now (reasons .exit))
+        ≡ codedBoth (explaining n (now (table .entry)) (now (first .entry)) (now (second .entry)) (now (out .entry)) (now (reasons .entry))) ⌝ }
+{
+    code(engine::difference_explained(n, table, first, second, out, reasons))
 }
 
 // The type table of the house types, for n = 64: the code of the reply, and the output that the engine leaves.

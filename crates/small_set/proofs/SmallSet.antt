@@ -49,6 +49,7 @@ use Rattle.graphs.specs.Difference.{
   meetWhere,
   byNumber,
 }
+use Rattle.graphs.specs.Reasons.{reasonAt, writtenOrder, alongLinks}
 use Rattle.lattice.specs.declared.TableFault.the-variants.{Bounds}
 use Rattle.lattice.specs.declared.Opened.the-variants.{Accepted, Refused}
 use Rattle.lattice.specs.Table.{
@@ -87,15 +88,16 @@ use Rattle.record.specs.Appropriate.{listAccepted, readingAppropriate, appropri
 use Rattle.record.proofs.Accepted.{accepted-rules}
 use Rattle.record.proofs.Theorems.{accepted-of-any-size}
 use Rattle.generalize.specs.Pairs.{samePair}
-use Rattle.difference.specs.Promise.{wantedAlong, allWantedAlong, differenceAlong}
+use Rattle.difference.specs.Promise.{wantedAlong, allWantedAlong, differenceAlong, reasonsAlong}
 use Rattle.engine.specs.Reply.{rewriting, generalized, generalizing, ordered as comparing, ordering}
 use Rattle.engine.specs.Unification.{unifiedRows, unifying}
 use Rattle.engine.specs.Appropriate.{rewritingAppropriate, generalizingAppropriate}
 use Rattle.engine.specs.Difference.{firstAt, over, wantedAt, allWanted, differenceRows, differed, differedRows, differing}
+use Rattle.engine.specs.Explained.{reasonsOf, explaining}
 use Rattle.engine.specs.declared.Reply.the-variants.{NoWantedType}
 use Rattle.engine.proofs.Demanded.Wanted.{meet-known, label-below, wanted-exact}
 use Rattle.engine.proofs.Requests.{unwanted-exact, itself-lone-top}
-use Rattle.small_set.specs.Cases.{threeMiddles, twoOverTwo, NeverUnwanted, ItselfTop, AllHold, none-left, _and_, cases, SmallSet, FourAnswers}
+use Rattle.small_set.specs.Cases.{threeMiddles, twoOverTwo, NeverUnwanted, ItselfTop, AllHold, none-left, _and_, cases, SmallSet, FourAnswers, Reasons}
 
 all-hold : AllHold cases
 unfolding
@@ -212,3 +214,19 @@ unfolding
     subsumes walks fitsAt flatMap
 four-answers =
     record { itself = refl; unshared = refl; shared = refl; typed = refl; untyped = refl; apart = refl }
+
+-- The reasons of Paper 13, computed.
+pub reasons : Reasons
+unfolding
+    bind orElse
+    explaining reasonsOf reasonsAlong reasonAt alongLinks writtenOrder
+    differing differedRows differed allWantedAlong differenceAlong wantedAlong over firstAt
+    opened sized ordered confined reflexive antisymmetric transitive least greatest bounded meet isMeet join isJoin every last below
+    restores isWanted wanted wantedLabel
+    reading decoded takeRows takeRow labelLength labelOf takeLinks bitOf inRange labelInRange allOf cyclic anyOf deep reachesAll
+    canonical visit each member target from linkCount outDegree rowOf linksOf indexOf
+    writtenOut fitted encoded encodedRows encodedRow encodedLabel isFull bitsFrom
+    subsumes walks fitsAt flatMap
+    difference differ keptLink keeps keptItself lead leaders groupOf spread touch bare covers incoming select linksFrom leastOf
+    meetOver meetWhere byNumber
+reasons = record { wanted = refl; shared = refl; rejoined = refl; added = refl; no-room = refl }

@@ -8,12 +8,13 @@ use lib.ListN.{length, drop, replicate}
 use Rattle.graphs.specs.Rows.{Row}
 use Rattle.lattice.specs.Label.{Label}
 use Rattle.record.specs.Read.{reading, accepted}
-use Rattle.engine.specs.declared.Reply.the-variants.{Length, Same, Under, Above, Neither, NoWantedType}
+use Rattle.engine.specs.declared.Reply.the-variants.{Length, Same, Under, Above, Neither, NoWantedType, NoReasonRoom}
 use Rattle.engine.specs.declared.Reply.{Reply}
 use Rattle.engine.specs.Reply.{Result, refusal, resultOf, rewriting, generalizing, ordering}
 use Rattle.engine.specs.Unification.{unifying}
 use Rattle.engine.specs.Difference.{differing}
 use Rattle.engine.specs.Appropriate.{rewritingAppropriate, generalizingAppropriate}
+use Rattle.engine.specs.Explained.{explaining, explainedResult}
 use Rattle.engine.specs.Demand.{loneTop}
 use Rattle.encode.specs.Encode.{fitted}
 
@@ -241,3 +242,24 @@ pub record FourAnswers : Type 0 where
   pub typed : Orders R P Under
   pub untyped : Orders P R Above
   pub apart : Orders (lone a) (lone b) Neither
+
+-- the output lent for reasons
+abbrev pub lentBeside : List ℕ
+lentBeside = replicate 4 0xDD
+
+-- the difference over the diamond gives a record and the reasons for its links
+abbrev pub Explains : List ℕ → List ℕ → List ℕ → List ℕ → Type 0
+Explains general specific bytes reasons =
+    explaining (diamond .count) (diamond .table) general specific lent lentBeside ≡
+    explainedResult (Length (length bytes)) (bytes ++ drop (length bytes) lent) (reasons ++ drop (length reasons) lentBeside)
+
+-- Paper 13: cases 7, 8 and 11 with their reasons, a link that nothing of the general graph lies over, and too few bytes for the reasons.
+pub record Reasons : Type 0 where
+  -- the shared node is kept for its type, by one link
+  pub wanted : Explains P R (2 ∷ node top 0x01 (1 ∷ []) ++ leaf a) (3 ∷ [])
+  -- "R from Q has two groups at the shared node"
+  pub shared : Explains Q R R (2 ∷ 2 ∷ [])
+  pub rejoined : Explains (3 ∷ node top 0x07 (1 ∷ 1 ∷ 2 ∷ []) ++ leaf top ++ leaf top) (2 ∷ node top 0x07 (1 ∷ 1 ∷ 1 ∷ []) ++ leaf top)
+      (2 ∷ node top 0x05 (1 ∷ 1 ∷ []) ++ leaf top) (2 ∷ 2 ∷ [])
+  pub added : Explains (lone top) (2 ∷ node top 0x01 (1 ∷ []) ++ leaf top) (2 ∷ node top 0x01 (1 ∷ []) ++ leaf top) (1 ∷ [])
+  pub no-room : explaining (diamond .count) (diamond .table) Q R lent (0xDD ∷ []) ≡ explainedResult NoReasonRoom lent (0xDD ∷ [])

@@ -138,7 +138,7 @@ fn judged_by_list(
 }
 
 /// The reply of a call of the proved engine that writes a record.
-fn written(result: Result<usize, Refusal>) -> Reply {
+pub fn written(result: Result<usize, Refusal>) -> Reply {
     result.map_or_else(refused, Reply::Length)
 }
 
@@ -179,5 +179,6 @@ fn refused(refusal: Refusal) -> Reply {
         Refusal::NotBelow => reply::Refusal::NotBelow,
         Refusal::NoWantedType => reply::Refusal::NoWantedType,
         Refusal::TypeList => reply::Refusal::TypeList,
+        Refusal::NoRoomForReasons => reply::Refusal::ShortReasons,
     })
 }

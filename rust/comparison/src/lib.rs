@@ -5,10 +5,12 @@
 
 mod calls;
 pub mod cases;
+mod explained;
 pub mod program;
 
 pub use calls::{Call, DIFFERENCE, GENERALIZE, ORDER, REWRITE, UNIFY};
 pub use calls::{GENERALIZE_APPROPRIATE, REWRITE_APPROPRIATE, UNIFY_APPROPRIATE};
+pub use explained::Explanations;
 
 use reference::order::Order;
 use reference::random::{self, TableBytes, Xorshift};
@@ -20,7 +22,7 @@ use std::thread;
 const MARGIN: usize = 16;
 
 /// One more than the greatest number of a refusal.
-const NUMBERS: usize = 19;
+const NUMBERS: usize = 23;
 
 /// The stack that the header, the wrapper and the README state for a call.
 const STACK: usize = 256 << 10;
@@ -35,13 +37,61 @@ pub fn on_stated_stack<T: Send>(calls: impl FnOnce() -> T + Send) -> T {
     })
 }
 
+/// An output in the midst of bytes that tell a stray write.
+#[derive(Clone, PartialEq, Eq)]
+struct Lent {
+    bytes: Vec<u8>,
+}
+
+impl Lent {
+    /// An output of a given length that holds any bytes.
+    fn new(random: &mut Xorshift, room: usize) -> Lent {
+        let start = random.pick(256);
+        let bytes = (0..MARGIN + room + MARGIN).map(|place| (start + 167 * place) as u8);
+        Lent {
+            bytes: bytes.collect(),
+        }
+    }
+
+    fn output(&mut self) -> &mut [u8] {
+        let end = self.bytes.len() - MARGIN;
+        &mut self.bytes[MARGIN..end]
+    }
+
+    /// The first bytes of the output, so many.
+    fn first(&self, count: usize) -> Vec<u8> {
+        self.bytes[MARGIN..MARGIN + count].to_vec()
+    }
+}
+
+/// How often each length and each refusal came, by the papers' numbers; lengths at 0.
+#[derive(Debug, Default)]
+struct Replies([usize; NUMBERS]);
+
+impl Replies {
+    fn count(&mut self, reply: Reply) {
+        self.0[usize::from(reply.number().unwrap_or(0))] += 1;
+    }
+
+    /// From the stored seeds, each of these came at least so often, and no other at all.
+    fn assert(&self, numbers: &[usize], least: usize) {
+        for (number, &count) in self.0.iter().enumerate() {
+            let enough = match numbers.contains(&number) {
+                true => count >= least,
+                false => count == 0,
+            };
+            let enough = enough || !random::is_stored();
+            assert!(enough, "reply {number}: {self:?}");
+        }
+    }
+}
+
 /// Both engines at one call, and how often each reply came.
 pub struct Comparison {
     call: Call,
     random: Xorshift,
     inputs: usize,
-    /// The number of replies by the papers' number, lengths at 0.
-    replies: [usize; NUMBERS],
+    replies: Replies,
     /// The number of refusals of the first graph and of the second, by the papers' number.
     sides: [[usize; 2]; NUMBERS],
     /// The number of the order's answers, by their places in `Order::ALL`.
@@ -55,7 +105,7 @@ impl Comparison {
             call,
             random: Xorshift::stored(seed),
             inputs: 0,
-            replies: [0; NUMBERS],
+            replies: Replies::default(),
             sides: [[0; 2]; NUMBERS],
             answers: [0; 4],
         }
@@ -90,17 +140,13 @@ impl Comparison {
         reply
     }
 
-    /// One call of each engine with an output of a given length in the midst of
-    /// bytes that tell a stray write: the reply, and the record that was written.
+    /// One call of each engine with an output of a given length: the reply, and the
+    /// record that was written.
     pub fn call(&mut self, table: &TableBytes, records: &[&[u8]], room: usize) -> (Reply, Vec<u8>) {
-        let start = self.random.pick(256);
-        let before: Vec<u8> = (0..MARGIN + room + MARGIN)
-            .map(|place| (start + 167 * place) as u8)
-            .collect();
-        let (mut by_engine, mut by_reference) = (before.clone(), before);
-        let output = MARGIN..MARGIN + room;
-        let engine = (self.call.engine)(table, records, &mut by_engine[output.clone()]);
-        let reference = (self.call.reference)(table, records, &mut by_reference[output]);
+        let mut by_engine = Lent::new(&mut self.random, room);
+        let mut by_reference = by_engine.clone();
+        let engine = (self.call.engine)(table, records, by_engine.output());
+        let reference = (self.call.reference)(table, records, by_reference.output());
         assert_eq!(
             engine, reference,
             "an output of {room} bytes, {table:?}, the records {records:?}"
@@ -112,7 +158,7 @@ impl Comparison {
         let number = usize::from(reference.number().unwrap_or(0));
         match reference {
             Reply::Order(order) => self.answers[order as usize] += 1,
-            _ => self.replies[number] += 1,
+            _ => self.replies.count(reference),
         }
         if let Reply::Refused(Refusal::Graph(_, which)) = reference {
             self.sides[number][which as usize] += 1;
@@ -121,20 +167,13 @@ impl Comparison {
             Reply::Length(length) => length,
             _ => 0,
         };
-        (reference, by_engine[MARGIN..MARGIN + length].to_vec())
+        (reference, by_engine.first(length))
     }
 
     /// From the stored seeds, each of these replies came at least so often, and no other
     /// at all; 0 is a length.
     pub fn assert_replies(&self, numbers: &[usize], least: usize) {
-        for (number, &count) in self.replies.iter().enumerate() {
-            let enough = match numbers.contains(&number) {
-                true => count >= least,
-                false => count == 0,
-            };
-            let enough = enough || !random::is_stored();
-            assert!(enough, "reply {number}: {:?}", self.replies);
-        }
+        self.replies.assert(numbers, least);
     }
 
     /// From the stored seeds, each of these refusals came at least so often of the first

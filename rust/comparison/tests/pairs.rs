@@ -5,35 +5,9 @@
 
 use comparison::{Call, Comparison, DIFFERENCE, GENERALIZE, ORDER, UNIFY};
 use reference::graph::{Graph, Node};
-use reference::random::{self, Ranges, Shape, TableBytes, Xorshift};
-use reference::record::{self, MOST_LINKS, MOST_NODES};
+use reference::random::{self, Ranges, Shape, Xorshift};
+use reference::record::{self, MOST_NODES};
 use reference::reply::Reply;
-use reference::table::Table;
-
-/// Two records over a table: mostly those of a pair of graphs, sometimes one or
-/// both of them damaged.
-fn records(
-    random: &mut Xorshift,
-    table: &TableBytes,
-    shape: &Shape,
-    ranges: Ranges,
-) -> [Vec<u8>; 2] {
-    // A table that is refused may state any n.
-    let n = table.n.clamp(2, 64);
-    let mut records = match Table::accept(table.n, &table.bytes) {
-        Ok(accepted) => {
-            let (first, second) = random::pair(random, &accepted, shape);
-            [first, second].map(|graph| random::record_of(random, &graph, ranges))
-        }
-        Err(_) => [0, 1].map(|_| random::valid_record(random, n, ranges)),
-    };
-    for record in &mut records {
-        if random.chance(1, 16) {
-            *record = random::damaged_record(random, n, ranges);
-        }
-    }
-    records
-}
 
 /// At least 20,000 pairs of mostly small graphs, and some of any size.
 fn compare_pairs(call: Call, seed: u64, ranges: Ranges) -> Comparison {
@@ -50,7 +24,7 @@ fn compare_pairs(call: Call, seed: u64, ranges: Ranges) -> Comparison {
                 false => Shape::small(random, 9, 4),
             };
             let shape = shape.ranged(random, ranges);
-            let [first, second] = records(random, &table, &shape, ranges);
+            let [first, second] = random::pair_of_records(random, &table, &shape, ranges);
             compared.check(&table, &[&first, &second]);
         }
     }
@@ -63,17 +37,7 @@ fn compare_large(call: Call, seed: u64, ranges: Ranges) -> Comparison {
     let random = &mut Xorshift::stored(seed + 1);
     for _ in 0..400 {
         let table = random::valid_table(random);
-        let features = *random.choose(&[2, 8, 64]);
-        let nodes = *random.choose(&[40, 200, 254, MOST_NODES]);
-        let shape = Shape {
-            nodes,
-            extra_links: random.pick(2 * MOST_LINKS),
-            features: (0..features).collect(),
-            spread: *random.choose(&[1, 2, 20, MOST_NODES]),
-            tops: random.pick(5),
-            ranges: 0,
-        };
-        let shape = shape.ranged(random, ranges);
+        let shape = Shape::large(random).ranged(random, ranges);
         let (first, second) = random::pair(random, &table.accepted(), &shape);
         let records = [first, second].map(|graph| random::record_of(random, &graph, ranges));
         compared.check(&table, &[&records[0], &records[1]]);

@@ -8,7 +8,7 @@
 //! `rt staticlib record_engine` writes to the repository's `target/staticlib`. The
 //! environment variable `RECORD_ENGINE_LIB_DIR` has the absolute path of another
 //! folder with it.
-//! On a refusal no byte of the output is changed. On success the output's first
+//! On a refusal no byte of an output is changed. On success the output's first
 //! bytes are the record and its other bytes are unchanged.
 //!
 //! # Type table
@@ -88,14 +88,20 @@
 #![warn(missing_docs)]
 
 mod code;
+mod reason;
 mod refusal;
 
+pub use reason::Reason;
 pub use refusal::{GraphFault, Refusal, Side, TableFault};
 
 use code::Answer;
 
 /// The length of the longest record: an output of so many bytes is never too short.
 pub const LONGEST_RECORD: usize = 4854;
+
+/// The most links that a record has: so many bytes are never too few for the reasons of
+/// [`difference_explained`].
+pub const MOST_LINKS: usize = 2048;
 
 /// Which of two graphs is the broader, seen from the first.
 #[derive(Clone, Copy, Debug, PartialEq, Eq, Hash)]
@@ -243,6 +249,20 @@ unsafe extern "C" {
         second_length: usize,
         output: *mut u8,
         output_length: usize,
+    ) -> u64;
+
+    fn record_difference_explained(
+        n: usize,
+        table: *const u8,
+        table_length: usize,
+        first: *const u8,
+        first_length: usize,
+        second: *const u8,
+        second_length: usize,
+        output: *mut u8,
+        output_length: usize,
+        reasons: *mut u8,
+        reasons_length: usize,
     ) -> u64;
 
     fn record_house_table(output: *mut u8, output_length: usize) -> u64;
@@ -540,6 +560,62 @@ pub fn unify_appropriate(
 ) -> Result<usize, Refusal> {
     let call = record_unify_appropriate;
     write_pair_by_list(call, n, table, list, [first, second], output)
+}
+
+/// Writes the difference of two records as [`difference`] does, and beside it one byte
+/// for each of its links: the [`Reason`] for which it is kept. The bytes stand first in
+/// `reasons`, in the order of the links in the written record, node by node and for each
+/// node by feature; the others are unchanged. Gives the length of the record.
+///
+/// Refused by 1 to 7, then by 12, 13, 8 and 22.
+///
+/// ```
+/// use record_engine::{LONGEST_RECORD, MOST_LINKS, Reason};
+/// let diamond = record_engine::table(&[0x01, 0x03, 0x05, 0x0F]).expect("at most 8 types");
+/// // The features 0 and 1 of the root lead to two nodes in the general record, and to one
+/// // node in the specific one.
+/// let general = [
+///     3, 3, 3, 0, 0, 0, 0, 0, 0, 0, 1, 2, 3, 0, 0, 0, 0, 0, 0, 0, 0, 3, 0, 0, 0, 0, 0, 0, 0, 0,
+/// ];
+/// let specific = [2, 3, 3, 0, 0, 0, 0, 0, 0, 0, 1, 1, 1, 0, 0, 0, 0, 0, 0, 0, 0];
+/// let (mut output, mut reasons) = ([0; LONGEST_RECORD], [0; MOST_LINKS]);
+/// let length = record_engine::difference_explained(
+///     4, &diamond, &general, &specific, &mut output, &mut reasons,
+/// )?;
+/// // Why does the shared node stand in the difference? Its two links are the only ones.
+/// assert_eq!(output[..length], specific);
+/// for (feature, &byte) in reasons[..2].iter().enumerate() {
+///     let reason = Reason::of(byte).expect("a reason for each link");
+///     println!("feature {feature} leads to the shared node: {reason}");
+///     assert_eq!(reason, Reason::Groups);
+/// }
+/// # Ok::<(), record_engine::Refusal>(())
+/// ```
+pub fn difference_explained(
+    n: usize,
+    table: &[u8],
+    general: &[u8],
+    specific: &[u8],
+    output: &mut [u8],
+    reasons: &mut [u8],
+) -> Result<usize, Refusal> {
+    // SAFETY: as in `rewrite`; the two outputs are borrowed apart from each other.
+    let code = unsafe {
+        record_difference_explained(
+            n,
+            table.as_ptr(),
+            table.len(),
+            general.as_ptr(),
+            general.len(),
+            specific.as_ptr(),
+            specific.len(),
+            output.as_mut_ptr(),
+            output.len(),
+            reasons.as_mut_ptr(),
+            reasons.len(),
+        )
+    };
+    length(code)
 }
 
 /// Fills the output's first [`HOUSE_TABLE_LENGTH`] bytes with the table of the house

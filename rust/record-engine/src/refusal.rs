@@ -39,7 +39,7 @@ pub enum Side {
     Second,
 }
 
-/// Why a call has no result. The output is then as it was.
+/// Why a call has no result. Each output is then as it was.
 #[derive(Clone, Copy, Debug, PartialEq, Eq, Hash)]
 pub enum Refusal {
     /// 1 to 3: the table.
@@ -62,11 +62,13 @@ pub enum Refusal {
     NoWantedType,
     /// 17: the list is not of 64 bytes or has an entry of n or more.
     TypeList,
+    /// 22: difference with reasons, it has more links than bytes are lent for the reasons.
+    NoRoomForReasons,
 }
 
 impl Refusal {
     /// Every refusal.
-    pub const ALL: [Refusal; 20] = [
+    pub const ALL: [Refusal; 21] = [
         Refusal::Table(TableFault::Size),
         Refusal::Table(TableFault::Order),
         Refusal::Table(TableFault::Bounds),
@@ -87,6 +89,7 @@ impl Refusal {
         Refusal::NotBelow,
         Refusal::NoWantedType,
         Refusal::TypeList,
+        Refusal::NoRoomForReasons,
     ];
 
     /// The number of this refusal in documents 01 and 02.
@@ -112,6 +115,7 @@ impl Refusal {
             Refusal::NotBelow => 12,
             Refusal::NoWantedType => 13,
             Refusal::TypeList => 17,
+            Refusal::NoRoomForReasons => 22,
         }
     }
 
@@ -146,6 +150,7 @@ impl fmt::Display for Refusal {
             Refusal::NoWantedType => "a node of the second record has no wanted type",
             Refusal::TypeList => "the list has not one type for each of the 64 features",
             Refusal::TooLarge => "the result has more than 255 nodes or 2,048 links",
+            Refusal::NoRoomForReasons => "fewer bytes are lent for reasons than there are links",
         };
         write!(formatter, "refused {}", self.number())?;
         match self.side() {

@@ -1,14 +1,15 @@
-//! The calls on bytes: rewriting, order, common part, combination, difference; the
-//! first, third and fourth also with a list of types for features (Paper 9). Checks run
-//! in this order: the table (1, 2, 3), the list (17), the first graph and then the
-//! second (4 to 7, and 18 by the list), then 12, 13, 9, 10, 11 and 8. The output changes
-//! only where a length is returned, and then only its first bytes.
+//! The calls on bytes: rewriting, order, common part, combination, difference, and the
+//! difference with its reasons (Paper 13); the first, third and fourth also with a list
+//! of types for features (Paper 9). Checks run in the papers' order: the table (1, 2, 3),
+//! the list (17), the first graph and then the second (4 to 7, and 18 by the list), then
+//! 12, 13, 9, 10, 11, 8 and 22. An output changes only where a length is returned, and
+//! then only its first bytes.
 
 use crate::appropriateness::Appropriateness;
 use crate::canonical::canonical;
 use crate::combination::unification;
 use crate::common::generalization;
-use crate::difference;
+use crate::difference::{self, Explained};
 use crate::graph::Graph;
 use crate::order;
 use crate::record::{self, GraphFault, LONGEST_RECORD, MOST_LINKS, MOST_NODES};
@@ -129,6 +130,22 @@ pub fn difference(n: usize, table: &[u8], g: &[u8], s: &[u8], output: &mut [u8])
     reply(result)
 }
 
+/// The difference, and in a second output one byte for each of its links, in record
+/// order: why it is kept.
+pub fn difference_explained(
+    n: usize,
+    table: &[u8],
+    g: &[u8],
+    s: &[u8],
+    output: &mut [u8],
+    reasons: &mut [u8],
+) -> Reply {
+    let result = accept(n, table, g, s)
+        .and_then(|(table, g, s)| difference::difference_explained(&table, &g, &s))
+        .and_then(|explained| deliver_explained(&explained, output, reasons));
+    reply(result)
+}
+
 /// A table and two graphs, or why one of them is refused.
 type Accepted = Result<(Table, Graph, Graph), Refusal>;
 
@@ -201,15 +218,44 @@ fn deliver_combination(accepted: Accepted, output: &mut [u8]) -> Reply {
 /// Writes a result in canonical form: 11 if it is too large for a record, 8 if
 /// the output is too short, else its bytes and its length.
 fn deliver(graph: &Graph, output: &mut [u8]) -> Result<Reply, Refusal> {
+    let record = fitting_record(graph, output)?;
+    put(&record, output);
+    Ok(Reply::Length(record.len()))
+}
+
+/// Writes a difference and its reasons: 11 and 8 as without reasons, then 22 if
+/// there are more reasons than bytes for them.
+fn deliver_explained(
+    explained: &Explained,
+    output: &mut [u8],
+    reasons: &mut [u8],
+) -> Result<Reply, Refusal> {
+    let record = fitting_record(&explained.graph, output)?;
+    let bytes: Vec<u8> = explained.reasons.iter().map(|&why| why.byte()).collect();
+    if bytes.len() > reasons.len() {
+        return Err(Refusal::ShortReasons);
+    }
+    put(&record, output);
+    put(&bytes, reasons);
+    Ok(Reply::Length(record.len()))
+}
+
+/// The record of a result, where it is not too large for one and the output has
+/// room for it.
+fn fitting_record(graph: &Graph, output: &[u8]) -> Result<Vec<u8>, Refusal> {
     if graph.nodes.len() > MOST_NODES || graph.link_count() > MOST_LINKS {
         return Err(Refusal::TooLarge);
     }
     let record = record::write(&canonical(graph));
-    let Some(place) = output.get_mut(..record.len()) else {
+    if record.len() > output.len() {
         return Err(Refusal::ShortOutput);
-    };
-    place.copy_from_slice(&record);
-    Ok(Reply::Length(record.len()))
+    }
+    Ok(record)
+}
+
+/// Puts the bytes in the first places of an output that has room for them.
+fn put(bytes: &[u8], output: &mut [u8]) {
+    output[..bytes.len()].copy_from_slice(bytes);
 }
 
 fn reply(result: Result<Reply, Refusal>) -> Reply {

@@ -8,8 +8,7 @@ use std::collections::BTreeMap;
 /// The same graph with its nodes numbered as written. Nodes that the root does
 /// not reach are not visited and so are left out.
 pub fn canonical(graph: &Graph) -> Graph {
-    let mut visits = Visits::default();
-    visits.visit(graph, ROOT);
+    let visits = Visits::of(graph);
     let renumbered = |old: &usize| {
         let node = &graph.nodes[*old];
         Node {
@@ -26,6 +25,12 @@ pub fn canonical(graph: &Graph) -> Graph {
     }
 }
 
+/// The nodes that the root reaches by first visit: a node's place is its number as
+/// written.
+pub fn first_visits(graph: &Graph) -> Vec<usize> {
+    Visits::of(graph).order
+}
+
 /// The nodes visited so far, in order, and the number each has got.
 #[derive(Default)]
 struct Visits {
@@ -34,6 +39,13 @@ struct Visits {
 }
 
 impl Visits {
+    /// All visits from the root.
+    fn of(graph: &Graph) -> Visits {
+        let mut visits = Visits::default();
+        visits.visit(graph, ROOT);
+        visits
+    }
+
     /// Numbers a node and all that hangs below it, unless it has a number.
     /// In an acyclic graph of N nodes this goes at most N − 1 links down.
     fn visit(&mut self, graph: &Graph, node: usize) {

@@ -2,18 +2,58 @@
 //! combined with g gives back s. It is a part of s with wanted types and ranges.
 //! Document 01's rules are followed word for word: groups of incoming links,
 //! wanted labels, kept links. Refusals 12, then 13 where a node of s, kept or
-//! not, has no wanted type (Paper 6).
+//! not, has no wanted type (Paper 6). Each kept link has a reason (Paper 13).
 
-use crate::canonical::canonical;
+use crate::canonical::{canonical, first_visits};
 use crate::graph::{Graph, Link, Node, ROOT};
 use crate::label::Label;
 use crate::order::{Morphism, subsumption};
 use crate::reply::Refusal;
 use crate::table::Table;
-use std::collections::BTreeSet;
+use std::collections::{BTreeMap, BTreeSet};
+
+/// Why a difference keeps a link.
+#[derive(Clone, Copy, Debug, PartialEq, Eq, PartialOrd, Ord)]
+pub enum Reason {
+    /// 1: "nothing of the general graph lies over the link".
+    Bare,
+    /// 2: "else", where "the node it enters has two or more groups".
+    Groups,
+    /// 3: "else", "kept for a wanted type or range or for what hangs below".
+    Wanted,
+}
+
+impl Reason {
+    /// All three.
+    pub const ALL: [Reason; 3] = [Reason::Bare, Reason::Groups, Reason::Wanted];
+
+    /// The byte that stands beside the link.
+    pub fn byte(self) -> u8 {
+        match self {
+            Reason::Bare => 1,
+            Reason::Groups => 2,
+            Reason::Wanted => 3,
+        }
+    }
+}
+
+/// A difference with its reasons.
+#[derive(Clone, Debug, PartialEq, Eq)]
+pub struct Explained {
+    /// The difference, in canonical form.
+    pub graph: Graph,
+    /// A reason for each of its links "in record order": by the number of the parent
+    /// in the difference, then by feature.
+    pub reasons: Vec<Reason>,
+}
 
 /// The difference of s from g.
 pub fn difference(table: &Table, g: &Graph, s: &Graph) -> Result<Graph, Refusal> {
+    difference_explained(table, g, s).map(|explained| explained.graph)
+}
+
+/// The difference of s from g, and why it keeps each of its links.
+pub fn difference_explained(table: &Table, g: &Graph, s: &Graph) -> Result<Explained, Refusal> {
     // "Number s as written."
     let s = canonical(s);
     let Some(morphism) = subsumption(table, g, &s) else {
@@ -35,12 +75,21 @@ pub fn difference(table: &Table, g: &Graph, s: &Graph) -> Result<Graph, Refusal>
             .links
             .iter()
             .map(|(&feature, &target)| (feature, target))
-            .filter(|&(feature, _)| kept.contains(&Link { parent, feature }))
+            .filter(|&(feature, _)| kept.contains_key(&Link { parent, feature }))
             .collect(),
     });
-    Ok(canonical(&Graph {
+    let part = Graph {
         nodes: nodes.collect(),
-    }))
+    };
+    // The difference numbers its nodes in its own way: s may number them otherwise.
+    let reasons = first_visits(&part).into_iter().flat_map(|parent| {
+        let features = part.nodes[parent].links.keys();
+        features.map(move |&feature| Link { parent, feature })
+    });
+    Ok(Explained {
+        reasons: reasons.map(|link| kept[&link]).collect(),
+        graph: canonical(&part),
+    })
 }
 
 /// The graph s, and for its nodes and links what of g lies over them.
@@ -112,11 +161,22 @@ impl<'a> Overlay<'a> {
         groups
     }
 
-    /// The links of s that the difference keeps. Nodes are taken after all their
-    /// targets, so which links leaving a node are kept is settled before it.
-    fn kept_links(&self, table: &Table, wanted: &[Label]) -> BTreeSet<Link> {
+    /// Why a link is kept, where the node it enters has so many groups.
+    fn reason(&self, link: Link, groups: usize) -> Reason {
+        if !self.covered.contains(&link) {
+            Reason::Bare
+        } else if groups >= 2 {
+            Reason::Groups
+        } else {
+            Reason::Wanted
+        }
+    }
+
+    /// The links of s that the difference keeps, and why. Nodes are taken after all
+    /// their targets, so which links leaving a node are kept is settled before it.
+    fn kept_links(&self, table: &Table, wanted: &[Label]) -> BTreeMap<Link, Reason> {
         let incoming = self.s.incoming();
-        let mut kept = BTreeSet::new();
+        let mut kept = BTreeMap::new();
         for node in self.s.bottom_up().expect("an acyclic graph") {
             if node == ROOT {
                 continue;
@@ -126,7 +186,7 @@ impl<'a> Overlay<'a> {
                 [group] => {
                     let nothing_over = group.is_disjoint(&self.covered);
                     let a_leaving_link_is_kept = self.s.nodes[node].links.keys().any(|&feature| {
-                        kept.contains(&Link {
+                        kept.contains_key(&Link {
                             parent: node,
                             feature,
                         })
@@ -138,7 +198,8 @@ impl<'a> Overlay<'a> {
                 _ => true,
             };
             if keeps {
-                kept.extend(groups.iter().filter_map(|group| group.first()));
+                let least_links = groups.iter().filter_map(|group| group.first());
+                kept.extend(least_links.map(|&link| (link, self.reason(link, groups.len()))));
             }
         }
         kept

@@ -1,6 +1,6 @@
 //! What a call gives back: a length, one of the order's four answers, or a refusal
-//! with the number it has in document 01 or in a change request. A refusal of a graph
-//! tells the kind and which graph.
+//! with the number it has in the papers. A refusal of a graph tells the kind and
+//! which graph.
 
 use crate::order::Order;
 use crate::record::GraphFault;
@@ -36,6 +36,8 @@ pub enum Refusal {
     NoWantedType,
     /// 17: the list is not of 64 bytes or has an entry of n or more.
     TypeList,
+    /// 22: difference, "too few bytes lent for the reasons".
+    ShortReasons,
 }
 
 impl Refusal {
@@ -51,6 +53,7 @@ impl Refusal {
             Refusal::NotBelow => 12,
             Refusal::NoWantedType => 13,
             Refusal::TypeList => 17,
+            Refusal::ShortReasons => 22,
         }
     }
 }
@@ -62,7 +65,7 @@ pub enum Reply {
     Length(usize),
     /// Which graph is the broader, seen from the first.
     Order(Order),
-    /// There is no result, and the output is unchanged.
+    /// There is no result, and every output is unchanged.
     Refused(Refusal),
 }
 

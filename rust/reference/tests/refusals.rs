@@ -42,15 +42,31 @@ fn assert_table_refused(table: &TableBytes, number: u8) {
             let reply = call(table.n, &table.bytes, record, record, &mut output);
             assert_eq!(reply.number(), Some(number), "{table:?}");
         }
+        let (reply, reasons) = explained(table, record, record, &mut output);
+        assert_eq!(reply.number(), Some(number), "{table:?}");
         assert_eq!(output, [0xEE; 32]);
+        assert_eq!(reasons, [0xEE; 8]);
     }
+}
+
+/// The difference with its reasons: the reply, and what the second output holds.
+fn explained(
+    table: &TableBytes,
+    first: &[u8],
+    second: &[u8],
+    output: &mut [u8],
+) -> (Reply, [u8; 8]) {
+    let mut reasons = [0xEE; 8];
+    let (n, table) = (table.n, &table.bytes);
+    let reply = calls::difference_explained(n, table, first, second, output, &mut reasons);
+    (reply, reasons)
 }
 
 /// Every call over the diamond refuses the record with this fault, in each place,
 /// and leaves the output alone.
 fn assert_record_refused(record: &[u8], fault: GraphFault) {
-    let table = random::diamond();
-    let (n, table) = (table.n, &table.bytes);
+    let diamond = random::diamond();
+    let (n, table) = (diamond.n, &diamond.bytes);
     let good = bytes("01 01 0000000000000000");
     let as_first = Reply::Refused(Refusal::Graph(fault, Which::First));
     let as_second = Reply::Refused(Refusal::Graph(fault, Which::Second));
@@ -62,6 +78,14 @@ fn assert_record_refused(record: &[u8], fault: GraphFault) {
         assert_eq!(call(n, table, record, &good, &mut output), as_first);
         assert_eq!(call(n, table, &good, record, &mut output), as_second);
         assert_eq!(call(n, table, record, record, &mut output), as_first);
+    }
+    for (first, second, reply) in [
+        (record, good.as_slice(), as_first),
+        (&good, record, as_second),
+        (record, record, as_first),
+    ] {
+        let explained = explained(&diamond, first, second, &mut output);
+        assert_eq!(explained, (reply, [0xEE; 8]));
     }
     assert_eq!(output, [0xEE; 32]);
 }

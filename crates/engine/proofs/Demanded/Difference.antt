@@ -66,14 +66,14 @@ module _ (n : ℕ) (t a b : List ℕ) (g s : List (Row Label)) (given : Given n 
   accepts : table.accepted n t ≡ true
   accepts = opened-accepted n t (opened n t) refl (given .opens)
 
-  general-rules : Rules n g
+  pub general-rules : Rules n g
   general-rules = accepted-rules n a g (given .first)
 
   -- s in written form
-  abbrev form : List (Row Label)
+  abbrev pub form : List (Row Label)
   form = accepted-fits n b s (given .second) .0
 
-  form-is : canonical eqb (graphOfRows s) ≡ written form
+  pub form-is : canonical eqb (graphOfRows s) ≡ written form
   form-is = accepted-fits n b s (given .second) .1
 
   form-reads : (reading n (encoded form) ≡ accepted form) ×
@@ -106,10 +106,10 @@ module _ (n : ℕ) (t a b : List ℕ) (g s : List (Row Label)) (given : Given n 
   all = allWanted n t (numbered (canonical eqb (graphOfRows s))) g
 
   module _ (below : Below (tableLabels n t) (graphOfRows s) (graphOfRows g)) where
-    form-below : Below (tableLabels n t) (graphOfRows form) (graphOfRows g)
+    pub form-below : Below (tableLabels n t) (graphOfRows form) (graphOfRows g)
     form-below = same-below-left means below
 
-    form-rules : Rules n form
+    pub form-rules : Rules n form
     form-rules = accepted-rules n (encoded form) form (form-reads .0)
 
     all-exact : (all ≡ false) ↔ SomeUnwanted n t (graphOfRows s) (graphOfRows g)

@@ -10,6 +10,7 @@ use Rattle.graphs.specs.Label.{Labels}
 use Rattle.graphs.specs.Graph.{Graph}
 use Rattle.graphs.specs.Rows.{features}
 use Rattle.graphs.specs.Unify.{anyOf, holds}
+use Rattle.graphs.specs.Reasons.{reasonAt}
 use Rattle.graphs.specs.Difference.{
   Link,
   leastOf,
@@ -99,6 +100,13 @@ module _ {L A B : Type 0} (sameA : A → A → Bool) (sameB : B → B → Bool) 
     leaders-agree v =
         select-agree (incoming sameA sameB s ss g gs over v)
         (λ l. ap (λ m. sameLink sameA sameB s ss g gs over m l) (lead-agree v l))
+
+    -- one reason for a link
+    pub reason-agree : (l : Link A) (v : A) →
+        reasonAt sameA sameB s ss g gs over earlier l v ≡ reasonAt sameA sameB s ss g gs other earlier l v
+    unfolding reasonAt differ
+    reason-agree l v =
+        ap₂ (λ (b : Bool) (ls : List (Link A)). cond b 1 (cond (differ sameA sameB s ss g gs over ls) 2 3)) (bare-agree l) (leaders-agree v)
 
     module _ (isTop : A → Bool) where
       keptItself-agree : (v : A) →

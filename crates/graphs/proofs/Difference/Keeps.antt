@@ -72,7 +72,7 @@ module _ {𝓛 : Labels} {A B : Type 0} {sameA : A → A → Bool} {sameB : B �
   leads : (v : A) (l : Link A) → (isFirst v l ≡ true) ↔ (first v l ≡ l)
   leads v l = same-link operands over (first v l) l
 
-  leaders-listed : (v : A) (l : Link A) → List·Memᴰ l (firsts v) ↔ Leader s first v l
+  pub leaders-listed : (v : A) (l : Link A) → List·Memᴰ l (firsts v) ↔ Leader s first v l
   unfolding leaders
   leaders-listed v l = (
     λ m.
@@ -86,7 +86,7 @@ module _ {𝓛 : Labels} {A B : Type 0} {sameA : A → A → Bool} {sameB : B �
   abbrev apart : List (Link A) → Bool
   apart ls = differ sameA sameB s ss g gs over ls
 
-  differ-two : (ls : List (Link A)) → apart ls ≡ true →
+  pub differ-two : (ls : List (Link A)) → apart ls ≡ true →
       (l : Link A) × (m : Link A) × List·Memᴰ l ls × List·Memᴰ m ls × (l ≡ m → ⊥)
   unfolding differ
   differ-two ls e =
@@ -94,7 +94,7 @@ module _ {𝓛 : Labels} {A B : Type 0} {sameA : A → A → Bool} {sameB : B �
       let (m, j, b) = anyOf-true (λ m. not (sameLink sameA sameB s ss g gs over l m)) ls a in
       (l, m, i, j, λ q. true-false (same-link operands over l m .1 q) (not-true (sameLink sameA sameB s ss g gs over l m) b))
 
-  differ-one : (ls : List (Link A)) → apart ls ≡ false → (l m : Link A) → List·Memᴰ l ls → List·Memᴰ m ls → l ≡ m
+  pub differ-one : (ls : List (Link A)) → apart ls ≡ false → (l m : Link A) → List·Memᴰ l ls → List·Memᴰ m ls → l ≡ m
   unfolding differ
   differ-one ls e l m i j = go (sameLink sameA sameB s ss g gs over l m) refl
     where

@@ -45,7 +45,7 @@ module _ {𝓛 : Labels} {A B : Type 0} {sameA : A → A → Bool} {sameB : B �
   abbrev group : A → Link A → List (Link A)
   group v l = groupOf sameA sameB s ss g gs over v l
 
-  group-self : (v : A) (l : Link A) → Into s v l → List·Memᴰ l (group v l)
+  pub group-self : (v : A) (l : Link A) → Into s v l → List·Memᴰ l (group v l)
   unfolding groupOf
   group-self v l i =
       let links = incoming sameA sameB s ss g gs over v in
@@ -59,7 +59,7 @@ module _ {𝓛 : Labels} {A B : Type 0} {sameA : A → A → Bool} {sameB : B �
       spread-closed operands over links (length links) (l ∷ []) (omega arith)
 
   -- the computed group of a link holds what is grouped with it
-  grouped-closed : (v : A) (l : Link A) {m n : Link A} → Grouped g over v m n → List·Memᴰ m (group v l) ↔ List·Memᴰ n (group v l)
+  pub grouped-closed : (v : A) (l : Link A) {m n : Link A} → Grouped g over v m n → List·Memᴰ m (group v l) ↔ List·Memᴰ n (group v l)
   grouped-closed v l (touching {l = m} {m = n} z o a b) = (across m n a b, across n m b a)
     where
       across : (m n : Link A) → Enters g over z m → Enters g over z n → List·Memᴰ m (group v l) → List·Memᴰ n (group v l)
@@ -73,7 +73,7 @@ module _ {𝓛 : Labels} {A B : Type 0} {sameA : A → A → Bool} {sameB : B �
       let d = grouped-closed v l j in
       (λ t. d .0 (e .0 t), λ t. e .1 (d .1 t))
 
-  group-grouped : (v : A) (l m : Link A) → Into s v l → List·Memᴰ m (group v l) → Grouped g over v l m
+  pub group-grouped : (v : A) (l m : Link A) → Into s v l → List·Memᴰ m (group v l) → Grouped g over v l m
   unfolding groupOf
   group-grouped v l m i j =
       let links = incoming sameA sameB s ss g gs over v in
@@ -94,7 +94,7 @@ module _ {𝓛 : Labels} {A B : Type 0} {sameA : A → A → Bool} {sameB : B �
     first v l = lead sameA sameB s ss g gs over earlier v l
 
     -- links of one group have one lead
-    lead-same : (v : A) (l m : Link A) → Into s v l → Grouped g over v l m → first v l ≡ first v m
+    pub lead-same : (v : A) (l m : Link A) → Into s v l → Grouped g over v l m → first v l ≡ first v m
     unfolding lead
     lead-same v l m i c =
         leastOf-one earlier order l m (group v l) (group v m) (members l m i c) (members m l (grouped-into v c .0 i) (flip c))

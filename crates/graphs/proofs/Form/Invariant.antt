@@ -1,8 +1,9 @@
 -- The written form depends on meaning alone: graphs that are alike are visited alike, so they have equal rows, and are too large
 -- together.
-use mathlib.Core.Path.{_≡_, refl, sym, ap, ap₂}
+use mathlib.Core.Path.{_≡_, refl, sym, _∙_, ap, ap₂, subst}
 use mathlib.Core.Bool.{Bool, true, false, cond, _||_}
-use mathlib.Core.List.{List, [], _∷_, map, reverse, reverseAux}
+use mathlib.Core.List.{List, [], _∷_, map, reverse, reverseAux, List·Memᴰ, List·Memᴰ·not-nil, List·Memᴰ·cases-cons}
+use mathlib.Core.Logic.{⊎-elim}
 use mathlib.Core.Option.{Option, none, some, Option·map, bind}
 use Prim.Native.Nat.{ℕ, zero, suc, _+_}
 use native.Mathlib.Omega.{arith}
@@ -12,6 +13,7 @@ use Rattle.graphs.specs.Label.{Labels}
 use Rattle.graphs.specs.Graph.{Graph, Tells, SameMeaning}
 use Rattle.graphs.specs.Rows.{Row, features, linksOf, addLink}
 use Rattle.graphs.specs.Number.{canonical, counted, countSome, each, enter, indexOf, linkCount, member, otherwise, outDegree, rowOf, visit, written, manyLinks}
+use Rattle.graphs.specs.Reasons.{orderIn, writtenOrder}
 use Rattle.graphs.proofs.Form.Bisimilar.{Alike, absent, present, Bisimilar, Together, same-bisimilar}
 
 -- lists of related elements
@@ -27,6 +29,13 @@ bool-ext false false there back = refl
 pointwise-length : {A B : Type 0} {R : A → B → Type 0} {vs : List A} {ws : List B} → Pointwise R vs ws → length vs ≡ length ws
 pointwise-length empty = refl
 pointwise-length (more r rs) = ap suc (pointwise-length rs)
+
+-- what lists that are equal element by element hold
+pub pointwise-listed : {A : Type 0} {P : A → Type 0} {vs ws : List A} → Pointwise (λ x y. P x × (x ≡ y)) vs ws →
+    (w : A) → List·Memᴰ w ws → P w
+pointwise-listed empty w m = absurd (List·Memᴰ·not-nil m)
+pointwise-listed {P = P} (more r rs) w m =
+    ⊎-elim (λ e. subst P (r .1 ∙ sym e) (r .0)) (λ n. pointwise-listed rs w n) (List·Memᴰ·cases-cons m)
 
 pointwise-reverseAux : {A B : Type 0} {R : A → B → Type 0} {vs xs : List A} {ws ys : List B} → Pointwise R vs ws →
     Pointwise R xs ys → Pointwise R (reverseAux vs xs) (reverseAux ws ys)
@@ -50,7 +59,7 @@ alike-otherwise false false k l e r q = q
 alike-otherwise true false k l e r q = let z : _≡_ {A = ℕ} 0 1 = cc in absurd (omega arith)
 alike-otherwise false true k l e r q = let z : _≡_ {A = ℕ} 0 1 = cc in absurd (omega arith)
 
-linksOf-cong : (next onto : ℕ → Option ℕ) → ((f : ℕ) → next f ≡ onto f) → (fs : List ℕ) → linksOf next fs ≡ linksOf onto fs
+pub linksOf-cong : (next onto : ℕ → Option ℕ) → ((f : ℕ) → next f ≡ onto f) → (fs : List ℕ) → linksOf next fs ≡ linksOf onto fs
 unfolding linksOf
 linksOf-cong next onto e [] = refl
 linksOf-cong next onto e (f ∷ fs) = ap₂ (addLink f) (e f) (linksOf-cong next onto e fs)
@@ -150,6 +159,15 @@ module _ {L A B : Type 0} (sameA : A → A → Bool) (sameB : B → B → Bool) 
   pub bisimilar-canonical : canonical sameA g ≡ canonical sameB h
   unfolding canonical Goes
   bisimilar-canonical = related-counted (related-visit 255 (g .root) (h .root) [] [] (b .root) empty)
+
+  related-order : {x : Option (List A)} {y : Option (List B)} → Alike (Pointwise R) x y → Pointwise R (orderIn x) (orderIn y)
+  related-order absent = empty
+  related-order (present rs) = pointwise-reverse rs
+
+  -- and their nodes are numbered alike
+  pub bisimilar-order : Pointwise R (writtenOrder sameA g) (writtenOrder sameB h)
+  unfolding writtenOrder Goes
+  bisimilar-order = related-order (related-visit 255 (g .root) (h .root) [] [] (b .root) empty)
 
 -- Graphs of the same meaning have one written form, and are too large together.
 pub same-canonical : (𝓛 : Labels) {A B : Type 0} (sameA : A → A → Bool) (sameB : B → B → Bool) → Tells sameA → Tells sameB →

@@ -61,6 +61,35 @@ impl Shape {
         }
     }
 
+    /// A shape of many shared nodes, few of them top, without ranges: a difference often
+    /// numbers its nodes in another order than such a graph.
+    pub fn shared(random: &mut Xorshift) -> Shape {
+        let nodes = random.between(10, 40);
+        let features = random.between(3, 5);
+        Shape {
+            nodes,
+            extra_links: 2 * nodes,
+            features: (0..features as Feature).collect(),
+            spread: 3,
+            tops: 0,
+            ranges: 0,
+        }
+    }
+
+    /// A shape of up to 255 nodes and 2,048 links, without ranges.
+    pub fn large(random: &mut Xorshift) -> Shape {
+        let features = *random.choose(&[2, 8, 64]);
+        let nodes = *random.choose(&[40, 200, 254, MOST_NODES]);
+        Shape {
+            nodes,
+            extra_links: random.pick(2 * MOST_LINKS),
+            features: (0..features).collect(),
+            spread: *random.choose(&[1, 2, 20, MOST_NODES]),
+            tops: random.pick(5),
+            ranges: 0,
+        }
+    }
+
     /// Mostly small shapes, some of any size that a record can have, without ranges.
     pub fn any(random: &mut Xorshift) -> Shape {
         let most_nodes = *random.choose(&[3, 5, 5, 8, 8, 16, 40, 120, MOST_NODES]);

@@ -3,7 +3,7 @@
 
 use super::Xorshift;
 use super::graphs::{Ranges, Shape, graph, graph_well_above, label, low_graph, pair, range};
-use super::tables::{damaged_table, rival_table, valid_table};
+use super::tables::{TableBytes, damaged_table, rival_table, valid_table};
 use crate::graph::{Graph, Node};
 use crate::label::Range;
 use crate::mapcalc;
@@ -149,6 +149,31 @@ pub fn without_levels(random: &mut Xorshift, mut graph: Graph) -> Vec<u8> {
         }
     }
     record
+}
+
+/// Two records over a table: mostly those of a pair of graphs, sometimes one or
+/// both of them damaged.
+pub fn pair_of_records(
+    random: &mut Xorshift,
+    table: &TableBytes,
+    shape: &Shape,
+    ranges: Ranges,
+) -> [Vec<u8>; 2] {
+    // A table that is refused may state any n.
+    let n = table.n.clamp(2, MOST_TYPES);
+    let mut records = match Table::accept(table.n, &table.bytes) {
+        Ok(accepted) => {
+            let (first, second) = pair(random, &accepted, shape);
+            [first, second].map(|graph| record_of(random, &graph, ranges))
+        }
+        Err(_) => [0, 1].map(|_| valid_record(random, n, ranges)),
+    };
+    for record in &mut records {
+        if random.chance(1, 16) {
+            *record = damaged_record(random, n, ranges);
+        }
+    }
+    records
 }
 
 /// A whole input of `mapcalc`: mostly valid, sometimes damaged in any of its parts.

@@ -1,0 +1,52 @@
+-- The difference with its reasons on bytes: the table is opened.
+use mathlib.Core.Path.{sym, _∙_}
+use borrow.Author.Needs.{needs}
+use Rattle.lattice.proofs.Residuals.{opened-accepted}
+use Rattle.engine.proofs.Explaining.{explaining-refused, explaining-accepted}
+use Rattle.engine.proofs.difference_explained.Statement.{statement}
+use Rattle.engine.proofs.difference_explained.Tie as tie
+
+accept-requires : tie.Need-accept-requires
+accept-requires c κs = search needs
+
+enum-known-opened : tie.Need-enum-known-opened
+enum-known-opened c = search needs
+
+enum-told : tie.Need-enum-told
+enum-told c = search needs
+
+explain-over-requires : tie.Need-explain-over-requires
+explain-over-requires c κs =
+    let start = c .before .before .before .before .before .before .before .before .before .before in
+    opened-accepted (start .args .n) (start .args .table .now) _ (c .before .before .before .before .accept .ensures) (c .before .before .enum-told .given .1)
+
+returns : tie.Need-returns
+returns c =
+    let start = c .before .before .before .before .before .before .before .before .before in
+    explaining-refused (start .args .n) (start .args .table .now) (start .args .first .now) (start .args .second .now) (start .args .out .now) (start .args .reasons .now) _
+    (sym (c .before .before .before .accept .ensures) ∙ c .before .opened .given .1)
+
+same-length : tie.Need-same-length
+same-length c = search needs
+
+same-length-2 : tie.Need-same-length-2
+same-length-2 c = search needs
+
+returns-2 : tie.Need-returns-2
+returns-2 c =
+    let start = c .before .before .before .before .before .before .before .before .before .before .before .before .before .before .before in
+    explaining-accepted (start .args .n) (start .args .table .now) (start .args .first .now) (start .args .second .now) (start .args .out .now) (start .args .reasons .now)
+    (sym (c .before .before .before .before .before .before .before .before .before .accept .ensures) ∙ c .before .before .before .before .before .before .before .enum-told .given .1) (c .before .before .before .before .explain-over .ensures)
+
+pub difference-explained-spec : {M : Type 1} → statement M
+difference-explained-spec =
+    tie.close
+    (tie.spec
+    accept-requires
+    enum-known-opened
+    enum-told
+    explain-over-requires
+    returns
+    same-length
+    same-length-2
+    returns-2)

@@ -1,0 +1,85 @@
+-- What the call for a difference with its reasons replies, and leaves in its two outputs (document 02, Paper 13). Reply and record are
+-- those of the plain call, `differing`.
+use mathlib.Core.Bool.{cond}
+use mathlib.Core.List.{List, [], _++_}
+use mathlib.Core.Option.{Option, none, some, Option·getD}
+use Prim.Native.Nat.{ℕ}
+use lib.Dec.{eqb, leb}
+use lib.ListN.{length, drop}
+use Rattle.graphs.specs.Rows.{Row, from}
+use Rattle.graphs.specs.Number.{canonical}
+use Rattle.graphs.specs.Difference.{Link, byNumber}
+use Rattle.graphs.specs.Reasons.{reasonAt, IsReason}
+use Rattle.lattice.specs.Label.{Label, noLabel}
+use Rattle.lattice.specs.Labels.{tableLabels}
+use Rattle.encode.specs.declared.Marked.{Marked}
+use Rattle.encode.specs.declared.Marked.the-variants as marked
+use Rattle.record.specs.Read.{graphOfRows, reading}
+use Rattle.difference.specs.Promise.{reasonsAlong}
+use Rattle.engine.specs.declared.kinds.Kind.{Kind}
+use Rattle.engine.specs.declared.kinds.Kind.the-variants as kind
+use Rattle.engine.specs.declared.Reply.{Reply}
+use Rattle.engine.specs.declared.Reply.the-variants.{NoReasonRoom}
+use Rattle.engine.specs.Reply.{Result, kindOf, replyOf, readBoth}
+use Rattle.engine.specs.Difference.{over, wantedAt, numbered, differing}
+
+-- a reply and the two outputs beside it
+pub record Explained : Type 0 where
+  pub reply : Reply
+  pub output : List ℕ
+  pub reasons : List ℕ
+
+abbrev pub explainedResult : Reply → List ℕ → List ℕ → Explained
+explainedResult reply output reasons = record { reply = reply; output = output; reasons = reasons }
+
+abbrev pub lengthIn : Kind → Option ℕ
+lengthIn (kind.Length l) = some l
+lengthIn kind.Same = none
+lengthIn kind.Under = none
+lengthIn kind.Above = none
+lengthIn kind.Neither = none
+lengthIn (kind.Refused number) = none
+lengthIn (kind.RefusedGraph number side) = none
+
+-- the record's length, where a reply tells of one
+abbrev pub lengthOf : Reply → Option ℕ
+lengthOf reply = lengthIn (kindOf reply)
+
+-- "Beside the record, one byte for each of its links .., further bytes unchanged"; "too few bytes lent for the reasons gives 22, after 8,
+-- with both buffers unchanged". Every other refusal of the plain call stays, both outputs as they were.
+abbrev pub lengthBeside : Option ℕ → Result → List ℕ → List ℕ → List ℕ → Explained
+lengthBeside none plain reasons out old = explainedResult (plain .reply) out old
+lengthBeside (some l) plain reasons out old =
+    cond (leb (length reasons) (length old))
+    (explainedResult (plain .reply) (plain .output) (reasons ++ drop (length reasons) old))
+    (explainedResult NoReasonRoom out old)
+
+abbrev pub beside : Result → List ℕ → List ℕ → List ℕ → Explained
+beside plain reasons out old = lengthBeside (lengthOf (plain .reply)) plain reasons out old
+
+-- the reasons for the links of the difference of g and s, in record order
+abbrev pub reasonsRows : ℕ → List ℕ → List (Row Label) → List (Row Label) → List ℕ
+reasonsRows n t g s = reasonsAlong n t s g (over s g)
+
+-- the same of records, s numbered as written; none where a record is refused
+unfoldable pub reasonsOf : ℕ → List ℕ → List ℕ → List ℕ → List ℕ
+reasonsOf n t a b = readBoth (λ r. []) (reading n a) (reading n b) λ g s. reasonsRows n t g (numbered (canonical eqb (graphOfRows s)))
+
+-- the difference of g, the first, and s, the second, with its reasons; `out` and `old` are the outputs lent
+unfoldable pub explaining : ℕ → List ℕ → List ℕ → List ℕ → List ℕ → List ℕ → Explained
+explaining n t a b out old = beside (differing n t a b out) (reasonsOf n t a b) out old
+
+-- the reason for a link of the difference of g and s that enters v
+abbrev pub reasonFor : ℕ → List ℕ → List (Row Label) → List (Row Label) → Link ℕ → ℕ → ℕ
+reasonFor n t g s l v = reasonAt eqb eqb (graphOfRows s) (from 0 (length s)) (graphOfRows g) (from 0 (length g)) (over s g) byNumber l v
+
+-- the reason for the link from u by f, which enters v, tells what it should
+abbrev pub LinkReason : ℕ → List ℕ → List (Row Label) → List (Row Label) → ℕ → ℕ → ℕ → Type 0
+LinkReason n t g s u f v =
+    IsReason (tableLabels n t) eqb eqb byNumber (graphOfRows s) (from 0 (length s)) (graphOfRows g) (from 0 (length g)) (over s g)
+    (λ v. Option·getD (wantedAt n t s g v) noLabel) (u, f) v (reasonFor n t g s (u, f) v)
+
+-- what writing with marks answers, as a reply
+abbrev pub markedReply : Marked → Reply
+markedReply (marked.Written w) = replyOf w
+markedReply marked.NoMarkRoom = NoReasonRoom
