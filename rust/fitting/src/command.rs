@@ -1,0 +1,236 @@
+//! The commands: what each reads, which calls it makes, and what it tells.
+
+mod arguments;
+
+use crate::engine::{self, Operation};
+use crate::explain;
+use crate::failure::Failure;
+use crate::graph::Graph;
+use crate::input::{self, Input};
+use crate::overlay::{Named, image};
+use crate::table::Table;
+use crate::why::{self, Kept};
+use crate::{draw, help, notation, picture};
+use arguments::Arguments;
+use record_engine::Order;
+use std::io::{ErrorKind, Write};
+
+/// What a command tells, in order: on standard output, or of what failed.
+type Told = Vec<Result<Vec<u8>, Failure>>;
+
+/// Runs the tool: writes what a command tells, and gives the exit status, 0 for success, 1
+/// for a refusal, 2 for wrong use.
+pub fn run(arguments: &[String], out: &mut dyn Write, err: &mut dyn Write) -> u8 {
+    let mut status = 0;
+    for part in told(arguments).unwrap_or_else(|failure| vec![Err(failure)]) {
+        let failure = match part {
+            Ok(bytes) => match out.write_all(&bytes).and_then(|()| out.flush()) {
+                // Whoever reads has read enough.
+                Err(error) if error.kind() == ErrorKind::BrokenPipe => return status,
+                Err(error) => Failure::usage(format!("cannot write: {error}")),
+                Ok(()) => continue,
+            },
+            Err(failure) => failure,
+        };
+        status = status.max(failure.status());
+        // Where standard error is closed, the status alone tells.
+        let _ = writeln!(err, "{}", failure.message());
+    }
+    status
+}
+
+fn told(arguments: &[String]) -> Result<Told, Failure> {
+    let Some((name, arguments)) = arguments.split_first() else {
+        let advice = "`fitting --help` tells the commands";
+        return Err(Failure::usage(format!("no command is given\n  {advice}")));
+    };
+    let wants_help = |argument: &String| argument == "--help" || argument == "-h";
+    if name == "help" || wants_help(name) {
+        let subject = arguments.first().map_or("", |subject| subject);
+        return help::about(subject).map(text);
+    }
+    if name == "--version" {
+        return Ok(text(format!("fitting {}\n", env!("CARGO_PKG_VERSION"))));
+    }
+    let command = help::command(name)?;
+    if arguments.iter().any(wants_help) {
+        return help::about(name).map(text);
+    }
+    let arguments = Arguments::read(command, arguments)?;
+    let table = input::table(&arguments.operands[0])?;
+    match command.name {
+        "check" => Ok(check(&table, &arguments)),
+        "show" => {
+            let graph = Input::read(&table, &arguments.operands[1])?.graph(&table)?;
+            Ok(text(notation::write(&table, &graph)))
+        }
+        "make" => make(&table, &arguments),
+        "draw" => draw(&table, &arguments),
+        "order" => order(&table, &arguments),
+        "common" => operate(Operation::Common, &table, &arguments),
+        "combine" => operate(Operation::Combine, &table, &arguments),
+        "difference" => operate(Operation::Difference, &table, &arguments),
+        _ => unreachable!("the help has no further commands"),
+    }
+}
+
+/// A text on standard output and nothing else.
+fn text(text: String) -> Told {
+    vec![Ok(text.into_bytes())]
+}
+
+fn check(table: &Table, arguments: &Arguments) -> Told {
+    let (argument, files) = (&arguments.operands[0], &arguments.operands[1..]);
+    if files.is_empty() {
+        let (name, n) = (input::name(argument), table.n);
+        return text(format!("{name}: accepted, a table of {n} types\n"));
+    }
+    let checked = files.iter().map(|file| {
+        let input = Input::read(table, file)?;
+        let written = input.written(table)?;
+        let form = match &input.text {
+            Some(_) => "text",
+            None if written == input.record => "a written record",
+            None => "a record in another than the written form",
+        };
+        let graph = Graph::of_written(&written);
+        let nodes = counted(graph.nodes.len(), "node");
+        let links = counted(graph.link_count(), "link");
+        let line = format!("{}: accepted, {form}, {nodes} and {links}\n", input.name);
+        Ok(line.into_bytes())
+    });
+    checked.collect()
+}
+
+fn counted(number: usize, noun: &str) -> String {
+    match number {
+        1 => format!("1 {noun}"),
+        _ => format!("{number} {noun}s"),
+    }
+}
+
+fn make(table: &Table, arguments: &Arguments) -> Result<Told, Failure> {
+    let Some(file) = &arguments.output else {
+        return Err(arguments.misused("`make` needs `-o FILE`"));
+    };
+    let input = Input::read(table, &arguments.operands[1])?;
+    put(file, input.written(table)?)
+}
+
+/// Writes a result to a file, or to standard output.
+fn put(file: &str, result: Vec<u8>) -> Result<Told, Failure> {
+    if file == "-" {
+        return Ok(vec![Ok(result)]);
+    }
+    match std::fs::write(file, result) {
+        Ok(()) => Ok(Vec::new()),
+        Err(error) => Err(Failure::usage(format!("cannot write {file}: {error}"))),
+    }
+}
+
+fn draw(table: &Table, arguments: &Arguments) -> Result<Told, Failure> {
+    let specific = Input::read(table, &arguments.operands[1])?;
+    let dot = match &arguments.over {
+        None => draw::dot(table, &specific.graph(table)?),
+        Some(general) => {
+            let general = Input::read(table, general)?;
+            let explained = explained(table, &general, &specific)?;
+            draw::dot_over(
+                table,
+                &explained.specific,
+                &explained.kept,
+                general.file_name(),
+            )
+        }
+    };
+    match &arguments.output {
+        Some(file) if file != "-" => picture::draw(&dot, file).map(|()| Vec::new()),
+        _ => Ok(text(dot)),
+    }
+}
+
+fn order(table: &Table, arguments: &Arguments) -> Result<Told, Failure> {
+    let first = Input::read(table, &arguments.operands[1])?;
+    let second = Input::read(table, &arguments.operands[2])?;
+    let order = engine::order(table, &first.record, &second.record)
+        .map_err(|refusal| explain::refused(refusal, None, table, &[&first, &second]))?;
+    let (one, two) = (first.graph(table)?, second.graph(table)?);
+    let [one, two] = [(&one, &first), (&two, &second)].map(|(graph, input)| Named {
+        graph,
+        name: &input.name,
+    });
+    // The word, and of which it is to be told why it is not below which.
+    let (word, not_below): (_, &[_]) = match order {
+        Order::Same => ("same", &[]),
+        Order::Under => ("under", &[(two, one)]),
+        Order::Above => ("above", &[(one, two)]),
+        Order::Neither => ("neither", &[(one, two), (two, one)]),
+    };
+    let mut lines = format!("{word}\n");
+    for &(lower, upper) in not_below {
+        if let Err(why) = image(table, upper, lower) {
+            lines += &format!("  {} is not below {}: {why}\n", lower.name, upper.name);
+        }
+    }
+    // No record tells an order, so a file gets the same words.
+    put(
+        arguments.output.as_deref().unwrap_or("-"),
+        lines.into_bytes(),
+    )
+}
+
+fn operate(operation: Operation, table: &Table, arguments: &Arguments) -> Result<Told, Failure> {
+    if arguments.why && arguments.output.as_deref() == Some("-") {
+        return Err(arguments.misused("`--why` and `-o -` both write to standard output"));
+    }
+    let first = Input::read(table, &arguments.operands[1])?;
+    let second = Input::read(table, &arguments.operands[2])?;
+    let (result, why) = match arguments.why {
+        false => (operated(operation, table, &first, &second)?, String::new()),
+        true => {
+            let explained = explained(table, &first, &second)?;
+            let Explained { specific, kept, .. } = &explained;
+            let why = why::lines(table, specific, kept, first.file_name());
+            (explained.difference, why)
+        }
+    };
+    let mut told = match &arguments.output {
+        Some(file) => put(file, result)?,
+        None => text(notation::write(table, &Graph::of_written(&result))),
+    };
+    told.push(Ok(why.into_bytes()));
+    Ok(told)
+}
+
+/// The record that an operation gives, or why it is refused.
+fn operated(
+    operation: Operation,
+    table: &Table,
+    first: &Input,
+    second: &Input,
+) -> Result<Vec<u8>, Failure> {
+    engine::operate(operation, table, &first.record, &second.record)
+        .map_err(|refusal| explain::refused(refusal, Some(operation), table, &[first, second]))
+}
+
+/// A difference, and what it keeps of the specific graph, with the reasons.
+struct Explained {
+    difference: Vec<u8>,
+    specific: Graph,
+    kept: Kept,
+}
+
+fn explained(table: &Table, general: &Input, specific: &Input) -> Result<Explained, Failure> {
+    let (difference, reasons) =
+        engine::explain(table, &general.record, &specific.record).map_err(|refusal| {
+            let operation = Some(Operation::Difference);
+            explain::refused(refusal, operation, table, &[general, specific])
+        })?;
+    let specific = specific.graph(table)?;
+    let kept = why::kept(table, &specific, &Graph::of_written(&difference), &reasons);
+    Ok(Explained {
+        difference,
+        specific,
+        kept,
+    })
+}

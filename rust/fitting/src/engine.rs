@@ -1,0 +1,72 @@
+//! The engine's calls over a table, each with an output that is long enough for any record.
+//! All that the tool tells as a result comes from here.
+
+use crate::table::Table;
+use record_engine::{LONGEST_RECORD, MOST_LINKS, Order, Reason, Refusal};
+
+/// An operation on two records that gives a third.
+#[derive(Clone, Copy, Debug, PartialEq, Eq)]
+pub enum Operation {
+    /// What both say, their generalization.
+    Common,
+    /// What they say together, their unification.
+    Combine,
+    /// What the second says beyond the first.
+    Difference,
+}
+
+/// Whether the engine accepts a table.
+pub fn accept(table: &Table) -> Result<(), Refusal> {
+    // The lone top is accepted over every table that is.
+    let lone_top = [1, table.n.wrapping_sub(1) as u8, 0, 0, 0, 0, 0, 0, 0, 0];
+    rewrite(table, &lone_top).map(|_| ())
+}
+
+/// The written form of a record.
+pub fn rewrite(table: &Table, record: &[u8]) -> Result<Vec<u8>, Refusal> {
+    written(|output| record_engine::rewrite(table.n, &table.bytes, record, output))
+}
+
+/// Which of two records is the broader, seen from the first.
+pub fn order(table: &Table, first: &[u8], second: &[u8]) -> Result<Order, Refusal> {
+    record_engine::order(table.n, &table.bytes, first, second)
+}
+
+/// The record that an operation gives.
+pub fn operate(
+    operation: Operation,
+    table: &Table,
+    first: &[u8],
+    second: &[u8],
+) -> Result<Vec<u8>, Refusal> {
+    let call = match operation {
+        Operation::Common => record_engine::generalize,
+        Operation::Combine => record_engine::unify,
+        Operation::Difference => record_engine::difference,
+    };
+    written(|output| call(table.n, &table.bytes, first, second, output))
+}
+
+/// The difference of two records, and the reason of each of its links, in record order.
+pub fn explain(
+    table: &Table,
+    general: &[u8],
+    specific: &[u8],
+) -> Result<(Vec<u8>, Vec<Reason>), Refusal> {
+    let mut reasons = [0; MOST_LINKS];
+    let difference = written(|output| {
+        let bytes = &table.bytes;
+        record_engine::difference_explained(table.n, bytes, general, specific, output, &mut reasons)
+    })?;
+    // Behind the last link's the bytes are as they were lent, and 0 is no reason.
+    let reasons = reasons.into_iter().map_while(Reason::of).collect();
+    Ok((difference, reasons))
+}
+
+/// What a call writes.
+fn written(call: impl FnOnce(&mut [u8]) -> Result<usize, Refusal>) -> Result<Vec<u8>, Refusal> {
+    let mut output = vec![0; LONGEST_RECORD];
+    let length = call(&mut output)?;
+    output.truncate(length);
+    Ok(output)
+}

@@ -1,0 +1,122 @@
+//! A refusal in words: its number and side as the engine gives them, then what the tool
+//! finds out itself about the cause, and what to do.
+
+mod combination;
+mod pair;
+mod record;
+mod table;
+
+use crate::engine::Operation;
+use crate::failure::Failure;
+use crate::input::Input;
+use crate::source::pointed;
+use crate::table::Table;
+use record_engine::{Refusal, Side};
+
+/// What was found out about a refusal.
+struct Cause {
+    /// Where in a record it is, if it has a place.
+    place: Place,
+    what: String,
+    advice: String,
+}
+
+/// A part of a record.
+#[derive(Clone, Copy)]
+enum Place {
+    Whole,
+    Node(usize),
+    Link(usize, u8),
+}
+
+impl Cause {
+    fn new(place: Place, what: impl Into<String>, advice: impl Into<String>) -> Cause {
+        Cause {
+            place,
+            what: what.into(),
+            advice: advice.into(),
+        }
+    }
+}
+
+/// The message of a refused call on one or two records; the operation, if it is one.
+pub fn refused(
+    refusal: Refusal,
+    operation: Option<Operation>,
+    table: &Table,
+    inputs: &[&Input],
+) -> Failure {
+    let lines = match (refusal.side(), inputs) {
+        (Some(side), _) => {
+            let input = inputs[usize::from(side == Side::Second)];
+            let cause = record::cause(refusal.number(), table, input);
+            cause.map(|cause| placed(&cause, input))
+        }
+        (None, &[first, second]) => {
+            let cause = pair::cause(refusal.number(), operation, table, [first, second]);
+            cause.map(|cause| format!("  {}\n  {}", cause.what, cause.advice))
+        }
+        (None, _) => None,
+    };
+    Failure::Refused(match lines {
+        Some(lines) => format!("{refusal}\n{lines}"),
+        None => refusal.to_string(),
+    })
+}
+
+/// The message of a refused table.
+pub fn table_refused(refusal: Refusal, table: &Table, name: &str) -> Failure {
+    Failure::Refused(match table::cause(refusal.number(), table) {
+        Some(cause) => format!("{refusal}\n  {name}: {}\n  {}", cause.what, cause.advice),
+        None => format!("{refusal}\n  {name}"),
+    })
+}
+
+/// A cause with the record's name, or where the record was a text, the place in it.
+fn placed(cause: &Cause, input: &Input) -> String {
+    let Cause { what, advice, .. } = cause;
+    if let Some((text, read)) = &input.text {
+        let at = match cause.place {
+            Place::Whole => None,
+            Place::Node(node) => read.nodes.get(node),
+            Place::Link(node, feature) => read.links.get(&(node, feature)),
+        };
+        if let Some(&at) = at {
+            let pointed = pointed(&input.name, text, at, what);
+            return format!("{pointed}\n  {advice}");
+        }
+    }
+    format!("  {}: {what}\n  {advice}", input.name)
+}
+
+/// Items as a sentence lists them.
+fn listed(items: &[String]) -> String {
+    match items {
+        [] => String::new(),
+        [one] => one.clone(),
+        [some @ .., last] => format!("{} and {last}", some.join(", ")),
+    }
+}
+
+#[cfg(test)]
+mod tests {
+    use record_engine::Refusal;
+
+    /// The tool lends enough bytes and hands in no list, so no session comes to these.
+    #[test]
+    fn refusals_that_no_command_meets_have_words_too() {
+        let is_met = |refusal: &Refusal| matches!(refusal.number(), 1..=7 | 9..=13);
+        let unmet = Refusal::ALL.into_iter().filter(|refusal| !is_met(refusal));
+        let words: Vec<String> = unmet.map(|refusal| refusal.to_string()).collect();
+        assert_eq!(
+            words,
+            [
+                "refused 18 first: a node has a feature that the list does not allow its type",
+                "refused 18 second: a node has a feature that the list does not allow its type",
+                "refused 8: the output is shorter than the result",
+                "refused 17: the list has not one type for each of the 64 features",
+                "refused 22: fewer bytes are lent for reasons than there are links",
+            ]
+        );
+    }
+}

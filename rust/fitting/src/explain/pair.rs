@@ -1,0 +1,183 @@
+//! Why an operation on two accepted records is refused, 9 to 13: the paths at which they
+//! loop, clash or are not below, the size of the result, or the types that restore.
+
+use super::combination::combination;
+use super::{Cause, Place, listed};
+use crate::engine::Operation;
+use crate::graph::{Graph, Levels};
+use crate::input::Input;
+use crate::overlay::{Named, image};
+use crate::table::Table;
+use std::collections::BTreeSet;
+
+/// Two inputs as their graphs, with their names.
+struct Pair<'a> {
+    table: &'a Table,
+    graphs: [Graph; 2],
+    names: [&'a str; 2],
+}
+
+/// What was found out about a refusal of an operation by its number.
+pub fn cause(
+    number: u8,
+    operation: Option<Operation>,
+    table: &Table,
+    inputs: [&Input; 2],
+) -> Option<Cause> {
+    let [first, second] = inputs;
+    let pair = Pair {
+        table,
+        graphs: [first.graph(table).ok()?, second.graph(table).ok()?],
+        names: [&first.name, &second.name],
+    };
+    let (what, advice) = match number {
+        9 => pair.cycle()?,
+        10 => pair.clash()?,
+        11 => pair.too_large(operation?),
+        12 => pair.not_below()?,
+        13 => pair.no_wanted_type()?,
+        _ => return None,
+    };
+    Some(Cause::new(Place::Whole, what, advice))
+}
+
+type Words = (String, String);
+
+impl Pair<'_> {
+    fn named(&self) -> [Named<'_>; 2] {
+        [0, 1].map(|side| Named {
+            graph: &self.graphs[side],
+            name: self.names[side],
+        })
+    }
+
+    fn cycle(&self) -> Option<Words> {
+        let combined = combination(self.table, [&self.graphs[0], &self.graphs[1]]).graph;
+        let cycle = combined.cycle()?;
+        let path = combined.paths()[cycle.node].clone()?;
+        let again = [&path[..], &cycle.around].concat();
+        let (path, again) = (self.table.path(&path), self.table.path(&again));
+        Some((
+            format!("in the combination {path} and {again} are one node, which reaches itself"),
+            "part what one of the two records shares, or leave one of these links out".to_string(),
+        ))
+    }
+
+    fn clash(&self) -> Option<Words> {
+        let combination = combination(self.table, [&self.graphs[0], &self.graphs[1]]);
+        let nodes = &combination.graph.nodes;
+        let paths = combination.graph.paths();
+        let clashes = |node: usize| nodes[node].node_type == 0 || nodes[node].levels.is_empty();
+        // The nearest to the root.
+        let class = (0..nodes.len())
+            .filter(|&node| clashes(node))
+            .min_by_key(|&node| paths[node].as_ref().map(Vec::len))?;
+        let by_type = nodes[class].node_type == 0;
+        let own_paths = [self.graphs[0].paths(), self.graphs[1].paths()];
+        let mut told = BTreeSet::new();
+        let mut labels = Vec::new();
+        for &(side, node) in &combination.members[class] {
+            let member = &self.graphs[side].nodes[node];
+            let (label, says_something) = match by_type {
+                true => (
+                    self.table.type_name(member.node_type),
+                    member.node_type != self.table.top(),
+                ),
+                false => (member.levels.to_string(), member.levels != Levels::FULL),
+            };
+            if says_something && told.insert(label.clone()) {
+                let path = self.table.path(own_paths[side][node].as_ref()?);
+                labels.push(format!("{label} ({}, {path})", self.names[side]));
+            }
+        }
+        let (path, labels) = (self.table.path(paths[class].as_ref()?), listed(&labels));
+        let nothing = match by_type {
+            true => format!("no type but {} is below them", self.table.type_name(0)),
+            false => "no level is in all of them".to_string(),
+        };
+        Some((
+            format!("at {path} of the combination {labels} come together, and {nothing}"),
+            "change one of them, or part what is shared there".to_string(),
+        ))
+    }
+
+    fn too_large(&self, operation: Operation) -> Words {
+        let [first, second] = [&self.graphs[0], &self.graphs[1]];
+        let (nodes, links) = match operation {
+            Operation::Common => common_size(first, second),
+            Operation::Combine | Operation::Difference => {
+                let combined = combination(self.table, [first, second]).graph;
+                (combined.nodes.len(), combined.link_count())
+            }
+        };
+        (
+            format!("it has {nodes} nodes and {links} links"),
+            "leave parts out, or part the records in smaller ones".to_string(),
+        )
+    }
+
+    fn not_below(&self) -> Option<Words> {
+        let [general, specific] = self.named();
+        let obstacle = image(self.table, general, specific).err()?;
+        let advice = match image(self.table, specific, general) {
+            Ok(_) => format!("exchange the two: {} is the more general", specific.name),
+            Err(_) => format!(
+                "take what both have in common for the general one: `fitting common TABLE {} {}`",
+                general.name, specific.name
+            ),
+        };
+        Some((obstacle, advice))
+    }
+
+    /// A node of the specific graph at which no type is the greatest of those that restore
+    /// its type.
+    fn no_wanted_type(&self) -> Option<Words> {
+        let (table, [general, specific]) = (self.table, &self.graphs);
+        let [upper, lower] = self.named();
+        let image = image(table, upper, lower).ok()?;
+        let mut over = vec![table.top(); specific.nodes.len()];
+        for (node, &under) in general.nodes.iter().zip(&image) {
+            over[under] = table.meet(over[under], node.node_type);
+        }
+        for (number, node) in specific.nodes.iter().enumerate() {
+            let restores = |c: u8| table.meet(c, over[number]) == node.node_type;
+            let all: Vec<u8> = (0..table.n as u8).filter(|&c| restores(c)).collect();
+            let bits = all.iter().fold(0, |bits, &c| bits | 1 << c);
+            if table.greatest(bits).is_none() {
+                let all: Vec<String> = all.iter().map(|&c| table.type_name(c)).collect();
+                let names = [node.node_type, over[number]].map(|c| table.type_name(c));
+                let path = table.path(specific.paths()[number].as_ref()?);
+                let [own, over] = &names;
+                let [g, s] = self.names;
+                return Some((
+                    format!(
+                        "at {path} {s} has {own} under {over} of {g}: {} give {own} with {over}, \
+                         and none of these is the greatest",
+                        listed(&all),
+                    ),
+                    "raise or lower the type there, or take another table".to_string(),
+                ));
+            }
+        }
+        None
+    }
+}
+
+/// The numbers of nodes and links of a common part: the pairs of nodes that paths in both
+/// graphs lead to.
+fn common_size(first: &Graph, second: &Graph) -> (usize, usize) {
+    let mut met = BTreeSet::from([(0, 0)]);
+    let mut waiting = vec![(0, 0)];
+    let mut links = 0;
+    while let Some((a, b)) = waiting.pop() {
+        for link in &first.nodes[a].links {
+            if let Some(target) = second.nodes[b].target(link.feature) {
+                links += 1;
+                if met.insert((link.target, target)) {
+                    waiting.push((link.target, target));
+                }
+            }
+        }
+    }
+    (met.len(), links)
+}

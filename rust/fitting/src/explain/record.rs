@@ -1,0 +1,115 @@
+//! Why a record is refused, 4 to 7: where its bytes end, which node has what is out of
+//! range, which reaches itself along which path, or which no path leads to.
+
+use super::{Cause, Place, listed};
+use crate::graph::{Graph, Malformed};
+use crate::input::Input;
+use crate::table::Table;
+use record_engine::MOST_LINKS;
+
+/// What was found out about a refusal of a record by its number.
+pub fn cause(number: u8, table: &Table, input: &Input) -> Option<Cause> {
+    match (number, Graph::decode(&input.record)) {
+        (4, graph) => malformed(input.record.len(), graph),
+        (5, Ok(graph)) => out_of_range(table, &graph),
+        (6, Ok(graph)) => cycle(table, &graph),
+        (7, Ok(graph)) => unreached(table, &graph),
+        _ => None,
+    }
+}
+
+fn malformed(length: usize, decoded: Result<Graph, Malformed>) -> Option<Cause> {
+    let (what, advice) = match decoded {
+        Err(Malformed::NoNodes) if length == 0 => (
+            "there are no bytes".to_string(),
+            "hand in a record of 10 bytes or more, or text",
+        ),
+        Err(Malformed::NoNodes) => (
+            "byte 0, the number of nodes, is 0".to_string(),
+            "a record has 1 to 255 nodes: is this another kind of file?",
+        ),
+        Err(Malformed::Ends { node, part }) => (
+            format!("it ends after {length} bytes, in the {part} of node {node}"),
+            "fetch the rest of the bytes, or correct the number of nodes in byte 0",
+        ),
+        Err(Malformed::LeftOver { length: nodes }) => (
+            format!("its nodes end after {nodes} bytes, and it has {length}"),
+            "cut off what follows, or correct the number of nodes in byte 0",
+        ),
+        Ok(graph) if graph.link_count() > MOST_LINKS => (
+            format!("it has {} links", graph.link_count()),
+            "leave links out: a record has at most 2,048",
+        ),
+        Ok(_) => return None,
+    };
+    Some(Cause::new(Place::Whole, what, advice))
+}
+
+fn out_of_range(table: &Table, graph: &Graph) -> Option<Cause> {
+    let types = format!("a node's type is 1 to {}", table.n - 1);
+    let count = graph.nodes.len();
+    for (number, node) in graph.nodes.iter().enumerate() {
+        let place = Place::Node(number);
+        let name = table.type_name(node.node_type);
+        if node.node_type == 0 {
+            let what = format!("node {number} has type {name}, the contradiction");
+            return Some(Cause::new(place, what, types));
+        }
+        if usize::from(node.node_type) >= table.n {
+            let what = format!("node {number} has type {name}, which the table does not have");
+            return Some(Cause::new(place, what, types));
+        }
+        if node.levels.is_empty() {
+            let what = format!("node {number} has levels {}", node.levels);
+            let advice = "the lowest level comes first: exchange the two, if they are meant";
+            return Some(Cause::new(place, what, advice));
+        }
+        if let Some(link) = node.links.iter().find(|link| link.target >= count) {
+            let feature = table.feature_name(link.feature);
+            let what = format!(
+                "link {feature} of node {number} leads to node {}",
+                link.target
+            );
+            let advice = format!("the record's nodes are 0 to {}", count - 1);
+            return Some(Cause::new(Place::Link(number, link.feature), what, advice));
+        }
+    }
+    None
+}
+
+fn cycle(table: &Table, graph: &Graph) -> Option<Cause> {
+    let cycle = graph.cycle()?;
+    let node = cycle.node;
+    let where_it_is = match graph.paths()[node].as_deref() {
+        Some([]) => "the root".to_string(),
+        Some(path) => format!("node {node}, at {},", table.path(path)),
+        None => format!("node {node}, which the root does not reach,"),
+    };
+    Some(Cause::new(
+        Place::Link(cycle.closing.0, cycle.closing.1),
+        format!(
+            "{where_it_is} reaches itself by {}",
+            table.path(&cycle.around)
+        ),
+        "let one link on this way lead elsewhere",
+    ))
+}
+
+fn unreached(table: &Table, graph: &Graph) -> Option<Cause> {
+    const SHOWN: usize = 5;
+    let paths = graph.paths();
+    let alone: Vec<usize> = (0..paths.len()).filter(|&n| paths[n].is_none()).collect();
+    let shown = alone.iter().take(SHOWN).map(|&number| {
+        let name = table.type_name(graph.nodes[number].node_type);
+        format!("node {number} ({name})")
+    });
+    let mut shown: Vec<String> = shown.collect();
+    if alone.len() > SHOWN {
+        shown.push(format!("{} more", alone.len() - SHOWN));
+    }
+    Some(Cause::new(
+        Place::Whole,
+        format!("no path from the root leads to {}", listed(&shown)),
+        "add links to what is meant to stand there, or leave the nodes out",
+    ))
+}

@@ -1,0 +1,23 @@
+//! `fitting`: records as text and as pictures, for a person at a desk. A
+//! command reads a type table and records or texts, asks the engine (`record_engine`) and
+//! tells what it answers. What the engine proves is not computed here; what a message or a
+//! picture tells beyond the engine's answer is.
+
+#![forbid(unsafe_code)]
+
+mod command;
+mod draw;
+mod engine;
+mod explain;
+mod failure;
+pub mod graph;
+mod help;
+mod input;
+pub mod notation;
+mod overlay;
+mod picture;
+mod source;
+pub mod table;
+mod why;
+
+pub use command::run;

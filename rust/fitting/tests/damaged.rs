@@ -1,0 +1,151 @@
+//! Random tables, records, pairs and texts, many of them damaged: the tool answers each, and
+//! every refusal tells its cause and what to do.
+
+use fitting::graph::Graph;
+use fitting::notation;
+use fitting::table::Table;
+use reference::random::{self, Ranges, Shape, Xorshift};
+use reference::record;
+use std::fs;
+use std::path::{Path, PathBuf};
+
+/// Runs the tool in this process: its status, and what it writes to standard error.
+fn told(arguments: &[&str]) -> (u8, String) {
+    let arguments: Vec<String> = arguments.iter().map(|word| word.to_string()).collect();
+    let (mut out, mut err) = (Vec::new(), Vec::new());
+    let status = fitting::run(&arguments, &mut out, &mut err);
+    assert_eq!(status == 0, err.is_empty(), "{arguments:?}");
+    (status, String::from_utf8(err).expect("messages are text"))
+}
+
+/// A heading or a place, the cause, and what to do.
+fn assert_explained(status: u8, message: &str) {
+    assert!(status < 2, "{message}");
+    assert!(status == 0 || message.lines().count() >= 3, "{message}");
+}
+
+/// A folder for a test to write into.
+fn folder(name: &str) -> PathBuf {
+    let folder = Path::new(env!("CARGO_TARGET_TMPDIR")).join(format!("fitting-{name}"));
+    fs::create_dir_all(&folder).expect("the folder can be made");
+    folder
+}
+
+/// Writes bytes to a file of a folder; its name as an argument.
+fn stored(folder: &Path, name: &str, bytes: &[u8]) -> String {
+    let file = folder.join(name);
+    // A new file: to write over an old one waits for the disk.
+    let _ = fs::remove_file(&file);
+    fs::write(&file, bytes).expect("the file can be written");
+    file.to_str().expect("a name in UTF-8").to_string()
+}
+
+#[test]
+fn a_refused_table_has_its_cause_told() {
+    let folder = folder("damaged-tables");
+    let mut random = Xorshift::stored(30);
+    let mut refused = 0;
+    for _ in 0..2_000 {
+        let table = random::damaged_table(&mut random);
+        let file = stored(&folder, "table", &table.bytes);
+        let (status, message) = told(&["check", &file]);
+        assert_explained(status, &message);
+        refused += u32::from(status);
+    }
+    assert!(refused > 1_000 || !random::is_stored(), "{refused}");
+}
+
+#[test]
+fn a_refused_record_has_its_cause_told() {
+    let folder = folder("damaged-records");
+    let mut random = Xorshift::stored(31);
+    let mut refused = [0; 8];
+    for round in 0..2_000 {
+        let table = random::valid_table(&mut random);
+        let ranges = [Ranges::Absent, Ranges::Present][round % 2];
+        let record = random::damaged_record(&mut random, table.n, ranges);
+        let file = stored(&folder, "table", &table.bytes);
+        let (status, message) = told(&["check", &file, &stored(&folder, "record", &record)]);
+        assert_explained(status, &message);
+        let number = message
+            .strip_prefix("refused ")
+            .and_then(|rest| rest.split(' ').next());
+        refused[number.map_or(0, |number| number.parse().expect("a number"))] += 1;
+    }
+    let enough = refused[4..].iter().all(|&count| count > 50);
+    assert!(enough || !random::is_stored(), "{refused:?}");
+}
+
+#[test]
+fn a_refused_operation_has_its_cause_told() {
+    let folder = folder("damaged-pairs");
+    let mut random = Xorshift::stored(32);
+    let mut refused = [0; 14];
+    for round in 0..2_000 {
+        let table = match round % 3 {
+            0 => random::rival_table(&mut random),
+            _ => random::valid_table(&mut random),
+        };
+        let shape = Shape::any(&mut random);
+        let accepted = table.accepted();
+        let (first, second) = match round % 6 {
+            0 => {
+                let low = random::low_graph(&mut random, table.n, &shape);
+                (random::graph_well_above(&mut random, &accepted, &low), low)
+            }
+            _ => random::pair(&mut random, &accepted, &shape),
+        };
+        let file = stored(&folder, "table", &table.bytes);
+        let first = stored(&folder, "first", &record::write(&first));
+        let second = stored(&folder, "second", &record::write(&second));
+        for command in ["order", "common", "combine", "difference"] {
+            let (status, message) = told(&[command, &file, &first, &second]);
+            assert_explained(status, &message);
+            let number = message
+                .strip_prefix("refused ")
+                .and_then(|rest| rest.split(':').next());
+            refused[number.map_or(0, |number| number.parse().expect("a number"))] += 1;
+        }
+    }
+    let enough = refused[9..].iter().all(|&count| count > 5);
+    assert!(enough || !random::is_stored(), "{refused:?}");
+}
+
+#[test]
+fn a_damaged_text_is_read_or_has_a_place() {
+    const PIECES: [&str; 16] = [
+        "[", "]", "{", "}", ":", ",", "..", "X", "top", "1", "63", " ", "#", "\n", "é", "%",
+    ];
+    let mut random = Xorshift::stored(33);
+    let table = Table::from_bytes(&random::diamond().bytes);
+    let (mut read, mut refused) = (0, 0);
+    for _ in 0..10_000 {
+        let shape = Shape::small(&mut random, 8, 4);
+        let record = record::write(&random::graph(&mut random, table.n, &shape));
+        let graph = Graph::decode(&record).expect("a record");
+        // Blanks, so that there is always a character to change.
+        let text = notation::write(&table, &graph) + "   ";
+        let mut text: Vec<char> = text.chars().collect();
+        for _ in 0..random.between(1, 3) {
+            let place = random.pick(text.len());
+            let piece = random.choose(&PIECES).chars();
+            match random.pick(3) {
+                0 => drop(text.splice(place..place, piece)),
+                1 => drop(text.splice(place..place + 1, piece)),
+                _ => drop(text.remove(place)),
+            }
+        }
+        let text: String = text.into_iter().collect();
+        match notation::read(&table, &text) {
+            Ok(_) => read += 1,
+            Err(fault) => {
+                refused += 1;
+                let message = fault.message("text", &text);
+                let lines: Vec<&str> = message.lines().collect();
+                assert!(lines.len() == 4 && lines[2].ends_with('^'), "{message}");
+            }
+        }
+    }
+    let enough = read > 500 && refused > 5_000;
+    assert!(enough || !random::is_stored(), "{read} {refused}");
+}

@@ -1,0 +1,81 @@
+//! The examples that the help and the README give: each works in the root of the
+//! repository, which a test's folder stands for.
+
+mod tool;
+
+use std::fs;
+use std::path::Path;
+use tool::{folder, output, tool};
+
+const SUBJECTS: [&str; 11] = [
+    "",
+    "text",
+    "table",
+    "check",
+    "show",
+    "make",
+    "draw",
+    "order",
+    "common",
+    "combine",
+    "difference",
+];
+
+#[test]
+fn the_examples_of_the_help_work() {
+    let folder = folder("examples");
+    for subject in SUBJECTS {
+        let help = output(tool(&folder, &["help", subject]), b"");
+        let help = String::from_utf8(help.stdout).expect("the help is text");
+        let examples: Vec<&str> = help
+            .lines()
+            .filter_map(|l| l.strip_prefix("  $ fitting "))
+            .collect();
+        assert!(
+            !examples.is_empty(),
+            "the help about {subject:?} has an example"
+        );
+        for example in examples {
+            let arguments: Vec<&str> = example.split(' ').collect();
+            let told = output(tool(&folder, &arguments), b"");
+            let error = String::from_utf8_lossy(&told.stderr);
+            assert!(told.status.success(), "fitting {example}\n{error}");
+            // `make` writes a file instead.
+            assert_eq!(
+                told.stdout.is_empty(),
+                subject == "make",
+                "fitting {example}"
+            );
+        }
+    }
+}
+
+#[test]
+fn the_lines_of_the_readme_work() {
+    let folder = folder("readme");
+    let readme = Path::new(env!("CARGO_MANIFEST_DIR")).join("../../README.md");
+    let readme = fs::read_to_string(readme).expect("the README is text");
+    let lines = readme.lines();
+    let lines = lines.filter_map(|line| line.strip_prefix("    target/bin/fitting "));
+    let mut commands = Vec::new();
+    for line in lines {
+        // A picture needs `dot`: DOT text does not.
+        let line = line.split(' ').filter(|word| !word.ends_with(".svg"));
+        let arguments: Vec<&str> = line.collect();
+        let drawn = arguments[0] == "draw";
+        let arguments = &arguments[..arguments.len() - usize::from(drawn)];
+        let told = output(tool(&folder, arguments), b"");
+        let error = String::from_utf8_lossy(&told.stderr);
+        assert!(told.status.success(), "{arguments:?}\n{error}");
+        let text = String::from_utf8(told.stdout).expect("text");
+        if drawn {
+            assert!(text.starts_with("digraph fitting {\n"), "{text}");
+        } else {
+            // What it prints stands in the README.
+            let block: String = text.lines().map(|line| format!("    {line}\n")).collect();
+            assert!(readme.contains(&block), "{block}");
+        }
+        commands.push(arguments[0].to_string());
+    }
+    assert_eq!(commands, ["make", "difference", "draw", "draw"]);
+}

@@ -1,0 +1,54 @@
+//! The tool's answers as sessions: what a person types and sees.
+
+mod session;
+mod tool;
+
+#[test]
+fn cases_of_document_01() {
+    assert_eq!(session::run("cases"), 33);
+}
+
+#[test]
+fn every_command() {
+    assert_eq!(session::run("commands"), 37);
+}
+
+#[test]
+fn ranges_in_every_command() {
+    assert_eq!(session::run("ranges"), 25);
+}
+
+#[test]
+fn reasons_in_words_and_pictures() {
+    assert_eq!(session::run("reasons"), 17);
+}
+
+#[test]
+fn pictures() {
+    assert_eq!(session::run("draw"), 8);
+}
+
+#[test]
+fn help() {
+    assert_eq!(session::run("help"), 11);
+}
+
+#[test]
+fn wrong_use() {
+    assert_eq!(session::run("usage"), 21);
+}
+
+#[test]
+fn malformed_texts() {
+    assert_eq!(session::run("malformed"), 49);
+}
+
+#[test]
+fn malformed_and_refused_tables() {
+    assert_eq!(session::run("tables"), 34);
+}
+
+#[test]
+fn refusals() {
+    assert_eq!(session::run("refusals"), 30);
+}
