@@ -1,4 +1,4 @@
-/* The record engine for C: nine calls on bytes, and the table of the house types, in
+/* The record engine for C: eleven calls on bytes, and the table of the house types, in
  * the static library librecord_engine.a, which `rt staticlib record_engine` writes to
  * target/staticlib. examples/difference.c is a whole program.
  *
@@ -37,6 +37,12 @@
  * difference need not obey it and is combined by `record_unify`: with the general record
  * it gives the specific one, which obeys the list if it did.
  *
+ * A reading order is a list of all 64 features, each once, in 64 bytes: the feature that
+ * is read first stands first. Where links say the same, a difference keeps the least of
+ * them. Without a list, links are ordered by the number of the node that they leave, as
+ * the specific record is written, then by feature; with one by the feature's place in the
+ * list, then by that number. How records are written does not follow the list.
+ *
  * A record, a list or an output is handed in as a pointer to its first byte and a length.
  * A pointer is not null, also where the length is 0. An output overlaps nothing
  * else that is handed in. The calls keep no pointer, share no state and may run
@@ -67,9 +73,10 @@
  *       whose meet with the first graph's types over it is its own, none is the greatest
  *   17  a list that is not of 64 bytes, or with an entry of n or more
  *   18  a record with a link that the list forbids
+ *   19  a reading order that is not a list of all 64 features, each once
  *   22  difference with reasons: it has more links than bytes are lent for the reasons
  *
- * Checks run in the order 1, 2, 3; 17; the first record's 4 to 7 and 18; the second's 4
+ * Checks run in the order 1, 2, 3; 17 or 19; the first record's 4 to 7 and 18; the second's 4
  * to 7 and 18; then 12, 13, 9, 10, 11, 8, 22.
  */
 #ifndef RECORD_ENGINE_H
@@ -85,7 +92,7 @@ extern "C" {
 /* An output of so many bytes is never too short. */
 #define RECORD_LONGEST 4854
 
-/* The number of features, and so the length of an appropriateness list. */
+/* The number of features, and so the length of a list. */
 #define RECORD_FEATURES 64
 
 /* A record has at most so many links: so many bytes are never too few for the reasons
@@ -197,6 +204,27 @@ uint64_t record_difference_explained(size_t n, const uint8_t *table, size_t tabl
                                      const uint8_t *specific, size_t specific_length,
                                      uint8_t *output, size_t output_length,
                                      uint8_t *reasons, size_t reasons_length);
+
+/* Writes the difference as `record_difference` does, where links are ordered by their
+ * feature's place in a reading order, then by the number of the node that they leave.
+ * Whichever list is given, it restores the specific record, and nothing strictly more
+ * general does. Answers the length, or refuses by 1 to 3, by 19, by 4 to 7, then by 12,
+ * 13 and 8. */
+uint64_t record_difference_by(size_t n, const uint8_t *table, size_t table_length,
+                              const uint8_t *list, size_t list_length,
+                              const uint8_t *general, size_t general_length,
+                              const uint8_t *specific, size_t specific_length,
+                              uint8_t *output, size_t output_length);
+
+/* Writes the difference as `record_difference_by` does, and its reasons as
+ * `record_difference_explained` does. Answers the record's length, or refuses by 1 to 3,
+ * by 19, by 4 to 7, then by 12, 13, 8 and 22. */
+uint64_t record_difference_explained_by(size_t n, const uint8_t *table, size_t table_length,
+                                        const uint8_t *list, size_t list_length,
+                                        const uint8_t *general, size_t general_length,
+                                        const uint8_t *specific, size_t specific_length,
+                                        uint8_t *output, size_t output_length,
+                                        uint8_t *reasons, size_t reasons_length);
 
 /* Writes the type table of the house types, for n = RECORD_HOUSE_TYPES, into the
  * output's first RECORD_HOUSE_TABLE bytes; its other bytes are unchanged. A house

@@ -13,7 +13,7 @@ use lib.ListN.{length, getD}
 use Rattle.graphs.specs.Graph.{Graph, AnySize, Reached, follow}
 use Rattle.graphs.specs.Rows.{from}
 use Rattle.graphs.specs.Number.{canonical}
-use Rattle.graphs.specs.Difference.{Link, difference, bare, differ, lead, leaders, meetOver, byNumber}
+use Rattle.graphs.specs.Difference.{Link, StrictOrder, difference, bare, differ, lead, leaders, meetOver}
 use Rattle.graphs.specs.Reasons.{reasonAt, alongLinks, writtenOrder}
 use Rattle.graphs.proofs.Walk.{none-some, some-unique, reached-link}
 use Rattle.graphs.proofs.Below.{walk-map}
@@ -42,14 +42,14 @@ use Rattle.encode.specs.Marks.{marksAlong}
 use Rattle.encode.proofs.WrittenForm.{marks-tell}
 use Rattle.visits.specs.Walks.{Reaches, one, more}
 use Rattle.groups.specs.Cover.{Lying}
-use Rattle.groups.specs.Marks.{Marked}
-use Rattle.groups.proofs.Leading.{At, at-one, one-at, at-link, link-stands, Says, follows-it, leads-covered, leads-bare, mark-says}
+use Rattle.groups.specs.Marks.{At, Marked}
+use Rattle.groups.proofs.Leading.{at-one, one-at, at-link, link-stands, Says, follows-it, leads-covered, leads-bare, mark-says}
 use Rattle.difference.specs.Promise.{wantedAlong, differenceAlong, reasonsAlong, allWantedAlong}
 use Rattle.difference.specs.Wanted.{LabelsOver, wantedAt, Wants, WantsAll, metFrom}
 use Rattle.difference.specs.Keeping.{Cause, Leads, several, alone, Stays, Why, isRoot, caused, untop, onward, Keeps, Ready}
 use Rattle.difference.specs.Thinning.{Kept}
 use Rattle.difference.specs.Explaining.{Made, Copied, Explains, reasonBy}
-use Rattle.difference.specs.Asked.{Asked}
+use Rattle.difference.specs.Asked.{Asked, Prepared}
 use Rattle.difference.proofs.Wanting.{wants-known, meetWhere-same}
 use Rattle.difference.proofs.Thinning.{rows-sound, copied-feature, copied-target}
 use Rattle.difference.proofs.Explaining.{reason-one, reason-two, reason-three}
@@ -169,9 +169,6 @@ module _ {n : ℕ} {t gw sw map : List ℕ} (asked : Asked n t gw sw map) where
   wants-labels : {labels : List ℕ} → Wants n t sw gw map (size sw) labels → (v : ℕ) → v < size sw → labelFrom labels (2 * v) ≡ want v
   wants-labels w v h = ap (λ o. Option·getD o noLabel) (sym (w .each v h) ∙ at-label v h)
 
-  abbrev first : ℕ → Link ℕ → Link ℕ
-  first v l = lead eqb eqb s (from 0 (size sw)) g (from 0 (size gw)) over byNumber v l
-
   -- whether every node has a wanted label, as it is defined, with the length of the list of rows for the number of nodes
   pub answers-wanted : {answer : Bool} {labels : List ℕ} → WantsAll n t sw gw map answer labels →
       answer ≡ allWantedAlong n t (rowsOf sw) (rowsOf gw) (λ y. getD map y 0)
@@ -188,16 +185,19 @@ module _ {n : ℕ} {t gw sw map : List ℕ} (asked : Asked n t gw sw map) where
   abbrev any : AnySize (tableLabels n t) s
   any = asked .any-size
 
-  module _ {marks labels keeps : List ℕ} (marked : Marked sw gw map marks) (wants : Wants n t sw gw map (size sw) labels)
-      (code : Keeps n t sw marks labels keeps) where
+  module _ {earlier : Link ℕ → Link ℕ → Bool} (strict : StrictOrder earlier) {marks labels keeps : List ℕ}
+      (marked : Marked earlier sw gw map marks) (wants : Wants n t sw gw map (size sw) labels) (code : Keeps n t sw marks labels keeps) where
+    abbrev first : ℕ → Link ℕ → Link ℕ
+    first v l = lead eqb eqb s (from 0 (size sw)) g (from 0 (size gw)) over earlier v l
+
     abbrev isKept : ℕ → Bool
-    isKept v = keep operands over any byNumber want v
+    isKept v = keep operands over any earlier want v
 
     abbrev says : (k : ℕ) (l : Link ℕ) → At sw k l → Type 0
-    says k l at = Says n t lying-words operands (asked .lies) marked k l at
+    says k l at = Says n t lying-words operands (asked .lies) strict marked k l at
 
     read : (k : ℕ) (l : Link ℕ) (at : At sw k l) → says k l at
-    read k l at = mark-says n t lying-words operands (asked .lies) marked k l at
+    read k l at = mark-says n t lying-words operands (asked .lies) strict marked k l at
 
     -- a link with a mark leads its group
     marked-leads : (k : ℕ) (l : Link ℕ) (at : At sw k l) → (getD marks k 0 ≡ 0 → ⊥) → Leader s first (targetAt sw k) l
@@ -243,7 +243,7 @@ module _ {n : ℕ} {t gw sw map : List ℕ} (asked : Asked n t gw sw map) where
     idle-why : (v : ℕ) → Reached s v → ((f w : ℕ) → s .link v f ≡ some w → Same w) → isKept v ≡ false →
         Idle (tableLabels n t) s g over first isKept want v → Why n t sw marks labels keeps v → ⊥
     unfolding Same
-    idle-why v r later e idle (isRoot q) = true-false (root-kept operands over any byNumber want) (ap isKept (sym q) ∙ e)
+    idle-why v r later e idle (isRoot q) = true-false (root-kept operands over any earlier want) (ap isKept (sym q) ∙ e)
     idle-why v r later e idle (caused (several a b)) =
         let x : Link ℕ = (b .node, featureAt sw (b .place)) in
         let y : Link ℕ = (a .node, featureAt sw (a .place)) in
@@ -334,7 +334,7 @@ module _ {n : ℕ} {t gw sw map : List ℕ} (asked : Asked n t gw sw map) where
         next : (v : ℕ) → Reached s v → ((f w : ℕ) → s .link v f ≡ some w → Same w) → Same v
         next v r later = (
           λ e. there (isKept v) refl e,
-          λ e. code .found v h (reason-why v r later (keep-reason operands over any byNumber want v r e)),
+          λ e. code .found v h (reason-why v r later (keep-reason operands over any earlier want v r e)),
         )
           where
             h : v < size sw
@@ -343,7 +343,7 @@ module _ {n : ℕ} {t gw sw map : List ℕ} (asked : Asked n t gw sw map) where
             there : (b : Bool) → isKept v ≡ b → getD keeps v 0 ≡ 1 → isKept v ≡ true
             there true q e = q
             there false q e =
-                absurd (idle-why v r later q (keep-idle operands over any byNumber want v r q) (code .why v h e))
+                absurd (idle-why v r later q (keep-idle operands over any earlier want v r q) (code .why v h e))
 
     -- Kept links.
 
@@ -358,7 +358,7 @@ module _ {n : ℕ} {t gw sw map : List ℕ} (asked : Asked n t gw sw map) where
       result = graphIn ws
 
       abbrev keptAt : ℕ → ℕ → Option ℕ
-      keptAt v f = kept operands over any byNumber want v f
+      keptAt v f = kept operands over any earlier want v f
 
       forth : (v f w : ℕ) → Reached s v → result .link v f ≡ some w → keptAt v f ≡ some w
       unfolding Same
@@ -370,7 +370,7 @@ module _ {n : ℕ} {t gw sw map : List ℕ} (asked : Asked n t gw sw map) where
           let ew : targetAt sw k ≡ w = sym (copied-target c) ∙ q in
           let at : At sw k (v, f) = record { place = place; feature = ef } in
           let l : Leader s first w (v, f) = subst (λ u. Leader s first u (v, f)) ew (marked-leads k (v, f) at (stays .leads)) in
-          kept-links operands over any byNumber want v f w r .1 (
+          kept-links operands over any earlier want v f w r .1 (
             l,
             kept-same w (reached-link s f r (l .0 .1)) .0 (ap (λ (x : ℕ). getD keeps x 0) (sym ew) ∙ stays .enters),
           )
@@ -379,7 +379,7 @@ module _ {n : ℕ} {t gw sw map : List ℕ} (asked : Asked n t gw sw map) where
       unfolding Same
       backward v f w r e =
           let h = reached-inside s-sound v r in
-          let (l, d) = kept-links operands over any byNumber want v f w r .0 e in
+          let (l, d) = kept-links operands over any earlier want v f w r .0 e in
           let (k, at, p, m) = leads-marked w (v, f) l in
           let stays : Stays sw marks keeps k =
           record { leads = m; enters = ap (λ (x : ℕ). getD keeps x 0) p ∙ kept-same w (reached-link s f r (l .0 .1)) .1 d } in
@@ -395,11 +395,11 @@ module _ {n : ℕ} {t gw sw map : List ℕ} (asked : Asked n t gw sw map) where
           go none e (some w) d = none-some (sym e ∙ forth v f w r d)
           go (some w) e none d = none-some (sym d ∙ backward v f w r e)
           go (some w) e (some x) d =
-              let l = kept-links operands over any byNumber want v f w r .0 e .0 in
+              let l = kept-links operands over any earlier want v f w r .0 e .0 in
               present (reached-link s f r (l .0 .1), some-unique (backward v f w r e) d)
 
       abbrev made : Graph Label ℕ
-      made = difference (tableLabels n t) eqb eqb byNumber s (from 0 (size sw)) g (from 0 (size gw)) over want
+      made = difference (tableLabels n t) eqb eqb earlier s (from 0 (size sw)) g (from 0 (size gw)) over want
 
       made-alike : Bisimilar (λ x y. Reached s x × (x ≡ y)) made result
       unfolding difference follow
@@ -423,15 +423,15 @@ module _ {n : ℕ} {t gw sw map : List ℕ} (asked : Asked n t gw sw map) where
           go (present x) = ap some (x .1)
 
       -- as it is defined, with the lengths of the lists of rows for the numbers of nodes
-      named : differenceAlong n t (rowsOf sw) (rowsOf gw) (λ y. getD map y 0) ≡ made
+      named : differenceAlong earlier n t (rowsOf sw) (rowsOf gw) (λ y. getD map y 0) ≡ made
       unfolding differenceAlong wantedAlong
       named =
-          ap₂ (λ (a b : ℕ). difference (tableLabels n t) eqb eqb byNumber s (from 0 a) g (from 0 b) over
+          ap₂ (λ (a b : ℕ). difference (tableLabels n t) eqb eqb earlier s (from 0 a) g (from 0 b) over
           (λ v. Option·getD (wantedLabel n t (s .label v) (meetOver (tableLabels n t) eqb g (from 0 b) over v)) noLabel))
           (length-rows sw 0 (size sw)) (length-rows gw 0 (size gw))
 
       -- The rows are those of the difference.
-      pub result-canonical : canonical eqb (differenceAlong n t (rowsOf sw) (rowsOf gw) (λ y. getD map y 0)) ≡ canonical eqb result
+      pub result-canonical : canonical eqb (differenceAlong earlier n t (rowsOf sw) (rowsOf gw) (λ y. getD map y 0)) ≡ canonical eqb result
       result-canonical =
           ap (canonical eqb) named ∙
           bisimilar-canonical eqb eqb tells-eqb tells-eqb (λ x y. Reached s x × (x ≡ y)) made result made-alike
@@ -439,15 +439,15 @@ module _ {n : ℕ} {t gw sw map : List ℕ} (asked : Asked n t gw sw map) where
       -- Reasons.
 
       abbrev reason : Link ℕ → ℕ → ℕ
-      reason l v = reasonAt eqb eqb s (from 0 (size sw)) g (from 0 (size gw)) over byNumber l v
+      reason l v = reasonAt eqb eqb s (from 0 (size sw)) g (from 0 (size gw)) over earlier l v
 
       module _ {reasons : List ℕ} (explained : Explains sw marks ws reasons) where
         -- a leader that is covered enters a node with a cause exactly where leaders differ
         abbrev apart : ℕ → Bool
-        apart v = differ eqb eqb s (from 0 (size sw)) g (from 0 (size gw)) over (leaders eqb eqb s (from 0 (size sw)) g (from 0 (size gw)) over byNumber v)
+        apart v = differ eqb eqb s (from 0 (size sw)) g (from 0 (size gw)) over (leaders eqb eqb s (from 0 (size sw)) g (from 0 (size gw)) over earlier v)
 
-        listed : (v : ℕ) (l : Link ℕ) → List·Memᴰ l (leaders eqb eqb s (from 0 (size sw)) g (from 0 (size gw)) over byNumber v) ↔ Leader s first v l
-        listed v l = leaders-listed operands over any byNumber want v l
+        listed : (v : ℕ) (l : Link ℕ) → List·Memᴰ l (leaders eqb eqb s (from 0 (size sw)) g (from 0 (size gw)) over earlier v) ↔ Leader s first v l
+        listed v l = leaders-listed operands over any earlier want v l
 
         cause-apart : (k : ℕ) (l : Link ℕ) → At sw k l → Leader s first (targetAt sw k) l → getD marks k 0 ≡ 1 →
             Cause sw marks (rowsEnd sw) (targetAt sw k) → apart (targetAt sw k) ≡ false → ⊥
@@ -455,7 +455,7 @@ module _ {n : ℕ} {t gw sw map : List ℕ} (asked : Asked n t gw sw map) where
           where
             same : (x y : Link ℕ) → Leader s first (targetAt sw k) x → Leader s first (targetAt sw k) y → x ≡ y
             same x y p q =
-                differ-one operands over any byNumber want _ e x y (listed (targetAt sw k) x .1 p) (listed (targetAt sw k) y .1 q)
+                differ-one operands over any earlier want _ e x y (listed (targetAt sw k) x .1 p) (listed (targetAt sw k) y .1 q)
 
             leader : {m : ℕ} (a : Leads sw marks m (targetAt sw k)) → Leader s first (targetAt sw k) (a .node, featureAt sw (a .place))
             leader a =
@@ -506,7 +506,7 @@ module _ {n : ℕ} {t gw sw map : List ℕ} (asked : Asked n t gw sw map) where
             covered : getD marks k 0 ≡ 1 → Leader s first (targetAt sw k) l → (b : Bool) → apart (targetAt sw k) ≡ b →
                 reasonBy sw marks (explained .meeting) k ≡ cond (apart (targetAt sw k)) 2 3
             covered mark lead true e =
-                let (x, y, i, j, d) = differ-two operands over any byNumber want _ e in
+                let (x, y, i, j, d) = differ-two operands over any earlier want _ e in
                 reason-two (getD marks k 0) (getD (explained .meeting) (targetAt sw k) 0) (λ q. omega (arith, mark, q))
                 (meets .1 (two-cause (targetAt sw k) x y (listed (targetAt sw k) x .0 i) (listed (targetAt sw k) y .0 j) d))
                 ∙ sym (ap (λ (b : Bool). cond b 2 3) e)
@@ -532,15 +532,15 @@ module _ {n : ℕ} {t gw sw map : List ℕ} (asked : Asked n t gw sw map) where
             ∙ reason-by k (v, featureAt sw k) (at-row v k place) (stays .leads)
             ∙ ap (λ (w : ℕ). reason (v, w / scale) (w % scale)) (sym c)
 
-        pub result-reasons : reasonsAlong n t (rowsOf sw) (rowsOf gw) (λ y. getD map y 0) ≡
+        pub result-reasons : reasonsAlong earlier n t (rowsOf sw) (rowsOf gw) (λ y. getD map y 0) ≡
             marksAlong ws reasons (writtenOrder eqb result)
         unfolding reasonsAlong differenceAlong wantedAlong
         result-reasons =
             ap₂ (λ (a b : ℕ).
-            alongLinks (difference (tableLabels n t) eqb eqb byNumber s (from 0 a) g (from 0 b) over
+            alongLinks (difference (tableLabels n t) eqb eqb earlier s (from 0 a) g (from 0 b) over
             (λ v. Option·getD (wantedLabel n t (s .label v) (meetOver (tableLabels n t) eqb g (from 0 b) over v)) noLabel))
-            (reasonAt eqb eqb s (from 0 a) g (from 0 b) over byNumber)
-            (writtenOrder eqb (difference (tableLabels n t) eqb eqb byNumber s (from 0 a) g (from 0 b) over
+            (reasonAt eqb eqb s (from 0 a) g (from 0 b) over earlier)
+            (writtenOrder eqb (difference (tableLabels n t) eqb eqb earlier s (from 0 a) g (from 0 b) over
             (λ v. Option·getD (wantedLabel n t (s .label v) (meetOver (tableLabels n t) eqb g (from 0 b) over v)) noLabel))))
             (length-rows sw 0 (size sw)) (length-rows gw 0 (size gw))
             ∙ along-same (Reached s) made result reason links-alike order
@@ -551,19 +551,21 @@ module _ {n : ℕ} {t gw sw map : List ℕ} (asked : Asked n t gw sw map) where
             order = bisimilar-order eqb eqb tells-eqb tells-eqb (λ x y. Reached s x × (x ≡ y)) made result made-alike
 
 -- The rows that are made.
-module _ {n : ℕ} {t gw sw map labels marks words : List ℕ} (asked : Asked n t gw sw map) (wants : Wants n t sw gw map (size sw) labels)
-    (made : Made n t gw sw map labels marks words) where
+module _ {earlier : Link ℕ → Link ℕ → Bool} {n : ℕ} {t gw sw map marks labels words : List ℕ}
+    (given : Prepared earlier n t gw sw map marks labels) (made : Made n t sw marks labels words) where
   few-types : n ≤ 64
-  few-types = accepted-size n t (asked .ok) .1
+  few-types = accepted-size n t (given .asked .ok) .1
 
   made-ready : Ready sw marks (made .keep)
-  made-ready = ready-words asked (made .marked .stands .long) (made .kept .long)
+  made-ready = ready-words (given .asked) (given .marked .stands .long) (made .kept .long)
 
   pub made-sound : Sound words
-  made-sound = rows-sound made-ready (λ v h. known-more (omega (arith, few-types)) (wants-known asked wants .known v h)) (made .rows)
+  made-sound =
+      rows-sound made-ready (λ v h. known-more (omega (arith, few-types)) (wants-known (given .asked) (given .wants) .known v h)) (made .rows)
 
-  pub made-canonical : canonical eqb (differenceAlong n t (rowsOf sw) (rowsOf gw) (λ y. getD map y 0)) ≡ canonical eqb (graphIn words)
-  made-canonical = result-canonical asked (made .marked) wants (made .kept) made-ready few-types (made .rows)
+  pub made-canonical : canonical eqb (differenceAlong earlier n t (rowsOf sw) (rowsOf gw) (λ y. getD map y 0)) ≡ canonical eqb (graphIn words)
+  made-canonical =
+      result-canonical (given .asked) (given .strict) (given .marked) (given .wants) (made .kept) made-ready few-types (made .rows)
 
   pub made-copied : Copied sw words
   made-copied =
@@ -578,5 +580,6 @@ module _ {n : ℕ} {t gw sw map labels marks words : List ℕ} (asked : Asked n 
       }
 
   pub made-reasons : {reasons : List ℕ} → Explains sw marks words reasons →
-      reasonsAlong n t (rowsOf sw) (rowsOf gw) (λ y. getD map y 0) ≡ marksAlong words reasons (writtenOrder eqb (graphIn words))
-  made-reasons explained = result-reasons asked (made .marked) wants (made .kept) made-ready few-types (made .rows) explained
+      reasonsAlong earlier n t (rowsOf sw) (rowsOf gw) (λ y. getD map y 0) ≡ marksAlong words reasons (writtenOrder eqb (graphIn words))
+  made-reasons explained =
+      result-reasons (given .asked) (given .strict) (given .marked) (given .wants) (made .kept) made-ready few-types (made .rows) explained

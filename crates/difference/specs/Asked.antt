@@ -1,15 +1,18 @@
--- What a difference is asked of: an accepted table and two graphs of records over it, s below g. `map` has the node of s that each node
--- of g leads to.
+-- What a difference is asked of: an accepted table and two graphs of records over it, s below g, and what is prepared of them. `map` has
+-- the node of s that each node of g leads to.
 use mathlib.Core.Path.{_≡_}
-use mathlib.Core.Bool.{true}
+use mathlib.Core.Bool.{Bool, true}
 use mathlib.Core.List.{List}
 use Prim.Native.Nat.{ℕ, _≤_, _<_}
 use lib.ListN.{length, getD}
 use Rattle.graphs.specs.Graph.{AnySize, Reached}
 use Rattle.graphs.specs.Map.{NodeMap}
+use Rattle.graphs.specs.Difference.{Link, StrictOrder}
 use Rattle.lattice.specs.Labels.{tableLabels, Known}
 use Rattle.lattice.specs.Table.{accepted}
 use Rattle.layout.specs.Layout.{longest, size, labelAt, graphIn, Recorded}
+use Rattle.groups.specs.Marks.{Marked}
+use Rattle.difference.specs.Wanted.{Wants}
 
 pub record Asked (n : ℕ) (t g s map : List ℕ) : Type 0 where
   pub ok : accepted n t ≡ true
@@ -22,3 +25,15 @@ pub record Asked (n : ℕ) (t g s map : List ℕ) : Type 0 where
   pub lower-reached : (v : ℕ) → v < size s → Reached (graphIn s) v
   pub any-size : AnySize (tableLabels n t) (graphIn s)
   pub lies : NodeMap (tableLabels n t) (graphIn s) (graphIn g) (λ y. getD map y 0)
+
+-- The links of s are marked by an order of links, and the nodes of s have their wanted labels.
+pub record Prepared (earlier : Link ℕ → Link ℕ → Bool) (n : ℕ) (t g s map marks labels : List ℕ) : Type 0 where
+  pub asked : Asked n t g s map
+  pub wants : Wants n t s g map (size s) labels
+  pub strict : StrictOrder earlier
+  pub marked : Marked earlier s g map marks
+
+-- so they are, by some order of links, for some g and map
+abbrev pub Preparable : ℕ → List ℕ → List ℕ → List ℕ → List ℕ → Type 0
+Preparable n t s marks labels =
+    (earlier : Link ℕ → Link ℕ → Bool) × (g : List ℕ) × (map : List ℕ) × Prepared earlier n t g s map marks labels

@@ -9,13 +9,11 @@ use lib.Dec.{eqb}
 use lib.ListN.{length, getD}
 use Rattle.layout.specs.Layout.{longest, size, linksFrom, rowEnd, targetAt, Sound, Place, rowsEnd}
 use Rattle.layout.specs.Builder.{Same}
-use Rattle.groups.specs.Marks.{Marked}
 use Rattle.difference.specs.Keeping.{Cause, Keeps}
 use Rattle.difference.specs.Thinning.{Kept}
 
--- the rows of the difference, with the marks of the links of s and the kept nodes that they are made by
-pub record Made (n : ℕ) (t g s map labels marks words : List ℕ) : Type 0 where
-  pub marked : Marked s g map marks
+-- the rows of the difference, with the kept nodes that they are made by
+pub record Made (n : ℕ) (t s marks labels words : List ℕ) : Type 0 where
   pub keep : List ℕ
   pub kept : Keeps n t s marks labels keep
   pub rows : Kept s marks keep labels words

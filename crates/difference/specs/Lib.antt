@@ -1,7 +1,7 @@
 -- The difference that is written, and what the steps on the way to it keep.
-pub mod Promise
 pub mod Wanted
 pub mod Asked
+pub mod Promise
 pub mod Keeping
 pub mod Thinning
 pub mod Explaining

@@ -1,5 +1,5 @@
 // The difference of g and s, for s below g (document 01, "Difference"): the links of s that lead their group and enter a kept
-// node, between nodes that carry their wanted labels.
+// node, between nodes that carry their wanted labels. Which links lead their group is marked before, by `groups`.
 
 pub mod keep;
 pub mod reasons;
@@ -10,76 +10,61 @@ use encode::Marked;
 use encode::Written;
 ghost use mathlib.Core.Path.{_≡_};
 ghost use lib.ListN.{length};
-ghost use Rattle.encode.specs.Encode.{writtenOut, yielding};
-ghost use Rattle.encode.specs.Marks.{markedOut, noting};
-ghost use Rattle.layout.specs.Layout.{longest, size};
-ghost use Rattle.difference.specs.Asked.{Asked};
+ghost use Rattle.layout.specs.Layout.{longest};
+ghost use Rattle.difference.specs.Asked.{Preparable};
 ghost use Rattle.difference.specs.Explaining.{Made};
-ghost use Rattle.difference.specs.Wanted.{Wants};
-ghost use Rattle.difference.specs.Promise.{differenceForm, reasonsIn};
+ghost use Rattle.difference.specs.Promise.{Differs, Reasoned};
 
-// Marks the links of s and fills words with the rows of the difference of g and s; `map` gives the node of s that each node of g leads
-// to, and `labels` has the wanted label of each node of s.
+// Fills words with the rows of the difference: `marks` has the marks of the links of s, and `labels` the wanted label of each node of s.
 fn make<'a>(
     n: usize,
     table: &'a [u8],
-    g: &'a [u16],
     s: &'a [u16],
-    map: &'a [u16; 255],
+    marks: &'a [u8; layout::LONGEST],
     labels: &'a [u16; 510],
-    marks: &mut [u8; layout::LONGEST],
     words: &mut [u16; layout::LONGEST],
 )
-    requires { ⌜ Asked n (now table) (now g) (now s) (now map) × Wants n (now table) (now s) (now g) (now map) (size (now s)) (now labels) ⌝ }
-    requires { ⌜ (length (now marks) ≡ longest) × (length (now words) ≡ longest) ⌝ }
-    ensures { λ _. ⌜ Made n (now (table .entry)) (now (g .entry)) (now (s .entry)) (now (map .entry)) (now (labels .entry)) (now (marks .exit)) (now (words .exit)) ⌝ }
+    requires { ⌜ Preparable n (now table) (now s) (now marks) (now labels) × (length (now words) ≡ longest) ⌝ }
+    ensures { λ _. ⌜ Made n (now (table .entry)) (now (s .entry)) (now (marks .entry)) (now (labels .entry)) (now (words .exit)) ⌝ }
 {
-    groups::mark_links(s, g, map, marks);
     let mut keep = [0u8; 255];
     keep::kept_nodes(n, table, s, marks, labels, &mut keep);
     rows::kept_links(s, marks, &keep, labels, words)
 }
 
-// Writes the difference of g and s. Its rows are made in `words`.
+// Writes the difference. Its rows are made in `words`.
 pub fn difference<'a>(
     n: usize,
     table: &'a [u8],
-    g: &'a [u16],
     s: &'a [u16],
-    map: &'a [u16; 255],
+    marks: &'a [u8; layout::LONGEST],
     labels: &'a [u16; 510],
     words: &mut [u16; layout::LONGEST],
     out: &mut [u8],
 ) -> Written
-    requires { ⌜ Asked n (now table) (now g) (now s) (now map) × Wants n (now table) (now s) (now g) (now map) (size (now s)) (now labels) ⌝ }
-    requires { ⌜ length (now words) ≡ longest ⌝ }
-    ensures { λ r. ⌜ yielding r (now (out .exit)) ≡ writtenOut (differenceForm n (now (table .entry)) (now (s .entry)) (now (g .entry)) (now (map .entry))) (now (out .entry)) ⌝ }
+    requires { ⌜ Preparable n (now table) (now s) (now marks) (now labels) × (length (now words) ≡ longest) ⌝ }
+    ensures { λ r. ⌜ Differs n (now (table .entry)) (now (s .entry)) (now (marks .entry)) (now (labels .entry)) (now (out .entry)) r (now (out .exit)) ⌝ }
 {
-    let mut marks = [0u8; layout::LONGEST];
-    make(n, table, g, s, map, labels, &mut marks, words);
+    make(n, table, s, marks, labels, words);
     encode::canonical::write(words, out)
 }
 
-// Writes the difference of g and s, and beside it the reason for each of its links.
+// Writes the difference, and beside it the reason for each of its links.
 pub fn explain<'a>(
     n: usize,
     table: &'a [u8],
-    g: &'a [u16],
     s: &'a [u16],
-    map: &'a [u16; 255],
+    marks: &'a [u8; layout::LONGEST],
     labels: &'a [u16; 510],
     out: &mut [u8],
     beside: &mut [u8],
 ) -> Marked
-    requires { ⌜ Asked n (now table) (now g) (now s) (now map) × Wants n (now table) (now s) (now g) (now map) (size (now s)) (now labels) ⌝ }
-    ensures { λ r. ⌜ noting r (now (out .exit)) (now (beside .exit))
-        ≡ markedOut (differenceForm n (now (table .entry)) (now (s .entry)) (now (g .entry)) (now (map .entry)))
-        (reasonsIn n (now (table .entry)) (now (s .entry)) (now (g .entry)) (now (map .entry))) (now (out .entry)) (now (beside .entry)) ⌝ }
+    requires { ⌜ Preparable n (now table) (now s) (now marks) (now labels) ⌝ }
+    ensures { λ r. ⌜ Reasoned n (now (table .entry)) (now (s .entry)) (now (marks .entry)) (now (labels .entry)) (now (out .entry)) (now (beside .entry)) r (now (out .exit)) (now (beside .exit)) ⌝ }
 {
-    let mut marks = [0u8; layout::LONGEST];
     let mut words = [layout::BLANK; layout::LONGEST];
-    make(n, table, g, s, map, labels, &mut marks, &mut words);
+    make(n, table, s, marks, labels, &mut words);
     let mut reasons = [0u8; layout::LONGEST];
-    reasons::explain_links(s, &marks, &words, &mut reasons);
+    reasons::explain_links(s, marks, &words, &mut reasons);
     encode::canonical::write_marked(&words, &reasons, out, beside)
 }

@@ -82,8 +82,8 @@ pub fn write_marked<'a>(
 ) -> Marked
     requires { ⌜ Sound (now graph) ⌝ }
     requires { ⌜ (length (now graph) ≤ longest) × (length (now marks) ≡ longest) ⌝ }
-    ensures { λ r. ⌜ noting r (now (out .exit)) (now (beside .exit))
-        ≡ markedOut (canonical eqb (graphIn (now (graph .entry))))
+    ensures { λ r. ⌜ noting r (now (out .exit)) (now (beside .exit)) ≡
+        markedOut (canonical eqb (graphIn (now (graph .entry))))
         (marksAlong (now (graph .entry)) (now (marks .entry)) (writtenOrder eqb (graphIn (now (graph .entry))))) (now (out .entry)) (now (beside .entry)) ⌝ }
 {
     let mut numbers = [0u16; 510];

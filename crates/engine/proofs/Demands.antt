@@ -12,6 +12,8 @@ use Rattle.graphs.specs.Graph.{Graph, Tells, Below, SameMeaning}
 use Rattle.graphs.specs.Rows.{Row}
 use Rattle.graphs.specs.Generalize.{IsGeneralization}
 use Rattle.graphs.specs.Unify as unify
+use Rattle.graphs.specs.Difference.{byNumber}
+use Rattle.graphs.proofs.Difference.ByNumber.{by-number-order}
 use Rattle.lattice.specs.Label.{Label}
 use Rattle.lattice.specs.declared.Opened.the-variants.{Accepted}
 use Rattle.lattice.specs.Reply.{opened}
@@ -184,24 +186,24 @@ module _ (n : ℕ) (t a b : List ℕ) (g h : List (Row Label)) (given : Given n 
 module _ (n : ℕ) (t a b : List ℕ) (g s : List (Row Label)) (given : Given n t a b g s) where
   -- Where s is below g and no node of s is without a wanted type, the difference restores s with g and nothing more general does.
   pub difference-restores : Below (tableLabels n t) (graphOfRows s) (graphOfRows g) →
-      (SomeUnwanted n t (graphOfRows s) (graphOfRows g) → ⊥) → Restores n t (remainder n t g s) (graphOfRows g) (graphOfRows s)
-  difference-restores below all = Differed.remainder-restores n t a b g s given below (Differed.all-wanted n t a b g s given below all)
+      (SomeUnwanted n t (graphOfRows s) (graphOfRows g) → ⊥) → Restores n t (remainder byNumber n t g s) (graphOfRows g) (graphOfRows s)
+  difference-restores below all = Differed.remainder-restores n t a b g s given by-number-order below (Differed.all-wanted n t a b g s given below all)
 
   module _ (out : List ℕ) where
     -- 12 exactly where s is not below g,
     pub difference-not-below : (differing n t a b out .reply ≡ NotBelow) ↔ (Below (tableLabels n t) (graphOfRows s) (graphOfRows g) → ⊥)
-    difference-not-below = Differed.not-below-exact n t a b g s given out
+    difference-not-below = Differed.not-below-exact n t a b g s given by-number-order (Differed.plain-parts n t a b given out)
 
     -- 13 exactly where it is and some node of s has no wanted type,
     pub difference-not-wanted : (differing n t a b out .reply ≡ NoWantedType) ↔
         (Below (tableLabels n t) (graphOfRows s) (graphOfRows g) × SomeUnwanted n t (graphOfRows s) (graphOfRows g))
-    difference-not-wanted = Differed.unwanted-reply-exact n t a b g s given out
+    difference-not-wanted = Differed.unwanted-reply-exact n t a b g s given by-number-order (Differed.plain-parts n t a b given out)
 
     -- and else 8 exactly where it is due, and the call writes the difference.
     pub difference-written : Below (tableLabels n t) (graphOfRows s) (graphOfRows g) →
-        (SomeUnwanted n t (graphOfRows s) (graphOfRows g) → ⊥) → Writes n t eqb (remainder n t g s) out (differing n t a b out)
-    difference-written below all = Differed.remainder-writes n t a b g s given out below (Differed.all-wanted n t a b g s given below all)
+        (SomeUnwanted n t (graphOfRows s) (graphOfRows g) → ⊥) → Writes n t eqb (remainder byNumber n t g s) out (differing n t a b out)
+    difference-written below all = Differed.remainder-writes n t a b g s given by-number-order (Differed.plain-parts n t a b given out) below (Differed.all-wanted n t a b g s given below all)
 
     -- What is written restores b byte for byte when it is combined with a, nothing more general does, and the order agrees.
     pub difference : (l : ℕ) → differing n t a b out .reply ≡ Length l → Difference n t a b g s (take l (differing n t a b out .output))
-    difference = Differed.written-difference n t a b g s given out
+    difference = Differed.written-difference n t a b g s given by-number-order (Differed.plain-parts n t a b given out)

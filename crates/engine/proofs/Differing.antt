@@ -13,7 +13,7 @@ use Rattle.graphs.specs.Map.{NodeMap}
 use Rattle.graphs.specs.Rows.{Row, from}
 use Rattle.graphs.specs.Number.{canonical}
 use Rattle.graphs.specs.Order.{subsumes}
-use Rattle.graphs.specs.Difference.{Link, byNumber}
+use Rattle.graphs.specs.Difference.{Link, byNumber, byReading}
 use Rattle.graphs.specs.Reasons.{alongLinks, writtenOrder}
 use Rattle.graphs.proofs.Lists.{from-range, tells-eqb}
 use Rattle.graphs.proofs.Below.{map-below}
@@ -39,19 +39,25 @@ use Rattle.subsume.specs.declared.Order.{Order}
 use Rattle.subsume.specs.declared.Order.the-variants as order
 use Rattle.subsume.specs.Promise.{Orders}
 use Rattle.difference.specs.Promise.{wantedAlong, allWantedAlong, differenceAlong, reasonsAlong}
-use Rattle.difference.specs.Asked.{Asked}
+use Rattle.groups.specs.declared.reading.LinkOrder.{LinkOrder}
+use Rattle.groups.specs.Reading.{isReadingOrder, earlierBy}
+use Rattle.groups.specs.Marks.{Marked}
+use Rattle.groups.proofs.Ordering.{earlier-by-order}
+use Rattle.difference.specs.Asked.{Asked, Prepared}
+use Rattle.difference.specs.Wanted.{WantsAll}
 use Rattle.engine.specs.declared.Side.{Side}
 use Rattle.engine.specs.declared.PairVerdict.{PairVerdict}
 use Rattle.engine.specs.declared.PairVerdict.the-variants as pair
 use Rattle.engine.specs.declared.Reply.{Reply}
 use Rattle.engine.specs.declared.Reply.the-variants.{Table, Graph, NotBelow, NoWantedType}
 use Rattle.engine.specs.Reply.{Result, resulting, resultOf, replyOf, refusing}
-use Rattle.engine.specs.Difference.{over, wantedAt, allWanted, differenceRows, differed, numbered, differedRows, differing}
+use Rattle.engine.specs.Difference.{over, wantedAt, allWanted, differenceRows, differed, numbered, differedRows, differing, differingBy}
 use Rattle.engine.specs.Explained.{reasonsRows}
 use Rattle.engine.specs.Pair.{ReadsBoth, parting}
 use Rattle.engine.specs.Renumbering.{Acceptable, Loaded, Comparable}
 use Rattle.engine.proofs.Readings.{Accepts, accepts-rules, accepts-reached, accepts-recorded, both-refused, both-next}
 use Rattle.engine.proofs.Replies.{table-refused, table-accepted}
+use Rattle.engine.proofs.Listed.{list-passed, differing-checked}
 use Rattle.engine.proofs.Orders.{order-test}
 use Rattle.engine.proofs.Over.{over-only}
 
@@ -125,22 +131,22 @@ module _ (n : ℕ) (t : List ℕ) (s g : List (Row Label)) (map : List ℕ) (gen
       (λ v _. ap types.found (wanted-along v))
 
   -- and the difference along it is the difference
-  difference-along : differenceAlong n t s g (λ y. getD map y 0) ≡ differenceRows n t g s
+  difference-along : (earlier : Link ℕ → Link ℕ → Bool) → differenceAlong earlier n t s g (λ y. getD map y 0) ≡ differenceRows earlier n t g s
   unfolding differenceAlong
-  difference-along =
-      difference-agree (tableLabels n t) eqb eqb byNumber (graphOfRows s) (from 0 (length s)) (graphOfRows g) (from 0 (length g))
+  difference-along earlier =
+      difference-agree (tableLabels n t) eqb eqb earlier (graphOfRows s) (from 0 (length s)) (graphOfRows g) (from 0 (length g))
       (λ y. getD map y 0) (over s g) (λ v. Option·getD (wantedAlong n t s g (λ y. getD map y 0) v) noLabel)
       (λ v. Option·getD (wantedAt n t s g v) noLabel) (λ y m. lies y (omega (arith, from-range 0 (length g) y m)))
       (λ v. ap (λ (o : Option Label). Option·getD o noLabel) (wanted-along v))
 
   -- with its reasons
-  pub reasons-along : reasonsAlong n t s g (λ y. getD map y 0) ≡ reasonsRows n t g s
+  pub reasons-along : (earlier : Link ℕ → Link ℕ → Bool) → reasonsAlong earlier n t s g (λ y. getD map y 0) ≡ reasonsRows earlier n t g s
   unfolding reasonsAlong
-  reasons-along =
-      ap₂ (λ (d : TypedGraph Label ℕ) (value : Link ℕ → ℕ → ℕ). alongLinks d value (writtenOrder eqb d)) difference-along
+  reasons-along earlier =
+      ap₂ (λ (d : TypedGraph Label ℕ) (value : Link ℕ → ℕ → ℕ). alongLinks d value (writtenOrder eqb d)) (difference-along earlier)
       (fun-ext λ l. fun-ext λ v.
       reason-agree eqb eqb (graphOfRows s) (from 0 (length s)) (graphOfRows g) (from 0 (length g)) (λ y. getD map y 0) (over s g)
-      (λ y m. lies y (omega (arith, from-range 0 (length g) y m))) byNumber l v)
+      (λ y m. lies y (omega (arith, from-range 0 (length g) y m))) earlier l v)
 
 -- what the difference asks
 pub ready-below : (n : ℕ) (t g s : List ℕ) {answer : Order} {map : List ℕ} → Comparable n t g s →
@@ -162,19 +168,26 @@ ready-below n t g s given orders below =
       lies = orders .yes-stands below;
     }
 
-module _ (n : ℕ) (t out : List ℕ) {a : List ℕ} (g s : List ℕ) (given : Accepts n a g) {answer : Order} {map : List ℕ}
+-- and what writing it asks
+pub prepared-below : (order : LinkOrder) (n : ℕ) (t g s : List ℕ) {map marks labels : List ℕ} {wanted : Bool} → Asked n t g s map →
+    WantsAll n t s g map wanted labels → wanted ≡ true → Marked (earlierBy order) s g map marks →
+    Prepared (earlierBy order) n t g s map marks labels
+prepared-below order n t g s asked wants all marked =
+    record { asked = asked; wants = wants .wants all; strict = earlier-by-order order; marked = marked }
+
+module _ (earlier : Link ℕ → Link ℕ → Bool) (n : ℕ) (t out : List ℕ) {a : List ℕ} (g s : List ℕ) (given : Accepts n a g) {answer : Order} {map : List ℕ}
     (orders : Orders n t (rowsOf s) (rowsOf g) answer map) where
   abbrev below : Bool
   below = subsumes (tableLabels n t) eqb eqb (graphIn s) (graphIn g) (length (rowsOf g))
 
   abbrev written : Result
-  written = resultOf (writtenOut (canonical eqb (differenceRows n t (rowsOf g) (rowsOf s))) out)
+  written = resultOf (writtenOut (canonical eqb (differenceRows earlier n t (rowsOf g) (rowsOf s))) out)
 
   abbrev chosen : Bool → Bool → Result
   chosen lies all = cond lies (cond all written (refusing NoWantedType out)) (refusing NotBelow out)
 
   -- 12
-  pub differed-refused : answer ≡ order.NotBelow → resulting NotBelow out ≡ differed n t out (rowsOf g) (rowsOf s)
+  pub differed-refused : answer ≡ order.NotBelow → resulting NotBelow out ≡ differed earlier n t out (rowsOf g) (rowsOf s)
   unfolding differed
   differed-refused e = sym (ap (λ (b : Bool). chosen b (allWanted n t (rowsOf s) (rowsOf g))) (go below refl))
     where
@@ -187,7 +200,7 @@ module _ (n : ℕ) (t out : List ℕ) {a : List ℕ} (g s : List ℕ) (given : A
     lies-below = order-test n t (rowsOf s) (rowsOf g) (accepts-rules given) .1 (map-below (orders .yes-stands e))
 
     chosen-all : (b : Bool) → b ≡ allWantedAlong n t (rowsOf s) (rowsOf g) (λ y. getD map y 0) →
-        chosen true b ≡ differed n t out (rowsOf g) (rowsOf s)
+        chosen true b ≡ differed earlier n t out (rowsOf g) (rowsOf s)
     unfolding differed
     chosen-all b all =
         ap (chosen true) (all ∙ all-along n t (rowsOf s) (rowsOf g) map (accepts-rules given) (orders .yes-stands e)) ∙
@@ -195,38 +208,49 @@ module _ (n : ℕ) (t out : List ℕ) {a : List ℕ} (g s : List ℕ) (given : A
 
     -- 13
     pub differed-unwanted : false ≡ allWantedAlong n t (rowsOf s) (rowsOf g) (λ y. getD map y 0) →
-        resulting NoWantedType out ≡ differed n t out (rowsOf g) (rowsOf s)
+        resulting NoWantedType out ≡ differed earlier n t out (rowsOf g) (rowsOf s)
     differed-unwanted = chosen-all false
 
     pub differed-as : true ≡ allWantedAlong n t (rowsOf s) (rowsOf g) (λ y. getD map y 0) → {w : Written} {r : Reply} {new : List ℕ} →
-        yielding w new ≡ writtenOut (canonical eqb (differenceAlong n t (rowsOf s) (rowsOf g) (λ y. getD map y 0))) out →
-        r ≡ replyOf w → resulting r new ≡ differed n t out (rowsOf g) (rowsOf s)
+        yielding w new ≡ writtenOut (canonical eqb (differenceAlong earlier n t (rowsOf s) (rowsOf g) (λ y. getD map y 0))) out →
+        r ≡ replyOf w → resulting r new ≡ differed earlier n t out (rowsOf g) (rowsOf s)
     differed-as all {new = new} answers said =
         ap (λ (x : Reply). resulting x new) said ∙ ap resultOf answers ∙
         ap (λ k. resultOf (writtenOut (canonical eqb k) out))
-        (difference-along n t (rowsOf s) (rowsOf g) map (accepts-rules given) (orders .yes-stands e)) ∙
+        (difference-along n t (rowsOf s) (rowsOf g) map (accepts-rules given) (orders .yes-stands e) earlier) ∙
         chosen-all true all
 
 -- Over an accepted table.
 
--- 4 to 7
-pub parting-refused : (n : ℕ) (t a b out : List ℕ) {v : PairVerdict} {ws ws₂ : List ℕ} → ReadsBoth n (reading n a) (reading n b) v ws ws₂ →
-    (fault : GraphFault) (side : Side) → v ≡ pair.Refused fault side → resulting (Graph fault side) out ≡ parting n t a b out
-parting-refused n t a b out reads fault side e = sym (both-refused reads (λ r. refusing r out) (differedRows n t out) fault side e)
+module _ (earlier : Link ℕ → Link ℕ → Bool) (n : ℕ) (t a b out : List ℕ) where
+  -- 4 to 7
+  pub parting-refused : {v : PairVerdict} {ws ws₂ : List ℕ} → ReadsBoth n (reading n a) (reading n b) v ws ws₂ →
+      (fault : GraphFault) (side : Side) → v ≡ pair.Refused fault side → resulting (Graph fault side) out ≡ parting earlier n t a b out
+  parting-refused reads fault side e = sym (both-refused reads (λ r. refusing r out) (differedRows earlier n t out) fault side e)
 
-pub parting-both : (n : ℕ) (t a b out : List ℕ) {g s : List ℕ} → Accepts n a g × Accepts n b s → {h : List ℕ} →
-    Renumbered n (rowsOf s) h → {r : Result} → r ≡ differed n t out (rowsOf g) (rowsOf h) → r ≡ parting n t a b out
-unfolding differedRows
-parting-both n t a b out {g} given numbers e =
-    e ∙ ap (differed n t out (rowsOf g)) (numbers .rows-are) ∙
-    sym (both-next n a b (λ r. refusing r out) (differedRows n t out) given)
+  pub parting-both : {g s : List ℕ} → Accepts n a g × Accepts n b s → {h : List ℕ} → Renumbered n (rowsOf s) h → {r : Result} →
+      r ≡ differed earlier n t out (rowsOf g) (rowsOf h) → r ≡ parting earlier n t a b out
+  unfolding differedRows
+  parting-both {g} given numbers e =
+      e ∙ ap (differed earlier n t out (rowsOf g)) (numbers .rows-are) ∙
+      sym (both-next n a b (λ r. refusing r out) (differedRows earlier n t out) given)
 
 module _ (n : ℕ) (t a b out : List ℕ) where
   pub differing-refused : (fault : TableFault) → table.opened n t ≡ opened.Refused fault →
       resulting (Table fault) out ≡ differing n t a b out
   unfolding differing
-  differing-refused fault e = sym (table-refused (λ r. refusing r out) (parting n t a b out) fault e)
+  differing-refused fault e = sym (table-refused (λ r. refusing r out) (parting byNumber n t a b out) fault e)
 
-  pub differing-accepted : {r : Result} → table.opened n t ≡ opened.Accepted → r ≡ parting n t a b out → r ≡ differing n t a b out
+  -- by an order of links that is document 01's
+  pub differing-accepted : {earlier : Link ℕ → Link ℕ → Bool} {r : Result} → table.opened n t ≡ opened.Accepted → earlier ≡ byNumber →
+      r ≡ parting earlier n t a b out → r ≡ differing n t a b out
   unfolding differing
-  differing-accepted e h = h ∙ sym (table-accepted (λ r. refusing r out) (parting n t a b out) e)
+  differing-accepted e same h =
+      h ∙ ap (λ (o : Link ℕ → Link ℕ → Bool). parting o n t a b out) same
+      ∙ sym (table-accepted (λ r. refusing r out) (parting byNumber n t a b out) e)
+
+  -- and by one that is a list's
+  pub differing-by-accepted : (list : List ℕ) {earlier : Link ℕ → Link ℕ → Bool} {r : Result} → table.opened n t ≡ opened.Accepted →
+      isReadingOrder list ≡ true → earlier ≡ byReading list → r ≡ parting earlier n t a b out → r ≡ differingBy n t list a b out
+  differing-by-accepted list e listed same h =
+      h ∙ ap (λ (o : Link ℕ → Link ℕ → Bool). parting o n t a b out) same ∙ list-passed (differing-checked n t list a b out) e listed

@@ -6,6 +6,7 @@ use mathlib.Core.Option.{Option, none}
 use Prim.Native.Nat.{ℕ}
 use lib.Dec.{eqb, leb}
 use lib.ListN.{length, getD, drop}
+use Rattle.graphs.specs.Difference.{Link, byNumber, byReading}
 use Rattle.graphs.specs.Number.{Canonical, canonical, manyNodes, manyLinks, written}
 use Rattle.lattice.specs.Label.{Label}
 use Rattle.lattice.specs.declared.TableFault.{TableFault}
@@ -22,18 +23,20 @@ use Rattle.record.specs.declared.GraphFault.{GraphFault}
 use Rattle.subsume.specs.declared.Order.{Order}
 use Rattle.subsume.specs.declared.Order.the-variants as order
 use Rattle.subsume.specs.Promise.{Orders}
+use Rattle.groups.specs.Reading.{isReadingOrder}
 use Rattle.difference.specs.Promise.{allWantedAlong, differenceAlong, reasonsAlong}
 use Rattle.engine.specs.declared.Side.{Side}
 use Rattle.engine.specs.declared.PairVerdict.{PairVerdict}
 use Rattle.engine.specs.declared.PairVerdict.the-variants as pair
 use Rattle.engine.specs.declared.Reply.{Reply}
-use Rattle.engine.specs.declared.Reply.the-variants.{Length, Table, Graph, NoReasonRoom}
+use Rattle.engine.specs.declared.Reply.the-variants.{Length, Table, Graph, ReadingOrder, NoReasonRoom}
 use Rattle.engine.specs.Reply.{Result, resulting, resultOf}
 use Rattle.engine.specs.Difference.{numbered, differed}
-use Rattle.engine.specs.Pair.{ReadsBoth, parting}
-use Rattle.engine.specs.Explained.{Explained, explainedResult, lengthOf, lengthBeside, beside, reasonsRows, reasonsOf, explaining, markedReply}
+use Rattle.engine.specs.Pair.{ReadsBoth, parting, partingExplained}
+use Rattle.engine.specs.Explained.{Explained, explainedResult, lengthOf, lengthBeside, beside, reasonsRows, reasonsOf, explaining, explainingBy, markedReply}
 use Rattle.engine.proofs.Readings.{Accepts, accepts-rules, both-next}
-use Rattle.engine.proofs.Differing.{Renumbered, reasons-along, differed-as, parting-refused, parting-both, differing-refused, differing-accepted}
+use Rattle.engine.proofs.Listed.{table-before-list, list-refused, differing-checked}
+use Rattle.engine.proofs.Differing.{Renumbered, reasons-along, differed-as, parting-refused, parting-both, differing-refused, differing-accepted, differing-by-accepted}
 
 -- a refusal of the plain call
 pub refuses-beside : {plain : Result} (r : Reply) (reasons out old : List ℕ) → lengthOf r ≡ none → resulting r out ≡ plain →
@@ -86,46 +89,70 @@ explained-as form marks out old {new = new} {reasons = reasons} yields said is =
     ∙ ap (λ (p : Result). beside p marks out old) is
 
 -- the difference along the order's node map
-module _ (n : ℕ) (t out old : List ℕ) {a : List ℕ} (g s : List ℕ) (given : Accepts n a g) {answer : Order} {map : List ℕ}
+module _ (earlier : Link ℕ → Link ℕ → Bool) (n : ℕ) (t out old : List ℕ) {a : List ℕ} (g s : List ℕ) (given : Accepts n a g) {answer : Order} {map : List ℕ}
     (orders : Orders n t (rowsOf s) (rowsOf g) answer map) (below : answer ≡ order.Below) where
   pub explained-below : true ≡ allWantedAlong n t (rowsOf s) (rowsOf g) (λ y. getD map y 0) → {m : Marked} {r : Reply} {new reasons : List ℕ} →
       noting m new reasons ≡
-      markedOut (canonical eqb (differenceAlong n t (rowsOf s) (rowsOf g) (λ y. getD map y 0)))
-      (reasonsAlong n t (rowsOf s) (rowsOf g) (λ y. getD map y 0)) out old →
+      markedOut (canonical eqb (differenceAlong earlier n t (rowsOf s) (rowsOf g) (λ y. getD map y 0)))
+      (reasonsAlong earlier n t (rowsOf s) (rowsOf g) (λ y. getD map y 0)) out old →
       r ≡ markedReply m →
-      explainedResult r new reasons ≡ beside (differed n t out (rowsOf g) (rowsOf s)) (reasonsRows n t (rowsOf g) (rowsOf s)) out old
+      explainedResult r new reasons ≡ beside (differed earlier n t out (rowsOf g) (rowsOf s)) (reasonsRows earlier n t (rowsOf g) (rowsOf s)) out old
   explained-below all yields said =
-      explained-as _ _ out old yields said (differed-as n t out g s given orders below all refl refl)
-      ∙ ap (λ (rs : List ℕ). beside (differed n t out (rowsOf g) (rowsOf s)) rs out old)
-      (reasons-along n t (rowsOf s) (rowsOf g) map (accepts-rules given) (orders .yes-stands below))
+      explained-as _ _ out old yields said (differed-as earlier n t out g s given orders below all refl refl)
+      ∙ ap (λ (rs : List ℕ). beside (differed earlier n t out (rowsOf g) (rowsOf s)) rs out old)
+      (reasons-along n t (rowsOf s) (rowsOf g) map (accepts-rules given) (orders .yes-stands below) earlier)
 
 -- Over an accepted table.
 
--- 4 to 7
-pub explain-refused : (n : ℕ) (t a b out old : List ℕ) {v : PairVerdict} {ws ws₂ : List ℕ} →
-    ReadsBoth n (reading n a) (reading n b) v ws ws₂ → (fault : GraphFault) (side : Side) → v ≡ pair.Refused fault side →
-    explainedResult (Graph fault side) out old ≡ beside (parting n t a b out) (reasonsOf n t a b) out old
-explain-refused n t a b out old reads fault side e =
-    refuses-beside (Graph fault side) _ out old refl (parting-refused n t a b out reads fault side e)
+module _ (earlier : Link ℕ → Link ℕ → Bool) (n : ℕ) (t a b out old : List ℕ) where
+  -- 4 to 7
+  pub explain-refused : {v : PairVerdict} {ws ws₂ : List ℕ} → ReadsBoth n (reading n a) (reading n b) v ws ws₂ →
+      (fault : GraphFault) (side : Side) → v ≡ pair.Refused fault side →
+      explainedResult (Graph fault side) out old ≡ beside (parting earlier n t a b out) (reasonsOf earlier n t a b) out old
+  explain-refused reads fault side e =
+      refuses-beside (Graph fault side) _ out old refl (parting-refused earlier n t a b out reads fault side e)
 
-pub explain-both : (n : ℕ) (t a b out old : List ℕ) {g s : List ℕ} → Accepts n a g × Accepts n b s → {h : List ℕ} →
-    Renumbered n (rowsOf s) h → {x : Explained} →
-    x ≡ beside (differed n t out (rowsOf g) (rowsOf h)) (reasonsRows n t (rowsOf g) (rowsOf h)) out old →
-    x ≡ beside (parting n t a b out) (reasonsOf n t a b) out old
-unfolding reasonsOf
-explain-both n t a b out old {g} given numbers e =
-    e ∙ ap₂ (λ (p : Result) (rs : List ℕ). beside p rs out old) (parting-both n t a b out given numbers refl)
-    (ap (reasonsRows n t (rowsOf g)) (numbers .rows-are) ∙
-    sym (both-next n a b (λ r. []) (λ g s. reasonsRows n t g (numbered (canonical eqb (graphOfRows s)))) given))
+  pub explain-both : {g s : List ℕ} → Accepts n a g × Accepts n b s → {h : List ℕ} → Renumbered n (rowsOf s) h → {x : Explained} →
+      x ≡ beside (differed earlier n t out (rowsOf g) (rowsOf h)) (reasonsRows earlier n t (rowsOf g) (rowsOf h)) out old →
+      x ≡ beside (parting earlier n t a b out) (reasonsOf earlier n t a b) out old
+  unfolding reasonsOf
+  explain-both {g} given numbers e =
+      e ∙ ap₂ (λ (p : Result) (rs : List ℕ). beside p rs out old) (parting-both earlier n t a b out given numbers refl)
+      (ap (reasonsRows earlier n t (rowsOf g)) (numbers .rows-are) ∙
+      sym (both-next n a b (λ r. []) (λ g s. reasonsRows earlier n t g (numbered (canonical eqb (graphOfRows s)))) given))
 
 module _ (n : ℕ) (t a b out old : List ℕ) where
   pub explaining-refused : (fault : TableFault) → table.opened n t ≡ opened.Refused fault →
       explainedResult (Table fault) out old ≡ explaining n t a b out old
   unfolding explaining
-  explaining-refused fault e = refuses-beside (Table fault) (reasonsOf n t a b) out old refl (differing-refused n t a b out fault e)
+  explaining-refused fault e = refuses-beside (Table fault) (reasonsOf byNumber n t a b) out old refl (differing-refused n t a b out fault e)
 
-  pub explaining-accepted : {x : Explained} → table.opened n t ≡ opened.Accepted →
-      x ≡ beside (parting n t a b out) (reasonsOf n t a b) out old → x ≡ explaining n t a b out old
+  pub explaining-accepted : {earlier : Link ℕ → Link ℕ → Bool} {x : Explained} → table.opened n t ≡ opened.Accepted → earlier ≡ byNumber →
+      x ≡ partingExplained earlier n t a b out old → x ≡ explaining n t a b out old
   unfolding explaining
-  explaining-accepted e h =
-      h ∙ ap (λ (p : Result). beside p (reasonsOf n t a b) out old) (differing-accepted n t a b out e refl)
+  explaining-accepted e same h =
+      h ∙ ap (λ (o : Link ℕ → Link ℕ → Bool). partingExplained o n t a b out old) same
+      ∙ ap (λ (p : Result). beside p (reasonsOf byNumber n t a b) out old) (differing-accepted n t a b out e refl refl)
+
+  -- by a list of features
+  module _ (list : List ℕ) where
+    pub explaining-by-refused : (fault : TableFault) → table.opened n t ≡ opened.Refused fault →
+        explainedResult (Table fault) out old ≡ explainingBy n t list a b out old
+    unfolding explainingBy
+    explaining-by-refused fault e =
+        refuses-beside (Table fault) (reasonsOf (byReading list) n t a b) out old refl
+        (table-before-list (differing-checked n t list a b out) fault e)
+
+    module _ (opens : table.opened n t ≡ opened.Accepted) where
+      pub explaining-by-list : isReadingOrder list ≡ false → explainedResult ReadingOrder out old ≡ explainingBy n t list a b out old
+      unfolding explainingBy
+      explaining-by-list e =
+          refuses-beside ReadingOrder (reasonsOf (byReading list) n t a b) out old refl
+          (list-refused (differing-checked n t list a b out) opens e)
+
+      pub explaining-by-accepted : {earlier : Link ℕ → Link ℕ → Bool} {x : Explained} → isReadingOrder list ≡ true → earlier ≡ byReading list →
+          x ≡ partingExplained earlier n t a b out old → x ≡ explainingBy n t list a b out old
+      unfolding explainingBy
+      explaining-by-accepted listed same h =
+          h ∙ ap (λ (o : Link ℕ → Link ℕ → Bool). partingExplained o n t a b out old) same
+          ∙ ap (λ (p : Result). beside p (reasonsOf (byReading list) n t a b) out old) (differing-by-accepted n t a b out list opens listed refl refl)

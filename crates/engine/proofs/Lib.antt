@@ -3,6 +3,7 @@ pub mod Numbers
 pub mod Readings
 pub mod Replies
 pub mod Listed
+pub mod LinkOrders
 pub mod Tables
 pub mod Orders
 pub mod Over

@@ -12,14 +12,14 @@ use Rattle.record.specs.declared.GraphFault.the-variants.{Malformed, OutOfRange
 use Rattle.engine.specs.declared.kinds.Kind.{Kind}
 use Rattle.engine.specs.declared.kinds.Kind.the-variants as kind
 use Rattle.engine.specs.declared.Reply.{Reply}
-use Rattle.engine.specs.declared.Reply.the-variants.{Length, Same, Under, Above, Neither, Table, Graph, NoRoom, Cycle, Clash, TooLarge, NotBelow, NoWantedType, TypeList, NoReasonRoom}
+use Rattle.engine.specs.declared.Reply.the-variants.{Length, Same, Under, Above, Neither, Table, Graph, NoRoom, Cycle, Clash, TooLarge, NotBelow, NoWantedType, TypeList, ReadingOrder, NoReasonRoom}
 use Rattle.engine.specs.Reply.{kindOf, Bounded}
 
--- refusals by their numbers, of which 0, 4 to 7, 14 to 16 and 18 to 21 are not among these
+-- refusals by their numbers, of which 0, 4 to 7, 14 to 16, 18, 20 and 21 are not among these
 refusals : List Reply
 refusals =
     Neither ∷ Table Size ∷ Table Order ∷ Table Bounds ∷ Neither ∷ Neither ∷ Neither ∷ Neither ∷ NoRoom ∷ Cycle ∷ Clash ∷ TooLarge ∷ NotBelow ∷ NoWantedType ∷
-    Neither ∷ Neither ∷ Neither ∷ TypeList ∷ Neither ∷ Neither ∷ Neither ∷ Neither ∷ NoReasonRoom ∷ []
+    Neither ∷ Neither ∷ Neither ∷ TypeList ∷ Neither ∷ ReadingOrder ∷ Neither ∷ Neither ∷ NoReasonRoom ∷ []
 
 -- 4 to 7
 faults : List GraphFault
@@ -71,6 +71,7 @@ tells TooLarge = (refl, refl)
 tells NotBelow = (refl, refl)
 tells NoWantedType = (refl, refl)
 tells TypeList = (refl, refl)
+tells ReadingOrder = (refl, refl)
 tells NoReasonRoom = (refl, refl)
 
 -- different replies tell different things

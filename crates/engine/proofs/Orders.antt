@@ -11,7 +11,7 @@ use lib.Dec.{eqb}
 use lib.ListN.{length}
 use Rattle.graphs.specs.Graph.{Below, walk}
 use Rattle.graphs.specs.Rows.{Row, from}
-use Rattle.graphs.proofs.Lists.{tells-eqb}
+use Rattle.graphs.proofs.Lists.{length-from, tells-eqb}
 use Rattle.graphs.proofs.Search.{not-true}
 use Rattle.graphs.proofs.Below.{map-below}
 use Rattle.graphs.proofs.Finite.{short-paths}
@@ -23,7 +23,7 @@ use Rattle.lattice.specs.declared.Opened.the-variants as opened
 use Rattle.lattice.specs.Reply as table
 use Rattle.lattice.specs.Labels.{tableLabels}
 use Rattle.record.specs.Read.{reading}
-use Rattle.record.proofs.Nodes.{length-from, reached-listed}
+use Rattle.record.proofs.Nodes.{reached-listed}
 use Rattle.record.proofs.Accepted.{Rules, rules-linked, rules-of-any-size}
 use Rattle.subsume.specs.declared.Order.{Order}
 use Rattle.subsume.specs.declared.Order.the-variants as order

@@ -16,6 +16,7 @@ use Rattle.graphs.specs.Generalize.{generalization}
 use Rattle.graphs.specs.Unify.{Unified, cycle, clash, unified, unification}
 use Rattle.graphs.specs.Difference.{byNumber, meetOver, difference}
 use Rattle.graphs.proofs.Lists.{tells-eqb}
+use Rattle.graphs.proofs.Difference.ByNumber.{by-number-order}
 use Rattle.lattice.specs.Label.{Label, plain, noLabel}
 use Rattle.lattice.specs.declared.TableFault.{TableFault}
 use Rattle.lattice.specs.Table.{every, found}
@@ -92,7 +93,7 @@ use Rattle.engine.proofs.Demanded.CommonPart.{accepts, common-part-exis
 use Rattle.engine.proofs.Demanded.Combination.{tells-either}
 use Rattle.engine.proofs.Demanded.Difference.{not-wanted, not-below, differs, difference-told, remainder-result, remainder-restores}
 use Rattle.engine.proofs.Demanded.Difference as Differed
-use Rattle.engine.proofs.Demanded.Output.{of-one, of-two, differing-next}
+use Rattle.engine.proofs.Demanded.Output.{of-one, of-two}
 
 -- Written forms.
 
@@ -202,7 +203,7 @@ module _ (n : ℕ) (t : List ℕ) where
         go none = refl
         go (some a) = refl
 
-    difference-types : differenceRows n t (plainRows g) (plainRows s) ≡ relabel plain (differenceTypes n t g s)
+    difference-types : differenceRows byNumber n t (plainRows g) (plainRows s) ≡ relabel plain (differenceTypes n t g s)
     unfolding differenceAlong
     difference-types =
         (λ i.
@@ -218,7 +219,7 @@ module _ (n : ℕ) (t : List ℕ) where
         wants : (v : ℕ) → Option·getD (wantedAt n t (plainRows s) (plainRows g) v) noLabel ≡ plain (Option·getD (wantedTypeAt n t s g v) 0)
         wants v = ap (λ (o : Option Label). Option·getD o noLabel) (wanted-types v) ∙ go (wantedTypeAt n t s g v)
 
-    differed-types : (out : List ℕ) → differed n t out (plainRows g) (plainRows s) ≡ differedTypes n t out g s
+    differed-types : (out : List ℕ) → differed byNumber n t out (plainRows g) (plainRows s) ≡ differedTypes n t out g s
     unfolding differed
     differed-types out =
         λ i.
@@ -227,9 +228,9 @@ module _ (n : ℕ) (t : List ℕ) where
         (refusing NoWantedType out))
         (refusing NotBelow out)
 
-  differed-plain : (out : List ℕ) (g s : List (Row ℕ)) → differedRows n t out (plainRows g) (plainRows s) ≡ differedTypes n t out g (form s)
+  differed-plain : (out : List ℕ) (g s : List (Row ℕ)) → differedRows byNumber n t out (plainRows g) (plainRows s) ≡ differedTypes n t out g (form s)
   unfolding differedRows
-  differed-plain out g s = ap (differed n t out (plainRows g)) (numbered-plain s) ∙ differed-types g (form s) out
+  differed-plain out g s = ap (differed byNumber n t out (plainRows g)) (numbered-plain s) ∙ differed-types g (form s) out
 
 -- The calls.
 
@@ -278,7 +279,7 @@ module _ (n : ℕ) (t : List ℕ) where
       pub differing-unranged : differing n t a b out ≡ differingTypes n t a b out
       unfolding differing differingTypes
       differing-unranged =
-          as-types (λ r. refusing r out) (differedRows n t out) (λ g s. differedTypes n t out g (form s)) (differed-plain n t out)
+          as-types (λ r. refusing r out) (differedRows byNumber n t out) (λ g s. differedTypes n t out g (form s)) (differed-plain n t out)
 
 -- What is written.
 
@@ -360,26 +361,29 @@ module _ (n : ℕ) (t out : List ℕ) where
         go given clash e = refused-unranged Clash 10 refl
         go given (unified u) e = graph-written given sameEither tells-either (relabel plain u) (joint-size given (relabel plain u) e) u refl
 
-    pub differed-unranged : WritesUnranged (differing n t a b out)
-    unfolding differing
-    differed-unranged =
-        of-two n out t WritesUnranged refused-table refused-graph a b (differedRows n t out)
-        (λ g s given. subst WritesUnranged (differing-next n t a b given out) (go g s given (difference-told n t a b g s given out)))
+    differed-plain-rows : (g s : List (Row Label)) → Given n t a b g s → WritesUnranged (differedRows byNumber n t out g s)
+    differed-plain-rows g s given = go (difference-told n t a b g s given by-number-order parts)
       where
-        remainder-plain : (g s : List (Row Label)) → Given n t a b g s →
-            remainder n t g s ≡ relabel plain (differenceTypes n t (typesIn g) (form (typesIn s)))
-        remainder-plain g s given =
-            ap₂ (remainder n t) (read-plain n a first g (given .first)) (read-plain n b second s (given .second)) ∙
-            ap (differenceRows n t (plainRows (typesIn g))) (numbered-plain (typesIn s)) ∙
+        parts : Differed.Parts byNumber n t out g s (differedRows byNumber n t out g s)
+        parts = record { is = refl }
+
+        remainder-plain : remainder byNumber n t g s ≡ relabel plain (differenceTypes n t (typesIn g) (form (typesIn s)))
+        remainder-plain =
+            ap₂ (remainder byNumber n t) (read-plain n a first g (given .first)) (read-plain n b second s (given .second)) ∙
+            ap (differenceRows byNumber n t (plainRows (typesIn g))) (numbered-plain (typesIn s)) ∙
             difference-types n t (typesIn g) (form (typesIn s))
 
-        go : (g s : List (Row Label)) (given : Given n t a b g s) → Differed.Told n t a b g s given out → WritesUnranged (differing n t a b out)
-        go g s given (not-wanted _ _ e) = subst WritesUnranged (sym e) (refused-unranged NoWantedType 13 refl)
-        go g s given (not-below e) = subst WritesUnranged (sym e) (refused-unranged NotBelow 12 refl)
-        go g s given (differs below wants) =
-            subst WritesUnranged (sym (remainder-result n t a b g s given out below wants))
-            (graph-written given eqb tells-eqb (remainder n t g s) (remainder-restores n t a b g s given below wants .of-any-size)
-            (differenceTypes n t (typesIn g) (form (typesIn s))) (remainder-plain g s given))
+        go : Differed.Told n t a b g s given by-number-order parts → WritesUnranged (differedRows byNumber n t out g s)
+        go (not-wanted _ _ e) = subst WritesUnranged (sym e) (refused-unranged NoWantedType 13 refl)
+        go (not-below e) = subst WritesUnranged (sym e) (refused-unranged NotBelow 12 refl)
+        go (differs below wants) =
+            subst WritesUnranged (sym (remainder-result n t a b g s given by-number-order parts below wants))
+            (graph-written given eqb tells-eqb (remainder byNumber n t g s) (remainder-restores n t a b g s given by-number-order below wants .of-any-size)
+            (differenceTypes n t (typesIn g) (form (typesIn s))) remainder-plain)
+
+    pub differed-unranged : WritesUnranged (differing n t a b out)
+    unfolding differing
+    differed-unranged = of-two n out t WritesUnranged refused-table refused-graph a b (differedRows byNumber n t out) differed-plain-rows
 
 -- Records that are read alike.
 
@@ -404,7 +408,7 @@ module _ (n : ℕ) (t a a′ b b′ : List ℕ) (first : reading n a ≡ reading
 
     pub differing-alike : differing n t a b out ≡ differing n t a′ b′ out
     unfolding differing
-    differing-alike = alike (λ r. refusing r out) (differedRows n t out)
+    differing-alike = alike (λ r. refusing r out) (differedRows byNumber n t out)
 
 pub rewriting-alike : (n : ℕ) (t a a′ : List ℕ) → reading n a ≡ reading n a′ → (out : List ℕ) → rewriting n t a out ≡ rewriting n t a′ out
 unfolding rewriting

@@ -13,6 +13,7 @@ use Rattle.graphs.specs.Rows.{Row}
 use Rattle.graphs.specs.Number.{canonical, written}
 use Rattle.graphs.specs.Large.{ManyNodes, ManyLinks}
 use Rattle.graphs.specs.Generalize.{IsGeneralization, generalization}
+use Rattle.graphs.specs.Difference.{Link}
 use Rattle.lattice.specs.Label.{Label}
 use Rattle.lattice.specs.declared.Opened.the-variants.{Accepted}
 use Rattle.lattice.specs.Reply.{opened}
@@ -133,9 +134,9 @@ MoreGeneral n t e d = Below (tableLabels n t) d e × (Below (tableLabels n t) e 
 abbrev pub loneTop : ℕ → List ℕ
 loneTop n = 1 ∷ (n - 1) ∷ replicate 8 0
 
--- the difference of g and s, for s below g, with s numbered as written
-abbrev pub remainder : ℕ → List ℕ → List (Row Label) → List (Row Label) → Graph Label ℕ
-remainder n t g s = differenceRows n t g (numbered (canonical eqb (graphOfRows s)))
+-- the difference of g and s by an order of links, for s below g, with s numbered as written
+abbrev pub remainder : (Link ℕ → Link ℕ → Bool) → ℕ → List ℕ → List (Row Label) → List (Row Label) → Graph Label ℕ
+remainder earlier n t g s = differenceRows earlier n t g (numbered (canonical eqb (graphOfRows s)))
 
 -- d, combined with g, restores s, and nothing more general does: whatever graph of any size is strictly more general than d, what it
 -- combines to with g, the greatest graph of any size below both, is strictly more general than s. There is one, what the classes of paths

@@ -1,6 +1,6 @@
 -- What the call for a difference with its reasons replies, and leaves in its two outputs (document 02, Paper 13). Reply and record are
--- those of the plain call, `differing`.
-use mathlib.Core.Bool.{cond}
+-- those of the call without them, `differing` or `differingBy`.
+use mathlib.Core.Bool.{Bool, cond}
 use mathlib.Core.List.{List, [], _++_}
 use mathlib.Core.Option.{Option, none, some, Option·getD}
 use Prim.Native.Nat.{ℕ}
@@ -8,7 +8,7 @@ use lib.Dec.{eqb, leb}
 use lib.ListN.{length, drop}
 use Rattle.graphs.specs.Rows.{Row, from}
 use Rattle.graphs.specs.Number.{canonical}
-use Rattle.graphs.specs.Difference.{Link, byNumber}
+use Rattle.graphs.specs.Difference.{Link, byNumber, byReading}
 use Rattle.graphs.specs.Reasons.{reasonAt, IsReason}
 use Rattle.lattice.specs.Label.{Label, noLabel}
 use Rattle.lattice.specs.Labels.{tableLabels}
@@ -21,7 +21,7 @@ use Rattle.engine.specs.declared.kinds.Kind.the-variants as kind
 use Rattle.engine.specs.declared.Reply.{Reply}
 use Rattle.engine.specs.declared.Reply.the-variants.{NoReasonRoom}
 use Rattle.engine.specs.Reply.{Result, kindOf, replyOf, readBoth}
-use Rattle.engine.specs.Difference.{over, wantedAt, numbered, differing}
+use Rattle.engine.specs.Difference.{over, wantedAt, numbered, differing, differingBy}
 
 -- a reply and the two outputs beside it
 pub record Explained : Type 0 where
@@ -57,27 +57,32 @@ lengthBeside (some l) plain reasons out old =
 abbrev pub beside : Result → List ℕ → List ℕ → List ℕ → Explained
 beside plain reasons out old = lengthBeside (lengthOf (plain .reply)) plain reasons out old
 
--- the reasons for the links of the difference of g and s, in record order
-abbrev pub reasonsRows : ℕ → List ℕ → List (Row Label) → List (Row Label) → List ℕ
-reasonsRows n t g s = reasonsAlong n t s g (over s g)
+-- the reasons for the links of the difference of g and s by an order of links, in record order
+abbrev pub reasonsRows : (Link ℕ → Link ℕ → Bool) → ℕ → List ℕ → List (Row Label) → List (Row Label) → List ℕ
+reasonsRows earlier n t g s = reasonsAlong earlier n t s g (over s g)
 
 -- the same of records, s numbered as written; none where a record is refused
-unfoldable pub reasonsOf : ℕ → List ℕ → List ℕ → List ℕ → List ℕ
-reasonsOf n t a b = readBoth (λ r. []) (reading n a) (reading n b) λ g s. reasonsRows n t g (numbered (canonical eqb (graphOfRows s)))
+unfoldable pub reasonsOf : (Link ℕ → Link ℕ → Bool) → ℕ → List ℕ → List ℕ → List ℕ → List ℕ
+reasonsOf earlier n t a b =
+    readBoth (λ r. []) (reading n a) (reading n b) λ g s. reasonsRows earlier n t g (numbered (canonical eqb (graphOfRows s)))
 
 -- the difference of g, the first, and s, the second, with its reasons; `out` and `old` are the outputs lent
 unfoldable pub explaining : ℕ → List ℕ → List ℕ → List ℕ → List ℕ → List ℕ → Explained
-explaining n t a b out old = beside (differing n t a b out) (reasonsOf n t a b) out old
+explaining n t a b out old = beside (differing n t a b out) (reasonsOf byNumber n t a b) out old
+
+-- the same by a list of features (document 02, Paper 10)
+unfoldable pub explainingBy : ℕ → List ℕ → List ℕ → List ℕ → List ℕ → List ℕ → List ℕ → Explained
+explainingBy n t list a b out old = beside (differingBy n t list a b out) (reasonsOf (byReading list) n t a b) out old
 
 -- the reason for a link of the difference of g and s that enters v
-abbrev pub reasonFor : ℕ → List ℕ → List (Row Label) → List (Row Label) → Link ℕ → ℕ → ℕ
-reasonFor n t g s l v = reasonAt eqb eqb (graphOfRows s) (from 0 (length s)) (graphOfRows g) (from 0 (length g)) (over s g) byNumber l v
+abbrev pub reasonFor : (Link ℕ → Link ℕ → Bool) → ℕ → List ℕ → List (Row Label) → List (Row Label) → Link ℕ → ℕ → ℕ
+reasonFor earlier n t g s l v = reasonAt eqb eqb (graphOfRows s) (from 0 (length s)) (graphOfRows g) (from 0 (length g)) (over s g) earlier l v
 
 -- the reason for the link from u by f, which enters v, tells what it should
-abbrev pub LinkReason : ℕ → List ℕ → List (Row Label) → List (Row Label) → ℕ → ℕ → ℕ → Type 0
-LinkReason n t g s u f v =
-    IsReason (tableLabels n t) eqb eqb byNumber (graphOfRows s) (from 0 (length s)) (graphOfRows g) (from 0 (length g)) (over s g)
-    (λ v. Option·getD (wantedAt n t s g v) noLabel) (u, f) v (reasonFor n t g s (u, f) v)
+abbrev pub LinkReason : (Link ℕ → Link ℕ → Bool) → ℕ → List ℕ → List (Row Label) → List (Row Label) → ℕ → ℕ → ℕ → Type 0
+LinkReason earlier n t g s u f v =
+    IsReason (tableLabels n t) eqb eqb earlier (graphOfRows s) (from 0 (length s)) (graphOfRows g) (from 0 (length g)) (over s g)
+    (λ v. Option·getD (wantedAt n t s g v) noLabel) (u, f) v (reasonFor earlier n t g s (u, f) v)
 
 -- what writing with marks answers, as a reply
 abbrev pub markedReply : Marked → Reply

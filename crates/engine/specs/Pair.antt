@@ -1,6 +1,7 @@
 -- What the parts of the calls promise: reading both records, and what follows reading: the written form, the common part by a table of
 -- joins, the combination by a table of meets, and the difference.
 use mathlib.Core.Path.{_≡_}
+use mathlib.Core.Bool.{Bool}
 use mathlib.Core.List.{List}
 use Prim.Native.Nat.{ℕ}
 use lib.Dec.{eqb}
@@ -9,8 +10,9 @@ use Rattle.graphs.specs.Rows.{Row, from}
 use Rattle.graphs.specs.Number.{canonical}
 use Rattle.graphs.specs.Generalize.{generalization}
 use Rattle.graphs.specs.Unify.{unification}
+use Rattle.graphs.specs.Difference.{Link}
 use Rattle.lattice.specs.Label.{Label}
-use Rattle.layout.specs.Layout.{Recorded, graphOfRows, longest}
+use Rattle.layout.specs.Layout.{Recorded, graphOfRows, rowsOf, longest}
 use Rattle.encode.specs.Encode.{writtenOut}
 use Rattle.record.specs.declared.reading.Verdict.{Verdict}
 use Rattle.record.specs.declared.reading.Verdict.the-variants.{Accepted, Refused}
@@ -27,7 +29,8 @@ use Rattle.engine.specs.declared.PairVerdict.the-variants as pair
 use Rattle.engine.specs.declared.Reply.{Reply}
 use Rattle.engine.specs.declared.Reply.the-variants.{Graph, Cycle, Clash}
 use Rattle.engine.specs.Unification.{combined}
-use Rattle.engine.specs.Difference.{differedRows}
+use Rattle.engine.specs.Difference.{differed, differedRows}
+use Rattle.engine.specs.Explained.{Explained, beside, reasonsRows, reasonsOf}
 use Rattle.engine.specs.Reply.{Result, replyOf, resultOf, refusing, readBoth}
 
 -- "first graph 4 to 7; second graph 4 to 7"
@@ -74,9 +77,18 @@ met n meets out g h =
     (unification (meetsOf n meets) eqb eqb (graphOfRows g) (from 0 (length g)) (graphOfRows h) (from 0 (length h)))
     out
 
--- both graphs' 4 to 7, then their difference
-abbrev pub parting : ℕ → List ℕ → List ℕ → List ℕ → List ℕ → Result
-parting n t a b out = readBoth (λ r. refusing r out) (reading n a) (reading n b) (differedRows n t out)
+-- both graphs' 4 to 7, then their difference by an order of links
+abbrev pub parting : (Link ℕ → Link ℕ → Bool) → ℕ → List ℕ → List ℕ → List ℕ → List ℕ → Result
+parting earlier n t a b out = readBoth (λ r. refusing r out) (reading n a) (reading n b) (differedRows earlier n t out)
+
+-- the same with its reasons
+abbrev pub partingExplained : (Link ℕ → Link ℕ → Bool) → ℕ → List ℕ → List ℕ → List ℕ → List ℕ → List ℕ → Explained
+partingExplained earlier n t a b out old = beside (parting earlier n t a b out) (reasonsOf earlier n t a b) out old
+
+-- the difference of graphs in words with its reasons
+abbrev pub explainedWords : (Link ℕ → Link ℕ → Bool) → ℕ → List ℕ → List ℕ → List ℕ → List ℕ → List ℕ → Explained
+explainedWords earlier n t g s out old =
+    beside (differed earlier n t out (rowsOf g) (rowsOf s)) (reasonsRows earlier n t (rowsOf g) (rowsOf s)) out old
 
 -- what combining answers, as a reply
 abbrev pub combinedReply : Combined → Reply

@@ -1,6 +1,6 @@
 -- Replies: the number that documents 01 ("Returned by a call") and 02 give to each, and what each call answers and leaves in the output.
 use mathlib.Core.Path.{_≡_}
-use mathlib.Core.Bool.{Bool, true, false}
+use mathlib.Core.Bool.{Bool, true, false, cond}
 use mathlib.Core.List.{List}
 use mathlib.Core.Option.{Option, none, some}
 use Prim.Native.Nat.{ℕ, _≤_}
@@ -26,7 +26,7 @@ use Rattle.engine.specs.declared.Side.the-variants.{First, Second}
 use Rattle.engine.specs.declared.kinds.Kind.{Kind}
 use Rattle.engine.specs.declared.kinds.Kind.the-variants as kind
 use Rattle.engine.specs.declared.Reply.{Reply}
-use Rattle.engine.specs.declared.Reply.the-variants.{Length, Same, Under, Above, Neither, Table, Graph, NoRoom, Cycle, Clash, TooLarge, NotBelow, NoWantedType, TypeList, NoReasonRoom}
+use Rattle.engine.specs.declared.Reply.the-variants.{Length, Same, Under, Above, Neither, Table, Graph, NoRoom, Cycle, Clash, TooLarge, NotBelow, NoWantedType, TypeList, ReadingOrder, NoReasonRoom}
 
 -- what a reply tells: a refusal has a number, and one of a graph tells which of the two it is
 abbrev pub kindOf : Reply → Kind
@@ -44,6 +44,7 @@ kindOf TooLarge = kind.Refused 11
 kindOf NotBelow = kind.Refused 12
 kindOf NoWantedType = kind.Refused 13
 kindOf TypeList = kind.Refused 17
+kindOf ReadingOrder = kind.Refused 19
 kindOf NoReasonRoom = kind.Refused 22
 
 abbrev pub refusalIn : Kind → Option ℕ
@@ -94,6 +95,11 @@ abbrev pub readBoth : {X : Type 0} → (Reply → X) → graph.Reading → graph
 readBoth refuse (graph.refused fault) second next = refuse (Graph fault First)
 readBoth refuse (graph.accepted rows) (graph.refused fault) next = refuse (Graph fault Second)
 readBoth refuse (graph.accepted rows) (graph.accepted others) next = next rows others
+
+-- the same beside a list, and the refusal of one that is not accepted, "after the table"
+abbrev pub checkedList : ℕ → List ℕ → Bool → Reply → List ℕ → Result → Result
+checkedList n t listed fault out next =
+    checked (λ r. refusing r out) (table.opened n t) (cond listed next (refusing fault out))
 
 -- a graph in written form
 abbrev pub rewrittenRows : List ℕ → List (Row Label) → Result

@@ -1,30 +1,33 @@
-// The difference of two records over an accepted table (document 01, "Difference"): g is the first graph, s the second, which is
-// numbered as written before it is compared.
+// The difference of two records over an accepted table (document 01, "Difference"), by an order of links: g is the first graph, s the
+// second, which is numbered as written before it is compared.
 
 use crate::PairVerdict;
 use crate::Reply;
+use groups::reading::LinkOrder;
 use subsume::Order;
 ghost use mathlib.Core.Path.{_≡_};
 ghost use mathlib.Core.Bool.{true};
 ghost use lib.ListN.{length};
 ghost use Rattle.lattice.specs.Table.{accepted};
 ghost use Rattle.layout.specs.Layout.{longest, rowsOf};
+ghost use Rattle.groups.specs.Reading.{Fitting, earlierBy};
 ghost use Rattle.engine.specs.Difference.{differed};
-ghost use Rattle.engine.specs.Explained.{beside, explainedResult, reasonsOf, reasonsRows};
+ghost use Rattle.engine.specs.Explained.{explainedResult};
 ghost use Rattle.engine.specs.Reply.{resulting};
-ghost use Rattle.engine.specs.Pair.{parting};
+ghost use Rattle.engine.specs.Pair.{explainedWords, parting, partingExplained};
 ghost use Rattle.engine.specs.Renumbering.{Comparable};
 
 // The difference of two records, over an accepted table with n types.
 pub fn difference_over<'a>(
     n: usize,
     table: &'a [u8],
+    order: LinkOrder,
     first: &[u8],
     second: &[u8],
     out: &mut [u8],
 ) -> Reply
-    requires { ⌜ accepted n (now table) ≡ true ⌝ }
-    ensures { λ r. ⌜ resulting r (now (out .exit)) ≡ parting n (now (table .entry)) (now (first .entry)) (now (second .entry)) (now (out .entry)) ⌝ }
+    requires { ⌜ (accepted n (now table) ≡ true) × Fitting order ⌝ }
+    ensures { λ r. ⌜ resulting r (now (out .exit)) ≡ parting (earlierBy order) n (now (table .entry)) (now (first .entry)) (now (second .entry)) (now (out .entry)) ⌝ }
 {
     let mut g = [layout::BLANK; layout::LONGEST];
     let mut given = [layout::BLANK; layout::LONGEST];
@@ -35,7 +38,7 @@ pub fn difference_over<'a>(
             // an accepted graph can be written: the words alone are wanted
             let mut s = [layout::BLANK; layout::LONGEST];
             encode::numbered::renumber(&given, &mut s);
-            difference_below(n, table, &g, &s, &mut given, out)
+            difference_below(n, table, order, &g, &s, &mut given, out)
         }
     }
 }
@@ -44,17 +47,18 @@ pub fn difference_over<'a>(
 fn difference_below<'a>(
     n: usize,
     table: &'a [u8],
+    order: LinkOrder,
     g: &'a [u16],
     s: &'a [u16],
     words: &mut [u16; layout::LONGEST],
     out: &mut [u8],
 ) -> Reply
-    requires { ⌜ Comparable n (now table) (now g) (now s) × (length (now words) ≡ longest) ⌝ }
-    ensures { λ r. ⌜ resulting r (now (out .exit)) ≡ differed n (now (table .entry)) (now (out .entry)) (rowsOf (now (g .entry))) (rowsOf (now (s .entry))) ⌝ }
+    requires { ⌜ Comparable n (now table) (now g) (now s) × Fitting order × (length (now words) ≡ longest) ⌝ }
+    ensures { λ r. ⌜ resulting r (now (out .exit)) ≡ differed (earlierBy order) n (now (table .entry)) (now (out .entry)) (rowsOf (now (g .entry))) (rowsOf (now (s .entry))) ⌝ }
 {
     let ordered = subsume::subsume(table, s, g);
-    let order = ordered.order;
-    let Order::Below = order else {
+    let below = ordered.order;
+    let Order::Below = below else {
         return Reply::NotBelow;
     };
     let map = ordered.map;
@@ -62,22 +66,24 @@ fn difference_below<'a>(
     if !difference::wanted::wanted_labels(n, table, g, s, &map, &mut labels) {
         return Reply::NoWantedType;
     }
-    crate::reply_of(difference::difference(n, table, g, s, &map, &labels, words, out))
+    let mut marks = [0u8; layout::LONGEST];
+    groups::mark_links(s, g, &map, order, &mut marks);
+    crate::reply_of(difference::difference(n, table, s, &marks, &labels, words, out))
 }
 
 // The difference of two records with the reasons for its links, over an accepted table with n types.
 pub fn explain_over<'a>(
     n: usize,
     table: &'a [u8],
+    order: LinkOrder,
     first: &[u8],
     second: &[u8],
     out: &mut [u8],
     reasons: &mut [u8],
 ) -> Reply
-    requires { ⌜ accepted n (now table) ≡ true ⌝ }
-    ensures { λ r. ⌜ explainedResult r (now (out .exit)) (now (reasons .exit))
-        ≡ beside (parting n (now (table .entry)) (now (first .entry)) (now (second .entry)) (now (out .entry)))
-        (reasonsOf n (now (table .entry)) (now (first .entry)) (now (second .entry))) (now (out .entry)) (now (reasons .entry)) ⌝ }
+    requires { ⌜ (accepted n (now table) ≡ true) × Fitting order ⌝ }
+    ensures { λ r. ⌜ explainedResult r (now (out .exit)) (now (reasons .exit)) ≡
+        partingExplained (earlierBy order) n (now (table .entry)) (now (first .entry)) (now (second .entry)) (now (out .entry)) (now (reasons .entry)) ⌝ }
 {
     let mut g = [layout::BLANK; layout::LONGEST];
     let mut given = [layout::BLANK; layout::LONGEST];
@@ -88,7 +94,7 @@ pub fn explain_over<'a>(
             // an accepted graph can be written: the words alone are wanted
             let mut s = [layout::BLANK; layout::LONGEST];
             encode::numbered::renumber(&given, &mut s);
-            explain_below(n, table, &g, &s, out, reasons)
+            explain_below(n, table, order, &g, &s, out, reasons)
         }
     }
 }
@@ -97,19 +103,19 @@ pub fn explain_over<'a>(
 fn explain_below<'a>(
     n: usize,
     table: &'a [u8],
+    order: LinkOrder,
     g: &'a [u16],
     s: &'a [u16],
     out: &mut [u8],
     reasons: &mut [u8],
 ) -> Reply
-    requires { ⌜ Comparable n (now table) (now g) (now s) ⌝ }
-    ensures { λ r. ⌜ explainedResult r (now (out .exit)) (now (reasons .exit))
-        ≡ beside (differed n (now (table .entry)) (now (out .entry)) (rowsOf (now (g .entry))) (rowsOf (now (s .entry))))
-        (reasonsRows n (now (table .entry)) (rowsOf (now (g .entry))) (rowsOf (now (s .entry)))) (now (out .entry)) (now (reasons .entry)) ⌝ }
+    requires { ⌜ Comparable n (now table) (now g) (now s) × Fitting order ⌝ }
+    ensures { λ r. ⌜ explainedResult r (now (out .exit)) (now (reasons .exit)) ≡
+        explainedWords (earlierBy order) n (now (table .entry)) (now (g .entry)) (now (s .entry)) (now (out .entry)) (now (reasons .entry)) ⌝ }
 {
     let ordered = subsume::subsume(table, s, g);
-    let order = ordered.order;
-    let Order::Below = order else {
+    let below = ordered.order;
+    let Order::Below = below else {
         return Reply::NotBelow;
     };
     let map = ordered.map;
@@ -117,5 +123,7 @@ fn explain_below<'a>(
     if !difference::wanted::wanted_labels(n, table, g, s, &map, &mut labels) {
         return Reply::NoWantedType;
     }
-    crate::marked_reply(difference::explain(n, table, g, s, &map, &labels, out, reasons))
+    let mut marks = [0u8; layout::LONGEST];
+    groups::mark_links(s, g, &map, order, &mut marks);
+    crate::marked_reply(difference::explain(n, table, s, &marks, &labels, out, reasons))
 }

@@ -39,6 +39,7 @@ pub fn kind_of(reply: Reply) -> Kind
         Reply::NotBelow => Kind::Refused(12),
         Reply::NoWantedType => Kind::Refused(13),
         Reply::TypeList => Kind::Refused(17),
+        Reply::ReadingOrder => Kind::Refused(19),
         Reply::NoReasonRoom => Kind::Refused(22),
     }
 }

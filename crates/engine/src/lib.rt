@@ -19,14 +19,15 @@ ghost use Rattle.unify.specs.Rows.{Operand};
 ghost use Rattle.engine.specs.declared.PairVerdict.the-variants.{Both};
 ghost use Rattle.engine.specs.Reply.{resulting, replyOf, readBoth, rewriting, rewrittenRows, isBelow, compared, ordering, ordered, generalizing};
 ghost use Rattle.engine.specs.Unification.{unifying};
-ghost use Rattle.engine.specs.Difference.{differing};
+ghost use Rattle.engine.specs.Difference.{differing, differingBy};
 ghost use Rattle.engine.specs.Appropriate.{rewritingAppropriate, generalizingAppropriate, unifyingAppropriate};
 ghost use Rattle.engine.specs.Pair.{JoinsReady, afterReading, afterBoth, joined, met, combinedReply};
-ghost use Rattle.engine.specs.Explained.{explaining, explainedResult, markedReply};
+ghost use Rattle.engine.specs.Explained.{explaining, explainingBy, explainedResult, markedReply};
 
 mod both;
 mod differences;
 pub mod kinds;
+mod link_orders;
 
 // Which of two graphs is refused; a lone graph counts as the first.
 pub enum Side {
@@ -50,6 +51,7 @@ pub enum Reply {
     NotBelow,
     NoWantedType,
     TypeList,
+    ReadingOrder,
     NoReasonRoom,
 }
 
@@ -325,11 +327,38 @@ pub fn difference(n: usize, table: &[u8], first: &[u8], second: &[u8], out: &mut
     let opened = lattice::accept(n, table);
     match opened {
         Opened::Refused(fault) => Reply::Table(fault),
-        Opened::Accepted => differences::difference_over(n, table, first, second, out),
+        Opened::Accepted => {
+            let order = link_orders::by_number();
+            differences::difference_over(n, table, order, first, second, out)
+        }
     }
 }
 
-// The same, and beside the record one byte for each of its links, in record order: the reason why the link is kept (document 02, Paper
+// The same with links ordered by the features of a list, which has all 64, each once (document 02, Paper 10).
+pub fn difference_by(
+    n: usize,
+    table: &[u8],
+    list: &[u8],
+    first: &[u8],
+    second: &[u8],
+    out: &mut [u8],
+) -> Reply
+    ensures { λ r. ⌜ resulting r (now (out .exit)) ≡ differingBy n (now (table .entry)) (now (list .entry)) (now (first .entry)) (now (second .entry)) (now (out .entry)) ⌝ }
+{
+    let opened = lattice::accept(n, table);
+    match opened {
+        Opened::Refused(fault) => Reply::Table(fault),
+        Opened::Accepted => {
+            if !groups::reading::is_reading_order(list) {
+                return Reply::ReadingOrder;
+            }
+            let order = link_orders::by_list(list);
+            differences::difference_over(n, table, order, first, second, out)
+        }
+    }
+}
+
+// The difference, and beside the record one byte for each of its links, in record order: the reason why the link is kept (document 02, Paper
 // 13).
 pub fn difference_explained(
     n: usize,
@@ -339,13 +368,42 @@ pub fn difference_explained(
     out: &mut [u8],
     reasons: &mut [u8],
 ) -> Reply
-    ensures { λ r. ⌜ explainedResult r (now (out .exit)) (now (reasons .exit))
-        ≡ explaining n (now (table .entry)) (now (first .entry)) (now (second .entry)) (now (out .entry)) (now (reasons .entry)) ⌝ }
+    ensures { λ r. ⌜ explainedResult r (now (out .exit)) (now (reasons .exit)) ≡
+        explaining n (now (table .entry)) (now (first .entry)) (now (second .entry)) (now (out .entry)) (now (reasons .entry)) ⌝ }
 {
     let opened = lattice::accept(n, table);
     match opened {
         Opened::Refused(fault) => Reply::Table(fault),
-        Opened::Accepted => differences::explain_over(n, table, first, second, out, reasons),
+        Opened::Accepted => {
+            let order = link_orders::by_number();
+            differences::explain_over(n, table, order, first, second, out, reasons)
+        }
+    }
+}
+
+// The same with links ordered by the features of a list.
+pub fn difference_explained_by(
+    n: usize,
+    table: &[u8],
+    list: &[u8],
+    first: &[u8],
+    second: &[u8],
+    out: &mut [u8],
+    reasons: &mut [u8],
+) -> Reply
+    ensures { λ r. ⌜ explainedResult r (now (out .exit)) (now (reasons .exit)) ≡
+        explainingBy n (now (table .entry)) (now (list .entry)) (now (first .entry)) (now (second .entry)) (now (out .entry)) (now (reasons .entry)) ⌝ }
+{
+    let opened = lattice::accept(n, table);
+    match opened {
+        Opened::Refused(fault) => Reply::Table(fault),
+        Opened::Accepted => {
+            if !groups::reading::is_reading_order(list) {
+                return Reply::ReadingOrder;
+            }
+            let order = link_orders::by_list(list);
+            differences::explain_over(n, table, order, first, second, out, reasons)
+        }
     }
 }
 

@@ -6,6 +6,7 @@ pub mod Laws
 pub mod Kept
 pub mod Least
 pub mod ByNumber
+pub mod ByReading
 pub mod Groups
 pub mod Lead
 pub mod Keeps

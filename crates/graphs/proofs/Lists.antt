@@ -51,6 +51,11 @@ unfolding from
 from-range f zero n m = absurd (List·Memᴰ·not-nil m)
 from-range f (suc k) n m = ⊎-elim (λ (e : n ≡ f). omega arith) (λ m′. let h = from-range (suc f) k n m′ in omega arith) (List·Memᴰ·cases-cons m)
 
+pub length-from : (f k : ℕ) → length (from f k) ≡ k
+unfolding from
+length-from f zero = refl
+length-from f (suc k) = ap suc (length-from (suc f) k)
+
 -- every feature is listed
 pub mem-features : (f : ℕ) → f < 64 → List·Memᴰ f features
 mem-features f h = from-member 0 64 f (omega arith) (omega arith)
@@ -202,3 +207,43 @@ module _ {A : Type 0} (same : A → A → Bool) (tells : Tells same) where
       go : (t : Bool) → indexOf same v ws < length ws → cond t 0 (suc (indexOf same v ws)) < suc (length ws)
       go true h = omega arith
       go false h = omega arith
+
+-- Lists of numbers that leave none out.
+
+-- A list without repetition of as many numbers as there are below its length holds each.
+pub full-list : (count : ℕ) (xs : List ℕ) → Distinct xs → ((x : ℕ) → List·Memᴰ x xs → x < count) → length xs ≡ count →
+    (v : ℕ) → v < count → List·Memᴰ v xs
+full-list count xs d inside e v h = go (member eqb v xs) refl
+  where
+    listed : (x : ℕ) → List·Memᴰ x (v ∷ xs) → List·Memᴰ x (from 0 count)
+    listed x m =
+        from-member 0 count x (omega arith)
+        (⊎-elim (λ (q : x ≡ v). omega arith) (λ n. omega (arith, inside x n)) (List·Memᴰ·cases-cons m))
+
+    go : (b : Bool) → member eqb v xs ≡ b → List·Memᴰ v xs
+    go true q = member-true eqb tells-eqb v xs q
+    go false q =
+        let over = distinct-bound (v ∷ xs) (from 0 count) (member-false eqb tells-eqb v xs q, d) listed in
+        absurd (omega (arith, length-from 0 count))
+
+-- the same by places
+pub place-listed : {v : ℕ} {xs : List ℕ} → List·Memᴰ v xs → (i : ℕ) × (i < length xs) × (getD xs i 0 ≡ v)
+place-listed (List·Memᴰ·head e) = (0, omega arith, sym e)
+place-listed (List·Memᴰ·tail m) = let (i, h, e) = place-listed m in (suc i, omega arith, e)
+
+pub distinct-places : (xs : List ℕ) → ((i j : ℕ) → i < j → j < length xs → getD xs i 0 ≡ getD xs j 0 → ⊥) → Distinct xs
+distinct-places [] apart = tt
+distinct-places (x ∷ xs) apart = (
+  λ m. let (i, h, e) = place-listed m in apart 0 (suc i) (omega arith) (omega arith) (sym e),
+  distinct-places xs (λ i j h l. apart (suc i) (suc j) (omega arith) (omega arith)),
+)
+
+pub full-places : (count : ℕ) (xs : List ℕ) → length xs ≡ count → ((i : ℕ) → i < count → getD xs i 0 < count) →
+    ((i j : ℕ) → i < j → j < count → getD xs i 0 ≡ getD xs j 0 → ⊥) →
+    (v : ℕ) → v < count → (i : ℕ) × (i < count) × (getD xs i 0 ≡ v)
+full-places count xs long inside apart v h =
+    let (i, l, e) = place-listed (full-list count xs (distinct-places xs (λ i j a b. apart i j a (omega arith))) listed long v h) in
+    (i, omega arith, e)
+  where
+    listed : (x : ℕ) → List·Memᴰ x xs → x < count
+    listed x m = let (i, l, e) = place-listed m in omega (arith, inside i (omega arith))

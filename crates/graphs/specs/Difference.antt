@@ -132,3 +132,14 @@ meetOver 𝓛 sameA g gs over v = meetWhere 𝓛 (λ y. sameA (over y) v) (g .la
 -- "Links are ordered by parent number, then feature."
 unfoldable pub byNumber : Link ℕ → Link ℕ → Bool
 byNumber l m = leb (suc (l .0)) (m .0) || (eqb (l .0) (m .0) && leb (suc (l .1)) (m .1))
+
+-- the place of a feature in a list; one that is not in the list comes behind all that are
+unfoldable pub placeIn : List ℕ → ℕ → ℕ
+placeIn [] f = f
+placeIn (x ∷ xs) f = cond (eqb x f) zero (suc (placeIn xs f))
+
+-- "by the feature's place in the list, then by parent number" (document 02, Paper 10)
+unfoldable pub byReading : List ℕ → Link ℕ → Link ℕ → Bool
+byReading list l m =
+    leb (suc (placeIn list (l .1))) (placeIn list (m .1))
+    || (eqb (placeIn list (l .1)) (placeIn list (m .1)) && leb (suc (l .0)) (m .0))

@@ -1,20 +1,18 @@
 -- The marks say which links of s lead their groups: a link at place k is marked 1 or 2 exactly where it is the least of its group, and 2
--- exactly where nothing of g lies over it. Places are in the order of links by number.
+-- exactly where nothing of g lies over it.
 use mathlib.Core.Path.{_≡_, refl, sym, _∙_, ap, subst}
 use mathlib.Core.Bool.{Bool, true, false}
 use mathlib.Core.List.{List}
 use mathlib.Core.Logic.{_⊎_, inl, inr, ⊎-elim}
 use mathlib.Core.Option.{some}
 use Prim.Native.Nat.{ℕ, _<_}
-use native.Mathlib.Decide.{ℕ-discrete, decLt}
-use native.Mathlib.Nat.{lt-irrefl, lt-trans}
 use native.Mathlib.Omega.{arith}
 use lib.Dec.{eqb}
 use lib.ListN.{getD}
 use Rattle.graphs.specs.Graph.{Graph}
 use Rattle.graphs.specs.Map.{NodeMap}
 use Rattle.graphs.specs.Rows.{from}
-use Rattle.graphs.specs.Difference.{Link, lead, byNumber}
+use Rattle.graphs.specs.Difference.{Link, StrictOrder, lead}
 use Rattle.graphs.proofs.Walk.{some-unique}
 use Rattle.graphs.proofs.Search.{true-false}
 use Rattle.graphs.proofs.Lists.{from-member, from-range}
@@ -22,64 +20,31 @@ use Rattle.graphs.proofs.Unification.Beside.{Operands}
 use Rattle.graphs.proofs.Difference.Laws.{Into, Leader, Enters, Grouped, touching, alike, flip, chain}
 use Rattle.graphs.proofs.Difference.Kept.{enters-into}
 use Rattle.graphs.proofs.Difference.Lead.{grouped-into, lead-least, lead-unique}
-use Rattle.graphs.proofs.Difference.ByNumber.{Before, by-number, by-number-order}
 use Rattle.lattice.specs.Labels.{tableLabels}
 use Rattle.lattice.specs.Label.{Label}
 use Rattle.layout.specs.Layout.{longest, size, featureAt, targetAt, graphIn, Sound, Place, rowsEnd}
 use Rattle.layout.proofs.Places.{link-at, link-place}
-use Rattle.layout.proofs.Order.{earlier-row, place-before, one-row, place-rises, one-feature}
+use Rattle.layout.proofs.Order.{place-before, one-row, one-feature}
 use Rattle.groups.specs.Cover.{Lying, Covers, Tied, same, shared, back, next, Grouping}
-use Rattle.groups.specs.Marks.{Together, Mark, follows, leads, bare, Marked}
+use Rattle.groups.specs.Marks.{Earlier, Together, Mark, follows, leads, bare, Marked}
 use Rattle.groups.proofs.Covering.{owner-low}
+pub use Rattle.groups.specs.Marks.{At}
 
 -- Places of one graph.
 
--- the link l stands at place k
-pub record At (ws : List ℕ) (k : ℕ) (l : Link ℕ) : Type 0 where
-  pub place : Place ws (l .0) k
-  pub feature : featureAt ws k ≡ l .1
-
 module _ {ws : List ℕ} (sound : Sound ws) where
-  moved : {v w k : ℕ} → v ≡ w → Place ws w k → Place ws v k
-  moved {k = k} e p = subst (λ (u : ℕ). Place ws u k) (sym e) p
-
-  -- the order of places is the order of links by number
-  at-before : (j k : ℕ) (l m : Link ℕ) → At ws j l → At ws k m → Before l m → j < k
-  at-before j k l m a b (inl h) =
-      omega (arith, earlier-row (sound .shaped) (l .0) (m .0) j h (omega (arith, b .place .inside)) (a .place .high), b .place .low)
-  at-before j k l m a b (inr (e, h)) = go (decLt j k) (ℕ-discrete j k)
-    where
-      less : featureAt ws j < featureAt ws k
-      less = rw (a .feature, b .feature) h
-
-      go : Dec (j < k) → Dec (j ≡ k) → j < k
-      go (yes x) y = x
-      go (no x) (yes y) = absurd (lt-irrefl (featureAt ws k) (subst (λ (i : ℕ). featureAt ws i < featureAt ws k) y less))
-      go (no x) (no y) =
-          absurd
-          (lt-irrefl (featureAt ws j) (lt-trans less (place-rises (sound .shaped) (moved e (b .place)) (a .place) (omega arith))))
-
-  pub before-at : (j k : ℕ) (l m : Link ℕ) → At ws j l → At ws k m → j < k → Before l m
-  before-at j k l m a b h = go (decLt (l .0) (m .0)) (decLt (m .0) (l .0))
-    where
-      go : Dec (l .0 < m .0) → Dec (m .0 < l .0) → Before l m
-      go (yes x) y = inl x
-      go (no x) (yes y) =
-          absurd (omega (
-            arith,
-            earlier-row (sound .shaped) (m .0) (l .0) k y (omega (arith, a .place .inside)) (b .place .high),
-            a .place .low,
-          ))
-      go (no x) (no y) =
-          let e : l .0 ≡ m .0 = omega arith in
-          inr (e, rw (sym (a .feature), sym (b .feature)) (place-rises (sound .shaped) (a .place) (moved e (b .place)) h))
-
   -- a link stands at one place, and at a place one link
   pub at-one : (j k : ℕ) (l : Link ℕ) → At ws j l → At ws k l → j ≡ k
   at-one j k l a b = one-feature (sound .shaped) (a .place) (b .place) (a .feature ∙ sym (b .feature))
 
   pub one-at : (k : ℕ) (l m : Link ℕ) → At ws k l → At ws k m → l .0 ≡ m .0
   one-at k l m a b = one-row (sound .shaped) (a .place) (b .place)
+
+  one-link : (k : ℕ) (l m : Link ℕ) → At ws k l → At ws k m → l ≡ m
+  one-link k l m a b =
+      let p : l .0 ≡ m .0 = one-at k l m a b in
+      let q : l .1 ≡ m .1 = sym (a .feature) ∙ b .feature in
+      λ i. (p i, q i)
 
   pub at-link : (k : ℕ) (l : Link ℕ) → At ws k l → graphIn ws .link (l .0) (l .1) ≡ some (targetAt ws k)
   at-link k l a =
@@ -263,55 +228,59 @@ module _ (n : ℕ) (t : List ℕ) {sw gw map : List ℕ} (lying : Lying sw gw ma
         (grouped-together v h k d im at b))
         (grouped-together v j h c i a at)
 
-    abbrev first : ℕ → Link ℕ → Link ℕ
-    first v l = lead eqb eqb s (from 0 (size sw)) g (from 0 (size gw)) over byNumber v l
+    module _ {earlier : Link ℕ → Link ℕ → Bool} (strict : StrictOrder earlier) where
+      abbrev first : ℕ → Link ℕ → Link ℕ
+      first v l = lead eqb eqb s (from 0 (size sw)) g (from 0 (size gw)) over earlier v l
 
-    -- a link leads its group where no place before is one with its class
-    place-leads : (k : ℕ) (l : Link ℕ) → At sw k l → Into s (targetAt sw k) l → ((j : ℕ) → j < k → Beside j k → ⊥) →
-        first (targetAt sw k) l ≡ l
-    place-leads k l a i alone =
-        sym (lead-unique operands lies byNumber by-number-order (targetAt sw k) l l i alike λ m c. go m c (byNumber m l) refl)
-      where
-        go : (m : Link ℕ) → Joins (targetAt sw k) l m → (b : Bool) → byNumber m l ≡ b → byNumber m l ≡ false
-        go m c false e = e
-        go m c true e =
-            let (j, at, _) = into-at (targetAt sw k) m (grouped-into operands lies (targetAt sw k) c .0 i) in
-            let h : j < k = at-before s-sound j k m l at a (by-number m l .0 e) in
-            absurd (⊎-elim (λ (z : k ≡ j). omega arith) (λ (t : Beside k j). alone j h (together-sym t))
-            (grouped-together (targetAt sw k) k j c i a at))
+      -- a link leads its group where no earlier one is at a place with its class
+      place-leads : (k : ℕ) (l : Link ℕ) → At sw k l → Into s (targetAt sw k) l →
+          ((j : ℕ) → j < longest → Earlier earlier sw j k → Beside j k → ⊥) → first (targetAt sw k) l ≡ l
+      place-leads k l a i alone =
+          sym (lead-unique operands lies earlier strict (targetAt sw k) l l i alike λ m c. go m c (earlier m l) refl)
+        where
+          go : (m : Link ℕ) → Joins (targetAt sw k) l m → (b : Bool) → earlier m l ≡ b → earlier m l ≡ false
+          go m c false e = e
+          go m c true e =
+              let (j, at, _) = into-at (targetAt sw k) m (grouped-into operands lies (targetAt sw k) c .0 i) in
+              ⊎-elim
+              (λ (z : k ≡ j).
+              let here : At sw k m = subst (λ (x : ℕ). At sw x m) (sym z) at in
+              ap (λ (x : Link ℕ). earlier x l) (one-link s-sound k m l here a) ∙ strict .irreflexive l)
+              (λ (t : Beside k j). absurd (alone j (within j m at) (m, l, at, a, e) (together-sym t)))
+              (grouped-together (targetAt sw k) k j c i a at)
 
-    -- and else it does not
-    place-follows : (j k : ℕ) (l : Link ℕ) → At sw k l → Into s (targetAt sw k) l → j < k → Beside j k → first (targetAt sw k) l ≡ l → ⊥
-    place-follows j k l a i h t e =
-        let (m, b) = covers-at (grouping .owned j (omega (arith, within k l a)) (t .left)) in
-        true-false (by-number m l .1 (before-at s-sound j k m l b a h))
-        (ap (byNumber m) (sym e) ∙
-        lead-least operands lies byNumber by-number-order (targetAt sw k) l m i
-        (together-grouped k j l m a b (together-sym t)))
+      -- and else it does not
+      place-follows : (j k : ℕ) (l : Link ℕ) → At sw k l → Into s (targetAt sw k) l → Earlier earlier sw j k → Beside j k →
+          first (targetAt sw k) l ≡ l → ⊥
+      place-follows j k l a i (m, l′, b, a′, less) t e =
+          true-false (ap (earlier m) (one-link s-sound k l l′ a a′) ∙ less)
+          (ap (earlier m) (sym e) ∙
+          lead-least operands lies earlier strict (targetAt sw k) l m i (together-grouped k j l m a b (together-sym t)))
 
-  module _ {marks : List ℕ} (marked : Marked sw gw map marks) (k : ℕ) (l : Link ℕ) (at : At sw k l) where
+  module _ {earlier : Link ℕ → Link ℕ → Bool} (strict : StrictOrder earlier) {marks : List ℕ} (marked : Marked earlier sw gw map marks)
+      (k : ℕ) (l : Link ℕ) (at : At sw k l) where
     into : Into s (targetAt sw k) l
     into = (operands .lists-left .listed (l .0) .1 (from-member 0 (size sw) (l .0) (omega arith) (omega (arith, at .place .inside))), at-link s-sound k l at)
 
     -- What the mark of a place says of the link there.
     pub data Says : Type 0 where
-      follows-it : getD marks k 0 ≡ 0 → (lead eqb eqb s (from 0 (size sw)) g (from 0 (size gw)) over byNumber (targetAt sw k) l ≡ l → ⊥) → Says
-      leads-covered : getD marks k 0 ≡ 1 → Leader s (lead eqb eqb s (from 0 (size sw)) g (from 0 (size gw)) over byNumber) (targetAt sw k) l →
+      follows-it : getD marks k 0 ≡ 0 → (lead eqb eqb s (from 0 (size sw)) g (from 0 (size gw)) over earlier (targetAt sw k) l ≡ l → ⊥) → Says
+      leads-covered : getD marks k 0 ≡ 1 → Leader s (lead eqb eqb s (from 0 (size sw)) g (from 0 (size gw)) over earlier) (targetAt sw k) l →
           (z : ℕ) → Goes z l → Says
-      leads-bare : getD marks k 0 ≡ 2 → Leader s (lead eqb eqb s (from 0 (size sw)) g (from 0 (size gw)) over byNumber) (targetAt sw k) l →
+      leads-bare : getD marks k 0 ≡ 2 → Leader s (lead eqb eqb s (from 0 (size sw)) g (from 0 (size gw)) over earlier) (targetAt sw k) l →
           ((z : ℕ) → Goes z l → ⊥) → Says
 
     pub mark-says : Says
-    mark-says = go (marked .stands .each (l .0) k (at .place) (place-before (s-sound .shaped) (at .place)))
+    mark-says = go (marked .stands .each (l .0) k (at .place))
       where
         grouping : Grouping sw gw map (rowsEnd gw) (marked .owner) (marked .parent)
         grouping = marked .grouping
 
-        go : Mark (marked .owner) (marked .parent) k (getD marks k 0) → Says
-        go (follows e j h t) = follows-it e (place-follows grouping j k l at into h t)
+        go : Mark (marked .owner) (marked .parent) (Earlier earlier sw) k (getD marks k 0) → Says
+        go (follows e j h w t) = follows-it e (place-follows grouping strict j k l at into w t)
         go (leads e o alone) =
-            leads-covered e (into, place-leads grouping k l at into alone) (getD (marked .owner) k 0)
+            leads-covered e (into, place-leads grouping strict k l at into alone) (getD (marked .owner) k 0)
             (covers-enters l at (grouping .owned k (within grouping k l at) o))
         go (bare e o) =
-            leads-bare e (into, place-leads grouping k l at into (λ j h t. t .right o))
+            leads-bare e (into, place-leads grouping strict k l at into (λ j h w t. t .right o))
             (λ z p. grouping .covered k z (enters-covers l at p) .0 o)

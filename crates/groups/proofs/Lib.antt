@@ -1,4 +1,6 @@
 -- Lemmas that several proofs share.
 pub mod Covering
 pub mod Marking
+pub mod ReadingOrder
+pub mod Ordering
 pub mod Leading

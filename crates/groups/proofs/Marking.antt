@@ -1,15 +1,34 @@
--- Marking the links of s in the order of their places: each turn marks one place more, and headers are passed over.
+-- Marking the links of s in one pass over their places: each turn meets one place more, and headers are passed over. A link that is
+-- sooner than the first of its class so far takes its place.
 use mathlib.Core.Path.{_≡_, refl, sym, _∙_, ap, subst}
 use mathlib.Core.List.{List}
+use mathlib.Core.Logic.{_⊎_, inl, inr}
 use Prim.Native.Nat.{ℕ, _+_, _≤_, _<_}
-use native.Mathlib.Decide.{ℕ-discrete}
+use native.Mathlib.Decide.{ℕ-discrete, decLt}
 use native.Mathlib.Omega.{arith}
 use lib.ListN.{length, getD, set, length-set}
 use lib.Seq.{getD-set-same, getD-set-other}
-use Rattle.layout.specs.Layout.{longest, size, rowFrom, linksFrom, rowEnd, Place, rowsEnd}
-use Rattle.layout.proofs.Order.{next-row, place-from, no-header}
+use Rattle.layout.specs.Layout.{longest, size, rowFrom, linksFrom, rowEnd, featureAt, Place}
+use Rattle.layout.proofs.Order.{next-row, place-from, place-before, no-header}
 use Rattle.classes.specs.Forest.{Flat, rootOf}
-use Rattle.groups.specs.Marks.{Together, Mark, follows, leads, bare, Seen, Marks, Owned}
+use Rattle.groups.specs.Marks.{
+  rankAt,
+  Sooner,
+  Owned,
+  Has,
+  classAt,
+  Together,
+  Mark,
+  follows,
+  leads,
+  bare,
+  Marks,
+  Standing,
+  stands-behind,
+  stands-first,
+  stands-bare,
+  Marking,
+}
 
 -- the class of an owner
 module _ {parent : List ℕ} (flat : Flat parent) {x : ℕ} (small : x < 255) where
@@ -19,156 +38,286 @@ module _ {parent : List ℕ} (flat : Flat parent) {x : ℕ} (small : x < 255) wh
   pub class-is : getD parent x 0 ≡ rootOf parent x
   class-is = flat .near x (omega arith)
 
+-- By rank, then by place.
+
+sooner-trans : {x y z a b c : ℕ} → (x < y) ⊎ ((x ≡ y) × (a < b)) → (y < z) ⊎ ((y ≡ z) × (b < c)) → (x < z) ⊎ ((x ≡ z) × (a < c))
+sooner-trans (inl p) (inl q) = inl (omega arith)
+sooner-trans (inl p) (inr q) = inl (omega arith)
+sooner-trans (inr p) (inl q) = inl (omega arith)
+sooner-trans (inr p) (inr q) = inr (omega arith, omega arith)
+
+not-sooner : {x a : ℕ} → (x < x) ⊎ ((x ≡ x) × (a < a)) → ⊥
+not-sooner (inl p) = omega arith
+not-sooner (inr p) = omega arith
+
 -- One place.
 
-module _ {owner parent : List ℕ} {k : ℕ} {seen : List ℕ} (m : Seen owner parent k seen) where
-  -- a place whose class is seen already, or that has none
-  again : ((getD owner k 0 ≡ 65535 → ⊥) → getD seen (rootOf parent (getD owner k 0)) 0 ≡ 0 → ⊥) → Seen owner parent (k + 1) seen
-  again here =
+module _ {s owner parent : List ℕ} (o : Owned s owner parent) where
+  within : {v k : ℕ} → Place s v k → k < longest
+  within {v} p = omega (arith, p .high, o .shaped .node v (p .inside) .ended, o .short)
+
+  class-small : (k : ℕ) → k < longest → Has owner k → classAt owner parent k < 255
+  class-small k h has =
+      let low = o .low k h has in
+      omega (arith, class-is (o .flat) low, class-low (o .flat) low)
+
+-- What is known when place k is met.
+abbrev pub Turn : (s owner parent rank : List ℕ) (k : ℕ) (lead marks : List ℕ) → Type 0
+Turn s owner parent rank k lead marks = (Owned s owner parent × ((v : ℕ) × Place s v k)) × Marking s owner parent rank k lead marks
+
+module _ {s owner parent rank : List ℕ} {k : ℕ} {lead marks : List ℕ} (turn : Turn s owner parent rank k lead marks) where
+  abbrev o : Owned s owner parent
+  o = turn .0 .0
+
+  abbrev v : ℕ
+  v = turn .0 .1 .0
+
+  abbrev p : Place s v k
+  p = turn .0 .1 .1
+
+  abbrev m : Marking s owner parent rank k lead marks
+  m = turn .1
+
+  pub here-within : k < longest
+  here-within = within o p
+
+  pub here-inside : k < length s
+  here-inside = omega (arith, p .high, o .shaped .node v (p .inside) .ended)
+
+  pub here-known : featureAt s k < 64
+  here-known = o .shaped .known v k (p .inside) (p .low) (p .high)
+
+  -- a mark that changes no leader
+  stays : {x : ℕ} → Standing s owner parent rank lead k x → Marking s owner parent rank (k + 1) lead (set marks k x)
+  stays {x} new =
       record {
-        long = m .long;
-        met = λ c l d. let (j, below, o, e) = m .met c l d in (j, omega arith, o, e);
-        unmet = λ j l. unmet j l (ℕ-discrete j k);
+        long = length-set marks k x ∙ m .long;
+        lead-long = m .lead-long;
+        met = λ c h d. let (l, has, e) = m .met c h d in (omega arith, has, e);
+        each = λ u i q l. go u i q l (ℕ-discrete i k);
       }
     where
-      unmet : (j : ℕ) → j < k + 1 → Dec (j ≡ k) → (getD owner j 0 ≡ 65535 → ⊥) → getD seen (rootOf parent (getD owner j 0)) 0 ≡ 0 → ⊥
-      unmet j l (yes e) = rw e here
-      unmet j l (no d) = m .unmet j (omega arith)
+      go : (u i : ℕ) → Place s u i → i < k + 1 → Dec (i ≡ k) → Standing s owner parent rank lead i (getD (set marks k x) i 0)
+      go u i q l (yes e) = rw (e, getD-set-same marks k x 0 (omega (arith, m .long, here-within))) new
+      go u i q l (no d) = rw (getD-set-other marks k i x 0 d) (m .each u i q (omega arith))
 
-  pub marking-bare : getD owner k 0 ≡ 65535 → Mark owner parent k 2 × Seen owner parent (k + 1) seen
-  marking-bare none = (bare refl none, again (λ o _. o none))
+  pub marking-bare : getD owner k 0 ≡ 65535 → Marking s owner parent rank (k + 1) lead (set marks k 2)
+  marking-bare none = stays (stands-bare refl none)
 
-  module _ (o : getD owner k 0 ≡ 65535 → ⊥) {c : ℕ} (class : c ≡ rootOf parent (getD owner k 0)) (small : c < 255) where
-    pub marking-follows : (getD seen c 0 ≡ 0 → ⊥) → Mark owner parent k 0 × Seen owner parent (k + 1) seen
-    marking-follows d =
-        let (j, l, own, e) = m .met c small d in (
-          follows refl j l (record { left = own; right = o; class = e ∙ class }),
-          again (λ _ z. d (ap (λ (x : ℕ). getD seen x 0) class ∙ z)),
-        )
+  module _ (has : Has owner k) where
+    abbrev c : ℕ
+    c = getD parent (getD owner k 0) 0
 
-    pub marking-leads : getD seen c 0 ≡ 0 → Mark owner parent k 1 × Seen owner parent (k + 1) (set seen c 1)
-    marking-leads z = (
-      leads refl o first,
-      record {
-        long = length-set seen c 1 ∙ m .long;
-        met = λ x l d. met x l d (ℕ-discrete x c);
-        unmet = λ j l. unmet j l (ℕ-discrete j k);
-      },
-    )
+    pub here-class : c < 255
+    here-class = class-low (o .flat) (o .low k here-within has)
+
+    class : c ≡ classAt owner parent k
+    class = class-is (o .flat) (o .low k here-within has)
+
+    -- Place k leads from now on. The places of its class before it follow it; `before` has the marks of all places before it.
+    takes : (before : List ℕ) → length before ≡ longest →
+        ((u i : ℕ) → Place s u i → i < k → Standing s owner parent rank (set lead c k) i (getD before i 0)) →
+        Marking s owner parent rank (k + 1) (set lead c k) (set before k 1)
+    takes before long each =
+        record {
+          long = length-set before k 1 ∙ long;
+          lead-long = length-set lead c k ∙ m .lead-long;
+          met = λ x h d. met x h d (ℕ-discrete x c);
+          each = λ u i q l. go u i q l (ℕ-discrete i k);
+        }
       where
-        first : (j : ℕ) → j < k → Together owner parent j k → ⊥
-        first j l t = m .unmet j l (t .left) (ap (λ (x : ℕ). getD seen x 0) (t .class ∙ sym class) ∙ z)
+        now : getD (set lead c k) c 0 ≡ k
+        now = getD-set-same lead c k 0 (omega (arith, m .lead-long, here-class))
 
-        here : getD (set seen c 1) c 0 ≡ 1
-        here = getD-set-same seen c 1 0 (omega (arith, m .long))
+        met : (x : ℕ) → x < 255 → (getD (set lead c k) x 0 ≡ 65535 → ⊥) → Dec (x ≡ c) →
+            (getD (set lead c k) x 0 < k + 1) × Has owner (getD (set lead c k) x 0) × (classAt owner parent (getD (set lead c k) x 0) ≡ x)
+        met x h d (yes e) = rw (e, now) (omega arith, has, sym class)
+        met x h d (no n) =
+            let same : getD (set lead c k) x 0 ≡ getD lead x 0 = getD-set-other lead c x k 0 n in
+            let (l, b, e) = m .met x h (λ q. d (same ∙ q)) in
+            rw same (omega arith, b, e)
 
-        met : (x : ℕ) → x < 255 → (getD (set seen c 1) x 0 ≡ 0 → ⊥) → Dec (x ≡ c) →
-            (j : ℕ) × (j < k + 1) × (getD owner j 0 ≡ 65535 → ⊥) × (rootOf parent (getD owner j 0) ≡ x)
-        met x l d (yes e) = (k, omega arith, o, sym class ∙ sym e)
-        met x l d (no n) =
-            let (j, below, own, e) = m .met x l (λ q. d (getD-set-other seen c x 1 0 n ∙ q)) in
-            (j, omega arith, own, e)
+        go : (u i : ℕ) → Place s u i → i < k + 1 → Dec (i ≡ k) → Standing s owner parent rank (set lead c k) i (getD (set before k 1) i 0)
+        go u i q l (yes e) =
+            rw (e, getD-set-same before k 1 0 (omega (arith, long, here-within)))
+            (stands-first refl has (ap (λ (x : ℕ). getD (set lead c k) x 0) (sym class) ∙ now))
+        go u i q l (no d) = rw (getD-set-other before k i 1 0 d) (each u i q (omega arith))
 
-        unmet : (j : ℕ) → j < k + 1 → Dec (j ≡ k) → (getD owner j 0 ≡ 65535 → ⊥) →
-            getD (set seen c 1) (rootOf parent (getD owner j 0)) 0 ≡ 0 → ⊥
-        unmet j l (yes e) own q =
-            omega (arith, here, ap (λ (x : ℕ). getD (set seen c 1) x 0) (class ∙ ap (λ (i : ℕ). rootOf parent (getD owner i 0)) (sym e)), q)
-        unmet j l (no d) own q = go (ℕ-discrete (rootOf parent (getD owner j 0)) c)
-          where
-            go : Dec (rootOf parent (getD owner j 0) ≡ c) → ⊥
-            go (yes e) = omega (arith, here, ap (λ (x : ℕ). getD (set seen c 1) x 0) e, q)
-            go (no n) = m .unmet j (omega arith) own (sym (getD-set-other seen c (rootOf parent (getD owner j 0)) 1 0 n) ∙ q)
+    -- the leader of another class stays
+    other : (i x : ℕ) → (classAt owner parent i ≡ c → ⊥) → Standing s owner parent rank lead i x →
+        Standing s owner parent rank (set lead c k) i x
+    other i x d st = go st (getD-set-other lead c (classAt owner parent i) k 0 d)
+      where
+        go : Standing s owner parent rank lead i x → getD (set lead c k) (classAt owner parent i) 0 ≡ getD lead (classAt owner parent i) 0 →
+            Standing s owner parent rank (set lead c k) i x
+        go (stands-behind e h l q) same =
+            stands-behind e h (rw same l) (subst (λ (j : ℕ). Sooner s rank j i) (sym same) q)
+        go (stands-first e h q) same = stands-first e h (same ∙ q)
+        go (stands-bare e h) same = stands-bare e h
+
+    -- the first of its class
+    pub marking-first : getD lead c 0 ≡ 65535 → Marking s owner parent rank (k + 1) (set lead c k) (set marks k 1)
+    marking-first free = takes marks (m .long) (λ u i q l. go u i q l (ℕ-discrete (classAt owner parent i) c) (m .each u i q l))
+      where
+        go : (u i : ℕ) → Place s u i → i < k → Dec (classAt owner parent i ≡ c) → Standing s owner parent rank lead i (getD marks i 0) →
+            Standing s owner parent rank (set lead c k) i (getD marks i 0)
+        go u i q l (no d) st = other i (getD marks i 0) d st
+        go u i q l (yes e) (stands-behind f h b w) =
+            absurd (omega (arith, ap (λ (x : ℕ). getD lead x 0) e ∙ free, b))
+        go u i q l (yes e) (stands-first f h w) =
+            absurd (omega (arith, sym w ∙ ap (λ (x : ℕ). getD lead x 0) e ∙ free, within o q))
+        go u i q l (yes e) (stands-bare f h) = stands-bare f h
+
+    -- another of its class was met before
+    module _ (led : getD lead c 0 ≡ 65535 → ⊥) where
+      abbrev j : ℕ
+      j = getD lead c 0
+
+      pub met-before : j < k
+      met-before = m .met c here-class led .0
+
+      met-has : Has owner j
+      met-has = m .met c here-class led .1
+
+      met-class : classAt owner parent j ≡ c
+      met-class = m .met c here-class led .2
+
+      met-place : (u : ℕ) × Place s u j
+      met-place = o .linked j (omega (arith, met-before, here-within)) met-has
+
+      pub met-inside : j < length s
+      met-inside = omega (arith, met-before, here-inside)
+
+      pub met-known : featureAt s j < 64
+      met-known =
+          let (u, q) = met-place in
+          o .shaped .known u j (q .inside) (q .low) (q .high)
+
+      pub marking-follows : rankAt s rank j ≤ rankAt s rank k → Marking s owner parent rank (k + 1) lead (set marks k 0)
+      marking-follows h =
+          stays
+          (stands-behind refl has (rw same (omega (arith, met-before, here-within)))
+          (subst (λ (i : ℕ). Sooner s rank i k) (sym same) (go (decLt (rankAt s rank j) (rankAt s rank k)))))
+        where
+          same : getD lead (classAt owner parent k) 0 ≡ j
+          same = ap (λ (x : ℕ). getD lead x 0) (sym class)
+
+          go : Dec (rankAt s rank j < rankAt s rank k) → Sooner s rank j k
+          go (yes l) = inl l
+          go (no d) = inr (omega arith, met-before)
+
+      pub marking-overtakes : rankAt s rank k < rankAt s rank j → Marking s owner parent rank (k + 1) (set lead c k) (set (set marks j 0) k 1)
+      marking-overtakes less =
+          takes (set marks j 0) (length-set marks j 0 ∙ m .long)
+          (λ u i q l. go u i q (ℕ-discrete (classAt owner parent i) c) (ℕ-discrete i j) (m .each u i q l))
+        where
+          now : (i : ℕ) → classAt owner parent i ≡ c → getD (set lead c k) (classAt owner parent i) 0 ≡ k
+          now i e =
+              ap (λ (x : ℕ). getD (set lead c k) x 0) e ∙ getD-set-same lead c k 0 (omega (arith, m .lead-long, here-class))
+
+          zero-there : getD (set marks j 0) j 0 ≡ 0
+          zero-there = getD-set-same marks j 0 0 (omega (arith, m .long, met-before, here-within))
+
+          under : (i x : ℕ) → x ≡ 0 → Has owner i → classAt owner parent i ≡ c → Sooner s rank k i →
+              Standing s owner parent rank (set lead c k) i x
+          under i x z h e w =
+              stands-behind z h (rw (now i e) here-within) (subst (λ (y : ℕ). Sooner s rank y i) (sym (now i e)) w)
+
+          go : (u i : ℕ) → Place s u i → Dec (classAt owner parent i ≡ c) → Dec (i ≡ j) → Standing s owner parent rank lead i (getD marks i 0) →
+              Standing s owner parent rank (set lead c k) i (getD (set marks j 0) i 0)
+          go u i q (no d) (yes e) st = absurd (d (ap (classAt owner parent) e ∙ met-class))
+          go u i q (no d) (no n) st = rw (getD-set-other marks j i 0 0 n) (other i (getD marks i 0) d st)
+          go u i q (yes d) (yes e) st =
+              under i (getD (set marks j 0) i 0) (ap (λ (x : ℕ). getD (set marks j 0) x 0) e ∙ zero-there)
+              (subst (Has owner) (sym e) met-has) d (subst (Sooner s rank k) (sym e) (inl less))
+          go u i q (yes d) (no n) (stands-behind f h b w) =
+              under i (getD (set marks j 0) i 0) (getD-set-other marks j i 0 0 n ∙ f) h d
+              (sooner-trans (inl less) (subst (λ (y : ℕ). Sooner s rank y i) (ap (λ (x : ℕ). getD lead x 0) d) w))
+          go u i q (yes d) (no n) (stands-first f h w) = absurd (n (sym w ∙ ap (λ (x : ℕ). getD lead x 0) d))
+          go u i q (yes d) (no n) (stands-bare f h) = stands-bare (getD-set-other marks j i 0 0 n ∙ f) h
 
 -- All places.
 
--- the links before place k are marked
-pub record Marking (s owner parent : List ℕ) (k : ℕ) (marks seen : List ℕ) : Type 0 where
-  pub owned : Owned s owner parent
-  pub marked : Marks s owner parent k marks
-  pub so-far : Seen owner parent k seen
-
-module _ {s owner parent : List ℕ} where
+module _ {s owner parent rank : List ℕ} (o : Owned s owner parent) where
   -- what is said up to one place is said up to another where no link stands between
-  moved : {k l : ℕ} {marks seen : List ℕ} → Marking s owner parent k marks seen → k ≤ longest → k ≤ l → l ≤ longest →
-      ((v j : ℕ) → Place s v j → j < l → j < k) → Marking s owner parent l marks seen
-  moved m few low high none =
+  moved : {k l : ℕ} {lead marks : List ℕ} → Marking s owner parent rank k lead marks → k ≤ l →
+      ((v j : ℕ) → Place s v j → j < l → j < k) → Marking s owner parent rank l lead marks
+  moved m low none =
       record {
-        owned = m .owned;
-        marked = record { long = m .marked .long; each = λ v j p h. m .marked .each v j p (none v j p h) };
-        so-far =
-            record {
-              long = m .so-far .long;
-              met = λ c h d. let (j, below, o, e) = m .so-far .met c h d in (j, omega arith, o, e);
-              unmet = λ j h o. let (u, p) = m .owned .linked j (omega arith) o in m .so-far .unmet j (none u j p h) o;
-            };
+        long = m .long;
+        lead-long = m .lead-long;
+        met = λ c h d. let (b, has, e) = m .met c h d in (omega arith, has, e);
+        each = λ v j p h. m .each v j p (none v j p h);
       }
 
-  within : {v : ℕ} → Owned s owner parent → v < size s → rowEnd s v ≤ longest
-  within {v} o h = omega (arith, o .shaped .node v h .ended, o .short)
-
-  pub marking-start : {marks seen : List ℕ} → Owned s owner parent → length marks ≡ longest → length seen ≡ 255 →
-      ((c : ℕ) → c < 255 → getD seen c 0 ≡ 0) → Marking s owner parent (rowFrom s 0) marks seen
-  marking-start o long room clear =
-      moved {k = 0}
-      (record {
-        owned = o;
-        marked = record { long = long; each = λ v k p h. absurd (omega arith) };
-        so-far = record { long = room; met = λ c h d. absurd (d (clear c h)); unmet = λ j h. absurd (omega arith) };
-      })
-      (omega arith) (omega arith) (omega (arith, o .shaped .node 0 (o .shaped .nonempty) .begun, within o (o .shaped .nonempty)))
-      (λ v j p h. absurd (omega (arith, place-from (o .shaped) p)))
-
-  -- past a header
-  pub marking-row : (v : ℕ) {marks seen : List ℕ} → Marking s owner parent (rowFrom s v) marks seen → v < size s →
-      Marking s owner parent (linksFrom s v) marks seen
-  marking-row v m h =
-      moved m (omega (arith, m .owned .shaped .node v h .begun, within (m .owned) h)) (omega arith)
-      (omega (arith, m .owned .shaped .node v h .begun, within (m .owned) h))
-      (λ u j p below. no-header (m .owned .shaped) v h p below)
-
-  pub marking-next : {k mark : ℕ} {marks seen seen′ : List ℕ} → Marking s owner parent k marks seen → k < longest →
-      Mark owner parent k mark → Seen owner parent (k + 1) seen′ → Marking s owner parent (k + 1) (set marks k mark) seen′
-  marking-next {k} {mark} {marks} m h new seen =
+  pub marking-start : {lead marks : List ℕ} → length marks ≡ longest → length lead ≡ 255 →
+      ((c : ℕ) → c < 255 → getD lead c 0 ≡ 65535) → Marking s owner parent rank (rowFrom s 0) lead marks
+  marking-start long room clear =
       record {
-        owned = m .owned;
-        marked = record { long = length-set marks k mark ∙ m .marked .long; each = λ v i p l. go v i p l (ℕ-discrete i k) };
-        so-far = seen;
+        long = long;
+        lead-long = room;
+        met = λ c h d. absurd (d (clear c h));
+        each = λ v j p h. absurd (omega (arith, place-from (o .shaped) p));
       }
+
+  -- what the marks say when all links are met
+  pub marking-all : (v : ℕ) {lead marks : List ℕ} → Marking s owner parent rank (rowFrom s v) lead marks → v ≤ size s → size s ≤ v →
+      Marks (Sooner s rank) s owner parent marks
+  marking-all v {lead} {marks} m low high = record { long = m .long; each = λ u k p. go u k p (stands u k p) }
     where
-      go : (v i : ℕ) → Place s v i → i < k + 1 → Dec (i ≡ k) → Mark owner parent i (getD (set marks k mark) i 0)
-      go v i p l (yes e) = rw (e, getD-set-same marks k mark 0 (omega (arith, m .marked .long))) new
-      go v i p l (no d) = rw (getD-set-other marks k i mark 0 d) (m .marked .each v i p (omega arith))
+      stands : (u k : ℕ) → Place s u k → Standing s owner parent rank lead k (getD marks k 0)
+      stands u k p =
+          m .each u k p
+          (subst (λ (i : ℕ). k < rowFrom s i) (omega arith) (place-before (o .shaped) p))
 
-  -- at the end of a row
-  pub marking-done : (v : ℕ) {k : ℕ} {marks seen : List ℕ} → Marking s owner parent k marks seen → k ≡ rowEnd s v →
-      Marking s owner parent (rowFrom s (v + 1)) marks seen
-  marking-done v {k} {marks} {seen} m e =
-      subst (λ (i : ℕ). Marking s owner parent i marks seen) (e ∙ next-row s v (v + 1) (omega arith)) m
+      alone : (k : ℕ) → getD lead (classAt owner parent k) 0 ≡ k → (j : ℕ) → Sooner s rank j k → Together owner parent j k →
+          Standing s owner parent rank lead j (getD marks j 0) → ⊥
+      alone k q j w t (stands-behind e h b z) =
+          not-sooner (sooner-trans (subst (λ (i : ℕ). Sooner s rank i j) (ap (λ (x : ℕ). getD lead x 0) (t .class) ∙ q) z) w)
+      alone k q j w t (stands-first e h z) =
+          not-sooner (subst (λ (i : ℕ). Sooner s rank i k) (sym z ∙ ap (λ (x : ℕ). getD lead x 0) (t .class) ∙ q) w)
+      alone k q j w t (stands-bare e h) = t .left h
 
-  pub marking-all : (v : ℕ) {marks seen : List ℕ} → Marking s owner parent (rowFrom s v) marks seen → v ≤ size s → size s ≤ v →
-      Marks s owner parent (rowsEnd s) marks
-  marking-all v {marks} m low high =
-      subst (λ (i : ℕ). Marks s owner parent (rowFrom s i) marks) (omega arith) (m .marked)
+      go : (u k : ℕ) → Place s u k → Standing s owner parent rank lead k (getD marks k 0) → Mark owner parent (Sooner s rank) k (getD marks k 0)
+      go u k p (stands-behind e h b w) =
+          let (_, has, class) =
+          m .met (classAt owner parent k) (class-small o k (within o p) h) (λ z. omega arith) in
+          follows e (getD lead (classAt owner parent k) 0) b w (record { left = has; right = h; class = class })
+      go u k p (stands-first e h q) =
+          leads e h (λ j l w t. let (x, at) = o .linked j l (t .left) in alone k q j w t (stands x j at))
+      go u k p (stands-bare e h) = bare e h
 
 -- in the row of node v, at place k
-pub record InRow (s owner parent : List ℕ) (v k : ℕ) (marks seen : List ℕ) : Type 0 where
+pub record InRow (s owner parent rank : List ℕ) (v k : ℕ) (lead marks : List ℕ) : Type 0 where
+  pub owned : Owned s owner parent
   pub inside : v < size s
+  pub low : linksFrom s v ≤ k
   pub high : k ≤ rowEnd s v
-  pub marking : Marking s owner parent k marks seen
+  pub marking : Marking s owner parent rank k lead marks
 
-module _ {s owner parent : List ℕ} where
-  pub row-start : (v : ℕ) {marks seen : List ℕ} → Marking s owner parent (rowFrom s v) marks seen → v < size s →
-      InRow s owner parent v (linksFrom s v) marks seen
-  row-start v m h = record { inside = h; high = m .owned .shaped .node v h .begun; marking = marking-row v m h }
+module _ {s owner parent rank : List ℕ} where
+  pub row-start : (v : ℕ) {lead marks : List ℕ} → Owned s owner parent → Marking s owner parent rank (rowFrom s v) lead marks → v < size s →
+      InRow s owner parent rank v (linksFrom s v) lead marks
+  row-start v o m h =
+      record {
+        owned = o;
+        inside = h;
+        low = omega arith;
+        high = o .shaped .node v h .begun;
+        marking = moved o m (omega arith) (λ u j p below. no-header (o .shaped) v h p below);
+      }
 
-  module _ {v k : ℕ} {marks seen : List ℕ} (r : InRow s owner parent v k marks seen) where
+  module _ {v k : ℕ} {lead marks : List ℕ} (r : InRow s owner parent rank v k lead marks) where
+    pub row-place : k < rowEnd s v → Place s v k
+    row-place h = record { inside = r .inside; low = r .low; high = h }
+
     pub row-within : k < rowEnd s v → k < longest
-    row-within h = omega (arith, r .marking .owned .shaped .node v (r .inside) .ended, r .marking .owned .short)
+    row-within h = within (r .owned) (row-place h)
 
-    pub row-next : {mark : ℕ} {seen′ : List ℕ} → k < rowEnd s v → Mark owner parent k mark → Seen owner parent (k + 1) seen′ →
-        InRow s owner parent v (k + 1) (set marks k mark) seen′
-    row-next h new seen =
-        record { inside = r .inside; high = omega arith; marking = marking-next (r .marking) (row-within h) new seen }
+    pub row-next : {lead′ marks′ : List ℕ} → k < rowEnd s v → Marking s owner parent rank (k + 1) lead′ marks′ →
+        InRow s owner parent rank v (k + 1) lead′ marks′
+    row-next h m = record { owned = r .owned; inside = r .inside; low = omega (arith, r .low); high = omega arith; marking = m }
 
-    pub row-done : rowEnd s v ≤ k → Marking s owner parent (rowFrom s (v + 1)) marks seen
-    row-done h = marking-done v (r .marking) (omega (arith, r .high))
+    pub row-done : rowEnd s v ≤ k → Marking s owner parent rank (rowFrom s (v + 1)) lead marks
+    row-done h =
+        subst (λ (i : ℕ). Marking s owner parent rank i lead marks) (omega (arith, r .high) ∙ next-row s v (v + 1) (omega arith)) (r .marking)

@@ -1,12 +1,35 @@
--- The marks of the links of s: 2 where nothing of g lies over a link, which is a group alone; else 1 where no link of its group stands
--- at an earlier place, and 0 where one does.
+-- The marks of the links of s, for an order of links: 2 where nothing of g lies over a link, which is a group alone; else 1 where no
+-- link of its group comes before it, and 0 where one does.
 use mathlib.Core.Path.{_≡_}
+use mathlib.Core.Bool.{Bool, true}
 use mathlib.Core.List.{List}
+use mathlib.Core.Logic.{_⊎_}
 use Prim.Native.Nat.{ℕ, _≤_, _<_}
 use lib.ListN.{length, getD}
-use Rattle.layout.specs.Layout.{longest, Shaped, Place, rowsEnd}
+use Rattle.graphs.specs.Difference.{Link}
+use Rattle.layout.specs.Layout.{longest, featureAt, Shaped, Place, rowsEnd}
 use Rattle.classes.specs.Forest.{Flat, rootOf}
 use Rattle.groups.specs.Cover.{Grouping}
+
+-- the link l stands at place k
+pub record At (ws : List ℕ) (k : ℕ) (l : Link ℕ) : Type 0 where
+  pub place : Place ws (l .0) k
+  pub feature : featureAt ws k ≡ l .1
+
+-- the link at place j comes before the link at place k
+abbrev pub Earlier : (Link ℕ → Link ℕ → Bool) → List ℕ → ℕ → ℕ → Type 0
+Earlier earlier s j k = (l : Link ℕ) × (m : Link ℕ) × At s j l × At s k m × (earlier l m ≡ true)
+
+-- the same by the ranks of features: one of a lesser rank, or of the same rank at an earlier place
+abbrev pub rankAt : List ℕ → List ℕ → ℕ → ℕ
+rankAt s rank k = getD rank (featureAt s k) 0
+
+abbrev pub Sooner : List ℕ → List ℕ → ℕ → ℕ → Type 0
+Sooner s rank j k = (rankAt s rank j < rankAt s rank k) ⊎ ((rankAt s rank j ≡ rankAt s rank k) × (j < k))
+
+-- place k has an owner
+abbrev pub Has : List ℕ → ℕ → Type 0
+Has owner k = getD owner k 0 ≡ 65535 → ⊥
 
 -- Owners of links of s, and the classes of the owners.
 pub record Owned (s owner parent : List ℕ) : Type 0 where
@@ -14,37 +37,49 @@ pub record Owned (s owner parent : List ℕ) : Type 0 where
   pub short : length s ≤ longest
   pub long : length owner ≡ longest
   pub flat : Flat parent
-  pub low : (j : ℕ) → j < longest → (getD owner j 0 ≡ 65535 → ⊥) → getD owner j 0 < 255
-  pub linked : (j : ℕ) → j < longest → (getD owner j 0 ≡ 65535 → ⊥) → (u : ℕ) × Place s u j
+  pub low : (j : ℕ) → j < longest → Has owner j → getD owner j 0 < 255
+  pub linked : (j : ℕ) → j < longest → Has owner j → (u : ℕ) × Place s u j
 
 module _ (owner parent : List ℕ) where
+  -- the class of the owner of place k
+  abbrev pub classAt : ℕ → ℕ
+  classAt k = rootOf parent (getD owner k 0)
+
   -- places j and k have owners of one class
   pub record Together (j k : ℕ) : Type 0 where
-    pub left : getD owner j 0 ≡ 65535 → ⊥
-    pub right : getD owner k 0 ≡ 65535 → ⊥
-    pub class : rootOf parent (getD owner j 0) ≡ rootOf parent (getD owner k 0)
+    pub left : Has owner j
+    pub right : Has owner k
+    pub class : classAt j ≡ classAt k
 
-  -- the mark of place k
-  pub data Mark (k mark : ℕ) : Type 0 where
-    follows : mark ≡ 0 → (j : ℕ) → j < k → Together j k → Mark k mark
-    leads : mark ≡ 1 → (getD owner k 0 ≡ 65535 → ⊥) → ((j : ℕ) → j < k → Together j k → ⊥) → Mark k mark
-    bare : mark ≡ 2 → getD owner k 0 ≡ 65535 → Mark k mark
+  -- the mark of place k, by an order of places
+  pub data Mark (Before : ℕ → ℕ → Type 0) (k mark : ℕ) : Type 0 where
+    follows : mark ≡ 0 → (j : ℕ) → j < longest → Before j k → Together j k → Mark Before k mark
+    leads : mark ≡ 1 → Has owner k → ((j : ℕ) → j < longest → Before j k → Together j k → ⊥) → Mark Before k mark
+    bare : mark ≡ 2 → getD owner k 0 ≡ 65535 → Mark Before k mark
 
-  -- `seen` is not 0 at the classes of the owners before place k alone
-  pub record Seen (k : ℕ) (seen : List ℕ) : Type 0 where
-    pub long : length seen ≡ 255
-    pub met : (c : ℕ) → c < 255 → (getD seen c 0 ≡ 0 → ⊥) →
-        (j : ℕ) × (j < k) × (getD owner j 0 ≡ 65535 → ⊥) × (rootOf parent (getD owner j 0) ≡ c)
-    pub unmet : (j : ℕ) → j < k → (getD owner j 0 ≡ 65535 → ⊥) → getD seen (rootOf parent (getD owner j 0)) 0 ≡ 0 → ⊥
-
--- the links of s before place `bound` are marked
-pub record Marks (s owner parent : List ℕ) (bound : ℕ) (marks : List ℕ) : Type 0 where
+-- all links of s are marked
+pub record Marks (Before : ℕ → ℕ → Type 0) (s owner parent marks : List ℕ) : Type 0 where
   pub long : length marks ≡ longest
-  pub each : (v k : ℕ) → Place s v k → k < bound → Mark owner parent k (getD marks k 0)
+  pub each : (v k : ℕ) → Place s v k → Mark owner parent Before k (getD marks k 0)
 
--- all links of s are marked, by owners and classes that all places of g have part in
-pub record Marked (s g map marks : List ℕ) : Type 0 where
+-- The mark of place k so far, where `lead` has the place of the first link met of each class, and 65535 for a class that is not met.
+pub data Standing (s owner parent rank lead : List ℕ) (k mark : ℕ) : Type 0 where
+  stands-behind : mark ≡ 0 → Has owner k → getD lead (classAt owner parent k) 0 < longest →
+      Sooner s rank (getD lead (classAt owner parent k) 0) k → Standing s owner parent rank lead k mark
+  stands-first : mark ≡ 1 → Has owner k → getD lead (classAt owner parent k) 0 ≡ k → Standing s owner parent rank lead k mark
+  stands-bare : mark ≡ 2 → getD owner k 0 ≡ 65535 → Standing s owner parent rank lead k mark
+
+-- the links of s before place `bound` are met and marked
+pub record Marking (s owner parent rank : List ℕ) (bound : ℕ) (lead marks : List ℕ) : Type 0 where
+  pub long : length marks ≡ longest
+  pub lead-long : length lead ≡ 255
+  pub met : (c : ℕ) → c < 255 → (getD lead c 0 ≡ 65535 → ⊥) →
+      (getD lead c 0 < bound) × Has owner (getD lead c 0) × (classAt owner parent (getD lead c 0) ≡ c)
+  pub each : (v k : ℕ) → Place s v k → k < bound → Standing s owner parent rank lead k (getD marks k 0)
+
+-- all links of s are marked by an order of links, with owners and classes that all places of g have part in
+pub record Marked (earlier : Link ℕ → Link ℕ → Bool) (s g map marks : List ℕ) : Type 0 where
   pub owner : List ℕ
   pub parent : List ℕ
   pub grouping : Grouping s g map (rowsEnd g) owner parent
-  pub stands : Marks s owner parent (rowsEnd s) marks
+  pub stands : Marks (Earlier earlier s) s owner parent marks

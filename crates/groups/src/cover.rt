@@ -8,7 +8,7 @@ ghost use Rattle.layout.specs.Layout.{longest, size, rowFrom, rowEnd};
 ghost use Rattle.classes.specs.Forest.{Forest};
 ghost use Rattle.groups.specs.Cover.{Grouping, Lying, Owns};
 
-// The owner of a link with nothing of g over it.
+// The owner of a link with nothing of g over it, and the place of a link that is not met yet.
 pub const NONE: u16 = 0xFFFF;
 
 // A link over place j enters z.

@@ -1,16 +1,18 @@
 // The groups of links of a difference (document 01, "Difference"): which links of s lead their group, for graphs s and g with
-// g's nodes mapped to those of s. The order of links is that of their places: by parent number, then feature.
+// g's nodes mapped to those of s, by the order of links that is asked for.
 
 pub mod cover;
+pub mod reading;
 
 use classes::forest;
+use reading::LinkOrder;
 ghost use mathlib.Core.Path.{_≡_};
-ghost use Prim.Native.Nat.{_+_, _<_};
-ghost use lib.ListN.{length, getD};
-ghost use Rattle.layout.specs.Layout.{longest, rowsEnd};
-ghost use Rattle.classes.specs.Forest.{Flat};
+ghost use Prim.Native.Nat.{ℕ, _+_, _<_};
+ghost use lib.ListN.{length};
+ghost use Rattle.layout.specs.Layout.{Place, longest};
 ghost use Rattle.groups.specs.Cover.{Lying};
-ghost use Rattle.groups.specs.Marks.{Mark, Marked, Marks, Owned, Seen};
+ghost use Rattle.groups.specs.Marks.{Marked, Marking, Marks, Owned, Sooner};
+ghost use Rattle.groups.specs.Reading.{Fitting, earlierBy};
 
 // The mark of a link that another of its group comes before, of one that leads a group with links of g over it, and of one with
 // nothing of g over it, which is a group alone.
@@ -20,64 +22,78 @@ pub const LEADS: u8 = 1;
 
 pub const BARE: u8 = 2;
 
-// The mark of place k; `seen` has 1 for each class that an earlier place is in.
-fn mark_of<'a>(
+// Marks the link at place k; `lead` has the place of the first link so far of each class.
+fn mark_place<'a>(
+    s: &'a [u16],
     owner: &'a [u16; layout::LONGEST],
     parent: &'a [u16; 510],
+    rank: &'a [u8; reading::FEATURES],
     k: usize,
-    seen: &mut [u8; 255],
-) -> u8
-    requires { ⌜ (k < longest) × ((getD (now owner) k 0 ≡ 65535 → ⊥) → getD (now owner) k 0 < 255) ⌝ }
-    requires { ⌜ (length (now owner) ≡ longest) × Flat (now parent) ⌝ }
-    requires { ⌜ Seen (now owner) (now parent) k (now seen) ⌝ }
-    ensures { λ r. ⌜ Mark (now (owner .entry)) (now (parent .entry)) k r ⌝ }
-    ensures { λ _. ⌜ Seen (now (owner .entry)) (now (parent .entry)) (k + 1) (now (seen .exit)) ⌝ }
+    lead: &mut [u16; 255],
+    marks: &mut [u8; layout::LONGEST],
+)
+    requires { ⌜ Owned (now s) (now owner) (now parent) × ((v : ℕ) × Place (now s) v k) ⌝ }
+    requires { ⌜ Marking (now s) (now owner) (now parent) (now rank) k (now lead) (now marks) ⌝ }
+    ensures { λ _. ⌜ Marking (now (s .entry)) (now (owner .entry)) (now (parent .entry)) (now (rank .entry)) (k + 1) (now (lead .exit)) (now (marks .exit)) ⌝ }
 {
     let x = owner[k];
     if x == cover::NONE {
-        return BARE;
+        marks[k] = BARE;
+        return;
     }
     let c = parent[x as usize] as usize;
-    if seen[c] == 0 {
-        seen[c] = 1;
-        return LEADS;
+    let j = lead[c];
+    if j == cover::NONE {
+        lead[c] = k as u16;
+        marks[k] = LEADS;
+        return;
     }
-    FOLLOWS
+    let met = s[j as usize] / layout::SCALE;
+    let here = s[k] / layout::SCALE;
+    if rank[here as usize] < rank[met as usize] {
+        lead[c] = k as u16;
+        marks[j as usize] = FOLLOWS;
+        marks[k] = LEADS;
+        return;
+    }
+    marks[k] = FOLLOWS;
 }
 
-// Marks the links of s, by their owners and the classes of those.
+// Marks the links of s, by their owners, the classes of those and the ranks of features.
 pub fn mark<'a>(
     s: &'a [u16],
     owner: &'a [u16; layout::LONGEST],
     parent: &'a [u16; 510],
+    rank: &'a [u8; reading::FEATURES],
     marks: &mut [u8; layout::LONGEST],
 )
     requires { ⌜ Owned (now s) (now owner) (now parent) × (length (now marks) ≡ longest) ⌝ }
-    ensures { λ _. ⌜ Marks (now (s .entry)) (now (owner .entry)) (now (parent .entry)) (rowsEnd (now (s .entry))) (now (marks .exit)) ⌝ }
+    ensures { λ _. ⌜ Marks (Sooner (now (s .entry)) (now (rank .entry))) (now (s .entry)) (now (owner .entry)) (now (parent .entry)) (now (marks .exit)) ⌝ }
 {
-    let mut seen = [0u8; 255];
+    let mut lead = [cover::NONE; 255];
     let nodes = s[0] as usize;
     let mut v = 0;
     while v < nodes {
         let end = s[v + 2] as usize;
         let mut k = s[v + 1] as usize + layout::HEADER;
         while k < end {
-            marks[k] = mark_of(owner, parent, k, &mut seen);
+            mark_place(s, owner, parent, rank, k, &mut lead, marks);
             k += 1;
         }
         v += 1;
     }
 }
 
-// Marks the links of s.
+// Marks the links of s, by an order of links.
 pub fn mark_links<'a>(
     s: &'a [u16],
     g: &'a [u16],
     map: &'a [u16; 255],
+    order: LinkOrder,
     marks: &mut [u8; layout::LONGEST],
 )
-    requires { ⌜ Lying (now s) (now g) (now map) × (length (now marks) ≡ longest) ⌝ }
-    ensures { λ _. ⌜ Marked (now (s .entry)) (now (g .entry)) (now (map .entry)) (now (marks .exit)) ⌝ }
+    requires { ⌜ Lying (now s) (now g) (now map) × Fitting order × (length (now marks) ≡ longest) ⌝ }
+    ensures { λ _. ⌜ Marked (earlierBy order) (now (s .entry)) (now (g .entry)) (now (map .entry)) (now (marks .exit)) ⌝ }
 {
     let mut owner = [cover::NONE; layout::LONGEST];
     let mut parent = [0u16; 510];
@@ -89,5 +105,6 @@ pub fn mark_links<'a>(
         y += 1;
     }
     forest::flatten(&mut parent);
-    mark(s, &owner, &parent, marks)
+    let rank = reading::ranks(order);
+    mark(s, &owner, &parent, &rank, marks)
 }

@@ -12,13 +12,11 @@ use mathlib.Core.List.{
   List·Memᴰ,
   List·Memᴰ·head,
   List·Memᴰ·tail,
-  List·Memᴰ·cases-cons,
   Memᴰ·cast,
   Memᴰ·map,
   Memᴰ·append-left,
   Memᴰ·append-right,
 }
-use mathlib.Core.Logic.{⊎-elim}
 use mathlib.Core.Option.{some}
 use Prim.Native.Nat.{ℕ, zero, suc, _+_, _≤_, _<_}
 use native.Mathlib.Omega.{arith}
@@ -27,10 +25,9 @@ use lib.Dec.{eqb, leb}
 use lib.ListN.{length, length-append, length-map, getD, List·getD-eq-default}
 use Rattle.graphs.specs.Graph.{follow, Reached}
 use Rattle.graphs.specs.Rows.{Row, from, target}
-use Rattle.graphs.specs.Large.{Distinct, ManyNodes, ManyLinks, linksIn}
+use Rattle.graphs.specs.Large.{ManyNodes, ManyLinks, linksIn}
 use Rattle.graphs.proofs.Walk.{some-injective, none-some, follow-start}
-use Rattle.graphs.proofs.Lists.{from-member, distinct-bound, tells-eqb}
-use Rattle.graphs.proofs.Below.{member-decided}
+use Rattle.graphs.proofs.Lists.{from-member, length-from, distinct-bound}
 use Rattle.lattice.specs.Label.{Label, noLabel}
 use Rattle.record.specs.Read.{graphOfRows}
 use Rattle.decode.proofs.Decoded.{getD-member, Decoded}
@@ -49,27 +46,6 @@ decoded-linked says ranged =
       features = λ r m. says .ordered r m .1;
       targets = λ r m. ranged r m .1;
     }
-
-pub length-from : (f k : ℕ) → length (from f k) ≡ k
-unfolding from
-length-from f zero = refl
-length-from f (suc k) = ap suc (length-from (suc f) k)
-
--- A list without repetition of as many numbers as there are below its length holds each.
-pub full-list : (count : ℕ) (xs : List ℕ) → Distinct xs → ((x : ℕ) → List·Memᴰ x xs → x < count) → length xs ≡ count →
-    (v : ℕ) → v < count → List·Memᴰ v xs
-full-list count xs d inside e v h = go (member-decided eqb tells-eqb v xs)
-  where
-    listed : (x : ℕ) → List·Memᴰ x (v ∷ xs) → List·Memᴰ x (from 0 count)
-    listed x m =
-        from-member 0 count x (omega arith)
-        (⊎-elim (λ (q : x ≡ v). omega arith) (λ n. omega (arith, inside x n)) (List·Memᴰ·cases-cons m))
-
-    go : Dec (List·Memᴰ v xs) → List·Memᴰ v xs
-    go (yes m) = m
-    go (no missing) =
-        let over = distinct-bound (v ∷ xs) (from 0 count) (missing, d) listed in
-        absurd (omega (arith, length-from 0 count))
 
 -- what a feature leads to stands among the links
 pub target-source : (ls : List (ℕ × ℕ)) (f w : ℕ) → target ls f ≡ some w → List·Memᴰ (f, w) ls

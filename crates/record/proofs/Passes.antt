@@ -13,14 +13,13 @@ use lib.ListN.{length, getD}
 use Rattle.graphs.specs.Rows.{from}
 use Rattle.graphs.specs.Number.{member}
 use Rattle.graphs.specs.Large.{Distinct}
-use Rattle.graphs.proofs.Lists.{from-member, distinct-bound, tells-eqb, member-true, member-false}
+use Rattle.graphs.proofs.Lists.{from-member, length-from, distinct-bound, tells-eqb, member-true, member-false}
 use Rattle.graphs.proofs.Search.{true-false}
 use Rattle.layout.specs.Layout.{size, linksFrom, rowEnd, Sound}
 use Rattle.visits.specs.Walks.{Leads, Reaches, one, more}
 use Rattle.visits.proofs.Colouring.{whites-bound}
 use Rattle.record.specs.declared.peeling.Shape.the-variants.{Cyclic, Apart, Rooted}
 use Rattle.record.specs.Counts.{into, entering, Counted, Queued, RowDue, RowTaken, Earlier, Peels}
-use Rattle.record.proofs.Nodes.{length-from}
 use Rattle.record.proofs.Counting.{
   among-source,
   among-target,

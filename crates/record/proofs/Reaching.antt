@@ -17,14 +17,14 @@ use Rattle.graphs.specs.Number.{visit}
 use Rattle.graphs.specs.Unify.{deep, holds}
 use Rattle.graphs.specs.Large.{Distinct}
 use Rattle.graphs.proofs.Walk.{follow-nil, reached-root, reached-link}
-use Rattle.graphs.proofs.Lists.{from-member, from-range, distinct-from, distinct-bound, tells-eqb}
+use Rattle.graphs.proofs.Lists.{from-member, from-range, length-from, distinct-from, distinct-bound, tells-eqb, full-list}
 use Rattle.graphs.proofs.Search.{true-false, anyOf-true, anyOf-finds}
 use Rattle.graphs.proofs.Unification.Deep.{deep-walk, walk-deep, long-loop, loop-walk}
 use Rattle.graphs.proofs.Form.Visited.{visit-many}
 use Rattle.graphs.proofs.Form.Canonical.{seen-reached, reached-seen, seen-distinct, seen-short}
 use Rattle.lattice.specs.Label.{Label}
 use Rattle.record.specs.Read.{graphOfRows, cyclic, reachesAll}
-use Rattle.record.proofs.Nodes.{Linked, length-from, full-list, link-small, follow-inside, reached-inside, reached-listed, narrow, few-nodes}
+use Rattle.record.proofs.Nodes.{Linked, link-small, follow-inside, reached-inside, reached-listed, narrow, few-nodes}
 
 -- "a node reaches itself"
 abbrev pub SelfReach : List (Row Label) → Type 0

@@ -13,7 +13,7 @@ use Rattle.graphs.specs.Graph.{Graph, Tells, Reached, SameMeaning}
 use Rattle.graphs.specs.Rows.{Row}
 use Rattle.graphs.specs.Number.{Canonical, canonical, written}
 use Rattle.graphs.proofs.Walk.{some-injective, walk-append}
-use Rattle.graphs.proofs.Lists.{tells-eqb}
+use Rattle.graphs.proofs.Lists.{tells-eqb, full-list}
 use Rattle.graphs.proofs.Search.{not-true}
 use Rattle.graphs.proofs.Form.Canonical.{canonical-idempotent, canonical-exact}
 use Rattle.lattice.specs.Label.{Label, noLabel}
@@ -33,7 +33,7 @@ use Rattle.encode.specs.Encode.{encoded}
 use Rattle.record.specs.Read.{graphOfRows, cyclic, reading, accepted}
 use Rattle.record.proofs.Readings.{LabelInRange, InRange, reading-says, in-range}
 use Rattle.record.proofs.RoundTrip.{decode-encode, form-types}
-use Rattle.record.proofs.Nodes.{Linked, full-list, reached-inside, narrow}
+use Rattle.record.proofs.Nodes.{Linked, reached-inside, narrow}
 use Rattle.record.proofs.Reaching.{SelfReach, AllReached, cyclic-exact, reaches-exact}
 use Rattle.record.proofs.Accepted.{Rules, rules-linked, consistent-in-range, rules-of-any-size, rules-types}
 

@@ -10,9 +10,9 @@ ghost use Prim.Native.Nat.{_<_};
 ghost use Rattle.encode.specs.Encode.{yielding};
 ghost use Rattle.engine.specs.Reply.{rewriting, ordering, generalizing};
 ghost use Rattle.engine.specs.Unification.{unifying};
-ghost use Rattle.engine.specs.Difference.{differing};
+ghost use Rattle.engine.specs.Difference.{differing, differingBy};
 ghost use Rattle.engine.specs.Appropriate.{rewritingAppropriate, generalizingAppropriate, unifyingAppropriate};
-ghost use Rattle.engine.specs.Explained.{explaining};
+ghost use Rattle.engine.specs.Explained.{explaining, explainingBy};
 ghost use Rattle.record_engine.specs.Code.{codeOf, refusalCode, sideNumber};
 ghost use Rattle.record_engine.specs.Coded.{coded, codedBoth, yieldingBoth};
 ghost use Rattle.record_engine.specs.House.{tabling};
@@ -119,6 +119,21 @@ pub extern "C" fn record_difference(
     code(engine::difference(n, table, first, second, out))
 }
 
+// The same with links ordered by the features of a list, which has all 64, each once.
+#[no_mangle]
+pub extern "C" fn record_difference_by(
+    n: usize,
+    table: &[u8],
+    list: &[u8],
+    first: &[u8],
+    second: &[u8],
+    out: &mut [u8],
+) -> u64
+    ensures { λ r. ⌜ yielding r (now (out .exit)) ≡ coded (differingBy n (now (table .entry)) (now (list .entry)) (now (first .entry)) (now (second .entry)) (now (out .entry))) ⌝ }
+{
+    code(engine::difference_by(n, table, list, first, second, out))
+}
+
 // The difference, and in a second output the reason for each link of its record: the code of the reply, and the outputs that the engine
 // leaves.
 #[no_mangle]
@@ -130,10 +145,27 @@ pub extern "C" fn record_difference_explained(
     out: &mut [u8],
     reasons: &mut [u8],
 ) -> u64
-    ensures { λ r. ⌜ yieldingBoth r (now (out .exit)) (now (reasons .exit))
-        ≡ codedBoth (explaining n (now (table .entry)) (now (first .entry)) (now (second .entry)) (now (out .entry)) (now (reasons .entry))) ⌝ }
+    ensures { λ r. ⌜ yieldingBoth r (now (out .exit)) (now (reasons .exit)) ≡
+        codedBoth (explaining n (now (table .entry)) (now (first .entry)) (now (second .entry)) (now (out .entry)) (now (reasons .entry))) ⌝ }
 {
     code(engine::difference_explained(n, table, first, second, out, reasons))
+}
+
+// The same with links ordered by the features of a list.
+#[no_mangle]
+pub extern "C" fn record_difference_explained_by(
+    n: usize,
+    table: &[u8],
+    list: &[u8],
+    first: &[u8],
+    second: &[u8],
+    out: &mut [u8],
+    reasons: &mut [u8],
+) -> u64
+    ensures { λ r. ⌜ yieldingBoth r (now (out .exit)) (now (reasons .exit)) ≡
+        codedBoth (explainingBy n (now (table .entry)) (now (list .entry)) (now (first .entry)) (now (second .entry)) (now (out .entry)) (now (reasons .entry))) ⌝ }
+{
+    code(engine::difference_explained_by(n, table, list, first, second, out, reasons))
 }
 
 // The type table of the house types, for n = 64: the code of the reply, and the output that the engine leaves.

@@ -12,6 +12,7 @@ use lib.ListN.{length, drop, replicate, length-append, length-replicate, length-
 use Rattle.graphs.specs.Rows.{Row, from}
 use Rattle.graphs.specs.Number.{Canonical, canonical, manyNodes, manyLinks, written}
 use Rattle.graphs.specs.Order.{subsumes}
+use Rattle.graphs.specs.Difference.{byNumber}
 use Rattle.graphs.specs.Generalize.{generalization}
 use Rattle.graphs.specs.Unify.{Unified, cycle, clash, unified, unification}
 use Rattle.graphs.proofs.Walk.{none-some}
@@ -118,13 +119,13 @@ module _ (n : ℕ) (t a b : List ℕ) where
 
   differing-bounded : (out : List ℕ) → Bounded (differing n t a b out .reply) (length out)
   unfolding differing differedRows differed
-  differing-bounded out = writing-bounded out (differedRows n t out) λ g s.
+  differing-bounded out = writing-bounded out (differedRows byNumber n t out) λ g s.
       let s = numbered (canonical eqb (graph.graphOfRows s)) in
       cond-bounded (subsumes (tableLabels n t) eqb eqb (graph.graphOfRows s) (graph.graphOfRows g) (length g))
-      (cond (allWanted n t s g) (resultOf (writtenOut (canonical eqb (differenceRows n t g s)) out)) (refusing NoWantedType out))
+      (cond (allWanted n t s g) (resultOf (writtenOut (canonical eqb (differenceRows byNumber n t g s)) out)) (refusing NoWantedType out))
       (refusing NotBelow out) (length out)
-      (cond-bounded (allWanted n t s g) (resultOf (writtenOut (canonical eqb (differenceRows n t g s)) out)) (refusing NoWantedType out)
-      (length out) (written-bounded (canonical eqb (differenceRows n t g s)) out) (refused-bounded NoWantedType 13 refl (length out)))
+      (cond-bounded (allWanted n t s g) (resultOf (writtenOut (canonical eqb (differenceRows byNumber n t g s)) out)) (refusing NoWantedType out)
+      (length out) (written-bounded (canonical eqb (differenceRows byNumber n t g s)) out) (refused-bounded NoWantedType 13 refl (length out)))
       (refused-bounded NotBelow 12 refl (length out))
 
   ordering-bounded : (most : ℕ) → Bounded (ordering n t a b) most

@@ -48,6 +48,8 @@ use Rattle.graphs.specs.Difference.{
   meetOver,
   meetWhere,
   byNumber,
+  placeIn,
+  byReading,
 }
 use Rattle.graphs.specs.Reasons.{reasonAt, writtenOrder, alongLinks}
 use Rattle.lattice.specs.declared.TableFault.the-variants.{Bounds}
@@ -88,16 +90,17 @@ use Rattle.record.specs.Appropriate.{listAccepted, readingAppropriate, appropri
 use Rattle.record.proofs.Accepted.{accepted-rules}
 use Rattle.record.proofs.Theorems.{accepted-of-any-size}
 use Rattle.generalize.specs.Pairs.{samePair}
+use Rattle.groups.specs.Reading.{isReadingOrder}
 use Rattle.difference.specs.Promise.{wantedAlong, allWantedAlong, differenceAlong, reasonsAlong}
 use Rattle.engine.specs.Reply.{rewriting, generalized, generalizing, ordered as comparing, ordering}
 use Rattle.engine.specs.Unification.{unifiedRows, unifying}
 use Rattle.engine.specs.Appropriate.{rewritingAppropriate, generalizingAppropriate}
-use Rattle.engine.specs.Difference.{firstAt, over, wantedAt, allWanted, differenceRows, differed, differedRows, differing}
-use Rattle.engine.specs.Explained.{reasonsOf, explaining}
+use Rattle.engine.specs.Difference.{firstAt, over, wantedAt, allWanted, differenceRows, differed, differedRows, differing, differingBy}
+use Rattle.engine.specs.Explained.{reasonsOf, explaining, explainingBy}
 use Rattle.engine.specs.declared.Reply.the-variants.{NoWantedType}
 use Rattle.engine.proofs.Demanded.Wanted.{meet-known, label-below, wanted-exact}
 use Rattle.engine.proofs.Requests.{unwanted-exact, itself-lone-top}
-use Rattle.small_set.specs.Cases.{threeMiddles, twoOverTwo, NeverUnwanted, ItselfTop, AllHold, none-left, _and_, cases, SmallSet, FourAnswers, Reasons}
+use Rattle.small_set.specs.Cases.{threeMiddles, twoOverTwo, NeverUnwanted, ItselfTop, AllHold, none-left, _and_, cases, SmallSet, FourAnswers, Reasons, ReadingOrders}
 
 all-hold : AllHold cases
 unfolding
@@ -230,3 +233,21 @@ unfolding
     difference differ keptLink keeps keptItself lead leaders groupOf spread touch bare covers incoming select linksFrom leastOf
     meetOver meetWhere byNumber
 reasons = record { wanted = refl; shared = refl; rejoined = refl; added = refl; no-room = refl }
+
+-- The cases of Paper 10, computed.
+pub reading-orders : ReadingOrders
+unfolding
+    bind orElse
+    differingBy explainingBy isReadingOrder byReading placeIn
+    reasonsOf reasonsAlong reasonAt alongLinks writtenOrder
+    differing differedRows differed allWantedAlong differenceAlong wantedAlong over firstAt
+    opened sized ordered confined reflexive antisymmetric transitive least greatest bounded meet isMeet join isJoin every last below
+    restores isWanted wanted wantedLabel
+    reading decoded takeRows takeRow labelLength labelOf takeLinks bitOf inRange labelInRange allOf cyclic anyOf deep reachesAll
+    canonical visit each member target from linkCount outDegree rowOf linksOf indexOf
+    writtenOut fitted encoded encodedRows encodedRow encodedLabel isFull bitsFrom
+    subsumes walks fitsAt flatMap
+    difference differ keptLink keeps keptItself lead leaders groupOf spread touch bare covers incoming select linksFrom leastOf
+    meetOver meetWhere byNumber
+reading-orders =
+    record { zero-first = refl; one-first = refl; feature-first = refl; parent-first = refl; explained = refl; twice = refl }

@@ -5,16 +5,16 @@ use mathlib.Core.List.{List, [], _∷_, _++_}
 use mathlib.Core.Option.{Option, some}
 use Prim.Native.Nat.{ℕ, _+_}
 use lib.ListN.{length, drop, replicate}
-use Rattle.graphs.specs.Rows.{Row}
+use Rattle.graphs.specs.Rows.{Row, from}
 use Rattle.lattice.specs.Label.{Label}
 use Rattle.record.specs.Read.{reading, accepted}
-use Rattle.engine.specs.declared.Reply.the-variants.{Length, Same, Under, Above, Neither, NoWantedType, NoReasonRoom}
+use Rattle.engine.specs.declared.Reply.the-variants.{Length, Same, Under, Above, Neither, NoWantedType, ReadingOrder, NoReasonRoom}
 use Rattle.engine.specs.declared.Reply.{Reply}
-use Rattle.engine.specs.Reply.{Result, refusal, resultOf, rewriting, generalizing, ordering}
+use Rattle.engine.specs.Reply.{Result, refusal, resulting, refusing, resultOf, rewriting, generalizing, ordering}
 use Rattle.engine.specs.Unification.{unifying}
-use Rattle.engine.specs.Difference.{differing}
+use Rattle.engine.specs.Difference.{differing, differingBy}
 use Rattle.engine.specs.Appropriate.{rewritingAppropriate, generalizingAppropriate}
-use Rattle.engine.specs.Explained.{explaining, explainedResult}
+use Rattle.engine.specs.Explained.{explaining, explainingBy, explainedResult}
 use Rattle.engine.specs.Demand.{loneTop}
 use Rattle.encode.specs.Encode.{fitted}
 
@@ -263,3 +263,42 @@ pub record Reasons : Type 0 where
       (2 ∷ node top 0x05 (1 ∷ 1 ∷ []) ++ leaf top) (2 ∷ 2 ∷ [])
   pub added : Explains (lone top) (2 ∷ node top 0x01 (1 ∷ []) ++ leaf top) (2 ∷ node top 0x01 (1 ∷ []) ++ leaf top) (1 ∷ [])
   pub no-room : explaining (diamond .count) (diamond .table) Q R lent (0xDD ∷ []) ≡ explainedResult NoReasonRoom lent (0xDD ∷ [])
+
+-- Lists of features: in their own order, with 1 before 0, and with 0 twice.
+abbrev pub zeroFirst : List ℕ
+zeroFirst = from 0 64
+
+abbrev pub oneFirst : List ℕ
+oneFirst = 1 ∷ 0 ∷ from 2 62
+
+abbrev pub zeroTwice : List ℕ
+zeroTwice = 0 ∷ 0 ∷ from 2 62
+
+-- a node that the root reaches by feature 1, and by feature 0 twice
+abbrev pub deeper : ℕ → List ℕ
+deeper type = 3 ∷ node top 0x03 (1 ∷ 2 ∷ []) ++ node top 0x01 (2 ∷ []) ++ leaf type
+
+-- the difference over the diamond by a list
+abbrev pub DiffersBy : List ℕ → List ℕ → List ℕ → List ℕ → Type 0
+DiffersBy list general specific bytes =
+    differingBy (diamond .count) (diamond .table) list general specific lent ≡
+    resulting (Length (length bytes)) (bytes ++ drop (length bytes) lent)
+
+-- Paper 10: which link leads its group, by two lists and without one.
+pub record ReadingOrders : Type 0 where
+  -- one parent: the feature that the list names first
+  pub zero-first : DiffersBy zeroFirst P R (2 ∷ node top 0x01 (1 ∷ []) ++ leaf a)
+  pub one-first : DiffersBy oneFirst P R (2 ∷ node top 0x02 (1 ∷ []) ++ leaf a)
+  -- two parents: the features in their own order are not document 01's order, where the parent comes first
+  pub feature-first : DiffersBy zeroFirst (deeper top) (deeper a) (3 ∷ node top 0x01 (1 ∷ []) ++ node top 0x01 (2 ∷ []) ++ leaf a)
+  pub parent-first : differing (diamond .count) (diamond .table) (deeper top) (deeper a) lent ≡
+      resulting (Length (length (2 ∷ node top 0x02 (1 ∷ []) ++ leaf a)))
+      ((2 ∷ node top 0x02 (1 ∷ []) ++ leaf a) ++ drop (length (2 ∷ node top 0x02 (1 ∷ []) ++ leaf a)) lent)
+  -- the reasons for its links
+  pub explained : explainingBy (diamond .count) (diamond .table) zeroFirst (deeper top) (deeper a) lent lentBeside ≡
+      explainedResult (Length (length (3 ∷ node top 0x01 (1 ∷ []) ++ node top 0x01 (2 ∷ []) ++ leaf a)))
+      ((3 ∷ node top 0x01 (1 ∷ []) ++ node top 0x01 (2 ∷ []) ++ leaf a) ++
+      drop (length (3 ∷ node top 0x01 (1 ∷ []) ++ node top 0x01 (2 ∷ []) ++ leaf a)) lent)
+      (3 ∷ 3 ∷ 0xDD ∷ 0xDD ∷ [])
+  -- "A list that is anything else is 19"
+  pub twice : differingBy (diamond .count) (diamond .table) zeroTwice P R lent ≡ refusing ReadingOrder lent

@@ -8,8 +8,8 @@ use reference::record;
 use reference::reply::{self, Reply};
 use reference::table;
 
-/// A table, one or two records, an output. Where a call takes a list of types for
-/// features it stands before the records.
+/// A table, one or two records, an output. Where a call takes a list it stands before
+/// the records.
 type Engine = fn(&TableBytes, &[&[u8]], &mut [u8]) -> Reply;
 
 /// One call, by the proved engine and by the reference.
@@ -101,6 +101,16 @@ pub const UNIFY_APPROPRIATE: Call = Call {
     },
 };
 
+/// The difference of the first and the second by a list of all features.
+pub const DIFFERENCE_BY: Call = Call {
+    engine: |table, records, output| {
+        pair_by_list(record_engine::difference_by, table, records, output)
+    },
+    reference: |table, records, output| {
+        judged_by_list(calls::difference_by, table, records, output)
+    },
+};
+
 /// A call of the proved engine on two records.
 type Pair = fn(usize, &[u8], &[u8], &[u8], &mut [u8]) -> Result<usize, Refusal>;
 
@@ -179,6 +189,7 @@ fn refused(refusal: Refusal) -> Reply {
         Refusal::NotBelow => reply::Refusal::NotBelow,
         Refusal::NoWantedType => reply::Refusal::NoWantedType,
         Refusal::TypeList => reply::Refusal::TypeList,
+        Refusal::FeatureList => reply::Refusal::FeatureList,
         Refusal::NoRoomForReasons => reply::Refusal::ShortReasons,
     })
 }

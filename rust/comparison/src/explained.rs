@@ -1,8 +1,8 @@
-//! The difference with its reasons by both engines: the same replies and the same bytes
-//! in two outputs and beside them, whatever their lengths, and the record that the plain
-//! call writes.
+//! The difference with its reasons by both engines, without a list of all features and
+//! with one: the same replies and the same bytes in two outputs and beside them, whatever
+//! their lengths, and the record that the call without reasons writes.
 
-use crate::calls::{DIFFERENCE, written};
+use crate::calls::{DIFFERENCE, DIFFERENCE_BY, written};
 use crate::{Lent, Replies};
 use reference::calls;
 use reference::random::{self, TableBytes, Xorshift};
@@ -35,14 +35,18 @@ impl Explanations {
         self.inputs
     }
 
-    /// The reply to a general record and a specific one where there is room for any
-    /// record and any reasons. The same input is also called with outputs of the
-    /// results' lengths, of less and of more.
-    pub fn check(&mut self, table: &TableBytes, records: [&[u8]; 2]) -> Reply {
+    /// The reply to a general record and a specific one, and before them a list or none,
+    /// where there is room for any record and any reasons. The same input is also called
+    /// with outputs of the results' lengths, of less and of more.
+    pub fn check(&mut self, table: &TableBytes, records: &[&[u8]]) -> Reply {
         self.inputs += 1;
         let (reply, [output, reasons]) = self.call(table, records, [LONGEST_RECORD, MOST_LINKS]);
         let mut plain = vec![0; LONGEST_RECORD];
-        assert_eq!((DIFFERENCE.engine)(table, &records, &mut plain), reply);
+        let without_reasons = match records.len() {
+            2 => DIFFERENCE.engine,
+            _ => DIFFERENCE_BY.engine,
+        };
+        assert_eq!(without_reasons(table, records, &mut plain), reply);
         let any = [LONGEST_RECORD, MOST_LINKS].map(|most| self.random.pick(most));
         let Reply::Length(length) = reply else {
             for rooms in [[0, 0], any] {
@@ -83,19 +87,14 @@ impl Explanations {
     fn call(
         &mut self,
         table: &TableBytes,
-        records: [&[u8]; 2],
+        records: &[&[u8]],
         rooms: [usize; 2],
     ) -> (Reply, [Lent; 2]) {
-        let [general, specific] = records;
-        let (n, bytes) = (table.n, &table.bytes);
         let before = rooms.map(|room| Lent::new(&mut self.random, room));
         let (mut by_engine, mut by_reference) = (before.clone(), before.clone());
-        let [output, reasons] = by_engine.each_mut().map(Lent::output);
-        let engine =
-            record_engine::difference_explained(n, bytes, general, specific, output, reasons);
-        let engine = written(engine);
-        let [output, reasons] = by_reference.each_mut().map(Lent::output);
-        let reference = calls::difference_explained(n, bytes, general, specific, output, reasons);
+        let engine = by_the_engine(table, records, by_engine.each_mut().map(Lent::output));
+        let lent = by_reference.each_mut().map(Lent::output);
+        let reference = by_the_reference(table, records, lent);
         assert_eq!(
             engine, reference,
             "outputs of {rooms:?} bytes, {table:?}, the records {records:?}"
@@ -120,5 +119,30 @@ impl Explanations {
     pub fn assert_reasons(&self, least: usize) {
         let enough = self.reasons[1..].iter().all(|&count| count >= least);
         assert!(enough || !random::is_stored(), "{:?}", self.reasons);
+    }
+}
+
+/// The call of the proved engine, with a list or without; the outputs are for the record
+/// and for the reasons.
+fn by_the_engine(table: &TableBytes, records: &[&[u8]], outputs: [&mut [u8]; 2]) -> Reply {
+    let (n, table) = (table.n, &table.bytes);
+    let [output, reasons] = outputs;
+    written(match *records {
+        [g, s] => record_engine::difference_explained(n, table, g, s, output, reasons),
+        [list, g, s] => {
+            record_engine::difference_explained_by(n, table, list, g, s, output, reasons)
+        }
+        _ => panic!("two records, and a list or none"),
+    })
+}
+
+/// The same call of the reference.
+fn by_the_reference(table: &TableBytes, records: &[&[u8]], outputs: [&mut [u8]; 2]) -> Reply {
+    let (n, table) = (table.n, &table.bytes);
+    let [output, reasons] = outputs;
+    match *records {
+        [g, s] => calls::difference_explained(n, table, g, s, output, reasons),
+        [list, g, s] => calls::difference_explained_by(n, table, list, g, s, output, reasons),
+        _ => panic!("two records, and a list or none"),
     }
 }

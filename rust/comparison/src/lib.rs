@@ -8,7 +8,7 @@ pub mod cases;
 mod explained;
 pub mod program;
 
-pub use calls::{Call, DIFFERENCE, GENERALIZE, ORDER, REWRITE, UNIFY};
+pub use calls::{Call, DIFFERENCE, DIFFERENCE_BY, GENERALIZE, ORDER, REWRITE, UNIFY};
 pub use calls::{GENERALIZE_APPROPRIATE, REWRITE_APPROPRIATE, UNIFY_APPROPRIATE};
 pub use explained::Explanations;
 

@@ -177,8 +177,7 @@ fn compare_over_rivals(seed: u64, count: usize, ranges: Ranges) -> Comparison {
         let accepted = table.accepted();
         for _ in 0..8 {
             let shape = Shape::small(random, 9, 4).ranged(random, ranges);
-            let s = random::low_graph(random, table.n, &shape);
-            let g = random::graph_well_above(random, &accepted, &s);
+            let (g, s) = random::low_pair(random, &accepted, &shape);
             let [g, s] = [g, s].map(|graph| random::record_of(random, &graph, ranges));
             compared.check(&table, &[&g, &s]);
         }
@@ -211,8 +210,7 @@ fn the_difference_over_64_rival_types() {
                 true => Shape::any(random),
                 false => Shape::small(random, 9, 4),
             };
-            let s = random::low_graph(random, table.n, &shape);
-            let g = random::graph_well_above(random, &accepted, &s);
+            let (g, s) = random::low_pair(random, &accepted, &shape);
             compared.check(&table, &[&record::write(&g), &record::write(&s)]);
         }
     }

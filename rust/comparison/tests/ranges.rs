@@ -16,9 +16,8 @@ fn pair(random: &mut Xorshift) -> (TableBytes, [Graph; 2]) {
     let shape = Shape::small(random, 9, 4).ranged(random, Ranges::Present);
     if random.chance(1, 4) {
         let table = random::rival_table(random);
-        let low = random::low_graph(random, table.n, &shape);
-        let above = random::graph_well_above(random, &table.accepted(), &low);
-        return (table, [above, low]);
+        let graphs = random::low_pair(random, &table.accepted(), &shape);
+        return (table, graphs.into());
     }
     let table = random::valid_table(random);
     let graphs = random::pair(random, &table.accepted(), &shape);

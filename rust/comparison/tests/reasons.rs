@@ -2,8 +2,8 @@
 //! cases of document 01 and others by hand, and random pairs, small, large, with many
 //! shared nodes, and damaged, by the engine and by the reference.
 
-use comparison::Explanations;
 use comparison::cases::record_of;
+use comparison::{Explanations, on_stated_stack};
 use record_engine::{LONGEST_RECORD, MOST_LINKS, Reason, Refusal, difference_explained};
 use reference::random::{self, Ranges, Shape, Xorshift};
 use reference::record;
@@ -139,7 +139,7 @@ fn compare_pairs(seed: u64, ranges: Ranges) -> Explanations {
             };
             let shape = shape.ranged(random, ranges);
             let [general, specific] = random::pair_of_records(random, &table, &shape, ranges);
-            compared.check(&table, [&general, &specific]);
+            compared.check(&table, &[&general, &specific]);
         }
     }
     compared
@@ -173,7 +173,7 @@ fn the_reasons_of_graphs_with_many_shared_nodes() {
             let s = random::graph(random, table.n, &shape);
             let g = random::graph_well_above(random, &accepted, &s);
             let [g, s] = [g, s].map(|graph| random::record_of(random, &graph, ranges));
-            compared.check(&table, [&g, &s]);
+            compared.check(&table, &[&g, &s]);
         }
     }
     compared.assert_replies(&[0, 8, 22], 1_500);
@@ -190,10 +190,9 @@ fn the_reasons_over_rival_types() {
         let accepted = table.accepted();
         for ranges in [Ranges::Absent, Ranges::Present] {
             let shape = Shape::small(random, 9, 4).ranged(random, ranges);
-            let s = random::low_graph(random, table.n, &shape);
-            let g = random::graph_well_above(random, &accepted, &s);
+            let (g, s) = random::low_pair(random, &accepted, &shape);
             let [g, s] = [g, s].map(|graph| random::record_of(random, &graph, ranges));
-            compared.check(&table, [&g, &s]);
+            compared.check(&table, &[&g, &s]);
         }
     }
     compared.assert_replies(&[0, 8, 13, 22], 1_000);
@@ -212,7 +211,7 @@ fn the_reasons_of_large_pairs() {
         let s = random::graph(random, table.n, &shape);
         let g = random::graph_well_above(random, &table.accepted(), &s);
         let [g, s] = [g, s].map(|graph| random::record_of(random, &graph, ranges));
-        compared.check(&table, [&g, &s]);
+        compared.check(&table, &[&g, &s]);
     }
     compared.assert_replies(&[0, 8, 13, 22], 30);
     compared.assert_reasons(300);
@@ -240,10 +239,7 @@ fn the_most_reasons() {
             reasons
         })
     };
-    let thread = std::thread::Builder::new()
-        .stack_size(256 << 10)
-        .spawn(call);
-    let [bare, groups] = thread.expect("a thread").join().expect("no panic");
+    let [bare, groups] = on_stated_stack(call);
     assert_eq!(bare, [1; MOST_LINKS]);
     // Each node has a link by 0, which the chain has too, and seven that are bare.
     let of_node = [2, 1, 1, 1, 1, 1, 1, 1];

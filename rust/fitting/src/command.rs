@@ -10,7 +10,7 @@ use crate::input::{self, Input};
 use crate::overlay::{Named, image};
 use crate::table::Table;
 use crate::why::{self, Kept};
-use crate::{draw, help, notation, picture};
+use crate::{draw, help, notation, picture, reading};
 use arguments::Arguments;
 use record_engine::Order;
 use std::io::{ErrorKind, Write};
@@ -129,12 +129,16 @@ fn put(file: &str, result: Vec<u8>) -> Result<Told, Failure> {
 }
 
 fn draw(table: &Table, arguments: &Arguments) -> Result<Told, Failure> {
+    let by = reading_order(table, arguments)?;
+    if by.is_some() && arguments.over.is_none() {
+        return Err(arguments.misused("`--by` is about a difference: it needs `--over G`"));
+    }
     let specific = Input::read(table, &arguments.operands[1])?;
     let dot = match &arguments.over {
         None => draw::dot(table, &specific.graph(table)?),
         Some(general) => {
             let general = Input::read(table, general)?;
-            let explained = explained(table, &general, &specific)?;
+            let explained = explained(table, by.as_deref(), &general, &specific)?;
             draw::dot_over(
                 table,
                 &explained.specific,
@@ -185,12 +189,16 @@ fn operate(operation: Operation, table: &Table, arguments: &Arguments) -> Result
     }
     let first = Input::read(table, &arguments.operands[1])?;
     let second = Input::read(table, &arguments.operands[2])?;
-    let (result, why) = match arguments.why {
+    let by = reading_order(table, arguments)?;
+    let (result, why) = match arguments.why || by.is_some() {
         false => (operated(operation, table, &first, &second)?, String::new()),
         true => {
-            let explained = explained(table, &first, &second)?;
+            let explained = explained(table, by.as_deref(), &first, &second)?;
             let Explained { specific, kept, .. } = &explained;
-            let why = why::lines(table, specific, kept, first.file_name());
+            let why = match arguments.why {
+                true => why::lines(table, specific, kept, first.file_name()),
+                false => String::new(),
+            };
             (explained.difference, why)
         }
     };
@@ -213,6 +221,13 @@ fn operated(
         .map_err(|refusal| explain::refused(refusal, Some(operation), table, &[first, second]))
 }
 
+/// The list of all features that `--by` asks for, if it is there.
+fn reading_order(table: &Table, arguments: &Arguments) -> Result<Option<Vec<u8>>, Failure> {
+    let list = arguments.by.as_deref().map(|by| reading::order(table, by));
+    list.transpose()
+        .map_err(|fault| arguments.misused(&format!("`--by`: {fault}")))
+}
+
 /// A difference, and what it keeps of the specific graph, with the reasons.
 struct Explained {
     difference: Vec<u8>,
@@ -220,9 +235,14 @@ struct Explained {
     kept: Kept,
 }
 
-fn explained(table: &Table, general: &Input, specific: &Input) -> Result<Explained, Failure> {
-    let (difference, reasons) =
-        engine::explain(table, &general.record, &specific.record).map_err(|refusal| {
+fn explained(
+    table: &Table,
+    by: Option<&[u8]>,
+    general: &Input,
+    specific: &Input,
+) -> Result<Explained, Failure> {
+    let (difference, reasons) = engine::explain(table, by, &general.record, &specific.record)
+        .map_err(|refusal| {
             let operation = Some(Operation::Difference);
             explain::refused(refusal, operation, table, &[general, specific])
         })?;

@@ -3,6 +3,7 @@
 
 use crate::table::Table;
 use record_engine::{LONGEST_RECORD, MOST_LINKS, Order, Reason, Refusal};
+use record_engine::{difference_explained, difference_explained_by};
 
 /// An operation on two records that gives a third.
 #[derive(Clone, Copy, Debug, PartialEq, Eq)]
@@ -47,16 +48,21 @@ pub fn operate(
     written(|output| call(table.n, &table.bytes, first, second, output))
 }
 
-/// The difference of two records, and the reason of each of its links, in record order.
+/// The difference of two records, by a list of all features or without one, and the reason
+/// of each of its links, in record order.
 pub fn explain(
     table: &Table,
+    by: Option<&[u8]>,
     general: &[u8],
     specific: &[u8],
 ) -> Result<(Vec<u8>, Vec<Reason>), Refusal> {
     let mut reasons = [0; MOST_LINKS];
-    let difference = written(|output| {
-        let bytes = &table.bytes;
-        record_engine::difference_explained(table.n, bytes, general, specific, output, &mut reasons)
+    let (n, bytes, reasons_lent) = (table.n, &table.bytes, &mut reasons);
+    let difference = written(|output| match by {
+        None => difference_explained(n, bytes, general, specific, output, reasons_lent),
+        Some(list) => {
+            difference_explained_by(n, bytes, list, general, specific, output, reasons_lent)
+        }
     })?;
     // Behind the last link's the bytes are as they were lent, and 0 is no reason.
     let reasons = reasons.into_iter().map_while(Reason::of).collect();

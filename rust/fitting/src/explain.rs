@@ -102,7 +102,8 @@ fn listed(items: &[String]) -> String {
 mod tests {
     use record_engine::Refusal;
 
-    /// The tool lends enough bytes and hands in no list, so no session comes to these.
+    /// The tool lends enough bytes and hands in no list of types, and a whole list of
+    /// features, so no session comes to these.
     #[test]
     fn refusals_that_no_command_meets_have_words_too() {
         let is_met = |refusal: &Refusal| matches!(refusal.number(), 1..=7 | 9..=13);
@@ -115,6 +116,7 @@ mod tests {
                 "refused 18 second: a node has a feature that the list does not allow its type",
                 "refused 8: the output is shorter than the result",
                 "refused 17: the list has not one type for each of the 64 features",
+                "refused 19: the list has not each of the 64 features once",
                 "refused 22: fewer bytes are lent for reasons than there are links",
             ]
         );

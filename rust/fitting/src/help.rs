@@ -42,10 +42,10 @@ pub const COMMANDS: [Command; 8] = [
     },
     Command {
         name: "draw",
-        usage: "fitting draw TABLE FILE [--over G] [-o PICTURE]",
+        usage: "fitting draw TABLE FILE [--over G [--by FEATURES]] [-o PICTURE]",
         operands: &["TABLE", "FILE"],
         takes_more: false,
-        options: &["--over", "-o"],
+        options: &["--over", "--by", "-o"],
         help: include_str!("help/draw.txt"),
     },
     Command {
@@ -74,10 +74,10 @@ pub const COMMANDS: [Command; 8] = [
     },
     Command {
         name: "difference",
-        usage: "fitting difference [--why] TABLE G S [-o FILE]",
+        usage: "fitting difference [--why] [--by FEATURES] TABLE G S [-o FILE]",
         operands: &["TABLE", "G", "S"],
         takes_more: false,
-        options: &["--why", "-o"],
+        options: &["--why", "--by", "-o"],
         help: include_str!("help/difference.txt"),
     },
 ];

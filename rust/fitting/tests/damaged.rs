@@ -89,10 +89,7 @@ fn a_refused_operation_has_its_cause_told() {
         let shape = Shape::any(&mut random);
         let accepted = table.accepted();
         let (first, second) = match round % 6 {
-            0 => {
-                let low = random::low_graph(&mut random, table.n, &shape);
-                (random::graph_well_above(&mut random, &accepted, &low), low)
-            }
+            0 => random::low_pair(&mut random, &accepted, &shape),
             _ => random::pair(&mut random, &accepted, &shape),
         };
         let file = stored(&folder, "table", &table.bytes);

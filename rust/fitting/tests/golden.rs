@@ -24,6 +24,11 @@ fn reasons_in_words_and_pictures() {
 }
 
 #[test]
+fn differences_by_a_reading_order() {
+    assert_eq!(session::run("reading"), 20);
+}
+
+#[test]
 fn pictures() {
     assert_eq!(session::run("draw"), 8);
 }

@@ -105,10 +105,7 @@ fn compare(seed: u64, ranges: Ranges) {
                 Ok(accepted) => {
                     let (first, second) = match kind {
                         // Their difference often has a node without a wanted type.
-                        1 => {
-                            let low = random::low_graph(random, n, &shape);
-                            (random::graph_well_above(random, &accepted, &low), low)
-                        }
+                        1 => random::low_pair(random, &accepted, &shape),
                         _ => random::pair(random, &accepted, &shape),
                     };
                     [first, second].map(|graph| random::record_of(random, &graph, ranges))

@@ -75,6 +75,7 @@ mod tests {
                 (1 << 32) + 512 + 18,
                 Refusal::Graph(GraphFault::Inappropriate, Side::Second),
             ),
+            ((1 << 32) + 19, Refusal::FeatureList),
             ((1 << 32) + 22, Refusal::NoRoomForReasons),
         ];
         for (code, refusal) in known {

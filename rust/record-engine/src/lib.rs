@@ -1,6 +1,6 @@
 //! The record engine for Rust programs. A call takes a type table, one or two
-//! records, some calls an appropriateness list, and, where it writes a record, an
-//! output that the caller lends; it gives the length of what it wrote, an [`Order`],
+//! records, some calls a list, and, where it writes a record, an output that the caller
+//! lends; it gives the length of what it wrote, an [`Order`],
 //! or a [`Refusal`].
 //!
 //! The functions behind these calls are proved (`crates/engine`); here is only
@@ -79,6 +79,17 @@
 //! not obey it and is combined by [`unify`]: the general record and the difference give
 //! the specific record, which obeys the list if it did.
 //!
+//! # Reading order
+//!
+//! [`difference_by`] and [`difference_explained_by`] go by a list of all 64 features, each
+//! once, in the order in which they are read: 64 bytes, the feature that is read first
+//! before the others. Where links say the same, a difference keeps the least of them.
+//! Without a list, links are ordered by the number of the node that they leave, as the
+//! specific record is written, then by feature; with a list by the feature's place in it,
+//! then by that number. Whichever list is given, the difference restores the specific
+//! record and nothing strictly more general does. How records are written does not follow
+//! the list. A list that is anything else is refused by 19.
+//!
 //! # Stack
 //!
 //! A thread that makes a call needs 256 KiB of stack; the largest calls take up to
@@ -116,7 +127,7 @@ pub enum Order {
     Neither,
 }
 
-/// The number of features: the length of an appropriateness list.
+/// The number of features: the length of a list.
 pub const FEATURES: usize = 64;
 
 /// The number of the house types.
@@ -255,6 +266,36 @@ unsafe extern "C" {
         n: usize,
         table: *const u8,
         table_length: usize,
+        first: *const u8,
+        first_length: usize,
+        second: *const u8,
+        second_length: usize,
+        output: *mut u8,
+        output_length: usize,
+        reasons: *mut u8,
+        reasons_length: usize,
+    ) -> u64;
+
+    fn record_difference_by(
+        n: usize,
+        table: *const u8,
+        table_length: usize,
+        list: *const u8,
+        list_length: usize,
+        first: *const u8,
+        first_length: usize,
+        second: *const u8,
+        second_length: usize,
+        output: *mut u8,
+        output_length: usize,
+    ) -> u64;
+
+    fn record_difference_explained_by(
+        n: usize,
+        table: *const u8,
+        table_length: usize,
+        list: *const u8,
+        list_length: usize,
         first: *const u8,
         first_length: usize,
         second: *const u8,
@@ -605,6 +646,99 @@ pub fn difference_explained(
             n,
             table.as_ptr(),
             table.len(),
+            general.as_ptr(),
+            general.len(),
+            specific.as_ptr(),
+            specific.len(),
+            output.as_mut_ptr(),
+            output.len(),
+            reasons.as_mut_ptr(),
+            reasons.len(),
+        )
+    };
+    length(code)
+}
+
+/// Writes the difference of two records as [`difference`] does, where links are ordered by
+/// their feature's place in a list of all features, then by the number of the node that
+/// they leave.
+///
+/// Refused by 1 to 3, then by 19, by 4 to 7, 12, 13 and 8.
+///
+/// ```
+/// use record_engine::{FEATURES, LONGEST_RECORD, Refusal, difference_by, unify};
+/// let diamond = record_engine::table(&[0x01, 0x03, 0x05, 0x0F]).expect("at most 8 types");
+/// // The features 0 and 1 of the root lead to one node, of the type given.
+/// let both = |leaf| [2, 3, 3, 0, 0, 0, 0, 0, 0, 0, 1, 1, leaf, 0, 0, 0, 0, 0, 0, 0, 0];
+/// let [general, specific] = [both(3), both(1)];
+/// // The same with one of the two features alone.
+/// let alone = |map| [2, 3, map, 0, 0, 0, 0, 0, 0, 0, 1, 1, 0, 0, 0, 0, 0, 0, 0, 0];
+/// // All features, and 0 is read first; and with 1 before it.
+/// let mut list: Vec<u8> = (0..FEATURES as u8).collect();
+/// let mut output = [0; LONGEST_RECORD];
+/// let length = difference_by(4, &diamond, &list, &general, &specific, &mut output)?;
+/// assert_eq!(output[..length], alone(0b01));
+/// list.swap(0, 1);
+/// let length = difference_by(4, &diamond, &list, &general, &specific, &mut output)?;
+/// assert_eq!(output[..length], alone(0b10));
+/// let length = unify(4, &diamond, &general, &alone(0b10), &mut output)?;
+/// assert_eq!(output[..length], specific);
+/// // Feature 0 twice, and feature 1 not at all.
+/// list[0] = 0;
+/// let refused = difference_by(4, &diamond, &list, &general, &specific, &mut output);
+/// assert_eq!(refused, Err(Refusal::FeatureList));
+/// # Ok::<(), record_engine::Refusal>(())
+/// ```
+pub fn difference_by(
+    n: usize,
+    table: &[u8],
+    list: &[u8],
+    general: &[u8],
+    specific: &[u8],
+    output: &mut [u8],
+) -> Result<usize, Refusal> {
+    let call = record_difference_by;
+    write_pair_by_list(call, n, table, list, [general, specific], output)
+}
+
+/// Writes the difference of two records as [`difference_by`] does, and beside it the
+/// [`Reason`] of each of its links, as [`difference_explained`] does.
+///
+/// Refused by 1 to 3, then by 19, by 4 to 7, 12, 13, 8 and 22.
+///
+/// ```
+/// use record_engine::{FEATURES, LONGEST_RECORD, MOST_LINKS, Reason, difference_explained_by};
+/// let diamond = record_engine::table(&[0x01, 0x03, 0x05, 0x0F]).expect("at most 8 types");
+/// // The features 0 and 1 of the root lead to one node, of the type given.
+/// let both = |leaf| [2, 3, 3, 0, 0, 0, 0, 0, 0, 0, 1, 1, leaf, 0, 0, 0, 0, 0, 0, 0, 0];
+/// // Feature 63 is read first and feature 0 last.
+/// let list: Vec<u8> = (0..FEATURES as u8).rev().collect();
+/// let (mut output, mut reasons) = ([0; LONGEST_RECORD], [0; MOST_LINKS]);
+/// let length = difference_explained_by(
+///     4, &diamond, &list, &both(3), &both(1), &mut output, &mut reasons,
+/// )?;
+/// // Feature 1 alone, which is kept for the type of its node.
+/// assert_eq!(output[..length], [2, 3, 2, 0, 0, 0, 0, 0, 0, 0, 1, 1, 0, 0, 0, 0, 0, 0, 0, 0]);
+/// assert_eq!(Reason::of(reasons[0]), Some(Reason::Wanted));
+/// # Ok::<(), record_engine::Refusal>(())
+/// ```
+pub fn difference_explained_by(
+    n: usize,
+    table: &[u8],
+    list: &[u8],
+    general: &[u8],
+    specific: &[u8],
+    output: &mut [u8],
+    reasons: &mut [u8],
+) -> Result<usize, Refusal> {
+    // SAFETY: as in `difference_explained`.
+    let code = unsafe {
+        record_difference_explained_by(
+            n,
+            table.as_ptr(),
+            table.len(),
+            list.as_ptr(),
+            list.len(),
             general.as_ptr(),
             general.len(),
             specific.as_ptr(),

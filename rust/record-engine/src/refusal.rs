@@ -62,13 +62,15 @@ pub enum Refusal {
     NoWantedType,
     /// 17: the list is not of 64 bytes or has an entry of n or more.
     TypeList,
+    /// 19: the list is not one of all 64 features, each once.
+    FeatureList,
     /// 22: difference with reasons, it has more links than bytes are lent for the reasons.
     NoRoomForReasons,
 }
 
 impl Refusal {
     /// Every refusal.
-    pub const ALL: [Refusal; 21] = [
+    pub const ALL: [Refusal; 22] = [
         Refusal::Table(TableFault::Size),
         Refusal::Table(TableFault::Order),
         Refusal::Table(TableFault::Bounds),
@@ -89,6 +91,7 @@ impl Refusal {
         Refusal::NotBelow,
         Refusal::NoWantedType,
         Refusal::TypeList,
+        Refusal::FeatureList,
         Refusal::NoRoomForReasons,
     ];
 
@@ -115,6 +118,7 @@ impl Refusal {
             Refusal::NotBelow => 12,
             Refusal::NoWantedType => 13,
             Refusal::TypeList => 17,
+            Refusal::FeatureList => 19,
             Refusal::NoRoomForReasons => 22,
         }
     }
@@ -149,6 +153,7 @@ impl fmt::Display for Refusal {
             Refusal::NotBelow => "the second record is not below the first",
             Refusal::NoWantedType => "a node of the second record has no wanted type",
             Refusal::TypeList => "the list has not one type for each of the 64 features",
+            Refusal::FeatureList => "the list has not each of the 64 features once",
             Refusal::TooLarge => "the result has more than 255 nodes or 2,048 links",
             Refusal::NoRoomForReasons => "fewer bytes are lent for reasons than there are links",
         };

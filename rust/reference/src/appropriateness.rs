@@ -3,11 +3,8 @@
 //! the feature when its type is below or equal to that one. So 0 forbids a feature,
 //! since no node has type 0, and top allows it everywhere.
 
-use crate::graph::{Feature, Graph};
+use crate::graph::{FEATURES, Feature, Graph};
 use crate::table::{Table, Type};
-
-/// A list has an entry for each of so many features.
-pub const FEATURES: usize = 64;
 
 /// An accepted list over a table.
 #[derive(Clone, Debug, PartialEq, Eq)]

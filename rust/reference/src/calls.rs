@@ -1,7 +1,8 @@
 //! The calls on bytes: rewriting, order, common part, combination, difference, and the
 //! difference with its reasons (Paper 13); the first, third and fourth also with a list
-//! of types for features (Paper 9). Checks run in the papers' order: the table (1, 2, 3),
-//! the list (17), the first graph and then the second (4 to 7, and 18 by the list), then
+//! of types for features (Paper 9), the differences also with a list of all features
+//! (Paper 10). Checks run in the papers' order: the table (1, 2, 3), the list (17, 19),
+//! the first graph and then the second (4 to 7, and 18 by the list of types), then
 //! 12, 13, 9, 10, 11, 8 and 22. An output changes only where a length is returned, and
 //! then only its first bytes.
 
@@ -11,6 +12,7 @@ use crate::combination::unification;
 use crate::common::generalization;
 use crate::difference::{self, Explained};
 use crate::graph::Graph;
+use crate::link_order::LinkOrder;
 use crate::order;
 use crate::record::{self, GraphFault, LONGEST_RECORD, MOST_LINKS, MOST_NODES};
 use crate::reply::{Refusal, Reply, Which};
@@ -146,14 +148,56 @@ pub fn difference_explained(
     reply(result)
 }
 
+/// The difference whose least links go by a list of all features.
+pub fn difference_by(
+    n: usize,
+    table: &[u8],
+    list: &[u8],
+    g: &[u8],
+    s: &[u8],
+    output: &mut [u8],
+) -> Reply {
+    let result =
+        explained_by(n, table, list, g, s).and_then(|explained| deliver(&explained.graph, output));
+    reply(result)
+}
+
+/// The same with its reasons.
+pub fn difference_explained_by(
+    n: usize,
+    table: &[u8],
+    list: &[u8],
+    g: &[u8],
+    s: &[u8],
+    output: &mut [u8],
+    reasons: &mut [u8],
+) -> Reply {
+    let result = explained_by(n, table, list, g, s)
+        .and_then(|explained| deliver_explained(&explained, output, reasons));
+    reply(result)
+}
+
+/// The difference by a list. "A list that is anything else is 19, after the table."
+fn explained_by(
+    n: usize,
+    table: &[u8],
+    list: &[u8],
+    g: &[u8],
+    s: &[u8],
+) -> Result<Explained, Refusal> {
+    let table = accept_table(n, table)?;
+    let order = LinkOrder::by_list(list).ok_or(Refusal::FeatureList)?;
+    let (g, s) = accept_graphs(&table, g, s)?;
+    difference::difference_by(&order, &table, &g, &s)
+}
+
 /// A table and two graphs, or why one of them is refused.
 type Accepted = Result<(Table, Graph, Graph), Refusal>;
 
 /// The table and both graphs, where none of 1 to 7 applies.
 fn accept(n: usize, table: &[u8], first: &[u8], second: &[u8]) -> Accepted {
     let table = accept_table(n, table)?;
-    let first = accept_graph(&table, first, Which::First)?;
-    let second = accept_graph(&table, second, Which::Second)?;
+    let (first, second) = accept_graphs(&table, first, second)?;
     Ok((table, first, second))
 }
 
@@ -173,6 +217,12 @@ fn accept_both_obeying(
 
 fn accept_table(n: usize, bytes: &[u8]) -> Result<Table, Refusal> {
     Table::accept(n, bytes).map_err(Refusal::Table)
+}
+
+fn accept_graphs(table: &Table, first: &[u8], second: &[u8]) -> Result<(Graph, Graph), Refusal> {
+    let first = accept_graph(table, first, Which::First)?;
+    let second = accept_graph(table, second, Which::Second)?;
+    Ok((first, second))
 }
 
 fn accept_graph(table: &Table, bytes: &[u8], which: Which) -> Result<Graph, Refusal> {

@@ -2,11 +2,13 @@
 //! combined with g gives back s. It is a part of s with wanted types and ranges.
 //! Document 01's rules are followed word for word: groups of incoming links,
 //! wanted labels, kept links. Refusals 12, then 13 where a node of s, kept or
-//! not, has no wanted type (Paper 6). Each kept link has a reason (Paper 13).
+//! not, has no wanted type (Paper 6). Each kept link has a reason (Paper 13). Which
+//! link of a group is the least may be decided by a list of features (Paper 10).
 
 use crate::canonical::{canonical, first_visits};
 use crate::graph::{Graph, Link, Node, ROOT};
 use crate::label::Label;
+use crate::link_order::LinkOrder;
 use crate::order::{Morphism, subsumption};
 use crate::reply::Refusal;
 use crate::table::Table;
@@ -54,7 +56,17 @@ pub fn difference(table: &Table, g: &Graph, s: &Graph) -> Result<Graph, Refusal>
 
 /// The difference of s from g, and why it keeps each of its links.
 pub fn difference_explained(table: &Table, g: &Graph, s: &Graph) -> Result<Explained, Refusal> {
-    // "Number s as written."
+    difference_by(&LinkOrder::ByParent, table, g, s)
+}
+
+/// The difference of s from g, with its reasons, that keeps the least links by an order.
+pub fn difference_by(
+    order: &LinkOrder,
+    table: &Table,
+    g: &Graph,
+    s: &Graph,
+) -> Result<Explained, Refusal> {
+    // "Number s as written." Written numbering does not follow a list.
     let s = canonical(s);
     let Some(morphism) = subsumption(table, g, &s) else {
         return Err(Refusal::NotBelow);
@@ -64,7 +76,7 @@ pub fn difference_explained(table: &Table, g: &Graph, s: &Graph) -> Result<Expla
         .map(|node| overlay.wanted_label(table, node))
         .collect::<Option<_>>()
         .ok_or(Refusal::NoWantedType)?;
-    let kept = overlay.kept_links(table, &wanted);
+    let kept = overlay.kept_links(order, table, &wanted);
     // Kept nodes carry their wanted types and ranges. A node that a kept link leaves
     // is the root or is itself entered by a kept link, by the last condition for one
     // group. So the kept nodes are those the root reaches by kept links, and the
@@ -174,7 +186,12 @@ impl<'a> Overlay<'a> {
 
     /// The links of s that the difference keeps, and why. Nodes are taken after all
     /// their targets, so which links leaving a node are kept is settled before it.
-    fn kept_links(&self, table: &Table, wanted: &[Label]) -> BTreeMap<Link, Reason> {
+    fn kept_links(
+        &self,
+        order: &LinkOrder,
+        table: &Table,
+        wanted: &[Label],
+    ) -> BTreeMap<Link, Reason> {
         let incoming = self.s.incoming();
         let mut kept = BTreeMap::new();
         for node in self.s.bottom_up().expect("an acyclic graph") {
@@ -198,8 +215,8 @@ impl<'a> Overlay<'a> {
                 _ => true,
             };
             if keeps {
-                let least_links = groups.iter().filter_map(|group| group.first());
-                kept.extend(least_links.map(|&link| (link, self.reason(link, groups.len()))));
+                let least_links = groups.iter().filter_map(|group| order.least(group));
+                kept.extend(least_links.map(|link| (link, self.reason(link, groups.len()))));
             }
         }
         kept

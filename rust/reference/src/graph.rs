@@ -9,6 +9,9 @@ use std::collections::{BTreeMap, BTreeSet};
 /// A feature, 0 to 63.
 pub type Feature = u8;
 
+/// There are so many features.
+pub const FEATURES: usize = 64;
+
 /// The number of the root.
 pub const ROOT: usize = 0;
 

@@ -1,14 +1,16 @@
 //! A deterministic generator of inputs: type tables, graphs, records, pairs of
-//! graphs that are related, lists of types for features, whole `mapcalc` inputs, valid
-//! and damaged, with level ranges and without. The same seed gives the same inputs on
-//! every machine. Nothing here uses the operations on graphs: a graph above another is
+//! graphs that are related, lists of types for features and of all features, whole
+//! `mapcalc` inputs, valid and damaged, with level ranges and without. The same seed gives
+//! the same inputs on every machine. Nothing here uses the operations on graphs: a graph above another is
 //! made by steps that plainly weaken it.
 
+mod feature_lists;
 mod graphs;
 mod inputs;
 mod lists;
 mod tables;
 
+pub use feature_lists::*;
 pub use graphs::*;
 pub use inputs::*;
 pub use lists::*;

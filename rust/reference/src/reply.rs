@@ -36,6 +36,8 @@ pub enum Refusal {
     NoWantedType,
     /// 17: the list is not of 64 bytes or has an entry of n or more.
     TypeList,
+    /// 19: difference, the list is not one "of all 64 features, each once".
+    FeatureList,
     /// 22: difference, "too few bytes lent for the reasons".
     ShortReasons,
 }
@@ -53,6 +55,7 @@ impl Refusal {
             Refusal::NotBelow => 12,
             Refusal::NoWantedType => 13,
             Refusal::TypeList => 17,
+            Refusal::FeatureList => 19,
             Refusal::ShortReasons => 22,
         }
     }

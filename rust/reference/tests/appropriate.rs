@@ -3,13 +3,13 @@
 //! their graphs obey, that nothing else differs from the plain calls, and what a
 //! difference does to a list.
 
-use reference::appropriateness::{Appropriateness, FEATURES};
+use reference::appropriateness::Appropriateness;
 use reference::calls::{self, Call, CallWithList, written, written_by};
 use reference::canonical::canonical;
 use reference::combination::unification;
 use reference::common::generalization;
 use reference::difference::difference;
-use reference::graph::{Graph, Node};
+use reference::graph::{FEATURES, Graph, Node};
 use reference::notation::graph;
 use reference::paths::{self, PathGraph};
 use reference::random::{self, InputWithList, Ranges, Shape, TableBytes, Xorshift};

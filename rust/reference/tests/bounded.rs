@@ -5,9 +5,10 @@
 use reference::canonical::canonical;
 use reference::combination::unification;
 use reference::common::generalization;
-use reference::difference::difference;
-use reference::graph::{Feature, Graph, Node};
+use reference::difference::difference_by;
+use reference::graph::{FEATURES, Feature, Graph, Node};
 use reference::label::{Label, Level, Range};
+use reference::link_order::LinkOrder;
 use reference::order::below;
 use reference::random::{self, TableBytes};
 use reference::table::Table;
@@ -132,26 +133,40 @@ impl Universe {
     }
 
     /// For each s below a g: the difference combined with g is exactly s, and no
-    /// small graph strictly more general than the difference restores s. The
-    /// first half is exact; the second looks at small graphs only.
+    /// small graph strictly more general than the difference restores s; so too where
+    /// the difference by a list, with the features upward or downward, is another. The
+    /// first half is exact; the second looks at small graphs only. Gives how many
+    /// differences there were without a list, and how many others with one.
     ///
     /// It suffices to try the small graphs next above the difference d: were c
     /// above d to restore s, all between d and c would too, as their combination
     /// with g lies between those of d and of c, which both are s.
-    fn check_differences(&self) -> usize {
+    fn check_differences(&self) -> [usize; 2] {
         let next_above: Vec<Vec<usize>> = self.places().map(|d| self.next_above(d)).collect();
-        let mut checked = 0;
+        let upward: Vec<Feature> = (0..FEATURES as Feature).collect();
+        let downward: Vec<Feature> = upward.iter().rev().copied().collect();
+        let by_list = |list: &[Feature]| LinkOrder::by_list(list).expect("all features");
+        let orders = [LinkOrder::ByParent, by_list(&upward), by_list(&downward)];
+        let mut checked = [0; 2];
         for s in self.places() {
             for &g in &self.above[s] {
                 let (lower, upper) = (&self.graphs[s], &self.graphs[g]);
-                let result = difference(&self.table, upper, lower).expect("s is below g");
-                assert_eq!(self.restored(&result, upper).as_ref(), Some(lower));
-                // A difference is a part of s, so it is among the small graphs.
-                for &candidate in &next_above[self.place[&result]] {
-                    let candidate = &self.graphs[candidate];
-                    assert_ne!(self.restored(candidate, upper).as_ref(), Some(lower));
+                let mut results: Vec<Graph> = Vec::new();
+                for order in &orders {
+                    let explained = difference_by(order, &self.table, upper, lower);
+                    let result = explained.expect("s is below g").graph;
+                    if results.contains(&result) {
+                        continue;
+                    }
+                    assert_eq!(self.restored(&result, upper).as_ref(), Some(lower));
+                    // A difference is a part of s, so it is among the small graphs.
+                    for &candidate in &next_above[self.place[&result]] {
+                        let candidate = &self.graphs[candidate];
+                        assert_ne!(self.restored(candidate, upper).as_ref(), Some(lower));
+                    }
+                    checked[usize::from(!results.is_empty())] += 1;
+                    results.push(result);
                 }
-                checked += 1;
             }
         }
         checked
@@ -335,22 +350,22 @@ fn combinations_with_ranges() {
 
 #[test]
 fn differences_over_the_diamond() {
-    let checked = Universe::new(&random::diamond(), 3, 2).check_differences();
-    assert!(checked > 1000);
+    let [checked, others] = Universe::new(&random::diamond(), 3, 2).check_differences();
+    assert!(checked > 1000 && others > 50, "{checked} {others}");
 }
 
 #[test]
 fn differences_over_chains() {
-    let checked = Universe::new(&random::chain(3), 3, 2).check_differences();
-    assert!(checked > 100);
-    let checked = Universe::new(&random::chain(2), 4, 2).check_differences();
-    assert!(checked > 100);
+    for (table, nodes) in [(random::chain(3), 3), (random::chain(2), 4)] {
+        let [checked, others] = Universe::new(&table, nodes, 2).check_differences();
+        assert!(checked > 100 && others > 20, "{checked} {others}");
+    }
 }
 
 #[test]
 fn differences_with_ranges() {
     for universe in universes_with_ranges() {
-        let checked = universe.check_differences();
-        assert!(checked > 10_000, "{checked}");
+        let [checked, others] = universe.check_differences();
+        assert!(checked > 10_000 && others > 500, "{checked} {others}");
     }
 }

@@ -6,9 +6,10 @@ use reference::calls::{self, Call, written};
 use reference::canonical::canonical;
 use reference::combination::unification;
 use reference::common::generalization;
-use reference::difference::difference;
+use reference::difference::{difference, difference_by};
 use reference::graph::{Graph, Node, ROOT};
 use reference::label::{Label, Level, Range};
+use reference::link_order::LinkOrder;
 use reference::order::{Order, below, order, strictly_more_general, subsumption};
 use reference::paths::{self, PathGraph};
 use reference::random::{self, Ranges, Shape, TableBytes, Xorshift};
@@ -358,15 +359,24 @@ fn steps_that_weaken_lead_strictly_up() {
     });
 }
 
+/// The difference of s from g restores s, and nothing more general does, without a list
+/// and with a random one.
 #[test]
 fn difference_restores_and_nothing_more_general_does() {
+    let mut random = Xorshift::stored(54);
     let mut differences = 0;
-    for_pairs_over(13, 2000, random::brouwer_table, |table, g, s| {
+    for_pairs_over(13, 4000, random::brouwer_table, |table, g, s| {
+        let list = random::feature_list(&mut random);
+        let order = match random.chance(1, 2) {
+            true => LinkOrder::ByParent,
+            false => LinkOrder::by_list(&list).expect("all features, each once"),
+        };
+        let result = difference_by(&order, table, g, s).map(|explained| explained.graph);
         if !below(table, s, g) {
-            assert_eq!(difference(table, g, s), Err(Refusal::NotBelow));
+            assert_eq!(result, Err(Refusal::NotBelow));
             return;
         }
-        let result = difference(table, g, s).expect("s is below g");
+        let result = result.expect("s is below g");
         let restored = |d: &Graph| unification(table, d, g).map(|graph| canonical(&graph));
         assert_eq!(restored(&result), Ok(canonical(s)));
         assert!(below(table, s, &result));
@@ -375,7 +385,7 @@ fn difference_restores_and_nothing_more_general_does() {
         }
         differences += 1;
     });
-    assert!(differences > 8_000, "{differences}");
+    assert!(differences > 16_000, "{differences}");
 }
 
 #[test]

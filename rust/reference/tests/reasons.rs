@@ -2,19 +2,20 @@
 //! held against the paths of both graphs on many random pairs, and the call on bytes
 //! with outputs of every length.
 
+mod overlaid;
+
+use overlaid::{facts_of_reasons, links, table_and_shape};
 use reference::calls;
 use reference::canonical::canonical;
-use reference::difference::{Explained, Reason, difference_explained};
+use reference::difference::{Reason, difference_explained};
 use reference::graph::{Graph, Link};
-use reference::label::Label;
 use reference::notation::{bytes, graph};
 use reference::order::subsumption;
-use reference::paths::{Path, paths};
+use reference::paths::paths;
 use reference::random::{self, Ranges, Shape, Xorshift};
 use reference::record::{self, LONGEST_RECORD, MOST_LINKS};
 use reference::reply::{Refusal, Reply};
-use reference::table::Table;
-use std::collections::{BTreeMap, BTreeSet};
+use std::collections::BTreeMap;
 
 const P: &str = "top[0: X top, 1: X]";
 const Q: &str = "top[0: top, 1: top]";
@@ -169,90 +170,13 @@ fn reasons_do_not_go_by_the_numbers_of_the_record() {
     assert_eq!(reasons, [3, 3, 3, 1, 1, 0]);
 }
 
-/// A graph s below a graph g, by the paths of both.
-struct Overlaid<'a> {
-    s: &'a Graph,
-    g: &'a Graph,
-    paths_of_s: BTreeMap<Path, usize>,
-    paths_of_g: BTreeMap<Path, usize>,
-}
-
-impl<'a> Overlaid<'a> {
-    fn new(s: &'a Graph, g: &'a Graph) -> Overlaid<'a> {
-        let (paths_of_s, paths_of_g) = (paths(s), paths(g));
-        Overlaid {
-            s,
-            g,
-            paths_of_s,
-            paths_of_g,
-        }
-    }
-
-    /// The nodes of g that the paths over a link of s lead to: of the paths that lead to
-    /// its source in s, followed by its feature, those that are paths of g.
-    fn over(&self, link: Link) -> BTreeSet<usize> {
-        let to_source = self.paths_of_s.iter().filter(|&(_, &x)| x == link.parent);
-        to_source
-            .map(|(path, _)| [path.as_slice(), &[link.feature]].concat())
-            .filter_map(|path| self.paths_of_g.get(&path).copied())
-            .collect()
-    }
-
-    /// How many groups the links that enter a node of s fall into: two are in one where
-    /// paths of g over them share, closed transitively.
-    fn groups(&self, node: usize) -> usize {
-        let mut bare = 0;
-        let mut groups: Vec<BTreeSet<usize>> = Vec::new();
-        for &link in &self.s.incoming()[node] {
-            let over = self.over(link);
-            if over.is_empty() {
-                bare += 1;
-                continue;
-            }
-            let (touched, mut others): (Vec<_>, Vec<_>) = groups
-                .into_iter()
-                .partition(|group| !group.is_disjoint(&over));
-            others.push(touched.into_iter().flatten().chain(over).collect());
-            groups = others;
-        }
-        bare + groups.len()
-    }
-
-    /// The wanted label of a node of s.
-    fn wanted(&self, table: &Table, node: usize) -> Option<Label> {
-        let labels_over = self
-            .paths_of_g
-            .iter()
-            .filter(|&(path, _)| self.paths_of_s[path] == node)
-            .map(|(_, &over)| self.g.nodes[over].label);
-        let over = Label::meet_of(table, labels_over);
-        Label::wanted(table, over, self.s.nodes[node].label)
-    }
-}
-
-/// The links of a graph in record order.
-fn links(graph: &Graph) -> Vec<Link> {
-    let nodes = graph.nodes.iter().enumerate();
-    let links = nodes.flat_map(|(parent, node)| {
-        let features = node.links.keys();
-        features.map(move |&feature| Link { parent, feature })
-    });
-    links.collect()
-}
-
 /// Half of the graphs are with ranges, and the tables are of all kinds.
 #[test]
 fn each_reason_is_true_of_the_paths_of_both_graphs() {
     let mut random = Xorshift::stored(41);
     let mut counts = BTreeMap::new();
     for round in 0..8_000 {
-        let table = match round % 4 {
-            0 => random::rival_table(&mut random),
-            _ => random::valid_table(&mut random),
-        };
-        let table = table.accepted();
-        let ranges = [Ranges::Absent, Ranges::Present][round / 4 % 2];
-        let shape = Shape::small(&mut random, 8, 3).ranged(&mut random, ranges);
+        let (table, shape) = table_and_shape(&mut random, round);
         let s = random::graph(&mut random, table.n(), &shape);
         let g = random::graph_above(&mut random, &table, &s);
         if paths(&s).len() > 60 {
@@ -261,56 +185,14 @@ fn each_reason_is_true_of_the_paths_of_both_graphs() {
         let Ok(explained) = difference_explained(&table, &g, &s) else {
             continue;
         };
-        for facts in facts_of_reasons(&table, &g, &s, &explained) {
+        let by_parent = |link: Link| (link.parent, usize::from(link.feature));
+        for facts in facts_of_reasons(&table, &g, &s, &explained, by_parent) {
             *counts.entry(facts).or_insert(0) += 1;
         }
     }
     // Every reason with and without each of the two, but for a 3 without both.
     let often = counts.len() == 11 && counts.values().all(|&count| count >= 50);
     assert!(often || !random::is_stored(), "{counts:?}");
-}
-
-/// Holds the reason of each link of a difference against the paths of s and g. Gives
-/// each with whether its node wants a label that is not top, and whether a kept link
-/// leaves its node.
-fn facts_of_reasons(
-    table: &Table,
-    g: &Graph,
-    s: &Graph,
-    explained: &Explained,
-) -> Vec<(Reason, bool, bool)> {
-    let (rest, overlaid) = (&explained.graph, Overlaid::new(s, g));
-    // Each path of the difference is one of s, so its nodes are nodes of s.
-    let mut in_s = BTreeMap::new();
-    for (path, node) in paths(rest) {
-        let under = overlaid.paths_of_s[&path];
-        assert_eq!(*in_s.entry(node).or_insert(under), under);
-    }
-    let kept = links(rest);
-    assert_eq!(explained.reasons.len(), kept.len());
-    let facts = kept.iter().zip(&explained.reasons).map(|(link, &reason)| {
-        let entered = rest.nodes[link.parent].links[&link.feature];
-        let link_of_s = Link {
-            parent: in_s[&link.parent],
-            feature: link.feature,
-        };
-        let bare = overlaid.over(link_of_s).is_empty();
-        let groups = overlaid.groups(in_s[&entered]);
-        let expected = match (bare, groups) {
-            (true, _) => Reason::Bare,
-            (false, 2..) => Reason::Groups,
-            _ => Reason::Wanted,
-        };
-        assert_eq!(reason, expected, "{link:?} {g:?} {s:?}");
-        let wanted = overlaid.wanted(table, in_s[&entered]);
-        assert_eq!(wanted, Some(rest.nodes[entered].label));
-        let says_something = wanted != Some(Label::top(table));
-        let a_kept_link_leaves = !rest.nodes[entered].links.is_empty();
-        let has_cause = says_something || a_kept_link_leaves;
-        assert!(reason != Reason::Wanted || has_cause, "{g:?} {s:?}");
-        (reason, says_something, a_kept_link_leaves)
-    });
-    facts.collect()
 }
 
 /// Differences for which the order of the links in s would give other bytes come up

@@ -14,17 +14,16 @@ use Rattle.difference.proofs.explain.Statement.{statement}
 use Rattle.difference.proofs.explain.Tie as tie
 
 make-requires : tie.Need-make-requires
-make-requires c κs = (c .before .before .before .before .before .before .before .pre, (length-replicate {A = ℕ} longest 0, length-replicate {A = ℕ} longest 0))
+make-requires c κs = (c .before .before .before .before .before .pre, length-replicate {A = ℕ} longest 0)
 
 slice-aggregate-explain-links : tie.Need-slice-aggregate-explain-links
 slice-aggregate-explain-links c = search needs
 
 explain-links-requires : tie.Need-explain-links-requires
 explain-links-requires c κs =
-    let asked = c .before .before .before .before .before .before .before .before .before .before .before .pre in
-    let made = c .before .before .before .make .ensures in (
-      λ meeting h. ready-words (asked .0) (made .marked .stands .long) h,
-      (made-copied (asked .0) (asked .1) made, length-replicate {A = ℕ} longest 0),
+    let given = c .before .before .before .before .before .before .before .before .pre .3 in (
+      λ meeting h. ready-words (given .asked) (given .marked .stands .long) h,
+      (made-copied given (c .before .before .make .ensures), length-replicate {A = ℕ} longest 0),
     )
 
 slice-aggregate-write-marked : tie.Need-slice-aggregate-write-marked
@@ -32,10 +31,10 @@ slice-aggregate-write-marked c = search needs
 
 write-marked-requires : tie.Need-write-marked-requires
 write-marked-requires c κs =
-    let asked = c .before .before .before .before .before .before .before .before .before .before .before .before .before .before .before .before .pre in
-    let made = c .before .before .before .before .before .before .before .before .make .ensures in (
-      made-sound (asked .0) (asked .1) made,
-      (omega (arith, made-copied (asked .0) (asked .1) made .long), c .before .before .before .before .explain-links .ensures .long),
+    let given = c .before .before .before .before .before .before .before .before .before .before .before .before .before .pre .3 in
+    let made = c .before .before .before .before .before .before .before .make .ensures in (
+      made-sound given made,
+      (omega (arith, made-copied given made .long), c .before .before .before .before .explain-links .ensures .long),
     )
 
 same-length : tie.Need-same-length
@@ -45,13 +44,12 @@ same-length-2 : tie.Need-same-length-2
 same-length-2 c = search needs
 
 returns : tie.Need-returns
-returns c =
-    let start = c .before .before .before .before .before .before .before .before .before .before .before .before .before .before .before .before .before .before .before .before .before in
-    let made = c .before .before .before .before .before .before .before .before .before .before .before .before .before .make .ensures in
+returns c = λ earlier g map given.
+    let start = c .before .before .before .before .before .before .before .before .before .before .before .before .before .before .before .before .before .before in
+    let made = c .before .before .before .before .before .before .before .before .before .before .before .before .make .ensures in
     c .before .before .before .before .write-marked .ensures
     ∙ ap₂ (λ (k : Canonical Label) (rs : List ℕ). markedOut k rs (start .args .out .now) (start .args .beside .now))
-    (sym (made-canonical (start .pre .0) (start .pre .1) made))
-    (sym (made-reasons (start .pre .0) (start .pre .1) made (c .before .before .before .before .before .before .before .before .before .explain-links .ensures)))
+    (sym (made-canonical given made)) (sym (made-reasons given made (c .before .before .before .before .before .before .before .before .before .explain-links .ensures)))
 
 pub explain-spec : {M : Type 1} → statement M
 explain-spec =

@@ -13,6 +13,7 @@ use Rattle.graphs.specs.Number.{canonical}
 use Rattle.graphs.specs.Generalize.{generalization}
 use Rattle.graphs.specs.Unify.{Unified, cycle, clash, unified, unification}
 use Rattle.graphs.proofs.Search.{not-true}
+use Rattle.graphs.proofs.Difference.ByNumber.{by-number-order}
 use Rattle.lattice.specs.Label.{Label}
 use Rattle.lattice.specs.declared.Opened.{Opened}
 use Rattle.lattice.specs.declared.Opened.the-variants as opened
@@ -38,11 +39,12 @@ use Rattle.engine.specs.Difference.{differing}
 use Rattle.engine.specs.Appropriate.{rewritingAppropriate, generalizingAppropriate, unifyingAppropriate, Passes, Breaks, Fits, Obeys}
 use Rattle.engine.specs.Demand.{Given, WrittenRecord}
 use Rattle.engine.proofs.Replies.{table-accepted}
-use Rattle.engine.proofs.Listed.{Checks, table-before-list, list-refused, list-passed, rewriting-checked, generalizing-checked, unifying-checked}
+use Rattle.engine.proofs.Listed.{Checks, table-before-list, list-refused, list-passed, list-exact, rewriting-checked, generalizing-checked, unifying-checked}
 use Rattle.engine.proofs.Demanded.Output.{generalizing-leaves, unifying-leaves}
 use Rattle.engine.proofs.Demanded.Meaning.{written-again, own-bytes}
 use Rattle.engine.proofs.Demanded.CommonPart.{common-part}
 use Rattle.engine.proofs.Demanded.Combination.{written-combination}
+use Rattle.engine.proofs.Demanded.Difference.{plain-parts}
 use Rattle.engine.proofs.Demanded.Difference as Differed
 
 -- One graph: 18, or what reading without a list gives.
@@ -93,12 +95,12 @@ module _ (out : List ℕ) where
         (λ (e : o ≡ refused Inappropriate). absurd (passes-first (reads o p) (ap (λ (i : Reading). reads i p) e) passes)) one
 
 -- A call with a list beside the plain one.
-module _ {n : ℕ} {t list out : List ℕ} {call next : Result} (checks : Checks n t list out call next) where
+module _ {n : ℕ} {t : List ℕ} {listed : Bool} {out : List ℕ} {call next : Result} (checks : Checks n t listed TypeList out call next) where
   call-kept : (plain : Result) → (Passes next → next ≡ plain) → Passes call →
       call ≡ checked (λ r. refusing r out) (table.opened n t) plain
   call-kept plain kept passes = go (table.opened n t) refl
     where
-      list-tested : table.opened n t ≡ opened.Accepted → (b : Bool) → listAccepted n list ≡ b → call ≡ plain
+      list-tested : table.opened n t ≡ opened.Accepted → (b : Bool) → listed ≡ b → call ≡ plain
       list-tested opens true e =
           let same = list-passed checks opens e in
           sym same ∙ kept (subst Passes (sym same) passes)
@@ -107,37 +109,23 @@ module _ {n : ℕ} {t list out : List ℕ} {call next : Result} (checks : Checks
 
       go : (o : Opened) → table.opened n t ≡ o → call ≡ checked (λ r. refusing r out) o plain
       go (opened.Refused fault) e = sym (table-before-list checks fault e)
-      go opened.Accepted e = list-tested e (listAccepted n list) refl
+      go opened.Accepted e = list-tested e listed refl
 
   -- 17 where it is due, and nowhere else: what comes next never gives it
-  call-list : (next .reply ≡ TypeList → ⊥) → (call .reply ≡ TypeList) ↔ ((table.opened n t ≡ opened.Accepted) × (listAccepted n list ≡ false))
-  call-list never = (
-    λ q. go q (table.opened n t) refl,
-    λ (opens, e). ap (λ (r : Result). r .reply) (sym (list-refused checks opens e)),
-  )
-    where
-      list-tested : call .reply ≡ TypeList → (opens : table.opened n t ≡ opened.Accepted) → (b : Bool) → listAccepted n list ≡ b →
-          (table.opened n t ≡ opened.Accepted) × (listAccepted n list ≡ false)
-      list-tested q opens true e = absurd (never (ap (λ (r : Result). r .reply) (list-passed checks opens e) ∙ q))
-      list-tested q opens false e = (opens, e)
-
-      go : call .reply ≡ TypeList → (o : Opened) → table.opened n t ≡ o → (table.opened n t ≡ opened.Accepted) × (listAccepted n list ≡ false)
-      go q (opened.Refused fault) e =
-          let h = ap (λ (r : Result). r .reply) (table-before-list checks fault e) ∙ q in
-          let z : _≡_ {A = ℕ} 0 1 = cc in absurd (omega arith)
-      go q opened.Accepted e = list-tested q e (listAccepted n list) refl
+  call-list : (next .reply ≡ TypeList → ⊥) → (call .reply ≡ TypeList) ↔ ((table.opened n t ≡ opened.Accepted) × (listed ≡ false))
+  call-list = list-exact checks (λ fault e. let z : _≡_ {A = ℕ} 0 1 = cc in omega arith)
 
   -- beside a length, the table and the list are accepted
   record Behind : Type 0 where
     pub opens : table.opened n t ≡ opened.Accepted
-    pub listed : listAccepted n list ≡ true
+    pub passed : listed ≡ true
     pub does : next ≡ call
 
   behind : (l : ℕ) → call .reply ≡ Length l → Behind
   behind l q = go (table.opened n t) refl
     where
-      list-tested : table.opened n t ≡ opened.Accepted → (b : Bool) → listAccepted n list ≡ b → Behind
-      list-tested opens true e = record { opens = opens; listed = e; does = list-passed checks opens e }
+      list-tested : table.opened n t ≡ opened.Accepted → (b : Bool) → listed ≡ b → Behind
+      list-tested opens true e = record { opens = opens; passed = e; does = list-passed checks opens e }
       list-tested opens false e =
           let h = ap (λ (r : Result). r .reply) (list-refused checks opens e) ∙ q in
           let z : _≡_ {A = ℕ} 0 1 = cc in absurd (omega arith)
@@ -146,7 +134,7 @@ module _ {n : ℕ} {t list out : List ℕ} {call next : Result} (checks : Checks
       go (opened.Refused fault) e =
           let h = ap (λ (r : Result). r .reply) (table-before-list checks fault e) ∙ q in
           let z : _≡_ {A = ℕ} 0 1 = cc in absurd (omega arith)
-      go opened.Accepted e = list-tested e (listAccepted n list) refl
+      go opened.Accepted e = list-tested e listed refl
 
 -- What is written is no 17.
 
@@ -331,7 +319,7 @@ module _ (n : ℕ) (t list out : List ℕ) where
       Obeys n t list (take l (rewritingAppropriate n t list bytes out .output))
   rewriting-obeys bytes l q =
       let same = rewriting-kept n t list out bytes (length-passes (rewritingAppropriate n t list bytes out) l q) in
-      let record { opens = opens; listed = listed; does = does } = behind (rewriting-checked n t list out bytes) l q in
+      let record { opens = opens; passed = listed; does = does } = behind (rewriting-checked n t list out bytes) l q in
       let one = lone-obeying n t list bytes out l (ap (λ (r : Result). r .reply) does ∙ q) in
       let wrote = written-again n t bytes (one .rows) opens (one .reads) out l (ap (λ (r : Result). r .reply) (sym same) ∙ q) in
       subst (λ (r : Result). Obeys n t list (take l (r .output))) (sym same)
@@ -344,7 +332,7 @@ module _ (n : ℕ) (t list out : List ℕ) where
         Obeys n t list (take l (generalizingAppropriate n t list a b out .output))
     generalizing-obeys q =
         let same = generalizing-kept n t list out a b (length-passes (generalizingAppropriate n t list a b out) l q) in
-        let record { opens = opens; listed = listed; does = does } = behind (generalizing-checked n t list out a b) l q in
+        let record { opens = opens; passed = listed; does = does } = behind (generalizing-checked n t list out a b) l q in
         let (one, other) = both-obeying n t list a b out (generalized n t out) l (ap (λ (r : Result). r .reply) does ∙ q) in
         let e = ap (λ (r : Result). r .reply) (sym same) ∙ q in
         let given : Given n t a b (one .rows) (other .rows) = record { opens = opens; first = one .reads; second = other .reads } in
@@ -361,7 +349,7 @@ module _ (n : ℕ) (t list out : List ℕ) where
         Obeys n t list (take l (unifyingAppropriate n t list a b out .output))
     unifying-obeys q =
         let same = unifying-kept n t list out a b (length-passes (unifyingAppropriate n t list a b out) l q) in
-        let record { opens = opens; listed = listed; does = does } = behind (unifying-checked n t list out a b) l q in
+        let record { opens = opens; passed = listed; does = does } = behind (unifying-checked n t list out a b) l q in
         let (one, other) = both-obeying n t list a b out (unifiedRows n t out) l (ap (λ (r : Result). r .reply) does ∙ q) in
         let e = ap (λ (r : Result). r .reply) (sym same) ∙ q in
         let given : Given n t a b (one .rows) (other .rows) = record { opens = opens; first = one .reads; second = other .reads } in
@@ -380,7 +368,7 @@ module _ (n : ℕ) (t a b : List ℕ) (g s : List (Row Label)) (given : Given n 
   record-of = take l (differing n t a b out .output)
 
   pub restored-first : unifying n t record-of a room ≡ rewritingAppropriate n t list b room
-  restored-first = Differed.written-difference n t a b g s given out l e .combined-first room ∙ sym (rewriting-kept n t list room b passes)
+  restored-first = Differed.written-difference n t a b g s given by-number-order (plain-parts n t a b given out) l e .combined-first room ∙ sym (rewriting-kept n t list room b passes)
 
   pub restored-second : unifying n t a record-of room ≡ rewritingAppropriate n t list b room
-  restored-second = Differed.written-difference n t a b g s given out l e .combined-second room ∙ sym (rewriting-kept n t list room b passes)
+  restored-second = Differed.written-difference n t a b g s given by-number-order (plain-parts n t a b given out) l e .combined-second room ∙ sym (rewriting-kept n t list room b passes)

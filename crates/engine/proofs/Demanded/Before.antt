@@ -64,7 +64,7 @@ module _ (n : ℕ) (t : List ℕ) (ok : table.accepted n t ≡ true) (differ : t
         (residual-exists n t ok differ (graphOfRows s .label v .type) (meetAt v .type) (label-known (zero-type n t ok) specific v .type)
         (meet-known n t ok g s general specific below v .type) .1 .is))
 
-    residual-rows : differenceRows n t g s ≡ residualRows n t g s
+    residual-rows : differenceRows byNumber n t g s ≡ residualRows n t g s
     unfolding differenceAlong residualRows
     residual-rows =
         ap
@@ -72,7 +72,7 @@ module _ (n : ℕ) (t : List ℕ) (ok : table.accepted n t ≡ true) (differ : t
         (over s g) w)
         (fun-ext λ v. ap (λ (o : Option Label). Option·getD o noLabel) (wanted-is v))
 
-  differed-before : (out : List ℕ) (g s : List (Row Label)) → Rules n g → Rules n s → differed n t out g s ≡ differedBefore n t out g s
+  differed-before : (out : List ℕ) (g s : List (Row Label)) → Rules n g → Rules n s → differed byNumber n t out g s ≡ differedBefore n t out g s
   unfolding differed differedBefore
   differed-before out g s general specific = go lies refl ∙ sym (ap before differ)
     where
@@ -86,7 +86,7 @@ module _ (n : ℕ) (t : List ℕ) (ok : table.accepted n t ≡ true) (differ : t
       before x = cond x (cond lies old (refusing NotBelow out)) (refusing NoWantedType out)
 
       new : Result
-      new = resultOf (writtenOut (canonical eqb (differenceRows n t g s)) out)
+      new = resultOf (writtenOut (canonical eqb (differenceRows byNumber n t g s)) out)
 
       go : (x : Bool) → lies ≡ x →
           cond lies (cond (allWanted n t s g) new (refusing NoWantedType out)) (refusing NotBelow out) ≡
@@ -98,12 +98,12 @@ module _ (n : ℕ) (t : List ℕ) (ok : table.accepted n t ≡ true) (differ : t
           (ap (λ k. resultOf (writtenOut (canonical eqb k) out)) (residual-rows g s general specific below))
 
   rows-before : (out : List ℕ) (g s : List (Row Label)) → Rules n g → Rules n s →
-      differedRows n t out g s ≡ differedBefore n t out g (numbered (canonical eqb (graphOfRows s)))
+      differedRows byNumber n t out g s ≡ differedBefore n t out g (numbered (canonical eqb (graphOfRows s)))
   unfolding differedRows
   rows-before out g s general specific =
       let (form, fits) = rules-fit n s specific in
       let reads = written-reads n t eqb tells-eqb (graphOfRows s) (rules-of-any-size n s specific t) form fits (rules-types n s specific) .0 in
-      ap (λ c. differed n t out g (numbered c)) fits ∙
+      ap (λ c. differed byNumber n t out g (numbered c)) fits ∙
       differed-before out g form general (accepted-rules n (encoded form) form reads) ∙
       sym (ap (λ c. differedBefore n t out g (numbered c)) fits)
 
@@ -118,7 +118,7 @@ pub differing-before : (n : ℕ) (t : List ℕ) → table.admits n t ≡ true �
 unfolding differing differingBefore
 differing-before n t differ a b out =
     checked-same (λ r. refusing r out) (opened n t) _ _ λ opens.
-    both-same (accepted-rules n a) (accepted-rules n b) (λ r. refusing r out) (differedRows n t out)
+    both-same (accepted-rules n a) (accepted-rules n b) (λ r. refusing r out) (differedRows byNumber n t out)
     (λ g s. differedBefore n t out g (numbered (canonical eqb (graphOfRows s))))
     (rows-before n t (opened-accepted n t (opened n t) refl opens) differ out)
 

@@ -12,6 +12,7 @@ use Rattle.graphs.specs.Graph.{Graph, Below, SameMeaning}
 use Rattle.graphs.specs.Rows.{Row}
 use Rattle.graphs.specs.Number.{canonical, written}
 use Rattle.graphs.specs.Order.{subsumes}
+use Rattle.graphs.specs.Difference.{Link, StrictOrder, byNumber, byReading}
 use Rattle.graphs.proofs.Lists.{tells-eqb}
 use Rattle.graphs.proofs.Search.{true-false, not-true}
 use Rattle.graphs.proofs.Below.{same-refl, same-sym}
@@ -28,10 +29,11 @@ use Rattle.encode.specs.Encode.{Outcome, encoded, writtenOut}
 use Rattle.record.specs.Read.{reading, accepted, graphOfRows}
 use Rattle.record.proofs.Accepted.{Rules, accepted-rules}
 use Rattle.record.proofs.Theorems.{accepted-of-any-size, accepted-fits, written-accepted}
+use Rattle.groups.specs.Reading.{isReadingOrder}
 use Rattle.engine.specs.declared.Reply.the-variants as replies
 use Rattle.engine.specs.Reply.{Result, refusal, refusing, resultOf}
 use Rattle.engine.specs.Unification.{unifying}
-use Rattle.engine.specs.Difference.{allWanted, numbered, differenceRows, differed, differedRows, differing}
+use Rattle.engine.specs.Difference.{allWanted, numbered, differenceRows, differed, differedRows, differing, differingBy}
 use Rattle.engine.specs.Demand.{Given, Large, Writes, MoreGeneral, remainder, Restores, Difference}
 use Rattle.engine.proofs.Orders.{order-test}
 use Rattle.engine.proofs.Results.{resultFor, rewriting-is, result-writes, seven-bits}
@@ -62,6 +64,21 @@ module _ (o : Outcome) (out : List ℕ) where
     λ (_, q). true-false refl q,
   )
 
+-- a call that comes to the difference by an order of links
+pub record Parts (earlier : Link ℕ → Link ℕ → Bool) (n : ℕ) (t out : List ℕ) (g s : List (Row Label)) (call : Result) : Type 0 where
+  pub is : call ≡ differedRows earlier n t out g s
+
+-- as the call without a list, and the call with a list that is accepted
+pub plain-parts : (n : ℕ) (t a b : List ℕ) {g s : List (Row Label)} → Given n t a b g s → (out : List ℕ) →
+    Parts byNumber n t out g s (differing n t a b out)
+unfolding differing
+plain-parts n t a b given out = record { is = rw (given .opens, given .first, given .second) }
+
+pub listed-parts : (n : ℕ) (t list a b : List ℕ) {g s : List (Row Label)} → Given n t a b g s → isReadingOrder list ≡ true →
+    (out : List ℕ) → Parts (byReading list) n t out g s (differingBy n t list a b out)
+unfolding differingBy
+listed-parts n t list a b given listed out = record { is = rw (given .opens, listed, given .first, given .second) }
+
 module _ (n : ℕ) (t a b : List ℕ) (g s : List (Row Label)) (given : Given n t a b g s) where
   accepts : table.accepted n t ≡ true
   accepts = opened-accepted n t (opened n t) refl (given .opens)
@@ -83,9 +100,6 @@ module _ (n : ℕ) (t a b : List ℕ) (g s : List (Row Label)) (given : Given n 
 
   means : SameMeaning (tableLabels n t) (graphOfRows s) (graphOfRows form)
   means = form-reads .2
-
-  remainder-is : remainder n t g s ≡ differenceRows n t g form
-  remainder-is = ap (λ c. differenceRows n t g (numbered c)) form-is
 
   -- whether s, numbered as written, is below g
   abbrev lies : Bool
@@ -124,25 +138,29 @@ module _ (n : ℕ) (t a b : List ℕ) (g s : List (Row Label)) (given : Given n 
     pub all-wanted : (SomeUnwanted n t (graphOfRows s) (graphOfRows g) → ⊥) → all ≡ true
     all-wanted none = not-false-true all (λ e. none (all-exact .0 e))
 
+  module _ {earlier : Link ℕ → Link ℕ → Bool} (strict : StrictOrder earlier) where
+    remainder-is : remainder earlier n t g s ≡ differenceRows earlier n t g form
+    remainder-is = ap (λ c. differenceRows earlier n t g (numbered c)) form-is
+
     -- Where every node of s has a wanted type, the difference restores s, and nothing more general does.
-    module _ (wants : all ≡ true) where
+    module _ (below : Below (tableLabels n t) (graphOfRows s) (graphOfRows g)) (wants : all ≡ true) where
       form-wanted : allWanted n t form g ≡ true
       form-wanted = ap (λ c. allWanted n t (numbered c) g) (sym form-is) ∙ wants
 
-      pub remainder-small : Large (remainder n t g s) → ⊥
+      pub remainder-small : Large (remainder earlier n t g s) → ⊥
       remainder-small =
           subst (λ (k : Graph Label ℕ). Large k → ⊥) (sym remainder-is)
-          (rows-small n t accepts g form general-rules form-rules form-below form-wanted)
+          (rows-small n t accepts g form general-rules (form-rules below) (form-below below) form-wanted strict)
 
-      pub remainder-restores : Restores n t (remainder n t g s) (graphOfRows g) (graphOfRows s)
+      pub remainder-restores : Restores n t (remainder earlier n t g s) (graphOfRows g) (graphOfRows s)
       remainder-restores =
-          let made = rows-restore n t accepts g form general-rules form-rules form-below form-wanted in
+          let made = rows-restore n t accepts g form general-rules (form-rules below) (form-below below) form-wanted strict in
           subst (λ (k : Graph Label ℕ). Restores n t k (graphOfRows g) (graphOfRows s)) (sym remainder-is)
           (record {
             of-any-size = made .of-any-size;
             restores =
-                same-greatest n t accepts (differenceRows n t g form) (graphOfRows g) (graphOfRows form) (differenceRows n t g form) (graphOfRows s)
-                (same-refl (differenceRows n t g form)) (same-sym means) (made .restores);
+                same-greatest n t accepts (differenceRows earlier n t g form) (graphOfRows g) (graphOfRows form) (differenceRows earlier n t g form) (graphOfRows s)
+                (same-refl (differenceRows earlier n t g form)) (same-sym means) (made .restores);
             most-general = λ e c more u best.
                 let (x, y) = made .most-general e c more u best in
                 (same-below-left (same-sym means) x, λ z. y (same-below-right means z));
@@ -164,29 +182,31 @@ module _ (n : ℕ) (t a b : List ℕ) (g s : List (Row Label)) (given : Given n 
       as-general : {E : Type 0} (e : Graph Label E) → MoreGeneral n t e (graphOfRows again) → MoreGeneral n t e d
       as-general e (above, strict) = (same-below-left (same-sym same) above, λ z. strict (same-below-right same z))
 
-  module _ (out : List ℕ) where
-    differing-is : differing n t a b out ≡ chosen lies all (writtenOut (canonical eqb (remainder n t g s)) out) out
-    unfolding differing differedRows differed
-    differing-is = rw (given .opens, given .first, given .second)
+  -- The three results of a call that comes to the difference by an order of links.
+  module _ {earlier : Link ℕ → Link ℕ → Bool} (strict : StrictOrder earlier) {out : List ℕ} {call : Result}
+      (parts : Parts earlier n t out g s call) where
+    call-is : call ≡ chosen lies all (writtenOut (canonical eqb (remainder earlier n t g s)) out) out
+    unfolding differedRows differed
+    call-is = parts .is
 
     -- 12 exactly where s is not below g
-    pub not-below-exact : (differing n t a b out .reply ≡ replies.NotBelow) ↔
+    pub not-below-exact : (call .reply ≡ replies.NotBelow) ↔
         (Below (tableLabels n t) (graphOfRows s) (graphOfRows g) → ⊥)
     not-below-exact =
         let (there, back) =
-        subst (λ (r : Result). (r .reply ≡ replies.NotBelow) ↔ (lies ≡ false)) (sym differing-is)
-        (chosen-below (writtenOut (canonical eqb (remainder n t g s)) out) out lies all) in (
+        subst (λ (r : Result). (r .reply ≡ replies.NotBelow) ↔ (lies ≡ false)) (sym call-is)
+        (chosen-below (writtenOut (canonical eqb (remainder earlier n t g s)) out) out lies all) in (
           λ q z. true-false (lies-exact .1 z) (there q),
           λ y. back (not-true lies (λ z. y (lies-exact .0 z))),
         )
 
     -- 13 exactly where it is, and some node of s has no wanted type
-    pub unwanted-reply-exact : (differing n t a b out .reply ≡ replies.NoWantedType) ↔
+    pub unwanted-reply-exact : (call .reply ≡ replies.NoWantedType) ↔
         (Below (tableLabels n t) (graphOfRows s) (graphOfRows g) × SomeUnwanted n t (graphOfRows s) (graphOfRows g))
     unwanted-reply-exact =
         let (there, back) =
-        subst (λ (r : Result). (r .reply ≡ replies.NoWantedType) ↔ ((lies ≡ true) × (all ≡ false))) (sym differing-is)
-        (chosen-wanted (writtenOut (canonical eqb (remainder n t g s)) out) out lies all) in (
+        subst (λ (r : Result). (r .reply ≡ replies.NoWantedType) ↔ ((lies ≡ true) × (all ≡ false))) (sym call-is)
+        (chosen-wanted (writtenOut (canonical eqb (remainder earlier n t g s)) out) out lies all) in (
           λ q.
               let (x, y) = there q in
               let below = lies-exact .0 x in
@@ -196,61 +216,61 @@ module _ (n : ℕ) (t a b : List ℕ) (g s : List (Row Label)) (given : Given n 
 
     -- the three results: 12, 13, or what is written where neither is due
     pub data Told : Type 0 where
-      not-below : differing n t a b out ≡ refusing replies.NotBelow out → Told
+      not-below : call ≡ refusing replies.NotBelow out → Told
       not-wanted : Below (tableLabels n t) (graphOfRows s) (graphOfRows g) → all ≡ false →
-          differing n t a b out ≡ refusing replies.NoWantedType out → Told
+          call ≡ refusing replies.NoWantedType out → Told
       differs : Below (tableLabels n t) (graphOfRows s) (graphOfRows g) → all ≡ true → Told
 
     pub difference-told : Told
     difference-told = go lies all refl refl
       where
         go : (x y : Bool) → lies ≡ x → all ≡ y → Told
-        go false y p q = not-below (differing-is ∙ ap (λ (z : Bool). chosen z all (writtenOut (canonical eqb (remainder n t g s)) out) out) p)
+        go false y p q = not-below (call-is ∙ ap (λ (z : Bool). chosen z all (writtenOut (canonical eqb (remainder earlier n t g s)) out) out) p)
         go true false p q =
             not-wanted (lies-exact .0 p) q
-            (differing-is ∙ ap₂ (λ (z w : Bool). chosen z w (writtenOut (canonical eqb (remainder n t g s)) out) out) p q)
+            (call-is ∙ ap₂ (λ (z w : Bool). chosen z w (writtenOut (canonical eqb (remainder earlier n t g s)) out) out) p q)
         go true true p q = differs (lies-exact .0 p) q
 
     module _ (below : Below (tableLabels n t) (graphOfRows s) (graphOfRows g)) (wants : all ≡ true) where
       -- then the difference is what the call writes
-      pub remainder-result : differing n t a b out ≡ resultFor eqb (remainder n t g s) out
+      pub remainder-result : call ≡ resultFor eqb (remainder earlier n t g s) out
       remainder-result =
-          differing-is ∙
-          ap₂ (λ (x y : Bool). chosen x y (writtenOut (canonical eqb (remainder n t g s)) out) out) (lies-exact .1 below) wants
+          call-is ∙
+          ap₂ (λ (x y : Bool). chosen x y (writtenOut (canonical eqb (remainder earlier n t g s)) out) out) (lies-exact .1 below) wants
 
-      pub remainder-writes : Writes n t eqb (remainder n t g s) out (differing n t a b out)
+      pub remainder-writes : Writes n t eqb (remainder earlier n t g s) out call
       remainder-writes =
-          subst (Writes n t eqb (remainder n t g s) out) (sym remainder-result)
-          (result-writes n t eqb tells-eqb (remainder n t g s) (remainder-restores below wants .of-any-size)
-          (seven-bits n t accepts (remainder n t g s) (remainder-restores below wants .of-any-size)) out)
+          subst (Writes n t eqb (remainder earlier n t g s) out) (sym remainder-result)
+          (result-writes n t eqb tells-eqb (remainder earlier n t g s) (remainder-restores strict below wants .of-any-size)
+          (seven-bits n t accepts (remainder earlier n t g s) (remainder-restores strict below wants .of-any-size)) out)
 
     -- s below g gives 13 for a node without a wanted type, or a difference that restores and is most general.
     pub unwanted-or-restored : Below (tableLabels n t) (graphOfRows s) (graphOfRows g) →
-        ((differing n t a b out .reply ≡ replies.NoWantedType) × SomeUnwanted n t (graphOfRows s) (graphOfRows g)) ⊎
-        (Restores n t (remainder n t g s) (graphOfRows g) (graphOfRows s) × Writes n t eqb (remainder n t g s) out (differing n t a b out))
+        ((call .reply ≡ replies.NoWantedType) × SomeUnwanted n t (graphOfRows s) (graphOfRows g)) ⊎
+        (Restores n t (remainder earlier n t g s) (graphOfRows g) (graphOfRows s) × Writes n t eqb (remainder earlier n t g s) out call)
     unwanted-or-restored below = go all refl
       where
         go : (x : Bool) → all ≡ x →
-            ((differing n t a b out .reply ≡ replies.NoWantedType) × SomeUnwanted n t (graphOfRows s) (graphOfRows g)) ⊎
-            (Restores n t (remainder n t g s) (graphOfRows g) (graphOfRows s) × Writes n t eqb (remainder n t g s) out (differing n t a b out))
+            ((call .reply ≡ replies.NoWantedType) × SomeUnwanted n t (graphOfRows s) (graphOfRows g)) ⊎
+            (Restores n t (remainder earlier n t g s) (graphOfRows g) (graphOfRows s) × Writes n t eqb (remainder earlier n t g s) out call)
         go false q = let some = all-exact below .0 q in inl (unwanted-reply-exact .1 (below, some), some)
-        go true q = inr (remainder-restores below q, remainder-writes below q)
+        go true q = inr (remainder-restores strict below q, remainder-writes below q)
 
     -- What is written restores b with a, byte for byte, and nothing more general does.
-    pub written-difference : (l : ℕ) → differing n t a b out .reply ≡ replies.Length l →
-        Difference n t a b g s (take l (differing n t a b out .output))
+    pub written-difference : (l : ℕ) → call .reply ≡ replies.Length l →
+        Difference n t a b g s (take l (call .output))
     written-difference l q = go difference-told
       where
-        go : Told → Difference n t a b g s (take l (differing n t a b out .output))
+        go : Told → Difference n t a b g s (take l (call .output))
         go (not-wanted _ _ e) = let z : _≡_ {A = ℕ} 0 1 = cc (q, ap (λ (r : Result). r .reply) e) in absurd (omega arith)
         go (not-below e) = let z : _≡_ {A = ℕ} 0 1 = cc (q, ap (λ (r : Result). r .reply) e) in absurd (omega arith)
         go (differs below wants) =
             let wrote = remainder-writes below wants .wrote l q in
-            let bytes : List ℕ = take l (differing n t a b out .output) in
+            let bytes : List ℕ = take l (call .output) in
             let again : List (Row Label) = wrote .form in
             let reads : reading n bytes ≡ accepted again = wrote .reads in
             let restores : Restores n t (graphOfRows again) (graphOfRows g) (graphOfRows s) =
-            restores-again (remainder n t g s) again (wrote .means) (remainder-restores below wants) in
+            restores-again (remainder earlier n t g s) again (wrote .means) (remainder-restores strict below wants) in
             record {
               form = again;
               reads = reads;

@@ -15,7 +15,9 @@ use Rattle.graphs.specs.Rows.{Row, from, linksOf, target}
 use Rattle.graphs.specs.Number.{canonical, written, visit, each, member, indexOf, outDegree, linkCount, rowOf}
 use Rattle.graphs.specs.Order.{subsumes}
 use Rattle.graphs.proofs.Walk.{none-some, some-injective, some-unique, follow-none, reached-root}
+use Rattle.graphs.specs.Difference.{byNumber}
 use Rattle.graphs.proofs.Lists.{tells-eqb}
+use Rattle.graphs.proofs.Difference.ByNumber.{by-number-order}
 use Rattle.graphs.proofs.Search.{true-false}
 use Rattle.graphs.proofs.Below.{same-sym}
 use Rattle.graphs.proofs.Order.{subsumes-exact}
@@ -42,7 +44,7 @@ use Rattle.engine.specs.Difference.{differing}
 use Rattle.engine.specs.Demand.{Given, loneTop, remainder, Restores}
 use Rattle.engine.proofs.Orders.{short}
 use Rattle.engine.proofs.Results.{seven-bits}
-use Rattle.engine.proofs.Demanded.Difference.{all-wanted, remainder-small, remainder-restores, remainder-result}
+use Rattle.engine.proofs.Demanded.Difference.{plain-parts, all-wanted, remainder-small, remainder-restores, remainder-result}
 
 -- a graph of one node
 abbrev lone : Label → Graph Label ℕ
@@ -161,10 +163,10 @@ module _ (n : ℕ) (t a : List ℕ) (s : List (Row Label)) (opens : opened n t �
   below = below-self n t ok (graphOfRows s) size
 
   abbrev d : Graph Label ℕ
-  d = remainder n t s s
+  d = remainder byNumber n t s s
 
   restores : Restores n t d (graphOfRows s) (graphOfRows s)
-  restores = remainder-restores n t a a s s given below (all-wanted n t a a s s given below (none-unwanted n t ok (graphOfRows s) size))
+  restores = remainder-restores n t a a s s given by-number-order below (all-wanted n t a a s s given below (none-unwanted n t ok (graphOfRows s) size))
 
   -- that it is not above a lone top is refuted
   not-strict : (Below (tableLabels n t) (top n t ok) d → ⊥) → ⊥
@@ -180,7 +182,7 @@ module _ (n : ℕ) (t a : List ℕ) (s : List (Row Label)) (opens : opened n t �
   -- so, the order being decided, it means a lone top
   means-top : SameMeaning (tableLabels n t) (top n t ok) d
   means-top =
-      let small = remainder-small n t a a s s given below (all-wanted n t a a s s given below (none-unwanted n t ok (graphOfRows s) size)) in
+      let small = remainder-small n t a a s s given by-number-order below (all-wanted n t a a s s given below (none-unwanted n t ok (graphOfRows s) size)) in
       let (form, fits) =
       canonical-fits eqb tells-eqb d (restores .of-any-size .any-size .features) .0 (λ m. small (inl m), λ m. small (inr m)) in
       let (reads, means) = written-reads n t eqb tells-eqb d (restores .of-any-size) form fits (seven-bits n t ok d (restores .of-any-size)) in
@@ -196,7 +198,7 @@ module _ (n : ℕ) (t a : List ℕ) (s : List (Row Label)) (opens : opened n t �
   pub itself : (out : List ℕ) → differing n t a a out ≡ resultOf (fitted (loneTop n) out)
   unfolding writtenOut
   itself out =
-      remainder-result n t a a s s given out below (all-wanted n t a a s s given below (none-unwanted n t ok (graphOfRows s) size)) ∙
+      remainder-result n t a a s s given by-number-order (plain-parts n t a a given out) below (all-wanted n t a a s s given below (none-unwanted n t ok (graphOfRows s) size)) ∙
       ap (λ c. resultOf (writtenOut c out))
       (canonical-exact (tableLabels n t) eqb eqb tells-eqb tells-eqb (top n t ok) d (top-size n t ok .any-size .features)
       (restores .of-any-size .any-size .features) ((plain (n - 1), []) ∷ []) (lone-form (plain (n - 1))) .0 means-top) ∙

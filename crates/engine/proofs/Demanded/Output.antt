@@ -1,7 +1,7 @@
 -- What the calls leave in the output, whatever is handed in: a refusal leaves it as it was, and beside a length stands a record that is
 -- accepted when it is read. And 11 is no reply of the difference or of rewriting.
 use mathlib.Core.Path.{_≡_, refl, sym, _∙_, ap, subst}
-use mathlib.Core.Bool.{Bool, true}
+use mathlib.Core.Bool.{Bool, true, false}
 use mathlib.Core.List.{List}
 use mathlib.Core.Logic.{inl, inr, ⊎-elim}
 use mathlib.Core.Option.{some}
@@ -11,7 +11,10 @@ use lib.Dec.{eqb}
 use lib.ListN.{length, take}
 use Rattle.graphs.specs.Graph.{Graph, Tells, Reached}
 use Rattle.graphs.specs.Rows.{Row}
+use Rattle.graphs.specs.Difference.{Link, StrictOrder, byNumber, byReading}
 use Rattle.graphs.proofs.Lists.{tells-eqb}
+use Rattle.graphs.proofs.Difference.ByNumber.{by-number-order}
+use Rattle.graphs.proofs.Difference.ByReading.{by-reading-order}
 use Rattle.lattice.specs.Label.{Label}
 use Rattle.lattice.specs.declared.TableFault.{TableFault}
 use Rattle.lattice.specs.declared.Opened.{Opened}
@@ -28,15 +31,16 @@ use Rattle.record.proofs.Nodes.{few-nodes, few-links}
 use Rattle.record.proofs.Accepted.{rules-linked, accepted-rules}
 use Rattle.record.proofs.Rewritten.{written-injective, form-again}
 use Rattle.record.proofs.Theorems.{accepted-of-any-size, accepted-types}
+use Rattle.groups.specs.Reading.{isReadingOrder}
 use Rattle.generalize.specs.Pairs.{samePair}
 use Rattle.generalize.proofs.Sides.{tells-pair}
 use Rattle.engine.specs.declared.Side.{Side}
 use Rattle.engine.specs.declared.Side.the-variants.{First, Second}
 use Rattle.engine.specs.declared.Reply.{Reply}
 use Rattle.engine.specs.declared.Reply.the-variants as replies
-use Rattle.engine.specs.Reply.{Result, refusal, refusing, checked, readBoth, rewritten, rewriting, generalizing, generalized}
+use Rattle.engine.specs.Reply.{Result, refusal, refusing, checked, checkedList, readBoth, rewritten, rewriting, generalizing, generalized}
 use Rattle.engine.specs.Unification.{sameEither, unifiedRows, unifying}
-use Rattle.engine.specs.Difference.{differedRows, differing}
+use Rattle.engine.specs.Difference.{differedRows, differing, differingBy}
 use Rattle.engine.specs.Demand.{Given, Leaves, Large, common, remainder}
 use Rattle.engine.proofs.Results.{resultFor, result-writes, seven-bits}
 use Rattle.engine.proofs.Demanded.CommonPart.{common-part-exists}
@@ -131,15 +135,22 @@ module _ (n : ℕ) (out : List ℕ) where
         go (opened.Refused fault) e = table-refused fault
         go opened.Accepted e = read e (reading n a) (reading n b) refl refl
 
+    -- and what holds of the refusal of a list
+    pub of-two-listed : (listed : Bool) (wrong : Reply) → P (refusing wrong out) → (a b : List ℕ)
+        (next : List (Row Label) → List (Row Label) → Result) → ((g h : List (Row Label)) → Given n t a b g h → P (next g h)) →
+        P (checkedList n t listed wrong out (readBoth (λ r. refusing r out) (reading n a) (reading n b) next))
+    of-two-listed true wrong refuses a b next holds = of-two a b next holds
+    of-two-listed false wrong refuses a b next holds = go (table.opened n t)
+      where
+        go : (o : Opened) → P (checked (λ r. refusing r out) o (refusing wrong out))
+        go (opened.Refused fault) = table-refused fault
+        go opened.Accepted = refuses
+
 -- what follows for accepted records over an accepted table
 module _ (n : ℕ) (t a b : List ℕ) {g h : List (Row Label)} (given : Given n t a b g h) (out : List ℕ) where
   unifying-next : unifying n t a b out ≡ unifiedRows n t out g h
   unfolding unifying
   unifying-next = rw (given .opens, given .first, given .second)
-
-  pub differing-next : differing n t a b out ≡ differedRows n t out g h
-  unfolding differing
-  differing-next = rw (given .opens, given .first, given .second)
 
 -- the table is accepted
 accepts : {n : ℕ} {t a b : List ℕ} {g h : List (Row Label)} → Given n t a b g h → types.accepted n t ≡ true
@@ -179,19 +190,32 @@ module _ (n : ℕ) (t : List ℕ) (out : List ℕ) where
         leaves g h given (written u is best e) =
             subst (Leaves n out) (sym e) (graph-leaves n out t sameEither tells-either u (best .of-any-size) (seven-bits n t (accepts given) u (best .of-any-size)))
 
+    -- of the difference of accepted records, by an order of links
+    differed-leaves : {earlier : Link ℕ → Link ℕ → Bool} → StrictOrder earlier → (g s : List (Row Label)) → Given n t a b g s →
+        Leaves n out (differedRows earlier n t out g s)
+    differed-leaves {earlier} strict g s given = go (difference-told n t a b g s given strict parts)
+      where
+        parts : Differed.Parts earlier n t out g s (differedRows earlier n t out g s)
+        parts = record { is = refl }
+
+        go : Differed.Told n t a b g s given strict parts → Leaves n out (differedRows earlier n t out g s)
+        go (not-wanted _ _ e) = subst (Leaves n out) (sym e) (refusing-leaves n out replies.NoWantedType 13 refl)
+        go (not-below e) = subst (Leaves n out) (sym e) (refusing-leaves n out replies.NotBelow 12 refl)
+        go (differs below wants) =
+            subst (Leaves n out) (sym (remainder-result n t a b g s given strict parts below wants))
+            (let size = remainder-restores n t a b g s given strict below wants .of-any-size in
+            graph-leaves n out t eqb tells-eqb (remainder earlier n t g s) size (seven-bits n t (accepts given) (remainder earlier n t g s) size))
+
     pub differing-leaves : Leaves n out (differing n t a b out)
     unfolding differing
     differing-leaves =
-        of-two n out t (Leaves n out) table-leaves graph-fault-leaves a b (differedRows n t out)
-        (λ g s given. subst (Leaves n out) (differing-next n t a b given out) (leaves g s given (difference-told n t a b g s given out)))
-      where
-        leaves : (g s : List (Row Label)) (given : Given n t a b g s) → Differed.Told n t a b g s given out → Leaves n out (differing n t a b out)
-        leaves g s given (not-wanted _ _ e) = subst (Leaves n out) (sym e) (refusing-leaves n out replies.NoWantedType 13 refl)
-        leaves g s given (not-below e) = subst (Leaves n out) (sym e) (refusing-leaves n out replies.NotBelow 12 refl)
-        leaves g s given (differs below wants) =
-            subst (Leaves n out) (sym (remainder-result n t a b g s given out below wants))
-            (let size = remainder-restores n t a b g s given below wants .of-any-size in
-            graph-leaves n out t eqb tells-eqb (remainder n t g s) size (seven-bits n t (accepts given) (remainder n t g s) size))
+        of-two n out t (Leaves n out) table-leaves graph-fault-leaves a b (differedRows byNumber n t out) (differed-leaves by-number-order)
+
+    pub differing-by-leaves : (list : List ℕ) → Leaves n out (differingBy n t list a b out)
+    unfolding differingBy
+    differing-by-leaves list =
+        of-two-listed n out t (Leaves n out) table-leaves graph-fault-leaves (isReadingOrder list) replies.ReadingOrder
+        (refusing-leaves n out replies.ReadingOrder 19 refl) a b (differedRows (byReading list) n t out) (differed-leaves (by-reading-order list))
 
 -- 11 does not occur where the result is no larger than an accepted record.
 abbrev NotLarge : Result → Type 0
@@ -216,17 +240,30 @@ module _ (n : ℕ) (t : List ℕ) (out : List ℕ) where
       graph-small (graphOfRows rows) (accepted-of-any-size n bytes rows e t) (accepted-types n bytes rows e)
       (⊎-elim (few-nodes rows (rules-linked rules) (rules .short)) (few-links rows (rules .links))))
 
-  pub differing-small : (a b : List ℕ) → differing n t a b out .reply ≡ replies.TooLarge → ⊥
-  unfolding differing
-  differing-small a b =
-      of-two n out t NotLarge table-small graph-fault-small a b (differedRows n t out)
-      (λ g s given. subst NotLarge (differing-next n t a b given out) (small g s given (difference-told n t a b g s given out)))
-    where
-      small : (g s : List (Row Label)) (given : Given n t a b g s) → Differed.Told n t a b g s given out → NotLarge (differing n t a b out)
-      small g s given (not-wanted _ _ e) = subst NotLarge (sym e) (λ q. let z : _≡_ {A = ℕ} 0 1 = cc in omega arith)
-      small g s given (not-below e) = subst NotLarge (sym e) (λ q. let z : _≡_ {A = ℕ} 0 1 = cc in omega arith)
-      small g s given (differs below wants) =
-          subst NotLarge (sym (remainder-result n t a b g s given out below wants))
-          (let size = remainder-restores n t a b g s given below wants .of-any-size in
-          graph-small (remainder n t g s) size (seven-bits n t (accepts given) (remainder n t g s) size)
-          (remainder-small n t a b g s given below wants))
+  module _ (a b : List ℕ) where
+    differed-small : {earlier : Link ℕ → Link ℕ → Bool} → StrictOrder earlier → (g s : List (Row Label)) → Given n t a b g s →
+        NotLarge (differedRows earlier n t out g s)
+    differed-small {earlier} strict g s given = go (difference-told n t a b g s given strict parts)
+      where
+        parts : Differed.Parts earlier n t out g s (differedRows earlier n t out g s)
+        parts = record { is = refl }
+
+        go : Differed.Told n t a b g s given strict parts → NotLarge (differedRows earlier n t out g s)
+        go (not-wanted _ _ e) = subst NotLarge (sym e) (λ q. let z : _≡_ {A = ℕ} 0 1 = cc in omega arith)
+        go (not-below e) = subst NotLarge (sym e) (λ q. let z : _≡_ {A = ℕ} 0 1 = cc in omega arith)
+        go (differs below wants) =
+            subst NotLarge (sym (remainder-result n t a b g s given strict parts below wants))
+            (let size = remainder-restores n t a b g s given strict below wants .of-any-size in
+            graph-small (remainder earlier n t g s) size (seven-bits n t (accepts given) (remainder earlier n t g s) size)
+            (remainder-small n t a b g s given strict below wants))
+
+    pub differing-small : differing n t a b out .reply ≡ replies.TooLarge → ⊥
+    unfolding differing
+    differing-small =
+        of-two n out t NotLarge table-small graph-fault-small a b (differedRows byNumber n t out) (differed-small by-number-order)
+
+    pub differing-by-small : (list : List ℕ) → differingBy n t list a b out .reply ≡ replies.TooLarge → ⊥
+    unfolding differingBy
+    differing-by-small list =
+        of-two-listed n out t NotLarge table-small graph-fault-small (isReadingOrder list) replies.ReadingOrder
+        (λ q. let z : _≡_ {A = ℕ} 0 1 = cc in omega arith) a b (differedRows (byReading list) n t out) (differed-small (by-reading-order list))

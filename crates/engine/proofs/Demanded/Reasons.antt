@@ -13,35 +13,38 @@ use Rattle.graphs.specs.Graph.{AnySize, Reached, Below}
 use Rattle.graphs.specs.Rows.{Row, from}
 use Rattle.graphs.specs.Number.{canonical, written}
 use Rattle.graphs.specs.Large.{linksIn}
-use Rattle.graphs.specs.Difference.{difference, byNumber}
+use Rattle.graphs.specs.Difference.{Link, StrictOrder, byNumber, byReading, difference}
 use Rattle.graphs.specs.Reasons.{alongLinks, writtenOrder}
 use Rattle.graphs.proofs.Walk.{some-injective, none-some}
 use Rattle.graphs.proofs.Lists.{tells-eqb}
 use Rattle.graphs.proofs.Reasons.{written-length}
 use Rattle.graphs.proofs.Unification.Beside.{Operands}
-use Rattle.graphs.proofs.Difference.ByNumber.{by-number-order}
 use Rattle.graphs.proofs.Difference.Reasons.{reason-tells}
 use Rattle.lattice.specs.Label.{Label, noLabel}
 use Rattle.lattice.specs.Labels.{tableLabels}
+use Rattle.lattice.specs.declared.TableFault.{TableFault}
 use Rattle.lattice.specs.declared.Opened.{Opened}
 use Rattle.lattice.specs.declared.Opened.the-variants as opened
 use Rattle.lattice.specs.Reply as table
-use Rattle.encode.specs.declared.Written.{Written}
-use Rattle.encode.specs.declared.Written.the-variants as outcome
 use Rattle.encode.specs.Encode.{Outcome, writtenOut}
-use Rattle.record.specs.Read.{Reading, refused, accepted, reading, graphOfRows}
+use Rattle.record.specs.declared.GraphFault.{GraphFault}
+use Rattle.record.specs.declared.GraphFault.the-variants as faults
+use Rattle.record.specs.Read.{Reading, refused, accepted, reading, graphOfRows, graphNumber}
 use Rattle.record.proofs.Accepted.{Rules, rules-of-any-size, rules-nodes}
+use Rattle.groups.specs.Reading.{isReadingOrder}
 use Rattle.difference.specs.Promise.{differenceAlong, reasonsAlong}
 use Rattle.engine.specs.declared.Reply.{Reply}
 use Rattle.engine.specs.declared.Reply.the-variants as replies
 use Rattle.engine.specs.declared.kinds.Kind.{Kind}
 use Rattle.engine.specs.declared.kinds.Kind.the-variants as kind
-use Rattle.engine.specs.Reply.{Result, kindOf, replyOf, resultOf, refusing, checked, readBoth, rowsBelow}
-use Rattle.engine.specs.Difference.{wantedAt, allWanted, numbered, differenceRows, differed, differedRows, differing}
+use Rattle.engine.specs.Reply.{Result, kindOf, refusal, resultOf, refusing, checked, readBoth, rowsBelow}
+use Rattle.engine.specs.Difference.{wantedAt, allWanted, numbered, differenceRows, differed, differedRows, differing, differingBy}
+use Rattle.engine.specs.Pair.{parting}
 use Rattle.engine.specs.Demand.{Given, remainder}
-use Rattle.engine.specs.Explained.{Explained, explainedResult, lengthIn, lengthOf, lengthBeside, beside, reasonsOf, explaining, LinkReason, reasonFor}
+use Rattle.engine.specs.Explained.{Explained, explainedResult, lengthIn, lengthOf, lengthBeside, beside, reasonsOf, LinkReason, reasonFor}
 use Rattle.engine.proofs.Numbers.{kind-injective}
 use Rattle.engine.proofs.Over.{over-map}
+use Rattle.engine.proofs.Demanded.Combination.{other-refusal}
 use Rattle.engine.proofs.Demanded.Difference.{general-rules, form, form-is, form-below, form-rules}
 
 -- Of the rows of two graphs.
@@ -67,33 +70,34 @@ module _ (n : ℕ) (t : List ℕ) (g s : List (Row Label)) (general : Rules n g)
         };
       }
 
-  rows-reason : (u f v : ℕ) → Reached (graphOfRows s) u → differenceRows n t g s .link u f ≡ some v → LinkReason n t g s u f v
+  rows-reason : {earlier : Link ℕ → Link ℕ → Bool} → StrictOrder earlier → (u f v : ℕ) → Reached (graphOfRows s) u →
+      differenceRows earlier n t g s .link u f ≡ some v → LinkReason earlier n t g s u f v
   unfolding differenceAlong difference
-  rows-reason u f v r e =
-      reason-tells operands (over-map n t g s general below) byNumber by-number-order s-size
+  rows-reason {earlier} strict u f v r e =
+      reason-tells operands (over-map n t g s general below) earlier strict s-size
       (λ v. Option·getD (wantedAt n t s g v) noLabel) (u, f) v r e
 
 -- Of two accepted records.
 module _ (n : ℕ) (t a b : List ℕ) (g s : List (Row Label)) (given : Given n t a b g s) where
-  pub link-reasons : Below (tableLabels n t) (graphOfRows s) (graphOfRows g) → (u f v : ℕ) →
-      Reached (graphOfRows (numbered (canonical eqb (graphOfRows s)))) u → remainder n t g s .link u f ≡ some v →
-      LinkReason n t g (numbered (canonical eqb (graphOfRows s))) u f v
-  link-reasons below =
+  pub link-reasons : {earlier : Link ℕ → Link ℕ → Bool} → StrictOrder earlier → Below (tableLabels n t) (graphOfRows s) (graphOfRows g) → (u f v : ℕ) →
+      Reached (graphOfRows (numbered (canonical eqb (graphOfRows s)))) u → remainder earlier n t g s .link u f ≡ some v →
+      LinkReason earlier n t g (numbered (canonical eqb (graphOfRows s))) u f v
+  link-reasons {earlier} strict below =
       subst
-      (λ (rows : List (Row Label)). (u f v : ℕ) → Reached (graphOfRows rows) u → differenceRows n t g rows .link u f ≡ some v → LinkReason n t g rows u f v)
+      (λ (rows : List (Row Label)). (u f v : ℕ) → Reached (graphOfRows rows) u → differenceRows earlier n t g rows .link u f ≡ some v → LinkReason earlier n t g rows u f v)
       (sym (ap numbered (form-is n t a b g s given)))
       (rows-reason n t g (form n t a b g s given) (general-rules n t a b g s given) (form-rules n t a b g s given below)
-      (form-below n t a b g s given below))
+      (form-below n t a b g s given below) strict)
 
-  pub reasons-are : reasonsOf n t a b ≡
-      alongLinks (remainder n t g s) (λ l v. reasonFor n t g (numbered (canonical eqb (graphOfRows s))) l v) (writtenOrder eqb (remainder n t g s))
+  pub reasons-are : (earlier : Link ℕ → Link ℕ → Bool) → reasonsOf earlier n t a b ≡
+      alongLinks (remainder earlier n t g s) (λ l v. reasonFor earlier n t g (numbered (canonical eqb (graphOfRows s))) l v) (writtenOrder eqb (remainder earlier n t g s))
   unfolding reasonsOf reasonsAlong
-  reasons-are = rw (given .first, given .second)
+  reasons-are earlier = rw (given .first, given .second)
 
-  pub reasons-count : (rows : List (Row Label)) → canonical eqb (remainder n t g s) ≡ written rows → length (reasonsOf n t a b) ≡ linksIn rows
-  reasons-count rows e =
-      ap length reasons-are
-      ∙ written-length eqb (remainder n t g s) (λ l v. reasonFor n t g (numbered (canonical eqb (graphOfRows s))) l v) rows e
+  pub reasons-count : (earlier : Link ℕ → Link ℕ → Bool) (rows : List (Row Label)) → canonical eqb (remainder earlier n t g s) ≡ written rows → length (reasonsOf earlier n t a b) ≡ linksIn rows
+  reasons-count earlier rows e =
+      ap length (reasons-are earlier)
+      ∙ written-length eqb (remainder earlier n t g s) (λ l v. reasonFor earlier n t g (numbered (canonical eqb (graphOfRows s))) l v) rows e
 
 -- Beside the plain call, whatever is handed in.
 module _ (plain : Result) (reasons out old : List ℕ) where
@@ -122,33 +126,35 @@ module _ (plain : Result) (reasons out old : List ℕ) where
   pub beside-refused : lengthOf (plain .reply) ≡ none → beside plain reasons out old ≡ explainedResult (plain .reply) out old
   beside-refused e = ap (λ (o : Option ℕ). lengthBeside o plain reasons out old) e
 
--- The plain call never gives 22.
+-- What follows the table gives no number above 18.
 
-module _ (n : ℕ) (t out : List ℕ) where
-  replied : (w : Written) → replyOf w ≡ replies.NoReasonRoom → ⊥
-  replied (outcome.Length l) e = let z : _≡_ {A = ℕ} 0 1 = cc in omega arith
-  replied outcome.TooLarge e = let z : _≡_ {A = ℕ} 0 1 = cc in omega arith
-  replied outcome.NoRoom e = let z : _≡_ {A = ℕ} 0 1 = cc in omega arith
+module _ (earlier : Link ℕ → Link ℕ → Bool) (n : ℕ) (t out : List ℕ) {k : ℕ} (high : 18 < k) where
+  low : {m : ℕ} → m ≤ 18 → some m ≡ some k → ⊥
+  low l e = omega (arith, some-injective e)
 
-  chosen : (lies all : Bool) (o : Outcome) →
-      cond lies (cond all (resultOf o) (refusing replies.NoWantedType out)) (refusing replies.NotBelow out) .reply ≡ replies.NoReasonRoom → ⊥
-  chosen true true o e = replied (o .answer) e
-  chosen true false o e = let z : _≡_ {A = ℕ} 0 1 = cc in omega arith
-  chosen false all o e = let z : _≡_ {A = ℕ} 0 1 = cc in omega arith
+  graph-low : (fault : GraphFault) → graphNumber fault ≤ 18
+  graph-low faults.Malformed = omega arith
+  graph-low faults.OutOfRange = omega arith
+  graph-low faults.Cyclic = omega arith
+  graph-low faults.Unreached = omega arith
+  graph-low faults.Inappropriate = omega arith
 
-  called : (o : Opened) (x y : Reading) →
-      checked (λ r. refusing r out) o (readBoth (λ r. refusing r out) x y (differedRows n t out)) .reply ≡ replies.NoReasonRoom → ⊥
+  chosen-low : (lies all : Bool) (o : Outcome) →
+      refusal (cond lies (cond all (resultOf o) (refusing replies.NoWantedType out)) (refusing replies.NotBelow out) .reply) ≡ some k → ⊥
+  chosen-low true true o e = other-refusal (o .answer) k e (λ z. omega arith) (λ z. omega arith)
+  chosen-low true false o e = low {m = 13} (omega arith) e
+  chosen-low false all o e = low {m = 12} (omega arith) e
+
+  read-low : (x y : Reading) → refusal (readBoth (λ r. refusing r out) x y (differedRows earlier n t out) .reply) ≡ some k → ⊥
   unfolding differedRows differed
-  called (opened.Refused fault) x y e = let z : _≡_ {A = ℕ} 0 1 = cc in omega arith
-  called opened.Accepted (refused fault) y e = let z : _≡_ {A = ℕ} 0 1 = cc in omega arith
-  called opened.Accepted (accepted g) (refused fault) e = let z : _≡_ {A = ℕ} 0 1 = cc in omega arith
-  called opened.Accepted (accepted g) (accepted s) e =
+  read-low (refused fault) y e = low (graph-low fault) e
+  read-low (accepted g) (refused fault) e = low (graph-low fault) e
+  read-low (accepted g) (accepted s) e =
       let rows = numbered (canonical eqb (graphOfRows s)) in
-      chosen (rowsBelow n t rows g) (allWanted n t rows g) (writtenOut (canonical eqb (differenceRows n t g rows)) out) e
+      chosen-low (rowsBelow n t rows g) (allWanted n t rows g) (writtenOut (canonical eqb (differenceRows earlier n t g rows)) out) e
 
-  plain-other : (a b : List ℕ) → differing n t a b out .reply ≡ replies.NoReasonRoom → ⊥
-  unfolding differing
-  plain-other a b = called (table.opened n t) (reading n a) (reading n b)
+  pub parting-low : (a b : List ℕ) → refusal (parting earlier n t a b out .reply) ≡ some k → ⊥
+  parting-low a b = read-low (reading n a) (reading n b)
 
 -- the reply that tells a length
 length-told : (r : Reply) (l : ℕ) → lengthOf r ≡ some l → r ≡ replies.Length l
@@ -163,34 +169,50 @@ length-told r l e = kind-injective r (replies.Length l) (go (kindOf r) e)
     go (kind.Refused number) q = none-some q
     go (kind.RefusedGraph number side) q = none-some q
 
-pub no-room-exact : (n : ℕ) (t a b out old : List ℕ) → (explaining n t a b out old .reply ≡ replies.NoReasonRoom) ↔
-    ((l : ℕ) × (differing n t a b out .reply ≡ replies.Length l) × (length old < length (reasonsOf n t a b)))
-unfolding explaining
-no-room-exact n t a b out old = (
+-- 22 exactly where the reasons do not fit beside a plain call that never gives it
+pub no-room-exact : (plain : Result) (reasons out old : List ℕ) → (plain .reply ≡ replies.NoReasonRoom → ⊥) →
+    (beside plain reasons out old .reply ≡ replies.NoReasonRoom) ↔
+    ((l : ℕ) × (plain .reply ≡ replies.Length l) × (length old < length reasons))
+no-room-exact plain reasons out old never = (
   λ e. there (lengthOf (plain .reply)) refl e,
   λ (l, e, h). ap (λ (x : Explained). x .reply) (beside-short plain reasons out old l e h),
 )
   where
-    plain : Result
-    plain = differing n t a b out
-
-    reasons : List ℕ
-    reasons = reasonsOf n t a b
-
-    fits : (l : ℕ) → differing n t a b out .reply ≡ replies.Length l → (c : Bool) → leb (length (reasonsOf n t a b)) (length old) ≡ c →
-        beside (differing n t a b out) (reasonsOf n t a b) out old .reply ≡ replies.NoReasonRoom → length old < length (reasonsOf n t a b)
-    fits l q false c e = leb-false (length (reasonsOf n t a b)) (length old) c
+    fits : (l : ℕ) → plain .reply ≡ replies.Length l → (c : Bool) → leb (length reasons) (length old) ≡ c →
+        beside plain reasons out old .reply ≡ replies.NoReasonRoom → length old < length reasons
+    fits l q false c e = leb-false (length reasons) (length old) c
     fits l q true c e =
         let z : _≡_ {A = ℕ} 0 1 =
         cc (sym (ap (λ (x : Explained). x .reply)
-        (beside-room (differing n t a b out) (reasonsOf n t a b) out old l q (leb-true (length (reasonsOf n t a b)) (length old) c))) ∙ e) in
+        (beside-room plain reasons out old l q (leb-true (length reasons) (length old) c))) ∙ e) in
         absurd (omega arith)
 
-    there : (o : Option ℕ) → lengthOf (differing n t a b out .reply) ≡ o →
-        beside (differing n t a b out) (reasonsOf n t a b) out old .reply ≡ replies.NoReasonRoom →
-        (l : ℕ) × (differing n t a b out .reply ≡ replies.Length l) × (length old < length (reasonsOf n t a b))
-    there none q e =
-        absurd (plain-other n t out a b (sym (ap (λ (x : Explained). x .reply) (beside-refused (differing n t a b out) (reasonsOf n t a b) out old q)) ∙ e))
+    there : (o : Option ℕ) → lengthOf (plain .reply) ≡ o → beside plain reasons out old .reply ≡ replies.NoReasonRoom →
+        (l : ℕ) × (plain .reply ≡ replies.Length l) × (length old < length reasons)
+    there none q e = absurd (never (sym (ap (λ (x : Explained). x .reply) (beside-refused plain reasons out old q)) ∙ e))
     there (some l) q e =
-        let told = length-told (differing n t a b out .reply) l q in
-        (l, told, fits l told (leb (length (reasonsOf n t a b)) (length old)) refl e)
+        let told = length-told (plain .reply) l q in
+        (l, told, fits l told (leb (length reasons) (length old)) refl e)
+
+-- The calls for a difference never give 22.
+table-low : (fault : TableFault) → replies.Table fault ≡ replies.NoReasonRoom → ⊥
+table-low fault e = let z : _≡_ {A = ℕ} 0 1 = cc in omega arith
+
+pub differing-other : (n : ℕ) (t a b out : List ℕ) → differing n t a b out .reply ≡ replies.NoReasonRoom → ⊥
+unfolding differing
+differing-other n t a b out e = go (table.opened n t) e
+  where
+    go : (o : Opened) → checked (λ r. refusing r out) o (parting byNumber n t a b out) .reply ≡ replies.NoReasonRoom → ⊥
+    go (opened.Refused fault) q = table-low fault q
+    go opened.Accepted q = parting-low byNumber n t out {k = 22} (omega arith) a b (ap refusal q)
+
+pub differing-by-other : (n : ℕ) (t list a b out : List ℕ) → differingBy n t list a b out .reply ≡ replies.NoReasonRoom → ⊥
+unfolding differingBy
+differing-by-other n t list a b out e = go (table.opened n t) (isReadingOrder list) e
+  where
+    go : (o : Opened) (listed : Bool) →
+        checked (λ r. refusing r out) o (cond listed (parting (byReading list) n t a b out) (refusing replies.ReadingOrder out)) .reply ≡
+        replies.NoReasonRoom → ⊥
+    go (opened.Refused fault) listed q = table-low fault q
+    go opened.Accepted true q = parting-low (byReading list) n t out {k = 22} (omega arith) a b (ap refusal q)
+    go opened.Accepted false q = let z : _≡_ {A = ℕ} 0 1 = cc in omega arith

@@ -1,7 +1,7 @@
 -- The difference of rows that keep the rules of accepted records, s below g, where every node of s has a wanted label: it is the difference
 -- that the theory of graphs speaks of, over the table's lattice of labels.
 use mathlib.Core.Path.{_≡_, refl, sym, _∙_, ap, ap₂, subst}
-use mathlib.Core.Bool.{true}
+use mathlib.Core.Bool.{Bool, true}
 use mathlib.Core.List.{List}
 use mathlib.Core.Logic.{inl, inr, ⊎-elim}
 use mathlib.Core.Option.{Option, some, Option·getD}
@@ -10,10 +10,9 @@ use lib.Dec.{eqb}
 use lib.ListN.{length}
 use Rattle.graphs.specs.Graph.{Graph, walk, Reached, Below}
 use Rattle.graphs.specs.Rows.{Row, from}
-use Rattle.graphs.specs.Difference.{IsWanted, byNumber, meetOver, difference}
+use Rattle.graphs.specs.Difference.{Link, StrictOrder, IsWanted, meetOver, difference}
 use Rattle.graphs.proofs.Walk.{some-injective, snoc-induction, follow-nil, follow-last, reached-root, reached-link}
 use Rattle.graphs.proofs.Lists.{tells-eqb}
-use Rattle.graphs.proofs.Difference.ByNumber.{by-number-order}
 use Rattle.graphs.proofs.Difference.Computed.{Setting}
 use Rattle.lattice.specs.Label.{Label, noLabel}
 use Rattle.lattice.specs.Table as table
@@ -104,62 +103,63 @@ module _ (n : ℕ) (t : List ℕ) (ok : table.accepted n t ≡ true) (g s : List
         (ap₂ (wantedLabel n t) (s-label n t ok g s general specific below v) (sym (meet-label n t ok g s general specific below v)) ∙ e ∙
         ap some (sym (ap orNone e)))
 
-    -- the difference by those labels
-    abbrev byLabels : Graph Label ℕ
-    byLabels =
-        difference (tableLabels n t) eqb eqb byNumber (graphOfRows s) (from 0 (length s)) (graphOfRows g) (from 0 (length g)) (over s g)
-        (λ v. wantedOf v .0)
+    module _ {earlier : Link ℕ → Link ℕ → Bool} (strict : StrictOrder earlier) where
+      -- the difference by those labels
+      abbrev byLabels : Graph Label ℕ
+      byLabels =
+          difference (tableLabels n t) eqb eqb earlier (graphOfRows s) (from 0 (length s)) (graphOfRows g) (from 0 (length g)) (over s g)
+          (λ v. wantedOf v .0)
 
-    rows-difference : differenceRows n t g s ≡ byLabels
-    unfolding differenceAlong
-    rows-difference = refl
+      rows-difference : differenceRows earlier n t g s ≡ byLabels
+      unfolding differenceAlong
+      rows-difference = refl
 
-    setting : Setting (lawful n t ok) eqb eqb byNumber (lift n t ok (graphOfRows s)) (from 0 (length s)) (lift n t ok (graphOfRows g))
-        (from 0 (length g)) (over s g) wantedOf
-    setting =
-        record {
-          lattice = lawful-lattice n t ok;
-          operands = operands n t ok g s general specific below;
-          order = by-number-order;
-          sound = lift-any-size n t ok (graphOfRows s) s-size;
-          map = map-lift n t ok (graphOfRows s) (graphOfRows g) (s-size .typed) (g-size .typed) (over s g) .0 (over-map n t g s general below);
-          wants = λ v _. wanted-is v;
-        }
+      setting : Setting (lawful n t ok) eqb eqb earlier (lift n t ok (graphOfRows s)) (from 0 (length s)) (lift n t ok (graphOfRows g))
+          (from 0 (length g)) (over s g) wantedOf
+      setting =
+          record {
+            lattice = lawful-lattice n t ok;
+            operands = operands n t ok g s general specific below;
+            order = strict;
+            sound = lift-any-size n t ok (graphOfRows s) s-size;
+            map = map-lift n t ok (graphOfRows s) (graphOfRows g) (s-size .typed) (g-size .typed) (over s g) .0 (over-map n t g s general below);
+            wants = λ v _. wanted-is v;
+          }
 
-    -- It is no larger than s, so that it always can be written.
-    pub rows-small : Large (differenceRows n t g s) → ⊥
-    unfolding difference
-    rows-small large =
-        ⊎-elim (few-nodes s (rules-linked specific) (specific .short)) (few-links s (specific .links))
-        (fewer-large byLabels (graphOfRows s) refl
-        (difference-links n t ok eqb eqb byNumber (graphOfRows s) (from 0 (length s)) (graphOfRows g) (from 0 (length g)) (over s g) wantedOf
-        s-size g-size setting)
-        (subst (λ (k : Graph Label ℕ). Large k) rows-difference large))
+      -- It is no larger than s, so that it always can be written.
+      pub rows-small : Large (differenceRows earlier n t g s) → ⊥
+      unfolding difference
+      rows-small large =
+          ⊎-elim (few-nodes s (rules-linked specific) (specific .short)) (few-links s (specific .links))
+          (fewer-large byLabels (graphOfRows s) refl
+          (difference-links n t ok eqb eqb earlier (graphOfRows s) (from 0 (length s)) (graphOfRows g) (from 0 (length g)) (over s g) wantedOf
+          s-size g-size setting)
+          (subst (λ (k : Graph Label ℕ). Large k) rows-difference large))
 
-    -- It restores s with g, and nothing more general does.
-    pub rows-restore : Restores n t (differenceRows n t g s) (graphOfRows g) (graphOfRows s)
-    rows-restore =
-        subst (λ (k : Graph Label ℕ). Restores n t k (graphOfRows g) (graphOfRows s)) (sym rows-difference)
-        (record {
-          of-any-size = size;
-          restores = best;
-          most-general = λ e c (above, strict) u is.
-              difference-most-general n t ok eqb eqb byNumber (graphOfRows s) (from 0 (length s)) (graphOfRows g) (from 0 (length g)) (over s g)
-              wantedOf s-size g-size setting e c above strict u is;
-          combines = λ same tells e c (above, _).
-              let (u, q) =
-              unification-exists n t ok same eqb tells tells-eqb e (graphOfRows g) c g-size (graphOfRows s) s-size
-              (below-transitive n t ok (graphOfRows s) byLabels e s-size size c (best .left) above) below in
-              let (bounded, is) = unification-combination n t ok same eqb tells tells-eqb e (graphOfRows g) c g-size u q in
-              (u, is, combination-greatest n t ok e (graphOfRows g) c g-size u bounded is);
-        })
-      where
-        size : OfAnySize n t byLabels
-        size =
-            difference-of-any-size n t ok eqb eqb byNumber (graphOfRows s) (from 0 (length s)) (graphOfRows g) (from 0 (length g)) (over s g)
-            wantedOf s-size g-size setting
+      -- It restores s with g, and nothing more general does.
+      pub rows-restore : Restores n t (differenceRows earlier n t g s) (graphOfRows g) (graphOfRows s)
+      rows-restore =
+          subst (λ (k : Graph Label ℕ). Restores n t k (graphOfRows g) (graphOfRows s)) (sym rows-difference)
+          (record {
+            of-any-size = size;
+            restores = best;
+            most-general = λ e c (above, strict) u is.
+                difference-most-general n t ok eqb eqb earlier (graphOfRows s) (from 0 (length s)) (graphOfRows g) (from 0 (length g)) (over s g)
+                wantedOf s-size g-size setting e c above strict u is;
+            combines = λ same tells e c (above, _).
+                let (u, q) =
+                unification-exists n t ok same eqb tells tells-eqb e (graphOfRows g) c g-size (graphOfRows s) s-size
+                (below-transitive n t ok (graphOfRows s) byLabels e s-size size c (best .left) above) below in
+                let (bounded, is) = unification-combination n t ok same eqb tells tells-eqb e (graphOfRows g) c g-size u q in
+                (u, is, combination-greatest n t ok e (graphOfRows g) c g-size u bounded is);
+          })
+        where
+          size : OfAnySize n t byLabels
+          size =
+              difference-of-any-size n t ok eqb eqb earlier (graphOfRows s) (from 0 (length s)) (graphOfRows g) (from 0 (length g)) (over s g)
+              wantedOf s-size g-size setting
 
-        best : GreatestOfAnySize n t byLabels (graphOfRows g) (graphOfRows s)
-        best =
-            difference-restores n t ok eqb eqb byNumber (graphOfRows s) (from 0 (length s)) (graphOfRows g) (from 0 (length g)) (over s g)
-            wantedOf s-size g-size setting
+          best : GreatestOfAnySize n t byLabels (graphOfRows g) (graphOfRows s)
+          best =
+              difference-restores n t ok eqb eqb earlier (graphOfRows s) (from 0 (length s)) (graphOfRows g) (from 0 (length g)) (over s g)
+              wantedOf s-size g-size setting

@@ -15,10 +15,13 @@ enum-known-opened c = search needs
 enum-told : tie.Need-enum-told
 enum-told c = search needs
 
+by-number-requires : tie.Need-by-number-requires
+by-number-requires c κs = search needs
+
 difference-over-requires : tie.Need-difference-over-requires
 difference-over-requires c κs =
-    let start = c .before .before .before .before .before .before .before .before in
-    opened-accepted (start .args .n) (start .args .table .now) _ (c .before .before .before .accept .ensures) (c .before .enum-told .given .1)
+    let start = c .before .before .before .before .before .before .before .before .before in
+    (opened-accepted (start .args .n) (start .args .table .now) _ (c .before .before .before .before .accept .ensures) (c .before .before .enum-told .given .1), c .before .by-number .ensures .0)
 
 returns : tie.Need-returns
 returns c =
@@ -31,12 +34,12 @@ same-length c = search needs
 
 returns-2 : tie.Need-returns-2
 returns-2 c =
-    let start = c .before .before .before .before .before .before .before .before .before .before .before in
+    let start = c .before .before .before .before .before .before .before .before .before .before .before .before in
     differing-accepted (start .args .n) (start .args .table .now) (start .args .first .now) (start .args .second .now) (start .args .out .now)
-    (sym (c .before .before .before .before .before .before .accept .ensures) ∙ c .before .before .before .before .enum-told .given .1)
+    (sym (c .before .before .before .before .before .before .before .accept .ensures) ∙ c .before .before .before .before .before .enum-told .given .1) (c .before .before .before .before .by-number .ensures .1)
     (c .before .before .difference-over .ensures)
 
 pub difference-spec : {M : Type 1} → statement M
 difference-spec =
     tie.close
-    (tie.spec accept-requires enum-known-opened enum-told difference-over-requires returns same-length returns-2)
+    (tie.spec accept-requires enum-known-opened enum-told by-number-requires difference-over-requires returns same-length returns-2)

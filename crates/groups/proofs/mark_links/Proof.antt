@@ -6,18 +6,20 @@ use Rattle.layout.specs.Layout.{longest, rowFrom}
 use Rattle.classes.proofs.Roots.{flattened}
 use Rattle.groups.specs.Cover.{Grouping}
 use Rattle.groups.proofs.Covering.{grouping-start, grouping-row, grouping-end, grouping-same, grouping-owned}
+use Rattle.groups.proofs.Ordering.{marks-by-order}
 use Rattle.groups.proofs.mark_links.Statement.{statement}
 use Rattle.groups.proofs.mark_links.Tie as tie
 use Rattle.classes.proofs.forest.flatten.Reads as flatten-reads
 use Rattle.classes.proofs.forest.separate.Reads as separate-reads
 use Rattle.groups.proofs.cover.cover_row.Reads as cover-row-reads
 use Rattle.groups.proofs.mark.Reads as mark-reads
+use Rattle.groups.proofs.reading.ranks.Reads as ranks-reads
 
 abbrev Inv-loop : tie.InvT-loop
-Inv-loop s g map marks owner₀ parent₀ nodes y₀ owner parent y = (y ≤ nodes) × Grouping s g map (rowFrom g y) owner parent
+Inv-loop s g map order marks owner₀ parent₀ nodes y₀ owner parent y = (y ≤ nodes) × Grouping s g map (rowFrom g y) owner parent
 
 abbrev μ-loop : tie.MeasureT-loop
-μ-loop s g map marks owner₀ parent₀ nodes y₀ owner parent y = nodes - y
+μ-loop s g map order marks owner₀ parent₀ nodes y₀ owner parent y = nodes - y
 
 separate-requires : tie.Need-separate-requires Inv-loop μ-loop
 separate-requires c κs = length-replicate {A = ℕ} 510 0
@@ -46,22 +48,27 @@ loop-again c = (omega (arith, c .before .before .before .loop-test .taken), grou
 flatten-requires : tie.Need-flatten-requires Inv-loop μ-loop
 flatten-requires c κs = c .before .before .loop .inv .1 .forest
 
+ranks-requires : tie.Need-ranks-requires Inv-loop μ-loop
+ranks-requires c κs = c .before .before .before .before .before .before .before .before .before .pre .1
+
 mark-requires : tie.Need-mark-requires Inv-loop μ-loop
 mark-requires c κs =
-    let start = c .before .before .before .before .before .before .before .before .before .before .before .before in
-    let flat = flattened (c .before .before .before .before .before .before .loop .inv .1 .forest) (c .before .before .before .flatten .ensures .0) (c .before .before .before .flatten .ensures .1) in
-    (grouping-owned (start .pre .0) (grouping-same (start .pre .0) (c .before .before .before .before .before .before .loop .inv .1) (flat .0)) (flat .1), start .pre .1)
+    let start = c .before .before .before .before .before .before .before .before .before .before .before .before .before .before in
+    let loop = c .before .before .before .before .before .before .before .before .loop in
+    let flat = flattened (loop .inv .1 .forest) (c .before .before .before .before .before .flatten .ensures .0) (c .before .before .before .before .before .flatten .ensures .1) in
+    (grouping-owned (start .pre .0) (grouping-same (start .pre .0) (loop .inv .1) (flat .0)) (flat .1), start .pre .2)
 
 returns : tie.Need-returns Inv-loop μ-loop
 returns c =
-    let start = c .before .before .before .before .before .before .before .before .before .before .before .before .before in
-    let loop = c .before .before .before .before .before .before .before .loop in
-    let flat = flattened (c .before .before .before .before .before .before .before .loop .inv .1 .forest) (c .before .before .before .before .flatten .ensures .0) (c .before .before .before .before .flatten .ensures .1) in
+    let start = c .before .before .before .before .before .before .before .before .before .before .before .before .before .before .before in
+    let loop = c .before .before .before .before .before .before .before .before .before .loop in
+    let flat = flattened (loop .inv .1 .forest) (c .before .before .before .before .before .before .flatten .ensures .0) (c .before .before .before .before .before .before .flatten .ensures .1) in
+    let grouping = grouping-same (start .pre .0) (loop .inv .1) (flat .0) in
     record {
       owner = _;
       parent = _;
-      grouping = grouping-end (loop .y) (grouping-same (start .pre .0) (loop .inv .1) (flat .0)) (loop .inv .0) (c .before .before .before .before .before .before .loop-test .left);
-      stands = c .mark .ensures;
+      grouping = grouping-end (loop .y) grouping (loop .inv .0) (c .before .before .before .before .before .before .before .before .loop-test .left);
+      stands = marks-by-order (grouping-owned (start .pre .0) grouping (flat .1)) (c .before .before .before .before .before .ranks .ensures) (c .mark .ensures);
     }
 
 pub mark-links-spec : {M : Type 1} → statement M
@@ -79,5 +86,6 @@ mark-links-spec =
     loop-less
     loop-again
     flatten-requires
+    ranks-requires
     mark-requires
     returns)

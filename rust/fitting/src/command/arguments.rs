@@ -13,6 +13,8 @@ pub struct Arguments {
     pub over: Option<String>,
     /// `--why`
     pub why: bool,
+    /// `--by FEATURES`
+    pub by: Option<String>,
 }
 
 impl Arguments {
@@ -24,6 +26,7 @@ impl Arguments {
             output: None,
             over: None,
             why: false,
+            by: None,
         };
         let mut waiting = arguments.iter();
         let mut options_end = false;
@@ -53,13 +56,14 @@ impl Arguments {
             let name = self.command.name;
             return Err(self.misused(&format!("`{name}` has no option `{option}`")));
         }
-        let mut file = || match waiting.next() {
-            Some(file) => Ok(Some(file.clone())),
-            None => Err(self.misused(&format!("`{option}` needs a file behind it"))),
+        let mut value = |what: &str| match waiting.next() {
+            Some(value) => Ok(Some(value.clone())),
+            None => Err(self.misused(&format!("`{option}` needs {what} behind it"))),
         };
         match option {
-            "-o" => self.output = file()?,
-            "--over" => self.over = file()?,
+            "-o" => self.output = value("a file")?,
+            "--over" => self.over = value("a file")?,
+            "--by" => self.by = value("features")?,
             _ => self.why = true,
         }
         Ok(())

@@ -287,6 +287,12 @@ pub fn graph_well_above(random: &mut Xorshift, table: &Table, graph: &Graph) -> 
     above
 }
 
+/// A graph well above another, and that one, which has many nodes of type 1.
+pub fn low_pair(random: &mut Xorshift, table: &Table, shape: &Shape) -> (Graph, Graph) {
+    let low = low_graph(random, table.n(), shape);
+    (graph_well_above(random, table, &low), low)
+}
+
 /// The graph without one of its links, if it has any.
 fn dropped(random: &mut Xorshift, graph: &Graph) -> Option<Graph> {
     let links = graph.incoming().concat();

@@ -2,7 +2,7 @@
 //! without, valid and damaged in each way that document 01 and Paper 7 refuse.
 
 use super::Xorshift;
-use super::graphs::{Ranges, Shape, graph, graph_well_above, label, low_graph, pair, range};
+use super::graphs::{Ranges, Shape, graph, label, low_pair, pair, range};
 use super::tables::{TableBytes, damaged_table, rival_table, valid_table};
 use crate::graph::{Graph, Node};
 use crate::label::Range;
@@ -159,6 +159,17 @@ pub fn pair_of_records(
     shape: &Shape,
     ranges: Ranges,
 ) -> [Vec<u8>; 2] {
+    records_of_pair(random, table, shape, ranges, pair)
+}
+
+/// The same for pairs of graphs of any kind.
+pub(super) fn records_of_pair(
+    random: &mut Xorshift,
+    table: &TableBytes,
+    shape: &Shape,
+    ranges: Ranges,
+    pair: impl FnOnce(&mut Xorshift, &Table, &Shape) -> (Graph, Graph),
+) -> [Vec<u8>; 2] {
     // A table that is refused may state any n.
     let n = table.n.clamp(2, MOST_TYPES);
     let mut records = match Table::accept(table.n, &table.bytes) {
@@ -189,10 +200,7 @@ pub fn mapcalc_input(random: &mut Xorshift, ranges: Ranges) -> Vec<u8> {
             let shape = Shape::any(random).ranged(random, ranges);
             let (first, second) = match kind {
                 // Their difference often has a node without a wanted type.
-                1 => {
-                    let low = low_graph(random, table.n, &shape);
-                    (graph_well_above(random, &accepted, &low), low)
-                }
+                1 => low_pair(random, &accepted, &shape),
                 _ => pair(random, &accepted, &shape),
             };
             let first = record_of(random, &first, ranges);

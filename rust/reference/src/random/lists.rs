@@ -6,8 +6,7 @@ use super::Xorshift;
 use super::graphs::{Ranges, Shape, pair, type_above};
 use super::inputs::{damaged_record, record_of, valid_record};
 use super::tables::{TableBytes, damaged_table, valid_table};
-use crate::appropriateness::FEATURES;
-use crate::graph::{Feature, Graph};
+use crate::graph::{FEATURES, Feature, Graph};
 use crate::table::{CONTRADICTION, MOST_TYPES, Table, Type};
 
 /// A list that all these graphs obey. Every other entry is the least there can be, which
@@ -48,14 +47,7 @@ pub fn broken_list(
 /// The list with a length that is not 64 or with entries that are not types.
 pub fn damaged_list(random: &mut Xorshift, n: usize, mut list: Vec<u8>) -> Vec<u8> {
     match random.pick(5) {
-        0 => list.truncate(FEATURES - 1),
-        1 => list.push(random.pick(n) as u8),
-        2 => {
-            let shorter = random.pick(FEATURES);
-            let longer = random.between(FEATURES + 1, 3 * FEATURES);
-            let length = *random.choose(&[shorter, longer]);
-            list.resize(length, 0);
-        }
+        kind @ 0..3 => resize(random, kind, n, &mut list),
         _ => {
             for _ in 0..random.between(1, 2) {
                 let any = random.between(n, 255);
@@ -64,6 +56,21 @@ pub fn damaged_list(random: &mut Xorshift, n: usize, mut list: Vec<u8>) -> Vec<u
         }
     }
     list
+}
+
+/// Gives a list another length than 64, in one of three ways: 63, 65 with a last entry
+/// below the bound, or any.
+pub(super) fn resize(random: &mut Xorshift, kind: usize, bound: usize, list: &mut Vec<u8>) {
+    match kind {
+        0 => list.truncate(FEATURES - 1),
+        1 => list.push(random.pick(bound) as u8),
+        _ => {
+            let shorter = random.pick(FEATURES);
+            let longer = random.between(FEATURES + 1, 3 * FEATURES);
+            let length = *random.choose(&[shorter, longer]);
+            list.resize(length, 0);
+        }
+    }
 }
 
 /// A list for some graphs: obeyed by all, or broken by one and obeyed by some of the

@@ -4,14 +4,17 @@ use Prim.Native.Nat.{ℕ}
 use borrow.Author.Tests.{not-true, not-false}
 use lib.ListN.{length-replicate}
 use Rattle.lattice.proofs.Laws.{accepted-size}
-use Rattle.difference.proofs.Result.{answers-wanted}
+use Rattle.layout.specs.Layout.{longest}
+use Rattle.groups.specs.Reading.{earlierBy}
+use Rattle.difference.proofs.Result.{answers-wanted, lying-words}
 use Rattle.engine.proofs.Readings.{ready}
-use Rattle.engine.proofs.Differing.{loaded-accepts, ready-below, differed-refused, differed-unwanted, differed-as}
+use Rattle.engine.proofs.Differing.{loaded-accepts, ready-below, prepared-below, differed-refused, differed-unwanted, differed-as}
 use borrow.Author.Needs.{needs}
 use Rattle.engine.proofs.differences.difference_below.Statement.{statement}
 use Rattle.engine.proofs.differences.difference_below.Tie as tie
 use Rattle.difference.proofs.difference.Reads as difference-reads
 use Rattle.difference.proofs.wanted.wanted_labels.Reads as wanted-labels-reads
+use Rattle.groups.proofs.mark_links.Reads as mark-links-reads
 use Rattle.engine.proofs.reply_of.Reads as reply-of-reads
 use Rattle.subsume.proofs.subsume.Reads as subsume-reads
 
@@ -29,7 +32,7 @@ enum-told-2 c = search needs
 returns : tie.Need-returns
 returns c =
     let start = c .before .before .before .before .before .before .before in
-    differed-refused (start .args .n) (start .args .table .now) (start .args .out .now) (start .args .g .now) (start .args .s .now)
+    differed-refused (earlierBy (start .args .order)) (start .args .n) (start .args .table .now) (start .args .out .now) (start .args .g .now) (start .args .s .now)
     (loaded-accepts (start .pre .0 .general)) (c .before .before .subsume .ensures (start .args .n)) (c .enum-told2 .given .1)
 
 wanted-labels-requires : tie.Need-wanted-labels-requires
@@ -44,16 +47,25 @@ returns-2 c =
     let start = c .before .before .before .before .before .before .before .before .before .before .before .before in
     let asked =
     ready-below (start .args .n) (start .args .table .now) (start .args .g .now) (start .args .s .now) (start .pre .0) (c .before .before .before .before .before .before .before .subsume .ensures (start .args .n)) (c .before .before .before .before .before .enum-told .given .1) in
-    differed-unwanted (start .args .n) (start .args .table .now) (start .args .out .now) (start .args .g .now) (start .args .s .now)
+    differed-unwanted (earlierBy (start .args .order)) (start .args .n) (start .args .table .now) (start .args .out .now) (start .args .g .now) (start .args .s .now)
     (loaded-accepts (start .pre .0 .general)) (c .before .before .before .before .before .before .before .subsume .ensures (start .args .n)) (c .before .before .before .before .before .enum-told .given .1)
     (sym (not-true _ (c .if1 .taken)) ∙ answers-wanted asked (c .before .wanted-labels .ensures))
 
+mark-links-requires : tie.Need-mark-links-requires
+mark-links-requires c κs =
+    let start = c .before .before .before .before .before .before .before .before .before .before .before .before .before .before in
+    let asked =
+    ready-below (start .args .n) (start .args .table .now) (start .args .g .now) (start .args .s .now) (start .pre .0) (c .before .before .before .before .before .before .before .before .before .subsume .ensures (start .args .n)) (c .before .before .before .before .before .before .before .enum-told .given .1) in
+    (lying-words asked, start .pre .1, length-replicate {A = ℕ} longest 0)
+
 difference-requires : tie.Need-difference-requires
 difference-requires c κs =
-    let start = c .before .before .before .before .before .before .before .before .before .before .before .before .before .before .before .before in
+    let start = c .before .before .before .before .before .before .before .before .before .before .before .before .before .before .before .before .before .before .before in
     let asked =
-    ready-below (start .args .n) (start .args .table .now) (start .args .g .now) (start .args .s .now) (start .pre .0) (c .before .before .before .before .before .before .before .before .before .before .before .subsume .ensures (start .args .n)) (c .before .before .before .before .before .before .before .before .before .enum-told .given .1) in
-    ((asked, c .before .before .before .before .before .wanted-labels .ensures .wants (not-false _ (c .before .before .before .before .if1 .left))), start .pre .1)
+    ready-below (start .args .n) (start .args .table .now) (start .args .g .now) (start .args .s .now) (start .pre .0) (c .before .before .before .before .before .before .before .before .before .before .before .before .before .before .subsume .ensures (start .args .n)) (c .before .before .before .before .before .before .before .before .before .before .before .before .enum-told .given .1) in
+    let given =
+    prepared-below (start .args .order) (start .args .n) (start .args .table .now) (start .args .g .now) (start .args .s .now) asked (c .before .before .before .before .before .before .before .before .wanted-labels .ensures) (not-false _ (c .before .before .before .before .before .before .before .if1 .left)) (c .before .before .before .before .mark-links .ensures) in
+    ((_, _, _, given), start .pre .2)
 
 reply-of-requires : tie.Need-reply-of-requires
 reply-of-requires c κs = search needs
@@ -63,13 +75,16 @@ same-length c = search needs
 
 returns-3 : tie.Need-returns-3
 returns-3 c =
-    let start = c .before .before .before .before .before .before .before .before .before .before .before .before .before .before .before .before .before .before .before .before in
-    let asked =
-    ready-below (start .args .n) (start .args .table .now) (start .args .g .now) (start .args .s .now) (start .pre .0) (c .before .before .before .before .before .before .before .before .before .before .before .before .before .before .before .subsume .ensures (start .args .n)) (c .before .before .before .before .before .before .before .before .before .before .before .before .before .enum-told .given .1) in
-    differed-as (start .args .n) (start .args .table .now) (start .args .out .now) (start .args .g .now) (start .args .s .now)
-    (loaded-accepts (start .pre .0 .general)) (c .before .before .before .before .before .before .before .before .before .before .before .before .before .before .before .subsume .ensures (start .args .n)) (c .before .before .before .before .before .before .before .before .before .before .before .before .before .enum-told .given .1)
-    (sym (not-false _ (c .before .before .before .before .before .before .before .before .if1 .left)) ∙ answers-wanted asked (c .before .before .before .before .before .before .before .before .before .wanted-labels .ensures))
-    (c .before .before .before .difference .ensures) (c .reply-of .ensures)
+    let start = c .before .before .before .before .before .before .before .before .before .before .before .before .before .before .before .before .before .before .before .before .before .before .before in
+    let orders = c .before .before .before .before .before .before .before .before .before .before .before .before .before .before .before .before .before .before .subsume .ensures (start .args .n) in
+    let below = c .before .before .before .before .before .before .before .before .before .before .before .before .before .before .before .before .enum-told .given .1 in
+    let asked = ready-below (start .args .n) (start .args .table .now) (start .args .g .now) (start .args .s .now) (start .pre .0) orders below in
+    let wants = c .before .before .before .before .before .before .before .before .before .before .before .before .wanted-labels .ensures in
+    let all = not-false _ (c .before .before .before .before .before .before .before .before .before .before .before .if1 .left) in
+    differed-as (earlierBy (start .args .order)) (start .args .n) (start .args .table .now) (start .args .out .now) (start .args .g .now) (start .args .s .now)
+    (loaded-accepts (start .pre .0 .general)) orders below (sym all ∙ answers-wanted asked wants)
+    (c .before .before .before .difference .ensures _ _ _ (prepared-below (start .args .order) (start .args .n) (start .args .table .now) (start .args .g .now) (start .args .s .now) asked wants all (c .before .before .before .before .before .before .before .before .mark-links .ensures)))
+    (c .reply-of .ensures)
 
 pub difference-below-spec : {M : Type 1} → statement M
 difference-below-spec =
@@ -81,6 +96,7 @@ difference-below-spec =
     returns
     wanted-labels-requires
     returns-2
+    mark-links-requires
     difference-requires
     reply-of-requires
     same-length

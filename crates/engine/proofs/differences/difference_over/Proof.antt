@@ -2,6 +2,7 @@
 use Prim.Native.Nat.{ℕ}
 use native.Mathlib.Omega.{arith}
 use lib.ListN.{length-replicate}
+use Rattle.groups.specs.Reading.{earlierBy}
 use Rattle.engine.proofs.Readings.{both-accept}
 use Rattle.engine.proofs.Differing.{accepts-loaded, renumbered, parting-refused, parting-both}
 use borrow.Author.Needs.{needs}
@@ -40,18 +41,19 @@ difference-below-requires c κs =
     let given = both-accept (start .args .n) (start .args .first .now) (start .args .second .now) (c .before .before .before .before .before .before .before .before .before .read-both .ensures) (c .before .before .before .before .before .before .before .enum-told .given .1) in
     let renumber = c .before .before .before .before .renumber .ensures in (
       record {
-        accepts = start .pre;
+        accepts = start .pre .0;
         general = accepts-loaded (given .0);
         specific = renumbered (start .args .n) _ (accepts-loaded (given .1)) (renumber .0) .loaded;
         short = omega (arith, renumber .1);
       },
+      start .pre .1,
       c .before .before .before .before .before .before .before .before .before .read-both .ensures .other-long,
     )
 
 returns : tie.Need-returns
 returns c =
     let start = c .before .before .before .before .before .before .before .before .before .before in
-    parting-refused (start .args .n) (start .args .table .now) (start .args .first .now) (start .args .second .now) (start .args .out .now) (c .before .before .before .read-both .ensures) _ _ (c .before .verdict .given .1)
+    parting-refused (earlierBy (start .args .order)) (start .args .n) (start .args .table .now) (start .args .first .now) (start .args .second .now) (start .args .out .now) (c .before .before .before .read-both .ensures) _ _ (c .before .verdict .given .1)
 
 same-length : tie.Need-same-length
 same-length c = search needs
@@ -60,7 +62,7 @@ returns-2 : tie.Need-returns-2
 returns-2 c =
     let start = c .before .before .before .before .before .before .before .before .before .before .before .before .before .before .before .before .before .before .before in
     let given = both-accept (start .args .n) (start .args .first .now) (start .args .second .now) (c .before .before .before .before .before .before .before .before .before .before .before .before .read-both .ensures) (c .before .before .before .before .before .before .before .before .before .before .enum-told .given .1) in
-    parting-both (start .args .n) (start .args .table .now) (start .args .first .now) (start .args .second .now) (start .args .out .now) given
+    parting-both (earlierBy (start .args .order)) (start .args .n) (start .args .table .now) (start .args .first .now) (start .args .second .now) (start .args .out .now) given
     (renumbered (start .args .n) _ (accepts-loaded (given .1)) (c .before .before .before .before .before .before .before .renumber .ensures .0)) (c .before .before .difference-below .ensures)
 
 pub difference-over-spec : {M : Type 1} → statement M

@@ -2,6 +2,7 @@
 use Prim.Native.Nat.{ℕ}
 use native.Mathlib.Omega.{arith}
 use lib.ListN.{length-replicate}
+use Rattle.groups.specs.Reading.{earlierBy}
 use Rattle.engine.proofs.Readings.{both-accept}
 use Rattle.engine.proofs.Differing.{accepts-loaded, renumbered}
 use Rattle.engine.proofs.Explaining.{explain-refused, explain-both}
@@ -37,18 +38,20 @@ explain-below-requires : tie.Need-explain-below-requires
 explain-below-requires c κs =
     let start = c .before .before .before .before .before .before .before .before .before .before .before .before .before .before .before .before .before in
     let given = both-accept (start .args .n) (start .args .first .now) (start .args .second .now) (c .before .before .before .before .before .before .before .before .before .read-both .ensures) (c .before .before .before .before .before .before .before .enum-told .given .1) in
-    let renumber = c .before .before .before .before .renumber .ensures in
-    record {
-      accepts = start .pre;
-      general = accepts-loaded (given .0);
-      specific = renumbered (start .args .n) _ (accepts-loaded (given .1)) (renumber .0) .loaded;
-      short = omega (arith, renumber .1);
-    }
+    let renumber = c .before .before .before .before .renumber .ensures in (
+      record {
+        accepts = start .pre .0;
+        general = accepts-loaded (given .0);
+        specific = renumbered (start .args .n) _ (accepts-loaded (given .1)) (renumber .0) .loaded;
+        short = omega (arith, renumber .1);
+      },
+      start .pre .1,
+    )
 
 returns : tie.Need-returns
 returns c =
     let start = c .before .before .before .before .before .before .before .before .before .before .before in
-    explain-refused (start .args .n) (start .args .table .now) (start .args .first .now) (start .args .second .now) (start .args .out .now) (start .args .reasons .now) (c .before .before .before .read-both .ensures) _ _ (c .before .verdict .given .1)
+    explain-refused (earlierBy (start .args .order)) (start .args .n) (start .args .table .now) (start .args .first .now) (start .args .second .now) (start .args .out .now) (start .args .reasons .now) (c .before .before .before .read-both .ensures) _ _ (c .before .verdict .given .1)
 
 same-length : tie.Need-same-length
 same-length c = search needs
@@ -60,7 +63,7 @@ returns-2 : tie.Need-returns-2
 returns-2 c =
     let start = c .before .before .before .before .before .before .before .before .before .before .before .before .before .before .before .before .before .before .before .before .before .before in
     let given = both-accept (start .args .n) (start .args .first .now) (start .args .second .now) (c .before .before .before .before .before .before .before .before .before .before .before .before .before .before .read-both .ensures) (c .before .before .before .before .before .before .before .before .before .before .before .before .enum-told .given .1) in
-    explain-both (start .args .n) (start .args .table .now) (start .args .first .now) (start .args .second .now) (start .args .out .now) (start .args .reasons .now) given
+    explain-both (earlierBy (start .args .order)) (start .args .n) (start .args .table .now) (start .args .first .now) (start .args .second .now) (start .args .out .now) (start .args .reasons .now) given
     (renumbered (start .args .n) _ (accepts-loaded (given .1)) (c .before .before .before .before .before .before .before .before .before .renumber .ensures .0)) (c .before .before .before .before .explain-below .ensures)
 
 pub explain-over-spec : {M : Type 1} → statement M

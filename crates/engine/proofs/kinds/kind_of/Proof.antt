@@ -57,6 +57,9 @@ enum-told-11 c = search needs
 enum-told-12 : tie.Need-enum-told-12
 enum-told-12 c = search needs
 
+enum-told-13 : tie.Need-enum-told-13
+enum-told-13 c = search needs
+
 returns : tie.Need-returns
 returns c = ap kindOf (sym (c .before .reply .given .1))
 
@@ -102,6 +105,9 @@ returns-14 c = search needs
 returns-15 : tie.Need-returns-15
 returns-15 c = search needs
 
+returns-16 : tie.Need-returns-16
+returns-16 c = search needs
+
 pub kind-of-spec : {M : Type 1} → statement M
 kind-of-spec =
     tie.close
@@ -123,6 +129,7 @@ kind-of-spec =
     enum-told-10
     enum-told-11
     enum-told-12
+    enum-told-13
     returns
     returns-2
     returns-3
@@ -137,4 +144,5 @@ kind-of-spec =
     returns-12
     returns-13
     returns-14
-    returns-15)
+    returns-15
+    returns-16)
