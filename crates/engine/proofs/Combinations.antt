@@ -1,6 +1,6 @@
--- From the combination by a table of meets to what the call replies: an accepted table's filled meets are its meets.
+-- From the combination by meets as they are held to what the call replies: they are the meets of the accepted table.
 use mathlib.Core.Path.{_≡_, refl, sym, _∙_, ap, ap₂}
-use mathlib.Core.Bool.{true}
+use mathlib.Core.Bool.{true, false}
 use mathlib.Core.List.{List}
 use mathlib.Core.Logic.{_⊎_}
 use Prim.Native.Nat.{ℕ, _≤_, _<_}
@@ -13,16 +13,18 @@ use Rattle.layout.specs.Layout.{size, graphOfRows, graphIn, rowsOf}
 use Rattle.layout.proofs.Rows.{length-rows}
 use Rattle.lattice.specs.declared.TableFault.{TableFault}
 use Rattle.lattice.specs.declared.Opened.the-variants as opened
-use Rattle.lattice.specs.Table.{accepted, meet, filled}
+use Rattle.lattice.specs.Table.{accepted, meet}
+use Rattle.lattice.specs.Sets.{Holding, meetIn}
 use Rattle.lattice.specs.Reply as table
 use Rattle.lattice.proofs.Laws.{accepted-size, zero-type}
 use Rattle.lattice.proofs.Transfer.{same-unification}
+use Rattle.lattice.proofs.Types.{meets-known}
 use Rattle.lattice.proofs.Residuals.{opened-accepted}
 use Rattle.encode.specs.Encode.{Yield, yielding}
 use Rattle.record.specs.Read.{Reading, reading}
 use Rattle.record.proofs.Accepted.{Rules, accepted-rules}
 use Rattle.unify.specs.declared.Combined.{Combined}
-use Rattle.unify.specs.Lowered.{MeetsBelow, meetIn}
+use Rattle.unify.specs.Lowered.{Meeting}
 use Rattle.unify.specs.Outcome.{meetsOf, unifiedOut}
 use Rattle.unify.specs.Rows.{Operand}
 use Rattle.engine.specs.declared.PairVerdict.{PairVerdict}
@@ -34,7 +36,7 @@ use Rattle.engine.specs.Unification.{combined, unifiedRows, unifying}
 use Rattle.engine.specs.Pair.{afterBoth, met, combinedReply}
 use Rattle.engine.proofs.Replies.{table-refused, table-accepted}
 use Rattle.engine.proofs.Readings.{Accepts, Ruled, accepts-reached, accepts-recorded, both-same}
-use Rattle.engine.proofs.Tables.{label-known, meets-known}
+use Rattle.engine.proofs.Tables.{label-known}
 
 -- what combining yields, as a result
 abbrev combinedResult : Yield Combined → Result
@@ -46,12 +48,12 @@ combined-is cycle out = refl
 combined-is clash out = refl
 combined-is (unified u) out = refl
 
--- the unification of two graphs by a table of meets
-abbrev byMeets : ℕ → List (List ℕ) → List ℕ → List ℕ → Unified Label (ℕ ⊎ ℕ)
+-- the unification of two graphs by given meets
+abbrev byMeets : ℕ → (ℕ → ℕ → ℕ) → List ℕ → List ℕ → Unified Label (ℕ ⊎ ℕ)
 byMeets n meets g h = unification (meetsOf n meets) eqb eqb (graphIn g) (from 0 (size g)) (graphIn h) (from 0 (size h))
 
--- the combination by a table of meets, written
-pub met-as : (n : ℕ) (meets : List (List ℕ)) (g h out : List ℕ) {v : PairVerdict} → v ≡ pair.Both → {answer : Combined} {r : Reply} {new : List ℕ} →
+-- the combination by given meets, written
+pub met-as : (n : ℕ) (meets : ℕ → ℕ → ℕ) (g h out : List ℕ) {v : PairVerdict} → v ≡ pair.Both → {answer : Combined} {r : Reply} {new : List ℕ} →
     yielding answer new ≡ unifiedOut (byMeets n meets g h) out → r ≡ combinedReply answer →
     resulting r new ≡ afterBoth v out (met n meets out (rowsOf g) (rowsOf h))
 unfolding met
@@ -71,25 +73,28 @@ operand few given = record { recorded = accepts-recorded few given; labelled = g
 pub ready-to-combine : {n : ℕ} {a b g h : List ℕ} → n ≤ 64 → Accepts n a g × Accepts n b h → Operand n g × Operand n h
 ready-to-combine few (one, other) = (operand few one, operand few other)
 
-module _ (n : ℕ) (t : List ℕ) (rows : List (List ℕ)) {meets : List (List ℕ)} (ok : accepted n t ≡ true) (long : length rows ≡ 64)
-    (filling : meets ≡ filled n t (meet n t) rows) where
-  -- the combination by the filled meets is that by the table's types
-  met-unified : (out : List ℕ) (g h : List (Row Label)) → Rules n g → Rules n h → met n meets out g h ≡ unifiedRows n t out g h
+module _ (n : ℕ) (t sets : List ℕ) (rows cells : List (List ℕ)) (ok : accepted n t ≡ true) (long : length rows ≡ 64)
+    (holding : Holding false n t (meet n t) sets rows cells) where
+  -- the combination by the meets as they are held is that by the table's types
+  met-unified : (out : List ℕ) (g h : List (Row Label)) → Rules n g → Rules n h → met n (meetIn n sets cells) out g h ≡ unifiedRows n t out g h
   unfolding met unifiedRows
   met-unified out g h left right =
       ap (λ (u : Unified Label (ℕ ⊎ ℕ)). combined u out)
-      (same-unification n t ok eqb (meetIn meets) (λ a b. a) (λ i j l s. meets-known n t rows ok long filling i j l s .0) eqb eqb
+      (same-unification n t ok eqb (meetIn n sets cells) (λ a b. a) (λ i j l s. meets-known n t ok sets rows cells long i j l s holding .0) eqb eqb
       (graphOfRows g) (from 0 (length g)) (graphOfRows h) (from 0 (length h)) (λ v _. label-known (zero-type n t ok) left v)
       (λ w _. label-known (zero-type n t ok) right w))
 
   -- and so of two readings
   pub met-same : {o p : Reading} → Ruled n o → Ruled n p → (out : List ℕ) →
-      readBoth (λ r. refusing r out) o p (met n meets out) ≡ readBoth (λ r. refusing r out) o p (unifiedRows n t out)
-  met-same one two out = both-same one two (λ r. refusing r out) (met n meets out) (unifiedRows n t out) (met-unified out)
+      readBoth (λ r. refusing r out) o p (met n (meetIn n sets cells) out) ≡ readBoth (λ r. refusing r out) o p (unifiedRows n t out)
+  met-same one two out = both-same one two (λ r. refusing r out) (met n (meetIn n sets cells) out) (unifiedRows n t out) (met-unified out)
 
   -- what combining asks of the table
-  pub combinable : ((0 < n) × (n ≤ 64)) × MeetsBelow n meets
-  combinable = ((zero-type n t ok, accepted-size n t ok .1), λ i j l s. meets-known n t rows ok long filling i j l s .1)
+  pub combinable : ((0 < n) × (n ≤ 64)) × Meeting n sets cells
+  combinable = (
+    (zero-type n t ok, accepted-size n t ok .1),
+    record { below = λ i j l s. meets-known n t ok sets rows cells long i j l s holding .1; ready = holding .held },
+  )
 
 module _ (n : ℕ) (t a b out : List ℕ) where
   pub unifying-refused : (fault : TableFault) → table.opened n t ≡ opened.Refused fault → resulting (Table fault) out ≡ unifying n t a b out
@@ -97,12 +102,13 @@ module _ (n : ℕ) (t a b out : List ℕ) where
   unifying-refused fault e =
       sym (table-refused (λ r. refusing r out) (readBoth (λ r. refusing r out) (reading n a) (reading n b) (unifiedRows n t out)) fault e)
 
-  pub unifying-accepted : (rows : List (List ℕ)) {meets : List (List ℕ)} {r : Reply} {new : List ℕ} →
-      table.opened n t ≡ opened.Accepted → length rows ≡ 64 → meets ≡ filled n t (meet n t) rows →
-      resulting r new ≡ readBoth (λ r. refusing r out) (reading n a) (reading n b) (met n meets out) →
+  pub unifying-accepted : (sets : List ℕ) (rows cells : List (List ℕ)) {r : Reply} {new : List ℕ} →
+      table.opened n t ≡ opened.Accepted → length rows ≡ 64 → (accepted n t ≡ true → Holding false n t (meet n t) sets rows cells) →
+      resulting r new ≡ readBoth (λ r. refusing r out) (reading n a) (reading n b) (met n (meetIn n sets cells) out) →
       resulting r new ≡ unifying n t a b out
   unfolding unifying
-  unifying-accepted rows {meets} e long filling h =
+  unifying-accepted sets rows cells e long holds h =
+      let ok : accepted n t ≡ true = opened-accepted n t opened.Accepted (sym e) refl in
       h ∙
-      met-same n t rows (opened-accepted n t opened.Accepted (sym e) refl) long filling (accepted-rules n a) (accepted-rules n b) out ∙
+      met-same n t sets rows cells ok long (holds ok) (accepted-rules n a) (accepted-rules n b) out ∙
       sym (table-accepted (λ r. refusing r out) (readBoth (λ r. refusing r out) (reading n a) (reading n b) (unifiedRows n t out)) e)

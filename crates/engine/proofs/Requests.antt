@@ -1,14 +1,15 @@
 -- The change requests, one section for each paper and one theorem for each sentence, about the definitions that the calls are proved equal
 -- to. The definitions that the statements use stand in `Reply`, `Unification`, `Difference`, `Explained`, `Before`, `Unranged`, `Appropriate` and
 -- `Demand`; the proofs are cited. n and t are the table, out and out′ are the outputs lent; a, b, c and d are the records.
-use mathlib.Core.Path.{_≡_, refl, sym, ap}
+use mathlib.Core.Path.{_≡_, refl, sym, _∙_, ap}
 use mathlib.Core.Bool.{Bool, true, false}
 use mathlib.Core.List.{List, [], _∷_, _++_}
-use mathlib.Core.Option.{some, none}
+use mathlib.Core.Option.{Option, some, none}
 use mathlib.Core.Logic.{_↔_, _⊎_}
 use Prim.Native.Nat.{ℕ, _+_, _*_, _≤_, _<_}
 use native.Mathlib.Omega.{arith}
 use lib.Dec.{eqb}
+use lib.Bits.{bitAnd, bitOr}
 use lib.ListN.{length, getD, take, drop}
 use Rattle.graphs.specs.Graph.{Graph, Tells, Reached, Below, SameMeaning}
 use Rattle.graphs.specs.Rows.{Row}
@@ -21,12 +22,18 @@ use Rattle.graphs.specs.Reasons.{alongLinks, writtenOrder}
 use Rattle.graphs.proofs.Difference.ByNumber.{by-number-order}
 use Rattle.graphs.proofs.Difference.ByReading.{by-reading, by-reading-order}
 use Rattle.lattice.specs.declared.TableFault.{TableFault}
+use Rattle.lattice.specs.declared.Opened.{Opened}
 use Rattle.lattice.specs.declared.Opened.the-variants.{Accepted, Refused}
-use Rattle.lattice.specs.Reply.{opened}
+use Rattle.lattice.specs.Reply.{opened, Opening}
+use Rattle.lattice.specs.Words.{Words, wordPrime}
+use Rattle.lattice.specs.Sets.{distributive, setOf, setIn, cellIn, meetIn, joinIn, Holding}
 use Rattle.lattice.specs.Labels.{tableLabels, OfAnySize, LeastOfAnySize, GreatestOfAnySize, IsCombination, SomeUnwanted}
 use Rattle.lattice.proofs.Residuals.{opened-accepted}
 use Rattle.lattice.proofs.AnySize.{generalization-least, least-monotone, greatest-monotone, combines-broader, combines-not-refuted}
 use Rattle.lattice.specs.Table as types
+use Rattle.lattice.proofs.Laws as types-laws
+use Rattle.lattice.proofs.Distributive as Sets
+use Rattle.lattice.proofs.Types.{meets-known, joins-known}
 use Rattle.house.specs.House.{lesser, under, meets, houseTable}
 use Rattle.house.proofs.Theorems as house
 use Rattle.decode.specs.Decode.{takeRow}
@@ -315,13 +322,20 @@ house-order = house.house-order
 pub house-accepted : types.accepted 64 houseTable ≡ true
 house-accepted = house.house-accepted
 
--- the engine works out the constant's entries from them: by the definition of a meet, and in the cells of an opened table;
+-- the engine works out the constant's entries from them: by the definition of a meet, in the cells of a filled table, and as an opened table
+-- holds the types;
 pub house-worked-out : (a b : ℕ) → a < 64 → b < 64 → types.meet 64 houseTable a b ≡ some (getD meets (64 * a + b) 0)
 house-worked-out = house.meets-worked-out
 
 pub house-opened : (rows : List (List ℕ)) → length rows ≡ 64 → (a b : ℕ) → a < 64 → b < 64 →
     getD (getD (types.filled 64 houseTable (types.meet 64 houseTable) rows) a []) b 0 ≡ getD meets (64 * a + b) 0
 house-opened = house.meets-opened
+
+pub house-held : (sets : List ℕ) (rows cells : List (List ℕ)) → length rows ≡ 64 →
+    Holding false 64 houseTable (types.meet 64 houseTable) sets rows cells → (a b : ℕ) → a < 64 → b < 64 →
+    meetIn 64 sets cells a b ≡ getD meets (64 * a + b) 0
+house-held sets rows cells long held a b la lb =
+    meets-known 64 houseTable house.house-accepted sets rows cells long a b la lb held .0 ∙ ap types.cell (house.meets-worked-out a b la lb)
 
 -- and the table admits differences.
 pub house-admits : types.admits 64 houseTable ≡ true
@@ -550,6 +564,51 @@ module _ (n : ℕ) (t list a b : List ℕ) (g s : List (Row Label)) (given : Giv
       Reached (graphOfRows (numbered (canonical eqb (graphOfRows s)))) u → remainder (byReading list) n t g s .link u f ≡ some v →
       LinkReason (byReading list) n t g (numbered (canonical eqb (graphOfRows s))) u f v
   reasons-by-true = link-reasons n t a b g s given (by-reading-order list)
+
+-- Paper 12: types as sets. Opening decides by two searches for each type whether "for every three types the meet spreads over the join".
+module _ (n : ℕ) (t : List ℕ) (ok : types.accepted n t ≡ true) where
+  pub sets-decided : (ws : List ℕ) → Words n t false ws → types.every n (wordPrime n ws) ≡ distributive n t
+  sets-decided = Sets.primes-distributive n t ok
+
+  -- "Opening such a table then fills neither; other tables use the old form": the lent cells are as they were, and the sets are those
+  -- of the types; else they are filled with the meets or the joins.
+  module _ (up : Bool) (bound : ℕ → ℕ → Option ℕ) (answer : Opened) (sets : List ℕ) (lent left : List (List ℕ))
+      (opening : Opening up n t bound answer sets lent left) where
+    pub sets-unfilled : distributive n t ≡ true → left ≡ lent
+    sets-unfilled = opening .holds ok .unfilled
+
+    pub sets-held : distributive n t ≡ true → (x : ℕ) → x < n → setIn sets x ≡ setOf n t x
+    sets-held = opening .holds ok .set
+
+    pub sets-not-held : distributive n t ≡ false → left ≡ types.filled n t bound lent
+    sets-not-held = opening .holds ok .filled-cells
+
+  -- "Meet is then the overlap of sets and join their union. Show that both are those the 64 by 64 tables would hold at every pair": x and y
+  -- are two types, `rows` any lent table. A set is of one type.
+  module _ (x y : ℕ) (x-type : x < n) (y-type : y < n) where
+    pub sets-one-type : setOf n t x ≡ setOf n t y → x ≡ y
+    sets-one-type = Sets.sets-apart n t ok x y x-type y-type
+
+    module _ (rows : List (List ℕ)) (long : length rows ≡ 64) where
+      pub sets-overlap : bitAnd (setOf n t x) (setOf n t y) ≡ setOf n t (cellIn (types.filled n t (types.meet n t) rows) x y)
+      sets-overlap =
+          Sets.sets-meet n t ok x y x-type y-type ∙
+          ap (λ o. setOf n t (types.cell o)) (types-laws.meets-cell n t ok rows long x y x-type y-type .is)
+
+      pub sets-union : distributive n t ≡ true →
+          bitOr (setOf n t x) (setOf n t y) ≡ setOf n t (cellIn (types.filled n t (types.join n t) rows) x y)
+      sets-union spread =
+          Sets.sets-join n t ok spread x y x-type y-type ∙
+          ap (λ o. setOf n t (types.cell o)) (types-laws.joins-cell n t ok rows long x y x-type y-type .is)
+
+      -- "so that all results keep their bytes": in either form a call goes by the types that it went by
+      pub sets-meet-kept : (sets : List ℕ) (cells : List (List ℕ)) → Holding false n t (types.meet n t) sets rows cells →
+          meetIn n sets cells x y ≡ types.cell (types.meet n t x y)
+      sets-meet-kept sets cells held = meets-known n t ok sets rows cells long x y x-type y-type held .0
+
+      pub sets-join-kept : (sets : List ℕ) (cells : List (List ℕ)) → Holding true n t (types.join n t) sets rows cells →
+          joinIn n sets cells x y ≡ types.cell (types.join n t x y)
+      sets-join-kept sets cells held = joins-known n t ok sets rows cells long x y x-type y-type held .0
 
 -- Paper 13: the reason beside each kept link. a is the general record, b the specific one, `old` the second output as it is lent.
 module _ (n : ℕ) (t a b out old : List ℕ) where

@@ -1,7 +1,6 @@
--- What an accepted table lets graphs go by: labels are those of the table, and the filled tables give the meets and joins of the types.
--- Graphs that differ in nothing have one written form, whichever labels they were computed with.
+-- What an accepted table lets graphs go by: labels are those of the table. Graphs that differ in nothing have one written form, whichever labels they were computed with.
 use mathlib.Core.Path.{_≡_, refl, sym, _∙_, ap, subst}
-use mathlib.Core.Bool.{Bool, true}
+use mathlib.Core.Bool.{Bool}
 use mathlib.Core.List.{List, []}
 use mathlib.Core.Option.{Option, none, some}
 use Prim.Native.Nat.{ℕ, _≤_, _<_}
@@ -16,12 +15,11 @@ use Rattle.graphs.proofs.Form.Invariant.{bisimilar-canonical}
 use Rattle.lattice.specs.Label.{Label, noLabel}
 use Rattle.lattice.specs.Labels.{Known}
 use Rattle.layout.specs.Layout.{graphOfRows}
-use Rattle.lattice.specs.Table.{accepted, meet, join, cell, filled}
 use Rattle.lattice.specs.declared.Opened.{Opened}
 use Rattle.lattice.specs.declared.Opened.the-variants.{Accepted}
 use Rattle.lattice.specs.Reply.{opened}
 use Rattle.lattice.proofs.Lawful.{plain-known}
-use Rattle.lattice.proofs.Laws.{Meet, Join, accepted-size, meets-cell, joins-cell}
+use Rattle.lattice.proofs.Laws.{accepted-size}
 use Rattle.lattice.proofs.Residuals.{opened-accepted}
 use Rattle.record.proofs.Nodes.{node-row}
 use Rattle.record.proofs.Accepted.{Rules}
@@ -38,24 +36,6 @@ label-known {n} {rows} types rules v = go (decLe (length rows) v)
     go (yes past) =
         subst (Known n) (sym (ap (λ (r : Row Label). r .0) (List·getD-eq-default rows (noLabel, []) past))) (plain-known n 0 types)
     go (no inside) = rules .ranged (getD rows v (noLabel, [])) (node-row rows v (omega arith)) .0 .1
-
--- a cell of the filled meets is the meet of its types, and a type
-pub meets-known : (n : ℕ) (t : List ℕ) (rows : List (List ℕ)) {meets : List (List ℕ)} → accepted n t ≡ true → length rows ≡ 64 →
-    meets ≡ filled n t (meet n t) rows → (a b : ℕ) → a < n → b < n →
-    (getD (getD meets a []) b 0 ≡ cell (meet n t a b)) × (getD (getD meets a []) b 0 < n)
-meets-known n t rows {meets} ok long filling a b known other =
-    let m : Meet n t a b (getD (getD meets a []) b 0) =
-    subst (λ (table : List (List ℕ)). Meet n t a b (getD (getD table a []) b 0)) (sym filling) (meets-cell n t ok rows long a b known other) in
-    (sym (ap cell (m .is)), m .type)
-
--- a cell of the filled joins is the join of its types, and a type
-pub joins-known : (n : ℕ) (t : List ℕ) (rows : List (List ℕ)) {joins : List (List ℕ)} → accepted n t ≡ true → length rows ≡ 64 →
-    joins ≡ filled n t (join n t) rows → (a b : ℕ) → a < n → b < n →
-    (getD (getD joins a []) b 0 ≡ cell (join n t a b)) × (getD (getD joins a []) b 0 < n)
-joins-known n t rows {joins} ok long filling a b known other =
-    let m : Join n t a b (getD (getD joins a []) b 0) =
-    subst (λ (table : List (List ℕ)). Join n t a b (getD (getD table a []) b 0)) (sym filling) (joins-cell n t ok rows long a b known other) in
-    (sym (ap cell (m .is)), m .type)
 
 alike-self : {A : Type 0} (x : Option A) → Alike (λ v w. v ≡ w) x x
 alike-self none = absent

@@ -1,7 +1,7 @@
--- What the parts of the calls promise: reading both records, and what follows reading: the written form, the common part by a table of
--- joins, the combination by a table of meets, and the difference.
+-- What the parts of the calls promise: reading both records, and what follows reading: the written form, the common part by joins
+-- and the combination by meets as they are held, and the difference.
 use mathlib.Core.Path.{_≡_}
-use mathlib.Core.Bool.{Bool}
+use mathlib.Core.Bool.{Bool, true}
 use mathlib.Core.List.{List}
 use Prim.Native.Nat.{ℕ}
 use lib.Dec.{eqb}
@@ -19,6 +19,7 @@ use Rattle.record.specs.declared.reading.Verdict.the-variants.{Accepted, Refuse
 use Rattle.record.specs.Read.{Reading, accepted, reading}
 use Rattle.record.specs.Appropriate.{readingAppropriate}
 use Rattle.record.specs.Reads.{Holds, verdictOf}
+use Rattle.lattice.specs.Sets.{Ready, meetIn, joinIn}
 use Rattle.generalize.specs.Pairs.{Joinable, joinsOf, samePair}
 use Rattle.unify.specs.declared.Combined.{Combined}
 use Rattle.unify.specs.declared.Combined.the-variants as unify
@@ -61,21 +62,35 @@ abbrev pub afterBoth : PairVerdict → List ℕ → Result → Result
 afterBoth (pair.Refused fault side) out next = refusing (Graph fault side) out
 afterBoth pair.Both out next = next
 
--- what the common part of two graphs by a table of joins asks
-abbrev pub JoinsReady : List (List ℕ) → List ℕ → List ℕ → Type 0
-JoinsReady joins g h = Recorded g × (Recorded h × ((n : ℕ) × Joinable n joins g h))
+-- what the common part of two graphs asks of them and of the joins of n types as they are held
+abbrev pub JoinsReady : ℕ → List ℕ → List (List ℕ) → List ℕ → List ℕ → Type 0
+JoinsReady n sets cells g h = Recorded g × (Recorded h × (Joinable n (joinIn n sets cells) g h × Ready true n sets))
 
--- the common part of two graphs in written form, by a table of joins
-unfoldable pub joined : List (List ℕ) → List ℕ → List (Row Label) → List (Row Label) → Result
+-- the common part of two graphs in written form, by given joins
+unfoldable pub joined : (ℕ → ℕ → ℕ) → List ℕ → List (Row Label) → List (Row Label) → Result
 joined joins out g h =
     resultOf (writtenOut (canonical samePair (generalization (joinsOf joins) (graphOfRows g) (graphOfRows h))) out)
 
--- the combination of two graphs in written form, by a table of meets
-unfoldable pub met : ℕ → List (List ℕ) → List ℕ → List (Row Label) → List (Row Label) → Result
+-- the combination of two graphs in written form, by given meets
+unfoldable pub met : ℕ → (ℕ → ℕ → ℕ) → List ℕ → List (Row Label) → List (Row Label) → Result
 met n meets out g h =
     combined
     (unification (meetsOf n meets) eqb eqb (graphOfRows g) (from 0 (length g)) (graphOfRows h) (from 0 (length h)))
     out
+
+-- both for the graphs in words, by joins and meets as they are held
+abbrev pub joinedHeld : ℕ → List ℕ → List (List ℕ) → List ℕ → List ℕ → List ℕ → Result
+joinedHeld n sets cells out g h = joined (joinIn n sets cells) out (rowsOf g) (rowsOf h)
+
+abbrev pub metHeld : ℕ → List ℕ → List (List ℕ) → List ℕ → List ℕ → List ℕ → Result
+metHeld n sets cells out g h = met n (meetIn n sets cells) out (rowsOf g) (rowsOf h)
+
+-- both after reading two records
+abbrev pub joinedAfter : PairVerdict → ℕ → List ℕ → List (List ℕ) → List ℕ → List ℕ → List ℕ → Result
+joinedAfter v n sets cells out g h = afterBoth v out (joinedHeld n sets cells out g h)
+
+abbrev pub metAfter : PairVerdict → ℕ → List ℕ → List (List ℕ) → List ℕ → List ℕ → List ℕ → Result
+metAfter v n sets cells out g h = afterBoth v out (metHeld n sets cells out g h)
 
 -- both graphs' 4 to 7, then their difference by an order of links
 abbrev pub parting : (Link ℕ → Link ℕ → Bool) → ℕ → List ℕ → List ℕ → List ℕ → List ℕ → Result

@@ -14,14 +14,14 @@ ghost use Prim.Native.Nat.{_≤_, _<_};
 ghost use Rattle.record.specs.Read.{reading};
 ghost use Rattle.layout.specs.Layout.{Sound, rowsOf};
 ghost use Rattle.record.specs.declared.reading.Verdict.the-variants.{Accepted};
-ghost use Rattle.unify.specs.Lowered.{MeetsBelow};
+ghost use Rattle.unify.specs.Lowered.{Meeting};
 ghost use Rattle.unify.specs.Rows.{Operand};
 ghost use Rattle.engine.specs.declared.PairVerdict.the-variants.{Both};
 ghost use Rattle.engine.specs.Reply.{resulting, replyOf, readBoth, rewriting, rewrittenRows, isBelow, compared, ordering, ordered, generalizing};
 ghost use Rattle.engine.specs.Unification.{unifying};
 ghost use Rattle.engine.specs.Difference.{differing, differingBy};
 ghost use Rattle.engine.specs.Appropriate.{rewritingAppropriate, generalizingAppropriate, unifyingAppropriate};
-ghost use Rattle.engine.specs.Pair.{JoinsReady, afterReading, afterBoth, joined, met, combinedReply};
+ghost use Rattle.engine.specs.Pair.{JoinsReady, afterReading, joinedAfter, metAfter, combinedReply};
 ghost use Rattle.engine.specs.Explained.{explaining, explainingBy, explainedResult, markedReply};
 
 mod both;
@@ -173,15 +173,16 @@ fn order_reply(below: Order, above: Order) -> Reply
 pub fn generalize(n: usize, table: &[u8], first: &[u8], second: &[u8], out: &mut [u8]) -> Reply
     ensures { λ r. ⌜ resulting r (now (out .exit)) ≡ generalizing n (now (table .entry)) (now (first .entry)) (now (second .entry)) (now (out .entry)) ⌝ }
 {
-    let mut joins = [[0u8; 64]; 64];
-    let opened = lattice::open_joins(n, table, &mut joins);
+    let mut sets = [0u64; lattice::sets::WORDS];
+    let mut cells = [[0u8; 64]; 64];
+    let opened = lattice::open_joins(n, table, &mut sets, &mut cells);
     match opened {
         Opened::Refused(fault) => Reply::Table(fault),
         Opened::Accepted => {
             let mut a = [layout::BLANK; layout::LONGEST];
             let mut b = [layout::BLANK; layout::LONGEST];
             let verdict = both::read_both(n, first, second, &mut a, &mut b);
-            generalize_over(&joins, verdict, &a, &b, out)
+            generalize_over(n, &sets, &cells, verdict, &a, &b, out)
         }
     }
 }
@@ -197,8 +198,9 @@ pub fn generalize_appropriate(
 ) -> Reply
     ensures { λ r. ⌜ resulting r (now (out .exit)) ≡ generalizingAppropriate n (now (table .entry)) (now (list .entry)) (now (first .entry)) (now (second .entry)) (now (out .entry)) ⌝ }
 {
-    let mut joins = [[0u8; 64]; 64];
-    let opened = lattice::open_joins(n, table, &mut joins);
+    let mut sets = [0u64; lattice::sets::WORDS];
+    let mut cells = [[0u8; 64]; 64];
+    let opened = lattice::open_joins(n, table, &mut sets, &mut cells);
     match opened {
         Opened::Refused(fault) => Reply::Table(fault),
         Opened::Accepted => {
@@ -216,25 +218,27 @@ pub fn generalize_appropriate(
                 &mut a,
                 &mut b,
             );
-            generalize_over(&joins, verdict, &a, &b, out)
+            generalize_over(n, &sets, &cells, verdict, &a, &b, out)
         }
     }
 }
 
-// What follows reading: the common part, by the joins of the table, where both graphs are accepted.
+// What follows reading: the common part, by the joins of a table with n types, where both graphs are accepted.
 fn generalize_over<'a>(
-    joins: &'a [[u8; 64]; 64],
+    n: usize,
+    sets: &'a [u64; lattice::sets::WORDS],
+    cells: &'a [[u8; 64]; 64],
     verdict: PairVerdict,
     a: &'a [u16],
     b: &'a [u16],
     out: &mut [u8],
 ) -> Reply
-    requires { ⌜ (verdict ≡ Both → JoinsReady (now joins) (now a) (now b)) ⌝ }
-    ensures { λ r. ⌜ resulting r (now (out .exit)) ≡ afterBoth verdict (now (out .entry)) (joined (now (joins .entry)) (now (out .entry)) (rowsOf (now (a .entry))) (rowsOf (now (b .entry)))) ⌝ }
+    requires { ⌜ (verdict ≡ Both → JoinsReady n (now sets) (now cells) (now a) (now b)) ⌝ }
+    ensures { λ r. ⌜ resulting r (now (out .exit)) ≡ joinedAfter verdict n (now (sets .entry)) (now (cells .entry)) (now (out .entry)) (now (a .entry)) (now (b .entry)) ⌝ }
 {
     match verdict {
         PairVerdict::Refused(fault, side) => Reply::Graph(fault, side),
-        PairVerdict::Both => reply_of(generalize::generalize(joins, a, b, out)),
+        PairVerdict::Both => reply_of(generalize::generalize(n, sets, cells, a, b, out)),
     }
 }
 
@@ -242,15 +246,16 @@ fn generalize_over<'a>(
 pub fn unify(n: usize, table: &[u8], first: &[u8], second: &[u8], out: &mut [u8]) -> Reply
     ensures { λ r. ⌜ resulting r (now (out .exit)) ≡ unifying n (now (table .entry)) (now (first .entry)) (now (second .entry)) (now (out .entry)) ⌝ }
 {
-    let mut meets = [[0u8; 64]; 64];
-    let opened = lattice::open_meets(n, table, &mut meets);
+    let mut sets = [0u64; lattice::sets::WORDS];
+    let mut cells = [[0u8; 64]; 64];
+    let opened = lattice::open_meets(n, table, &mut sets, &mut cells);
     match opened {
         Opened::Refused(fault) => Reply::Table(fault),
         Opened::Accepted => {
             let mut a = [layout::BLANK; layout::LONGEST];
             let mut b = [layout::BLANK; layout::LONGEST];
             let verdict = both::read_both(n, first, second, &mut a, &mut b);
-            unify_over(n, &meets, verdict, &a, &b, out)
+            unify_over(n, &sets, &cells, verdict, &a, &b, out)
         }
     }
 }
@@ -266,8 +271,9 @@ pub fn unify_appropriate(
 ) -> Reply
     ensures { λ r. ⌜ resulting r (now (out .exit)) ≡ unifyingAppropriate n (now (table .entry)) (now (list .entry)) (now (first .entry)) (now (second .entry)) (now (out .entry)) ⌝ }
 {
-    let mut meets = [[0u8; 64]; 64];
-    let opened = lattice::open_meets(n, table, &mut meets);
+    let mut sets = [0u64; lattice::sets::WORDS];
+    let mut cells = [[0u8; 64]; 64];
+    let opened = lattice::open_meets(n, table, &mut sets, &mut cells);
     match opened {
         Opened::Refused(fault) => Reply::Table(fault),
         Opened::Accepted => {
@@ -285,7 +291,7 @@ pub fn unify_appropriate(
                 &mut a,
                 &mut b,
             );
-            unify_over(n, &meets, verdict, &a, &b, out)
+            unify_over(n, &sets, &cells, verdict, &a, &b, out)
         }
     }
 }
@@ -293,19 +299,20 @@ pub fn unify_appropriate(
 // What follows reading: the combination, by the meets of a table with n types, where both graphs are accepted.
 fn unify_over<'a>(
     n: usize,
-    meets: &'a [[u8; 64]; 64],
+    sets: &'a [u64; lattice::sets::WORDS],
+    cells: &'a [[u8; 64]; 64],
     verdict: PairVerdict,
     a: &'a [u16],
     b: &'a [u16],
     out: &mut [u8],
 ) -> Reply
-    requires { ⌜ ((0 < n) × (n ≤ 64)) × MeetsBelow n (now meets) ⌝ }
+    requires { ⌜ ((0 < n) × (n ≤ 64)) × Meeting n (now sets) (now cells) ⌝ }
     requires { ⌜ (verdict ≡ Both → Operand n (now a) × Operand n (now b)) ⌝ }
-    ensures { λ r. ⌜ resulting r (now (out .exit)) ≡ afterBoth verdict (now (out .entry)) (met n (now (meets .entry)) (now (out .entry)) (rowsOf (now (a .entry))) (rowsOf (now (b .entry)))) ⌝ }
+    ensures { λ r. ⌜ resulting r (now (out .exit)) ≡ metAfter verdict n (now (sets .entry)) (now (cells .entry)) (now (out .entry)) (now (a .entry)) (now (b .entry)) ⌝ }
 {
     match verdict {
         PairVerdict::Refused(fault, side) => Reply::Graph(fault, side),
-        PairVerdict::Both => combined_reply(unify::unify(n, meets, a, b, out)),
+        PairVerdict::Both => combined_reply(unify::unify(n, sets, cells, a, b, out)),
     }
 }
 

@@ -41,10 +41,10 @@ pair-numbered {queue} x i n =
     ap₂ {C = ℕ × ℕ} (λ s t. (s, t)) (code-left (x .0) (x .1) (n .right)) (code-right (x .0) (x .1) (n .right))
 
 -- the join of the labels of a pair
-abbrev pub joined : List (List ℕ) → List ℕ → List ℕ → ℕ × ℕ → Label
+abbrev pub joined : (ℕ → ℕ → ℕ) → List ℕ → List ℕ → ℕ × ℕ → Label
 joined joins a b x = joinsOf joins .join (labelAt a (x .0)) (labelAt b (x .1))
 
-pub record Building (joins : List (List ℕ)) (a b : List ℕ) (head count at : ℕ) (marks queue words : List ℕ) : Type 0 where
+pub record Building (joins : ℕ → ℕ → ℕ) (a b : List ℕ) (head count at : ℕ) (marks queue words : List ℕ) : Type 0 where
   pub left : Recorded a
   pub right : Recorded b
   pub types : ℕ
@@ -62,7 +62,7 @@ pub record Building (joins : List (List ℕ)) (a b : List ℕ) (head count at : 
   pub rows : (i : ℕ) → i < head → Matched (common a b (pairOf (getD queue i 0))) queue count 64 (linksAt words i)
 
 -- The root's pair is known, and has no row yet.
-pub build-start : (joins : List (List ℕ)) {a b : List ℕ} → Recorded a → Recorded b → ((n : ℕ) × Joinable n joins a b) → (marks queue words : List ℕ) →
+pub build-start : (joins : ℕ → ℕ → ℕ) {a b : List ℕ} → Recorded a → Recorded b → ((n : ℕ) × Joinable n joins a b) → (marks queue words : List ℕ) →
     length marks ≡ 65025 → ((p : ℕ) → p < 65025 → getD marks p 0 ≡ clear) → length queue ≡ 255 → getD queue 0 0 ≡ 0 →
     length words ≡ room → Building joins a b 0 1 base (set marks 0 0) queue (set words 1 base)
 build-start joins {a} {b} left right (n, able) marks queue words marks-long none queue-long root long =
@@ -92,7 +92,7 @@ build-start joins {a} {b} left right (n, able) marks queue words marks-long none
     first-pair i h = let e : i ≡ 0 = omega arith in ap (λ (n : ℕ). getD queue n 0) e ∙ root
 
 -- the label of a pair is one that a record can state
-pub joined-known : {joins : List (List ℕ)} {a b : List ℕ} {head count at : ℕ} {marks queue words : List ℕ} →
+pub joined-known : {joins : ℕ → ℕ → ℕ} {a b : List ℕ} {head count at : ℕ} {marks queue words : List ℕ} →
     (s : Building joins a b head count at marks queue words) (i : ℕ) → i < count → Known 128 (joined joins a b (pairOf (getD queue i 0)))
 joined-known {joins} {a} {b} {queue = queue} s i h =
     let x : Known (s .types) (labelAt a (getD queue i 0 / 255)) = s .joinable .left (getD queue i 0 / 255) (s .inside i h .0) in
@@ -103,7 +103,7 @@ joined-known {joins} {a} {b} {queue = queue} s i h =
       highest = omega (arith, x .highest, y .highest);
     }
 
-module _ {joins : List (List ℕ)} {a b : List ℕ} {head count at : ℕ} {marks queue words : List ℕ}
+module _ {joins : ℕ → ℕ → ℕ} {a b : List ℕ} {head count at : ℕ} {marks queue words : List ℕ}
     (s : Building joins a b head count at marks queue words) (next : head < count) where
   -- the next pair's nodes
   pub left-node : Node a (getD queue head 0 / 255)
@@ -112,13 +112,7 @@ module _ {joins : List (List ℕ)} {a b : List ℕ} {head count at : ℕ} {marks
   pub right-node : Node b (getD queue head 0 % 255)
   right-node = s .right .sound .shaped .node (getD queue head 0 % 255) (s .inside head next .1)
 
-  pub types-known : Known 64 (labelAt a (getD queue head 0 / 255)) × Known 64 (labelAt b (getD queue head 0 % 255))
-  types-known = (
-    s .left .typed (getD queue head 0 / 255) (s .inside head next .0),
-    s .right .typed (getD queue head 0 % 255) (s .inside head next .1),
-  )
-
-module _ {joins : List (List ℕ)} {a b : List ℕ} {head count at : ℕ} {marks queue words : List ℕ}
+module _ {joins : ℕ → ℕ → ℕ} {a b : List ℕ} {head count at : ℕ} {marks queue words : List ℕ}
     (s : Building joins a b head count at marks queue words) (next : head < count) where
   -- what the next pair leads to is reached
   pub link-reached : (f : ℕ) (x : ℕ × ℕ) → common a b (pairOf (getD queue head 0)) f ≡ some x → Reached (product joins a b) x
@@ -138,7 +132,7 @@ module _ {joins : List (List ℕ)} {a b : List ℕ} {head count at : ℕ} {marks
             let (f, x, e, num) = added .fresh i (omega arith) h in
             subst (Reached (product joins a b)) (sym (pair-numbered x i num)) (link-reached f x e)
 
-module _ {joins : List (List ℕ)} {a b : List ℕ} {head count at : ℕ} {marks queue words : List ℕ}
+module _ {joins : ℕ → ℕ → ℕ} {a b : List ℕ} {head count at : ℕ} {marks queue words : List ℕ}
     (s : Building joins a b head count at marks queue words) (next : head < count)
     (short : at ≤ base + head * header + 2048) where
   -- The next pair gets its row.

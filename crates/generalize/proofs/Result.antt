@@ -34,7 +34,7 @@ use Rattle.generalize.proofs.Sides.{pairOf, product-root, product-link,
 use Rattle.generalize.proofs.Building.{Building, base, joined-known, pair-numbered, link-reached, pairs-reached}
 
 -- A graph with too many nodes or links is not written.
-pub too-large : (joins : List (List ℕ)) {a b : List ℕ} → Recorded a → Recorded b → (old : List ℕ) →
+pub too-large : (joins : ℕ → ℕ → ℕ) {a b : List ℕ} → Recorded a → Recorded b → (old : List ℕ) →
     ManyNodes (product joins a b) ⊎ ManyLinks (product joins a b) →
     productOut joins a b old ≡ yielding outcome.TooLarge old
 unfolding writtenOut
@@ -121,7 +121,7 @@ module _ {marks queue : List ℕ} {count : ℕ} (marked : Marked marks queue cou
       let code : codeOf x ≡ getD queue i 0 = omega (arith, ap (λ (y : ℕ × ℕ). y .0) e, ap (λ (y : ℕ × ℕ). y .1) e) in
       omega (arith, marked .placed i l, marked .few, ap (λ (n : ℕ). getD marks n 0) code)
 
-module _ {joins : List (List ℕ)} {a b : List ℕ} {head count at : ℕ} {marks queue words : List ℕ}
+module _ {joins : ℕ → ℕ → ℕ} {a b : List ℕ} {head count at : ℕ} {marks queue words : List ℕ}
     (s : Building joins a b head count at marks queue words) where
   -- More than 255 pairs: those of a full queue and one that has no mark.
 

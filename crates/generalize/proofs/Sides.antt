@@ -1,5 +1,5 @@
 -- The product of the two graphs: a pair's links are those by features of both nodes.
-use mathlib.Core.Path.{_≡_, refl, sym, _∙_, ap, ap₂}
+use mathlib.Core.Path.{_≡_, refl, ap, ap₂}
 use mathlib.Core.Bool.{true, _&&_}
 use mathlib.Core.List.{List}
 use mathlib.Core.Option.{some}
@@ -20,7 +20,7 @@ use Rattle.generalize.specs.Queue.{common}
 abbrev pub pairOf : ℕ → ℕ × ℕ
 pairOf p = (p / 255, p % 255)
 
-module _ (joins : List (List ℕ)) (a b : List ℕ) where
+module _ (joins : ℕ → ℕ → ℕ) (a b : List ℕ) where
   pub product-root : product joins a b .root ≡ (0, 0)
   unfolding generalization
   product-root = refl

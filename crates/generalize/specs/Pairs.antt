@@ -1,28 +1,22 @@
--- The labels of a generalization: types with their joins as a table of 64 rows gives them, and ranges. Nothing else of the types is
--- used.
+-- The labels of a generalization: types with their joins, however they are had, and ranges. Nothing else of the types is used.
 use mathlib.Core.Bool.{Bool, _&&_}
-use mathlib.Core.List.{List, []}
+use mathlib.Core.List.{List}
 use Prim.Native.Nat.{ℕ, _≤_, _<_}
 use lib.Dec.{eqb}
-use lib.ListN.{getD}
 use Rattle.graphs.specs.Label.{Labels}
 use Rattle.lattice.specs.Labels.{Known, withRanges}
 use Rattle.layout.specs.Layout.{size, labelAt}
 
--- the join of two types
-abbrev pub joinIn : List (List ℕ) → ℕ → ℕ → ℕ
-joinIn joins x y = getD (getD joins x []) y 0
-
-abbrev pub joinsOf : List (List ℕ) → Labels
+abbrev pub joinsOf : (ℕ → ℕ → ℕ) → Labels
 joinsOf joins =
-    withRanges (record { L = ℕ; le = eqb; meet = λ a b. a; join = joinIn joins; top = 0; contradiction = λ a. eqb a 0 })
+    withRanges (record { L = ℕ; le = eqb; meet = λ a b. a; join = joins; top = 0; contradiction = λ a. eqb a 0 })
 
 -- joins of types below n are types below n
-abbrev pub JoinsBelow : ℕ → List (List ℕ) → Type 0
-JoinsBelow n joins = (i j : ℕ) → i < n → j < n → joinIn joins i j < n
+abbrev pub JoinsBelow : ℕ → (ℕ → ℕ → ℕ) → Type 0
+JoinsBelow n joins = (i j : ℕ) → i < n → j < n → joins i j < n
 
--- Two graphs over n types, whose joins the table gives.
-pub record Joinable (n : ℕ) (joins : List (List ℕ)) (a b : List ℕ) : Type 0 where
+-- Two graphs over n types with their joins.
+pub record Joinable (n : ℕ) (joins : ℕ → ℕ → ℕ) (a b : List ℕ) : Type 0 where
   pub few : n ≤ 64
   pub joins-below : JoinsBelow n joins
   pub left : (v : ℕ) → v < size a → Known n (labelAt a v)

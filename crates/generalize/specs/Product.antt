@@ -9,10 +9,10 @@ use Rattle.layout.specs.Layout.{graphIn}
 use Rattle.encode.specs.Encode.{Outcome, writtenOut}
 use Rattle.generalize.specs.Pairs.{joinsOf, samePair}
 
--- the generalization, with joins from a table
-abbrev pub product : List (List ℕ) → List ℕ → List ℕ → Graph Label (ℕ × ℕ)
+-- the generalization, with given joins
+abbrev pub product : (ℕ → ℕ → ℕ) → List ℕ → List ℕ → Graph Label (ℕ × ℕ)
 product joins a b = generalization (joinsOf joins) (graphIn a) (graphIn b)
 
 -- what writing it yields
-abbrev pub productOut : List (List ℕ) → List ℕ → List ℕ → List ℕ → Outcome
+abbrev pub productOut : (ℕ → ℕ → ℕ) → List ℕ → List ℕ → List ℕ → Outcome
 productOut joins a b old = writtenOut (canonical samePair (product joins a b)) old

@@ -4,8 +4,10 @@
 use encode::Written;
 use layout::Label;
 ghost use mathlib.Core.Path.{_≡_};
-ghost use Prim.Native.Nat.{ℕ, _≤_, _<_};
+ghost use mathlib.Core.Bool.{true};
+ghost use Prim.Native.Nat.{_≤_, _<_};
 ghost use lib.ListN.{length};
+ghost use Rattle.lattice.specs.Sets.{Ready, joinIn};
 ghost use Rattle.layout.specs.Builder.{stated};
 ghost use Rattle.layout.specs.Layout.{Recorded, longest, size};
 ghost use Rattle.encode.specs.Encode.{yielding};
@@ -101,31 +103,39 @@ pub fn pair_links<'a>(
     Spread { at, count }
 }
 
-// The join of two labels: the join of their types, and the smallest range that holds both of theirs.
-fn join(joins: &[[u8; 64]; 64], a: Label, b: Label) -> Label
-    requires { ⌜ (a .kind < 64) × (b .kind < 64) ⌝ }
-    ensures { λ r. ⌜ stated r ≡ joinsOf (now (joins .entry)) .join (stated a) (stated b) ⌝ }
+// The join of two labels over n types: the join of their types, and the smallest range that holds both of theirs.
+fn join<'a>(
+    n: usize,
+    sets: &'a [u64; lattice::sets::WORDS],
+    cells: &'a [[u8; 64]; 64],
+    a: Label,
+    b: Label,
+) -> Label
+    requires { ⌜ (a .kind < n) × (b .kind < n) × (n ≤ 64) ⌝ }
+    requires { ⌜ Ready true n (now sets) ⌝ }
+    ensures { λ r. ⌜ stated r ≡ joinsOf (joinIn n (now (sets .entry)) (now (cells .entry))) .join (stated a) (stated b) ⌝ }
 {
-    let i = a.kind as usize;
-    let j = b.kind as usize;
     Label {
-        kind: joins[i][j],
+        kind: lattice::sets::join(n, sets, cells, a.kind as usize, b.kind as usize),
         lowest: layout::lesser(a.lowest, b.lowest),
         highest: layout::greater(a.highest, b.highest),
     }
 }
 
-// Writes the generalization of two graphs.
+// Writes the generalization of two graphs over n types, with the joins of types as they are held.
 pub fn generalize<'a>(
-    joins: &'a [[u8; 64]; 64],
+    n: usize,
+    sets: &'a [u64; lattice::sets::WORDS],
+    cells: &'a [[u8; 64]; 64],
     a: &'a [u16],
     b: &'a [u16],
     out: &mut [u8],
 ) -> Written
     requires { ⌜ Recorded (now a) ⌝ }
     requires { ⌜ Recorded (now b) ⌝ }
-    requires { ⌜ ((n : ℕ) × Joinable n (now joins) (now a) (now b)) ⌝ }
-    ensures { λ r. ⌜ yielding r (now (out .exit)) ≡ productOut (now (joins .entry)) (now (a .entry)) (now (b .entry)) (now (out .entry)) ⌝ }
+    requires { ⌜ Joinable n (joinIn n (now sets) (now cells)) (now a) (now b) ⌝ }
+    requires { ⌜ Ready true n (now sets) ⌝ }
+    ensures { λ r. ⌜ yielding r (now (out .exit)) ≡ productOut (joinIn n (now (sets .entry)) (now (cells .entry))) (now (a .entry)) (now (b .entry)) (now (out .entry)) ⌝ }
 {
     let mut marks = [CLEAR; 65025];
     let mut queue = [0u16; 255];
@@ -139,7 +149,13 @@ pub fn generalize<'a>(
         let pair = queue[head] as usize;
         let u = pair / 255;
         let v = pair % 255;
-        let label = join(joins, layout::label_at(a, u), layout::label_at(b, v));
+        let label = join(
+            n,
+            sets,
+            cells,
+            layout::label_at(a, u),
+            layout::label_at(b, v),
+        );
         layout::put_label(&mut words, at, label);
         let known = Spread {
             at: at + layout::HEADER,

@@ -47,7 +47,7 @@ house-accepted = table-accepted
 pub meets-worked-out : (a b : ℕ) → a < 64 → b < 64 → meet 64 houseTable a b ≡ some (getD meets (64 * a + b) 0)
 meets-worked-out a b la lb = table-meet a b la lb ∙ ap some (sym (meets-rule a b la lb))
 
--- the cell that `lattice::open_meets` fills
+-- the cell of a table that is filled with the meets
 pub meets-opened : (rows : List (List ℕ)) → length rows ≡ 64 → (a b : ℕ) → a < 64 → b < 64
     → getD (getD (filled 64 houseTable (meet 64 houseTable) rows) a []) b 0 ≡ getD meets (64 * a + b) 0
 meets-opened rows e a b la lb =

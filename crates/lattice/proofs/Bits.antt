@@ -4,7 +4,8 @@ use Prim.Native.Nat.{ℕ, zero, suc, _+_, _*_, _-_, _/_, _%_, _^_, _<_, _≤_}
 use mathlib.Core.Path.{_≡_, refl, sym, ap, ap₂, subst, _∙_}
 use mathlib.Core.Bool.{Bool, true, false, not, _&&_, _||_}
 use mathlib.Core.List.{List}
-use native.Mathlib.Nat.{mod-lt, zero-div, mod-eq-of-lt, two-pow-succ, div-lt-iff-lt-mul, le-div-iff-mul-le, lt-of-lt-of-le, add-zero, add-suc, add-mul, mul-assoc, mul-comm}
+use native.Mathlib.Nat.{mod-lt, zero-div, div-eq-of-lt, mod-eq-of-lt, two-pow-succ, div-lt-iff-lt-mul, le-div-iff-mul-le, lt-of-lt-of-le, add-zero, add-suc, add-mul, mul-assoc, mul-comm}
+use native.Mathlib.Decide.{decLe}
 use native.Mathlib.Omega.{arith}
 use lib.Bits.{bitAnd, bitOr, bitXor, and-shr, or-shr, xor-shr, and-mod, or-mod, xor-mod, xor-add-and, and-le-l, and-step, and-self}
 use lib.Count.{trailingZeros, under, leadingZeros, leading-top}
@@ -46,6 +47,17 @@ bit-word k p j l = word-bits k (bit (word k p)) p (bits-word k (word k p) (word-
 pub bits-same : (k v w : ℕ) → v < 2 ^ k → w < 2 ^ k → ((j : ℕ) → j < k → bit v j ≡ bit w j) → v ≡ w
 bits-same k v w l s h = sym (bits-word k v l) ∙ word-same k (bit v) (bit w) h ∙ bits-word k w s
 
+-- a word has no bit above those that it is made of
+pub word-inside : (k : ℕ) (p : ℕ → Bool) (j : ℕ) → j < 64 → bit (word k p) j ≡ true → j < k
+unfolding bit
+word-inside k p j s e = go (decLe k j) where
+  go : Dec (k ≤ j) → j < k
+  go (yes above) =
+      let most : 2 ^ k ≤ 2 ^ j = pow-mono above in
+      let none : word k p / 2 ^ j ≡ 0 = div-eq-of-lt (omega (arith, word-below k p)) in
+      absurd (true-not-false (eqb (word k p / 2 ^ j % 2) 1) e (rw none))
+  go (no inside) = omega arith
+
 pub no-bit : (j : ℕ) → bit 0 j ≡ false
 unfolding bit
 no-bit j = rw (zero-div (2 ^ j))
@@ -65,7 +77,7 @@ one-word n j l =
     word-cut 0 j (λ i. eqb i j) (omega arith) (λ i a b. ne-eqb i j (λ e. absurd (omega arith))) in
     cut ∙ rw (eq-eqb j j refl, low) (omega arith)
 
-one-bit : (j k : ℕ) → bit (2 ^ j) k ≡ eqb k j
+pub one-bit : (j k : ℕ) → bit (2 ^ j) k ≡ eqb k j
 one-bit j k =
     let n : ℕ = suc (j + k) in
     ap (λ (w : ℕ). bit w k) (sym (one-word n j (omega arith))) ∙ bit-word n (λ i. eqb i j) k (omega arith)
@@ -150,7 +162,7 @@ without-rest a b =
 pub without-most : (a b : ℕ) → without a b ≤ a
 without-most a b = omega (arith, without-rest a b)
 
-without-less : (a b j : ℕ) → bit a j ≡ true → bit b j ≡ true → without a b < a
+pub without-less : (a b j : ℕ) → bit a j ≡ true → bit b j ≡ true → without a b < a
 without-less a b j e f =
     omega (arith, without-rest a b, bit-positive (bitAnd a b) j (and-bit a b j ∙ and-both (bit a j) (bit b j) e f))
 

@@ -7,11 +7,11 @@ use mathlib.Core.Bool.{Bool, true, false, _&&_}
 use mathlib.Core.List.{List}
 use mathlib.Core.Option.{Option, some}
 use mathlib.Core.Logic.{⊎-elim}
-use native.Mathlib.Nat.{not-suc-le-zero, eq-or-lt-of-le}
+use native.Mathlib.Nat.{not-suc-le-zero}
 use native.Mathlib.Omega.{arith}
 use lib.ListN.{length, getD}
 use lib.Dec.{leb, eqb}
-use lib.Bits.{bitAnd, and-comm, and-self}
+use lib.Bits.{bitAnd, and-comm}
 use borrow.Author.Tests.{le-leb, eq-eqb, eqb-true}
 use Rattle.lattice.specs.Table.{every, last, implies, found, isMeet, isJoin, meet, join}
 use Rattle.lattice.specs.Words.{word, related, Words, holder, wordBound, allFound}
@@ -63,31 +63,8 @@ module _ (n : ℕ) (rel : ℕ → ℕ → Bool) (ws : List ℕ) (few : n ≤ 64)
 pub bound-turned : (n : ℕ) (ws : List ℕ) (a b : ℕ) → wordBound n ws a b ≡ wordBound n ws b a
 bound-turned n ws a b = ap (holder n ws) (and-comm (getD ws a 0) (getD ws b 0))
 
--- it is enough to test each type with those numbered before it: a type is its own bound
+-- it is enough to test each type with those numbered from it on
 module _ (n : ℕ) (ws : List ℕ) where
-  pub pairs-found : every n (λ a. every a (λ b. found (wordBound n ws a b))) ≡ allFound n (wordBound n ws)
-  unfolding allFound holder
-  pairs-found =
-      let test : ℕ → ℕ → Bool = λ a b. found (wordBound n ws a b) in
-      same-test (every n (λ a. every a (test a))) (every n (λ a. every n (test a)))
-      (λ h.
-      let before : (a b : ℕ) → a < n → b < a → test a b ≡ true = λ a b l s. every-at (test a) a b (every-at (λ i. every i (test i)) n a h l) s in
-      every-all _ n λ a l.
-      every-all _ n λ b s.
-      ⊎-elim (before a b l)
-      (λ r.
-      ⊎-elim
-      (λ (e : a ≡ b).
-      last-found (λ c. eqb (getD ws c 0) (bitAnd (getD ws a 0) (getD ws b 0))) n a l
-      (eq-eqb _ _ (sym (and-self (getD ws a 0)) ∙ ap (λ (i : ℕ). bitAnd (getD ws a 0) (getD ws i 0)) e)))
-      (λ q. ap found (bound-turned n ws a b) ∙ before b a s q)
-      (eq-or-lt-of-le r))
-      (below-or-not b a))
-      λ h.
-      every-all _ n λ a l.
-      every-all _ a λ b s. every-at (test a) n b (every-at (λ i. every n (test i)) n a h l) (omega arith)
-
-  -- or with those numbered from it on
   pub onward-found : every n (λ a. every n (λ b. implies (leb a b) (found (wordBound n ws a b)))) ≡ allFound n (wordBound n ws)
   unfolding allFound
   onward-found =

@@ -8,11 +8,15 @@ pub mod BoundLaws
 pub mod Rows
 pub mod Columns
 pub mod Search
+pub mod Covering
 pub mod Opening
 pub mod Laws
 pub mod Residuals
 pub mod Restoring
 pub mod Primes
+pub mod Distributive
+pub mod Held
+pub mod Types
 pub mod Lawful
 pub mod WantedLabels
 pub mod Relabel

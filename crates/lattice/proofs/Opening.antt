@@ -1,6 +1,6 @@
 -- From what the parts of opening answer to what it answers: the size, the order, and the bounds with the filled table.
-use Prim.Native.Nat.{ℕ, _*_, _<_, _≤_}
-use mathlib.Core.Path.{_≡_, sym, _∙_}
+use Prim.Native.Nat.{ℕ, _*_, _-_, _^_, _<_, _≤_}
+use mathlib.Core.Path.{_≡_, refl, sym, subst, _∙_}
 use mathlib.Core.Bool.{Bool, true, false, cond, _&&_}
 use mathlib.Core.List.{List}
 use mathlib.Core.Option.{Option}
@@ -8,13 +8,17 @@ use native.Mathlib.Omega.{arith}
 use lib.ListN.{length, getD}
 use lib.Dec.{leb, eqb}
 use borrow.Author.Tests.{le-leb, lt-leb, leb-true, eqb-true}
+use Rattle.lattice.specs.declared.TableFault.{TableFault}
 use Rattle.lattice.specs.declared.TableFault.the-variants.{Size, Order, Bounds}
+use Rattle.lattice.specs.declared.Opened.{Opened}
 use Rattle.lattice.specs.declared.Opened.the-variants.{Accepted, Refused}
-use Rattle.lattice.specs.Table.{every, found, sized, ordered, bounded, meet, join, boundRow, overwrite, filled}
+use Rattle.lattice.specs.Table.{every, below, found, sized, ordered, bounded, accepted, meet, join, boundRow, overwrite, filled}
 use Rattle.lattice.specs.Reply.{opened, Opening}
-use Rattle.lattice.specs.Words.{related, Words, turned, wordBound, allFound, rowOrdered, Sided}
-use Rattle.lattice.proofs.Every.{and-left, and-right, and-both, every-at, every-all, same-test}
-use Rattle.lattice.proofs.OrderLaws.{Ordered, facts-ordered, rows-facts, rows-ordered, side, sided, turned-words}
+use Rattle.lattice.specs.Sets.{Holding}
+use Rattle.lattice.specs.Words.{related, Words, bit, turned, wordBound, allFound, rowOrdered, Sided, Lower}
+use Rattle.lattice.proofs.Every.{and-left, and-right, and-both, every-at, every-all, same-test, true-not-false}
+use Rattle.lattice.proofs.OrderLaws.{Ordered, facts-ordered, rows-facts, rows-ordered, row-bit, side, sided, turned-words}
+use Rattle.lattice.proofs.WordLaws.{word-below}
 use Rattle.lattice.proofs.BoundLaws.{sideBound, bound-same, other-side}
 use Rattle.lattice.proofs.Rows.{overwrite-same, found-same}
 
@@ -55,16 +59,25 @@ module _ (n : ℕ) (t : List ℕ) where
   unfolding opened
   answer-order down s words h = rw (s, unordered down s words h)
 
-  -- nothing is changed
-  module _ (bound : ℕ → ℕ → Option ℕ) (rows : List (List ℕ)) where
-    pub opening-size : sized n t ≡ false → Opening n t bound (Refused Size) rows rows
-    unfolding filled
-    opening-size h = record { answers = answer-size h; holds = rw h }
+  -- nothing of such a table is held
+  module _ (up : Bool) (bound : ℕ → ℕ → Option ℕ) (sets : List ℕ) (cells₀ cells : List (List ℕ)) where
+    not-accepted : {a : Opened} → a ≡ opened n t → (a ≡ Accepted → ⊥) → accepted n t ≡ true → ⊥
+    unfolding opened accepted
+    not-accepted e apart ok = apart (e ∙ accepted-opened (sized n t) (ordered n t) (bounded n t) ok)
+      where
+        accepted-opened : (s o b : Bool) → s && o && b ≡ true →
+            cond s (cond o (cond b Accepted (Refused Bounds)) (Refused Order)) (Refused Size) ≡ Accepted
+        accepted-opened true true true h = refl
+        accepted-opened true true false h = absurd (true-not-false false h refl)
+        accepted-opened true false b h = absurd (true-not-false false h refl)
+        accepted-opened false o b h = absurd (true-not-false false h refl)
 
-    pub opening-order : (down : List ℕ) → sized n t ≡ true → Words n t false down → every n (rowOrdered n down) ≡ false
-        → Opening n t bound (Refused Order) rows rows
-    unfolding filled
-    opening-order down s words h = record { answers = answer-order down s words h; holds = rw (s, unordered down s words h) }
+    pub opening-refused : (f : TableFault) → Refused f ≡ opened n t → Opening up n t bound (Refused f) sets cells₀ cells
+    opening-refused f e =
+        record {
+          answers = e;
+          holds = λ ok. absurd (not-accepted e (λ q. let z : _≡_ {A = ℕ} 0 1 = cc in omega arith) ok);
+        }
 
 -- an order: its words, and the answer by whether all bounds of one side were found
 module _ (n : ℕ) (t down : List ℕ) (s : sized n t ≡ true) (words : Words n t false down) (order : every n (rowOrdered n down) ≡ true) where
@@ -73,6 +86,19 @@ module _ (n : ℕ) (t down : List ℕ) (s : sized n t ≡ true) (words : Words n
 
   pub up-words : (up : List ℕ) → ((i : ℕ) → i < n → getD up i 0 ≡ turned n down i) → Words n t true up
   up-words up made = turned-words n t down up (size-facts n t s .1) (size-facts n t s .2) words made
+
+  -- the words of the types below each type, as the test of bounds asks for them
+  pub lower-words : Lower n down
+  lower-words =
+      let few : n ≤ 64 = size-facts n t s .1 in
+      let has : (i j : ℕ) → i < n → j < n → bit (getD down i 0) j ≡ below t j i = λ i j l r. row-bit n t down few words i j l (omega arith) in
+      record {
+        sided = sided n (related t false) down few (side n t false (size-facts n t s .2) facts) words;
+        small = λ i l. subst (λ (w : ℕ). w < 2 ^ 64) (sym (words i l)) (word-below 64 (related t false i));
+        chain = λ i j k li lj lk e f.
+            has i k li lk ∙ facts .chain k j i lk lj li (sym (has j k lj lk) ∙ f) (sym (has i j li lj) ∙ e);
+        most = λ i l. has (n - 1) i (omega arith) l ∙ facts .top i l;
+      }
 
   module _ (up : Bool) (ws : List ℕ) (made : Words n t up ws) where
     pub side-sided : Sided n ws
@@ -106,11 +132,14 @@ module _ (n : ℕ) (t down : List ℕ) (s : sized n t ≡ true) (words : Words n
     unfolding opened
     answer-found b e = rw (s, facts-ordered n t facts, ← side-bounded, e)
 
-    pub opening-found : (b : Bool) (rows₀ rows : List (List ℕ)) → allFound n (wordBound n ws) ≡ b
-        → rows ≡ overwrite n (boundRow n (wordBound n ws)) rows₀ → Opening n t (sideBound n t up) (cond b Accepted (Refused Bounds)) rows₀ rows
+    -- what is held of the table stands beside the answer
+    pub opening-found : (b held : Bool) {bound : ℕ → ℕ → Option ℕ} {answer : Opened} {sets : List ℕ} {cells₀ cells : List (List ℕ)}
+        → answer ≡ cond b Accepted (Refused Bounds) → allFound n (wordBound n ws) ≡ b
+        → (accepted n t ≡ true → Holding held n t bound sets cells₀ cells) → Opening held n t bound answer sets cells₀ cells
+    opening-found b held q e h = record { answers = q ∙ answer-found b e; holds = h }
+
+    -- the cells that are filled by the bounds of the words
+    pub cells-filled : (cells₀ cells : List (List ℕ)) → cells ≡ overwrite n (boundRow n (wordBound n ws)) cells₀
+        → cells ≡ filled n t (sideBound n t up) cells₀
     unfolding filled
-    opening-found b rows₀ rows e f =
-        record {
-          answers = answer-found b e;
-          holds = rw (s, facts-ordered n t facts) (f ∙ overwrite-same n _ _ same rows₀);
-        }
+    cells-filled cells₀ cells f = rw (s, facts-ordered n t facts) (f ∙ overwrite-same n _ _ same cells₀)

@@ -11,9 +11,9 @@ use lib.ListN.{getD}
 use lib.Dec.{eqb}
 use borrow.Author.Tests.{eq-eqb, ne-eqb, eqb-true, not-true}
 use Rattle.lattice.specs.Table.{every, found, implies, below, accepted, meetBelow, isResidual, residual, admits}
-use Rattle.lattice.specs.Words.{digit, word, related, Words, bit, without, turned, holder, wordPrime, Sided, Inside}
+use Rattle.lattice.specs.Words.{digit, word, related, Words, bit, without, turned, holder, wordIrreducible, wordSplits, wordPrime, Sided, Inside}
 use Rattle.lattice.proofs.Every.{and-left, and-right, and-both, implies-at, implies-from, every-at, every-all, same-test, not-true-false, not-false-true, true-not-false, below-or-not, below-suc, last-passes, last-found, found-some}
-use Rattle.lattice.proofs.WordLaws.{word-below}
+use Rattle.lattice.proofs.WordLaws.{word-below, word-bits}
 use Rattle.lattice.proofs.Bits.{bit-word, bits-same, without-bit, without-most, cleared-bit}
 use Rattle.lattice.proofs.OrderLaws.{row-bit}
 use Rattle.lattice.proofs.Search.{without-inside}
@@ -56,32 +56,83 @@ word-least-bits (suc k) p q h =
     top true b g = rw (g refl) (omega arith)
 
 -- the types strictly below j are those below k
-abbrev Covers : ℕ → List ℕ → ℕ → ℕ → Type 0
+abbrev pub Covers : ℕ → List ℕ → ℕ → ℕ → Type 0
 Covers n t j k = (d : ℕ) → d < n → below t d k ≡ (below t d j && not (eqb d j))
 
 -- the types not above j are those below m
-abbrev Splits : ℕ → List ℕ → ℕ → ℕ → Type 0
+abbrev pub Splits : ℕ → List ℕ → ℕ → ℕ → Type 0
 Splits n t j m = (d : ℕ) → d < n → below t d m ≡ not (below t j d)
 
 -- j is prime if it is irreducible
-abbrev Primes : ℕ → List ℕ → ℕ → Type 0
+abbrev pub Primes : ℕ → List ℕ → ℕ → Type 0
 Primes n t j = (k : ℕ) → k < n → Covers n t j k → (m : ℕ) × (m < n) × Splits n t j m
 
+module _ (n : ℕ) (t : List ℕ) (ok : accepted n t ≡ true) where
+  -- the word of a strictly lower type is less
+  word-less : (d j : ℕ) → d < n → j < n → below t d j ≡ true → (d ≡ j → ⊥) → word 64 (related t false d) < word 64 (related t false j)
+  word-less d j l s e apart =
+      let few : n ≤ 64 = accepted-size n t ok .1 in
+      let most : word 64 (related t false d) ≤ word 64 (related t false j) =
+      word-least-bits 64 (related t false d) (related t false j) λ b r f.
+      below-transitive n t ok b d j (accepted-facts n t ok .inside d b l r f) l s f e in
+      let other : word 64 (related t false d) ≡ word 64 (related t false j) → ⊥ =
+      λ q.
+      apart
+      (below-antisymmetric n t ok d j l s e
+      (word-bits 64 (related t false d) (related t false j) q j (omega arith) ∙ below-reflexive n t ok j s)) in
+      omega arith
+
+  -- where m is not below p, a least type below m and not below p: the types strictly below it are those below its meet with p
+  pub least-outside : (m p : ℕ) → m < n → p < n → below t m p ≡ false →
+      (j : ℕ) × (j < n) × (below t j m ≡ true) × (below t j p ≡ false) × (k : ℕ) × (k < n) × Covers n t j k
+  least-outside m p lm lp f =
+      ⊎-elim
+      (λ none.
+      absurd (true-not-false (below t m m && not (below t m p)) (rw (below-reflexive n t ok m lm, f)) (none m lm)))
+      (λ r.
+      let j : ℕ = r .0 in
+      let l : j < n = r .1 in
+      let jm : below t j m ≡ true = and-left (below t j m) (not (below t j p)) (r .2) in
+      let jp : below t j p ≡ false = not-true (below t j p) (and-right (below t j m) (not (below t j p)) (r .2)) in
+      let s : (k : ℕ) × Meet n t j p k = meet-exists n t ok j p l lp in
+      let k : Meet n t j p (s .0) = s .1 in
+      let covers : Covers n t j (s .0) =
+      λ d ld.
+      same-test (below t d (s .0)) (below t d j && not (eqb d j))
+      (λ g.
+      and-both (below t d j) (not (eqb d j)) (below-transitive n t ok d (s .0) j ld (k .type) l g (k .left))
+      (ap not
+      (ne-eqb d j λ same.
+      true-not-false (below t j p)
+      (below-transitive n t ok j (s .0) p l (k .type) lp (subst (λ (i : ℕ). below t i (s .0) ≡ true) same g) (k .right)) jp)))
+      (λ g.
+      let dj : below t d j ≡ true = and-left (below t d j) (not (eqb d j)) g in
+      let apart : eqb d j ≡ false = not-true (eqb d j) (and-right (below t d j) (not (eqb d j)) g) in
+      k .greatest d ld dj
+      (not-false-true (below t d p) λ not-below.
+      let passes : below t d m && not (below t d p) ≡ true =
+      rw (below-transitive n t ok d j m ld l lm dj jm, not-below) in
+      let less : word 64 (related t false d) < word 64 (related t false j) =
+      word-less d j ld l dj λ same. true-not-false (eqb d j) (eq-eqb d j same) apart in
+      omega (arith, r .3 d ld passes))) in
+      (j, l, jm, jp, s .0, k .type, covers))
+      (least-or-none (λ j. below t j m && not (below t j p)) (λ j. word 64 (related t false j)) n)
+
 module _ (n : ℕ) (t ws : List ℕ) (ok : accepted n t ≡ true) (words : Words n t false ws) where
-  few : n ≤ 64
+  pub few : n ≤ 64
   few = accepted-size n t ok .1
 
-  laws : Sided n ws
+  pub laws : Sided n ws
   laws = accepted-sided n t ok ws words
 
-  own-bit : (i j : ℕ) → i < n → j < 64 → bit (getD ws i 0) j ≡ below t j i
+  pub own-bit : (i j : ℕ) → i < n → j < 64 → bit (getD ws i 0) j ≡ below t j i
   own-bit = row-bit n t ws few words
 
-  word-small : (i : ℕ) → i < n → getD ws i 0 < 2 ^ 64
+  pub word-small : (i : ℕ) → i < n → getD ws i 0 < 2 ^ 64
   word-small i l = subst (λ (w : ℕ). w < 2 ^ 64) (sym (words i l)) (word-below 64 (related t false i))
 
   -- a word has a holder exactly where its bits are the types below one type
-  holder-at : (w m : ℕ) → w < 2 ^ 64 → Inside n w → m < n → ((d : ℕ) → d < n → below t d m ≡ bit w d) → found (holder n ws w) ≡ true
+  pub holder-at : (w m : ℕ) → w < 2 ^ 64 → Inside n w → m < n → ((d : ℕ) → d < n → below t d m ≡ bit w d) → found (holder n ws w) ≡ true
   unfolding holder
   holder-at w m small in-n l h =
       last-found (λ c. eqb (getD ws c 0) w) n m l
@@ -92,7 +143,7 @@ module _ (n : ℕ) (t ws : List ℕ) (ok : accepted n t ≡ true) (words : Words
       (λ e. sym (h d (accepted-facts n t ok .inside m d l s e)) ∙ e)
       (λ e. h d (in-n d s e) ∙ e)))
 
-  holder-is : (w : ℕ) → found (holder n ws w) ≡ true → (m : ℕ) × (m < n) × ((d : ℕ) → d < n → below t d m ≡ bit w d)
+  pub holder-is : (w : ℕ) → found (holder n ws w) ≡ true → (m : ℕ) × (m < n) × ((d : ℕ) → d < n → below t d m ≡ bit w d)
   unfolding holder
   holder-is w h =
       let r : (m : ℕ) × _ = found-some (holder n ws w) h in
@@ -102,7 +153,7 @@ module _ (n : ℕ) (t ws : List ℕ) (ok : accepted n t ≡ true) (words : Words
         λ d l. sym (own-bit (r .0) d (s .0) (omega (arith, few))) ∙ ap (λ (x : ℕ). bit x d) (eqb-true _ _ (s .1)),
       )
 
-  lower-bit : (j d : ℕ) → j < n → d < n → bit (without (getD ws j 0) (2 ^ j)) d ≡ (below t d j && not (eqb d j))
+  pub lower-bit : (j d : ℕ) → j < n → d < n → bit (without (getD ws j 0) (2 ^ j)) d ≡ (below t d j && not (eqb d j))
   lower-bit j d l s =
       cleared-bit (getD ws j 0) j d ∙
       ap (λ (b : Bool). b && not (eqb d j)) (own-bit j d l (omega (arith, few)))
@@ -116,12 +167,12 @@ module _ (n : ℕ) (t ws : List ℕ) (ok : accepted n t ≡ true) (words : Words
       bit-word n (λ i. bit (getD ws i 0) j) d s ∙ own-bit d j s (omega (arith, few)) in
       without-bit (getD ws (n - 1) 0) (turned n ws j) d ∙ rw (top, up)
 
-  less-small : (i b : ℕ) → i < n → without (getD ws i 0) b < 2 ^ 64
+  pub less-small : (i b : ℕ) → i < n → without (getD ws i 0) b < 2 ^ 64
   less-small i b l = omega (arith, word-small i l, without-most (getD ws i 0) b)
 
   -- the test on words decides whether j is prime
-  prime-facts : (j : ℕ) → j < n → wordPrime n ws j ≡ true → Primes n t j
-  unfolding wordPrime
+  pub prime-facts : (j : ℕ) → j < n → wordPrime n ws j ≡ true → Primes n t j
+  unfolding wordPrime wordIrreducible wordSplits
   prime-facts j l h k lk covers =
       let lower : ℕ = without (getD ws j 0) (2 ^ j) in
       let others : ℕ = without (getD ws (n - 1) 0) (turned n ws j) in
@@ -132,8 +183,8 @@ module _ (n : ℕ) (t ws : List ℕ) (ok : accepted n t ≡ true) (words : Words
       covers d s ∙ sym (lower-bit j d l s))) in
       (r .0, r .1, λ d s. r .2 d s ∙ others-bit j d l s)
 
-  facts-prime : (j : ℕ) → j < n → Primes n t j → wordPrime n ws j ≡ true
-  unfolding wordPrime
+  pub facts-prime : (j : ℕ) → j < n → Primes n t j → wordPrime n ws j ≡ true
+  unfolding wordPrime wordIrreducible wordSplits
   facts-prime j l h =
       let lower : ℕ = without (getD ws j 0) (2 ^ j) in
       let others : ℕ = without (getD ws (n - 1) 0) (turned n ws j) in
@@ -144,19 +195,6 @@ module _ (n : ℕ) (t ws : List ℕ) (ok : accepted n t ≡ true) (words : Words
       (without-inside n (getD ws (n - 1) 0) (turned n ws j) (λ d. laws .inside (n - 1) d (top-type n t ok)))
       (m .1)
       λ d s. m .2 d s ∙ sym (others-bit j d l s)
-
-  -- the word of a strictly lower type is less
-  word-less : (d j : ℕ) → d < n → j < n → below t d j ≡ true → (d ≡ j → ⊥) → getD ws d 0 < getD ws j 0
-  word-less d j l s e apart =
-      let most : word 64 (related t false d) ≤ word 64 (related t false j) =
-      word-least-bits 64 (related t false d) (related t false j) λ b r f.
-      below-transitive n t ok b d j (accepted-facts n t ok .inside d b l r f) l s f e in
-      let other : getD ws d 0 ≡ getD ws j 0 → ⊥ =
-      λ q.
-      apart
-      (below-antisymmetric n t ok d j l s e
-      (sym (own-bit d j l (omega (arith, few))) ∙ ap (λ (x : ℕ). bit x j) q ∙ laws .own j s)) in
-      omega (arith, words d l, words j s)
 
   -- the least type above all that pass below i
   join-of : (p : ℕ → Bool) (i : ℕ) → i ≤ n → (e : ℕ) × (e < n) × ((d : ℕ) → d < i → p d ≡ true → below t d e ≡ true)
@@ -197,35 +235,8 @@ module _ (n : ℕ) (t ws : List ℕ) (ok : accepted n t ≡ true) (words : Words
           → ((u : ℕ) → u < n → ((d : ℕ) → d < n → meetBelow n t p q d ≡ true → below t d u ≡ true) → below t e u ≡ true)
           → below t m p ≡ false → ⊥
       greatest-under e m le x least f =
-          ⊎-elim
-          (λ none.
-          true-not-false (below t m m && not (below t m p)) (rw (below-reflexive n t ok m (x .type), f)) (none m (x .type)))
-          (λ r.
-          let j : ℕ = r .0 in
-          let l : j < n = r .1 in
-          let jm : below t j m ≡ true = and-left (below t j m) (not (below t j p)) (r .2) in
-          let jp : below t j p ≡ false = not-true (below t j p) (and-right (below t j m) (not (below t j p)) (r .2)) in
-          let s : (k : ℕ) × Meet n t j p k = meet-exists n t ok j p l lp in
-          let k : Meet n t j p (s .0) = s .1 in
-          let covers : Covers n t j (s .0) =
-          λ d ld.
-          same-test (below t d (s .0)) (below t d j && not (eqb d j))
-          (λ g.
-          and-both (below t d j) (not (eqb d j)) (below-transitive n t ok d (s .0) j ld (k .type) l g (k .left))
-          (ap not
-          (ne-eqb d j λ same.
-          true-not-false (below t j p)
-          (below-transitive n t ok j (s .0) p l (k .type) lp (subst (λ (i : ℕ). below t i (s .0) ≡ true) same g) (k .right)) jp)))
-          (λ g.
-          let dj : below t d j ≡ true = and-left (below t d j) (not (eqb d j)) g in
-          let apart : eqb d j ≡ false = not-true (eqb d j) (and-right (below t d j) (not (eqb d j)) g) in
-          k .greatest d ld dj
-          (not-false-true (below t d p) λ not-below.
-          let passes : below t d m && not (below t d p) ≡ true =
-          rw (below-transitive n t ok d j m ld l (x .type) dj jm, not-below) in
-          let less : getD ws d 0 < getD ws j 0 = word-less d j ld l dj λ same. true-not-false (eqb d j) (eq-eqb d j same) apart in
-          omega (arith, r .3 d ld passes))) in
-          let split : (a : ℕ) × (a < n) × Splits n t j a = prime j l (s .0) (k .type) covers in
+          let (j, l, jm, jp, k, lk, covers) = least-outside n t ok m p (x .type) lp f in
+          let split : (a : ℕ) × (a < n) × Splits n t j a = prime j l k lk covers in
           let ea : below t e (split .0) ≡ true =
           least (split .0) (split .1) λ d ld g.
           let y : (y : ℕ) × Meet n t d q y = meet-exists n t ok d q ld lq in
@@ -238,8 +249,7 @@ module _ (n : ℕ) (t ws : List ℕ) (ok : accepted n t ≡ true) (words : Words
           (z .greatest j l jd (below-transitive n t ok j m q l (x .type) lq jm (x .right))) (sym (under d (y .0) z) ∙ g))
           jp) in
           true-not-false (below t j e) (below-transitive n t ok j m e l (x .type) le jm (x .left))
-          (not-true (below t j e) (sym (split .2 e le) ∙ ea)))
-          (least-or-none (λ j. below t j m && not (below t j p)) (λ j. getD ws j 0) n)
+          (not-true (below t j e) (sym (split .2 e le) ∙ ea))
 
       residual-there : found (residual n t p q) ≡ true
       unfolding residual isResidual

@@ -89,9 +89,17 @@ module _ (n : ℕ) (ws : List ℕ) where
   abbrev pub wordBound : ℕ → ℕ → Option ℕ
   wordBound a b = holder (bitAnd (getD ws a 0) (getD ws b 0))
 
+  -- the types strictly below j are those below one type
+  unfoldable pub wordIrreducible : ℕ → Bool
+  wordIrreducible j = found (holder (without (getD ws j 0) (2 ^ j)))
+
+  -- the types not in a word, among all, are those below one type
+  unfoldable pub wordSplits : ℕ → Bool
+  wordSplits above = found (holder (without (getD ws (n - 1) 0) above))
+
   -- where the types strictly below j are those below one type, the types not above j are those below one type
   unfoldable pub wordPrime : ℕ → Bool
-  wordPrime j = implies (found (holder (without (getD ws j 0) (2 ^ j)))) (found (holder (without (getD ws (n - 1) 0) (turned n ws j))))
+  wordPrime j = implies (wordIrreducible j) (wordSplits (turned n ws j))
 
 -- 64 rows of 64 cells: the rows of the types from a on hold the bounds with the types before a, and the row of every type 0
 -- from cell n on
@@ -109,3 +117,31 @@ allFound n bound = every n λ a. every n λ b. found (bound a b)
 pub record Seeking (ws : List ℕ) (word left : ℕ) : Type 0 where
   pub part : (j : ℕ) → j < 64 → bit left j ≡ true → bit word j ≡ true
   pub kept : (n : ℕ) → n ≤ 64 → Sided n ws → Inside n word → (k : ℕ) → k < n → getD ws k 0 ≡ word → bit left k ≡ true
+
+-- the words of the types below each type of an order with a greatest type
+pub record Lower (n : ℕ) (ws : List ℕ) : Type 0 where
+  pub sided : Sided n ws
+  pub small : (i : ℕ) → i < n → getD ws i 0 < 2 ^ 64
+  pub chain : (i j k : ℕ) → i < n → j < n → k < n → bit (getD ws i 0) j ≡ true → bit (getD ws j 0) k ≡ true → bit (getD ws i 0) k ≡ true
+  pub most : (i : ℕ) → i < n → bit (getD ws (n - 1) 0) i ≡ true
+
+-- j is strictly below i
+pub record Under (ws : List ℕ) (i j : ℕ) : Type 0 where
+  pub below : bit (getD ws i 0) j ≡ true
+  pub apart : j ≡ i → ⊥
+
+-- w has types strictly below i, and every type strictly below i is below one of them: so have the types that i covers
+pub record Covered (n : ℕ) (ws : List ℕ) (i w : ℕ) : Type 0 where
+  pub part : (j : ℕ) → j < 64 → bit w j ≡ true → Under ws i j
+  pub over : (x : ℕ) → x < n → Under ws i x → (c : ℕ) × (c < n) × (bit w c ≡ true) × (bit (getD ws c 0) x ≡ true)
+
+module _ (n : ℕ) (ws : List ℕ) where
+  -- an answer whether type a has a bound with each type of w; where it has not, not every two types have one
+  pub record BoundsWith (a w : ℕ) (answer : Bool) : Type 0 where
+    pub yes-stands : answer ≡ true → (b : ℕ) → b < 64 → bit w b ≡ true → found (wordBound n ws a b) ≡ true
+    pub no-stands : answer ≡ false → allFound n (wordBound n ws) ≡ false
+
+  -- the same of every two types of w
+  pub record BoundsWithin (w : ℕ) (answer : Bool) : Type 0 where
+    pub yes-stands : answer ≡ true → (a b : ℕ) → a < 64 → b < 64 → bit w a ≡ true → bit w b ≡ true → found (wordBound n ws a b) ≡ true
+    pub no-stands : answer ≡ false → allFound n (wordBound n ws) ≡ false

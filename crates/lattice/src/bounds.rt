@@ -107,33 +107,3 @@ pub fn fill(n: usize, words: &[u64; 64], low: bool, table: &mut [[u8; 64]; 64]) 
     }
     found
 }
-
-// Whether type a has a bound with every type numbered before it.
-pub fn is_row_bounded(n: usize, words: &[u64; 64], low: bool, a: usize) -> bool
-    requires { ⌜ (a < n) × (n ≤ 64) × Sided n (now words) ⌝ }
-    ensures { λ r. ⌜ r ≡ every a (λ b. foundOf (wordBound n (now (words .entry)) a b)) ⌝ }
-{
-    let mut b = 0;
-    while b < a {
-        if 64 <= find_word(words, words[a] & words[b], low) {
-            return false;
-        }
-        b += 1;
-    }
-    true
-}
-
-// Whether every two types have a bound; each pair is tested once.
-pub fn are_bounded(n: usize, words: &[u64; 64], low: bool) -> bool
-    requires { ⌜ (n ≤ 64) × Sided n (now words) ⌝ }
-    ensures { λ r. ⌜ r ≡ allFound n (wordBound n (now (words .entry))) ⌝ }
-{
-    let mut a = 0;
-    while a < n {
-        if !is_row_bounded(n, words, low, a) {
-            return false;
-        }
-        a += 1;
-    }
-    true
-}

@@ -1,38 +1,66 @@
-// Whether an accepted table admits differences: it does where every irreducible type is prime.
+// The irreducible types of an order, and whether they are prime. Where they are, an accepted table is distributive, and admits
+// differences.
 ghost use mathlib.Core.Path.{_≡_};
-ghost use Prim.Native.Nat.{_<_, _≤_};
+ghost use Prim.Native.Nat.{_+_, _<_, _≤_};
 ghost use mathlib.Core.Bool.{true};
-ghost use Rattle.lattice.specs.Table.{every, accepted, admits as admitsOf};
-ghost use Rattle.lattice.specs.Words.{Sided, wordPrime};
+ghost use Rattle.lattice.specs.Table.{accepted, admits as admitsOf};
+ghost use Rattle.lattice.specs.Words.{Sided, wordIrreducible, wordSplits};
+ghost use Rattle.lattice.specs.Sets.{Finds};
 
-// Whether type j is prime, where it is irreducible: where the types strictly below it are those below one type, the types
-// not above it are so too.
-pub fn is_prime(n: usize, down: &[u64; 64], j: usize) -> bool
+// Whether type j is irreducible: the types strictly below it are those below one type.
+fn is_irreducible(n: usize, down: &[u64; 64], j: usize) -> bool
     requires { ⌜ (j < n) × (n ≤ 64) × Sided n (now down) ⌝ }
-    ensures { λ r. ⌜ r ≡ wordPrime n (now (down .entry)) j ⌝ }
+    ensures { λ r. ⌜ r ≡ wordIrreducible n (now (down .entry)) j ⌝ }
 {
     let lower = super::words::cleared(down[j], j);
-    if 64 <= super::bounds::find_word(down, lower, false) {
-        return true;
-    }
-    let above = super::words::turn_word(n, down, j);
+    super::bounds::find_word(down, lower, false) < 64
+}
+
+// Whether an irreducible type is prime, from the word of the types above it: the types not above it are those below one type.
+fn is_prime(n: usize, down: &[u64; 64], above: u64) -> bool
+    requires { ⌜ (0 < n) × (n ≤ 64) × Sided n (now down) ⌝ }
+    ensures { λ r. ⌜ r ≡ wordSplits n (now (down .entry)) above ⌝ }
+{
     let others = super::words::without(down[n - 1], above);
     super::bounds::find_word(down, others, false) < 64
 }
 
-// Whether every irreducible type below n is prime.
-pub fn are_primes(n: usize, down: &[u64; 64]) -> bool
+// Whether every irreducible type is prime; where it is so, the word of the irreducible types, and for each that of the types above it.
+pub struct Irreducibles {
+    pub primes: bool,
+    pub types: u64,
+    pub above: [u64; 64],
+}
+
+// The irreducible types below n, up to the first that is not prime.
+pub fn find_irreducibles(n: usize, down: &[u64; 64]) -> Irreducibles
     requires { ⌜ (n ≤ 64) × Sided n (now down) ⌝ }
-    ensures { λ r. ⌜ r ≡ every n (wordPrime n (now (down .entry))) ⌝ }
+    ensures { λ r. ⌜ Finds n (now (down .entry)) r ⌝ }
 {
+    let mut types = 0u64;
+    let mut above = [0u64; 64];
     let mut j = 0;
     while j < n {
-        if !is_prime(n, down, j) {
-            return false;
+        let stands = is_irreducible(n, down, j);
+        if stands {
+            let up = super::words::turn_word(n, down, j);
+            if !is_prime(n, down, up) {
+                return Irreducibles {
+                    primes: false,
+                    types,
+                    above,
+                };
+            }
+            above[j] = up;
         }
+        types = super::words::with_bit(types, j, stands);
         j += 1;
     }
-    true
+    Irreducibles {
+        primes: true,
+        types,
+        above,
+    }
 }
 
 // Whether an accepted table admits differences.
@@ -41,5 +69,6 @@ pub fn admits(n: usize, table: &[u8]) -> bool
     ensures { λ r. ⌜ r ≡ admitsOf n (now (table .entry)) ⌝ }
 {
     let down = super::words::read_words(n, table);
-    are_primes(n, &down)
+    let found = find_irreducibles(n, &down);
+    found.primes
 }

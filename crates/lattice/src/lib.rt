@@ -1,13 +1,19 @@
 // The type lattice of a table (document 01, "Type table"). Opening a table accepts it, or refuses it by 1, 2 or 3; where the
-// caller needs the meets or the joins, a table that it lends is filled with them. The order is kept as words: bit j of word i is
+// caller needs the meets or the joins, sets or cells that it lends hold them. The order is kept as words: bit j of word i is
 // set where type j is on one side of type i, below it or above it.
 ghost use mathlib.Core.Path.{_≡_};
+ghost use mathlib.Core.Bool.{true, false, cond};
+ghost use lib.ListN.{length};
+ghost use Rattle.lattice.specs.declared.TableFault.the-variants.{Bounds};
+ghost use Rattle.lattice.specs.declared.Opened.the-variants.{Accepted, Refused};
 ghost use Rattle.lattice.specs.Table.{meet, join};
 ghost use Rattle.lattice.specs.Reply.{opened, Opening};
 
 mod bounds;
+mod covers;
 pub mod differences;
 mod order;
+pub mod sets;
 pub mod wanted;
 pub mod words;
 
@@ -34,15 +40,18 @@ pub fn accept(n: usize, table: &[u8]) -> Opened
     if !order::is_ordered(n, &down) {
         return Opened::Refused(TableFault::Order);
     }
-    if !bounds::are_bounded(n, &down, false) {
-        return Opened::Refused(TableFault::Bounds);
-    }
-    Opened::Accepted
+    bounded(covers::are_bounded(n, &down))
 }
 
-// The same; `meets` is filled once the rows are an order.
-pub fn open_meets(n: usize, table: &[u8], meets: &mut [[u8; 64]; 64]) -> Opened
-    ensures { λ r. ⌜ Opening n (now (table .entry)) (meet n (now (table .entry))) r (now (meets .entry)) (now (meets .exit)) ⌝ }
+// The same, and what a meet goes by: the sets where every irreducible type is prime, else the cells.
+pub fn open_meets(
+    n: usize,
+    table: &[u8],
+    sets: &mut [u64; sets::WORDS],
+    cells: &mut [[u8; 64]; 64],
+) -> Opened
+    requires { ⌜ length (now sets) ≡ 128 ⌝ }
+    ensures { λ r. ⌜ Opening false n (now (table .entry)) (meet n (now (table .entry))) r (now (sets .exit)) (now (cells .entry)) (now (cells .exit)) ⌝ }
 {
     if !order::is_sized(n, table) {
         return Opened::Refused(TableFault::Size);
@@ -51,15 +60,21 @@ pub fn open_meets(n: usize, table: &[u8], meets: &mut [[u8; 64]; 64]) -> Opened
     if !order::is_ordered(n, &down) {
         return Opened::Refused(TableFault::Order);
     }
-    if !bounds::fill(n, &down, false, meets) {
-        return Opened::Refused(TableFault::Bounds);
+    if sets::hold(n, &down, false, sets) {
+        return bounded(covers::are_bounded(n, &down));
     }
-    Opened::Accepted
+    bounded(bounds::fill(n, &down, false, cells))
 }
 
-// The same with the joins alone: where every two types have a join, every two have a meet.
-pub fn open_joins(n: usize, table: &[u8], joins: &mut [[u8; 64]; 64]) -> Opened
-    ensures { λ r. ⌜ Opening n (now (table .entry)) (join n (now (table .entry))) r (now (joins .entry)) (now (joins .exit)) ⌝ }
+// The same with what a join goes by: where every two types have a join, every two have a meet.
+pub fn open_joins(
+    n: usize,
+    table: &[u8],
+    sets: &mut [u64; sets::WORDS],
+    cells: &mut [[u8; 64]; 64],
+) -> Opened
+    requires { ⌜ length (now sets) ≡ 128 ⌝ }
+    ensures { λ r. ⌜ Opening true n (now (table .entry)) (join n (now (table .entry))) r (now (sets .exit)) (now (cells .entry)) (now (cells .exit)) ⌝ }
 {
     if !order::is_sized(n, table) {
         return Opened::Refused(TableFault::Size);
@@ -67,9 +82,19 @@ pub fn open_joins(n: usize, table: &[u8], joins: &mut [[u8; 64]; 64]) -> Opened
     let down = words::read_words(n, table);
     if !order::is_ordered(n, &down) {
         return Opened::Refused(TableFault::Order);
+    }
+    if sets::hold(n, &down, true, sets) {
+        return bounded(covers::are_bounded(n, &down));
     }
     let up = words::turn_words(n, &down);
-    if !bounds::fill(n, &up, true, joins) {
+    bounded(bounds::fill(n, &up, true, cells))
+}
+
+// The answer by whether every two types of an order have a bound.
+fn bounded(all: bool) -> Opened
+    ensures { λ r. ⌜ r ≡ cond all Accepted (Refused Bounds) ⌝ }
+{
+    if !all {
         return Opened::Refused(TableFault::Bounds);
     }
     Opened::Accepted

@@ -54,29 +54,9 @@ use Rattle.graphs.specs.Difference.{
 use Rattle.graphs.specs.Reasons.{reasonAt, writtenOrder, alongLinks}
 use Rattle.lattice.specs.declared.TableFault.the-variants.{Bounds}
 use Rattle.lattice.specs.declared.Opened.the-variants.{Accepted, Refused}
-use Rattle.lattice.specs.Table.{
-  every,
-  last,
-  below,
-  sized,
-  confined,
-  reflexive,
-  antisymmetric,
-  transitive,
-  least,
-  greatest,
-  ordered,
-  isMeet,
-  isJoin,
-  meet,
-  join,
-  bounded,
-  restores,
-  isWanted,
-  wanted,
-  implies,
-  found,
-}
+use Rattle.lattice.specs.Table.{every, last, below, sized, confined, reflexive, antisymmetric, transitive, least, greatest, ordered, isMeet, isJoin, meet, join, bounded, restores, isWanted, wanted, implies, found, upto}
+use Rattle.lattice.specs.Words.{word}
+use Rattle.lattice.specs.Sets.{distributive, irreducible, setOf}
 use Rattle.lattice.specs.Reply.{opened}
 use Rattle.lattice.specs.Labels.{tableLabels, wantedLabel}
 use Rattle.lattice.proofs.Every.{and-both, implies-at, every-at, found-some}
@@ -100,7 +80,7 @@ use Rattle.engine.specs.Explained.{reasonsOf, explaining, explainingBy}
 use Rattle.engine.specs.declared.Reply.the-variants.{NoWantedType}
 use Rattle.engine.proofs.Demanded.Wanted.{meet-known, label-below, wanted-exact}
 use Rattle.engine.proofs.Requests.{unwanted-exact, itself-lone-top}
-use Rattle.small_set.specs.Cases.{threeMiddles, twoOverTwo, NeverUnwanted, ItselfTop, AllHold, none-left, _and_, cases, SmallSet, FourAnswers, Reasons, ReadingOrders}
+use Rattle.small_set.specs.Cases.{threeMiddles, twoOverTwo, NeverUnwanted, ItselfTop, AllHold, none-left, _and_, cases, SmallSet, FourAnswers, Reasons, ReadingOrders, AsSets}
 
 all-hold : AllHold cases
 unfolding
@@ -251,3 +231,16 @@ unfolding
     meetOver meetWhere byNumber
 reading-orders =
     record { zero-first = refl; one-first = refl; feature-first = refl; parent-first = refl; explained = refl; twice = refl }
+
+-- Types as sets, computed.
+pub as-sets : AsSets
+unfolding distributive irreducible setOf word upto meet isMeet join isJoin every last below
+as-sets =
+    record {
+      diamond-spreads = refl;
+      rivals-do-not = refl;
+      raised-rivals-do-not = refl;
+      diamond-sets = refl;
+      rival-sets = refl;
+      raised-rival-sets = refl;
+    }

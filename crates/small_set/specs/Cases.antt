@@ -1,12 +1,15 @@
 -- Document 01's small set ("Fittings to check", cases 1 to 12): one table of calls on bytes, each with what it replies and leaves in the
 -- output.
 use mathlib.Core.Path.{_≡_}
-use mathlib.Core.List.{List, [], _∷_, _++_}
+use mathlib.Core.Bool.{Bool, true, false}
+use mathlib.Core.List.{List, [], _∷_, _++_, map}
 use mathlib.Core.Option.{Option, some}
 use Prim.Native.Nat.{ℕ, _+_}
 use lib.ListN.{length, drop, replicate}
 use Rattle.graphs.specs.Rows.{Row, from}
 use Rattle.lattice.specs.Label.{Label}
+use Rattle.lattice.specs.Table.{upto}
+use Rattle.lattice.specs.Sets.{distributive, setOf}
 use Rattle.record.specs.Read.{reading, accepted}
 use Rattle.engine.specs.declared.Reply.the-variants.{Length, Same, Under, Above, Neither, NoWantedType, ReadingOrder, NoReasonRoom}
 use Rattle.engine.specs.declared.Reply.{Reply}
@@ -302,3 +305,21 @@ pub record ReadingOrders : Type 0 where
       (3 ∷ 3 ∷ 0xDD ∷ 0xDD ∷ [])
   -- "A list that is anything else is 19"
   pub twice : differingBy (diamond .count) (diamond .table) zeroTwice P R lent ≡ refusing ReadingOrder lent
+
+-- whether the meet spreads over the join in a table
+abbrev pub spreads : Types → Bool
+spreads types = distributive (types .count) (types .table)
+
+-- the sets of the types of a table, in the order of their numbers
+abbrev pub setsOf : Types → List ℕ
+setsOf types = map (setOf (types .count) (types .table)) (upto (types .count))
+
+-- Paper 12: the diamond is distributive, tables with three rival types are not, and a set has the irreducible types as bits: 1 and 2 of the
+-- diamond, whose top is their join; of three rivals over a type that type too.
+pub record AsSets : Type 0 where
+  pub diamond-spreads : spreads diamond ≡ true
+  pub rivals-do-not : spreads threeMiddles ≡ false
+  pub raised-rivals-do-not : spreads threeOverOne ≡ false
+  pub diamond-sets : setsOf diamond ≡ 0 ∷ 2 ∷ 4 ∷ 6 ∷ []
+  pub rival-sets : setsOf threeMiddles ≡ 0 ∷ 2 ∷ 4 ∷ 8 ∷ 14 ∷ []
+  pub raised-rival-sets : setsOf threeOverOne ≡ 0 ∷ 2 ∷ 6 ∷ 10 ∷ 18 ∷ 30 ∷ []

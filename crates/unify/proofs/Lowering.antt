@@ -29,7 +29,7 @@ unfolding from
 from-empty n = let e : n - n ≡ 0 = omega arith in ap (from n) e
 
 -- the meet of two labels over n types is one
-pub meet-known : (n : ℕ) (meets : List (List ℕ)) → MeetsBelow n meets → (x y : Label) → Known n x → Known n y →
+pub meet-known : (n : ℕ) (meets : ℕ → ℕ → ℕ) → MeetsBelow n meets → (x y : Label) → Known n x → Known n y →
     Known n (meetLabels meets x y)
 meet-known n meets below x y k l =
     record {
@@ -53,14 +53,14 @@ class-kept labels c l d other =
     go (no behind) = put-behind labels (header * c) l (header * d) (header * d + header) (omega arith)
 
 -- The nodes from v on have lowered the labels of their classes.
-pub record Lowering (meets : List (List ℕ)) (ws class : List ℕ) (shift : ℕ) (labels₀ labels : List ℕ) (v : ℕ) : Type 0 where
+pub record Lowering (meets : ℕ → ℕ → ℕ) (ws class : List ℕ) (shift : ℕ) (labels₀ labels : List ℕ) (v : ℕ) : Type 0 where
   pub most : v ≤ size ws
   pub long : length labels ≡ labelWords
   pub below : (n : ℕ) → Lowerable n meets ws labels₀ → Below n labels
   pub is : (c : ℕ) → c < 510 →
       labelOfClass labels c ≡ foldr (lowerBy meets ws class shift c) (labelOfClass labels₀ c) (from v (size ws - v))
 
-pub lower-start : (meets : List (List ℕ)) (ws class : List ℕ) (shift : ℕ) (labels : List ℕ) → length labels ≡ labelWords →
+pub lower-start : (meets : ℕ → ℕ → ℕ) (ws class : List ℕ) (shift : ℕ) (labels : List ℕ) → length labels ≡ labelWords →
     Lowering meets ws class shift labels labels (size ws)
 lower-start meets ws class shift labels long =
     record {
@@ -70,7 +70,7 @@ lower-start meets ws class shift labels long =
       is = λ c h. sym (ap (foldr (lowerBy meets ws class shift c) (labelOfClass labels c)) (from-empty (size ws)));
     }
 
-module _ {meets : List (List ℕ)} {ws class : List ℕ} {shift : ℕ} {labels₀ labels : List ℕ} {v : ℕ}
+module _ {meets : ℕ → ℕ → ℕ} {ws class : List ℕ} {shift : ℕ} {labels₀ labels : List ℕ} {v : ℕ}
     (s : Lowering meets ws class shift labels₀ labels v) where
   pub lower-done : v ≡ 0 → (c : ℕ) → c < 510 →
       labelOfClass labels c ≡ foldr (lowerBy meets ws class shift c) (labelOfClass labels₀ c) (from 0 (size ws))

@@ -110,7 +110,7 @@ module _ {L A B : Type 0} (R : A → B → Type 0) (g : Graph L A) (h : Graph L 
       (λ f.
       holds-alike (deep (g .link) k) (deep (h .link) k) (deep-alike k) (g .link v f) (h .link w f) (links v w f r))
 
-module _ (n : ℕ) (meets : List (List ℕ)) {a b graph : List ℕ} (left : Operand n a) (right : Operand n b) (m : Merges n meets a b graph) where
+module _ (n : ℕ) (meets : ℕ → ℕ → ℕ) {a b graph : List ℕ} (left : Operand n a) (right : Operand n b) (m : Merges n meets a b graph) where
   abbrev class : List ℕ
   class = m .class
 

@@ -46,7 +46,7 @@ span-one s j k j-low j-high k-low k-high e = go (decLt j k) (decLt k j)
 word-parts : (f t : ℕ) → t < scale → (linkWord (f, t) / scale ≡ f) × (linkWord (f, t) % scale ≡ t)
 word-parts f t h = (omega arith, omega arith)
 
-module _ {n : ℕ} {meets : List (List ℕ)} {a b graph : List ℕ} (left : Operand n a) (right : Operand n b) (m : Merges n meets a b graph) where
+module _ {n : ℕ} {meets : ℕ → ℕ → ℕ} {a b graph : List ℕ} (left : Operand n a) (right : Operand n b) (m : Merges n meets a b graph) where
   abbrev class : List ℕ
   class = m .class
 

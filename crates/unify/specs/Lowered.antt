@@ -1,39 +1,41 @@
 -- The labels of classes as they are computed.
 use mathlib.Core.Path.{_≡_}
-use mathlib.Core.Bool.{cond}
-use mathlib.Core.List.{List, [], foldr}
+use mathlib.Core.Bool.{false, cond}
+use mathlib.Core.List.{List, foldr}
 use Prim.Native.Nat.{ℕ, _+_, _-_, _*_, _<_, _≤_}
 use lib.Dec.{eqb}
 use lib.ListN.{getD}
 use Rattle.graphs.specs.Rows.{from}
 use Rattle.lattice.specs.Label.{Label, plain}
 use Rattle.lattice.specs.Labels.{Known}
+use Rattle.lattice.specs.Sets.{Ready, meetIn}
 use Rattle.layout.specs.Layout.{size, header, labelAt, labelFrom}
 use Rattle.unify.specs.Outcome.{meetsOf}
 
--- the meet of two types, as a table of 64 rows gives it
-abbrev pub meetIn : List (List ℕ) → ℕ → ℕ → ℕ
-meetIn meets a b = getD (getD meets a []) b 0
-
 -- the meet of two labels: that of their types, and the overlap of their ranges
-abbrev pub meetLabels : List (List ℕ) → Label → Label → Label
+abbrev pub meetLabels : (ℕ → ℕ → ℕ) → Label → Label → Label
 meetLabels meets a b = meetsOf 0 meets .meet a b
 
 -- the label of the class c met with the label of node v, where the node is of that class
-abbrev pub lowerBy : List (List ℕ) → List ℕ → List ℕ → ℕ → ℕ → ℕ → Label → Label
+abbrev pub lowerBy : (ℕ → ℕ → ℕ) → List ℕ → List ℕ → ℕ → ℕ → ℕ → Label → Label
 lowerBy meets ws class shift c v a = cond (eqb (getD class (shift + v) 0) c) (meetLabels meets (labelAt ws v) a) a
 
 -- the label of the class c met with the labels of the nodes in it, the last node first
-abbrev pub lowered : List (List ℕ) → List ℕ → List ℕ → ℕ → ℕ → Label → Label
+abbrev pub lowered : (ℕ → ℕ → ℕ) → List ℕ → List ℕ → ℕ → ℕ → Label → Label
 lowered meets ws class shift c label = foldr (lowerBy meets ws class shift c) label (from 0 (size ws))
 
 -- the same over the nodes of two graphs, from the greatest of n types
-abbrev pub loweredBoth : ℕ → List (List ℕ) → List ℕ → List ℕ → List ℕ → ℕ → Label
+abbrev pub loweredBoth : ℕ → (ℕ → ℕ → ℕ) → List ℕ → List ℕ → List ℕ → ℕ → Label
 loweredBoth n meets a b class c = lowered meets a class 0 c (lowered meets b class (size a) c (plain (n - 1)))
 
 -- meets of types below n are types below n
-abbrev pub MeetsBelow : ℕ → List (List ℕ) → Type 0
-MeetsBelow n meets = (i j : ℕ) → i < n → j < n → meetIn meets i j < n
+abbrev pub MeetsBelow : ℕ → (ℕ → ℕ → ℕ) → Type 0
+MeetsBelow n meets = (i j : ℕ) → i < n → j < n → meets i j < n
+
+-- the meets of n types as they are held
+pub record Meeting (n : ℕ) (sets : List ℕ) (cells : List (List ℕ)) : Type 0 where
+  pub below : MeetsBelow n (meetIn n sets cells)
+  pub ready : Ready false n sets
 
 -- the label of the class c, in words that hold headers alone
 abbrev pub labelOfClass : List ℕ → ℕ → Label
@@ -44,16 +46,20 @@ abbrev pub labelWords : ℕ
 labelWords = 510 * header
 
 -- the labels of classes are lowered by the nodes of a graph
-abbrev pub Lowers : List (List ℕ) → List ℕ → List ℕ → ℕ → List ℕ → List ℕ → Type 0
+abbrev pub Lowers : (ℕ → ℕ → ℕ) → List ℕ → List ℕ → ℕ → List ℕ → List ℕ → Type 0
 Lowers meets ws class shift labels labels′ =
     (c : ℕ) → c < 510 → labelOfClass labels′ c ≡ lowered meets ws class shift c (labelOfClass labels c)
+
+-- the labels of the classes of two graphs' nodes
+abbrev pub ClassLabels : ℕ → (ℕ → ℕ → ℕ) → List ℕ → List ℕ → List ℕ → List ℕ → Type 0
+ClassLabels n meets a b class labels = (c : ℕ) → c < size a + size b → labelOfClass labels c ≡ loweredBoth n meets a b class c
 
 -- The labels of classes are labels over n types.
 abbrev pub Below : ℕ → List ℕ → Type 0
 Below n labels = (c : ℕ) → c < 510 → Known n (labelOfClass labels c)
 
--- Labels of classes and of a graph's nodes over n types, whose meets the table gives.
-pub record Lowerable (n : ℕ) (meets : List (List ℕ)) (ws labels : List ℕ) : Type 0 where
+-- Labels of classes and of a graph's nodes over n types with their meets.
+pub record Lowerable (n : ℕ) (meets : ℕ → ℕ → ℕ) (ws labels : List ℕ) : Type 0 where
   pub few : n ≤ 64
   pub meets-below : MeetsBelow n meets
   pub labelled : (v : ℕ) → v < size ws → Known n (labelAt ws v)

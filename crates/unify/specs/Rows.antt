@@ -9,7 +9,7 @@ use Rattle.graphs.specs.Graph.{Reached}
 use Rattle.lattice.specs.Labels.{Known}
 use Rattle.layout.specs.Layout.{Recorded, header, scale, linkWord, size, rowFrom, linksFrom, rowEnd, rowsEnd, labelAt, targetAt, graphIn}
 use Rattle.classes.specs.Classes.{At, rowLength, sumTo, Closed}
-use Rattle.unify.specs.Lowered.{Below, labelOfClass, loweredBoth}
+use Rattle.unify.specs.Lowered.{Below, ClassLabels, labelOfClass}
 
 -- A graph to unify over n types: that of a record, all its nodes reached.
 pub record Operand (n : ℕ) (ws : List ℕ) : Type 0 where
@@ -92,7 +92,7 @@ pub record Fillable (nodes : ℕ) (class start end pool : List ℕ) : Type 0 whe
   pub short : sumTo nodes (rowLength (λ y. getD class y 0) start end) ≤ 4096
 
 -- The graphs side by side, their nodes merged into classes with the meets of their labels, and the graph of the classes.
-pub record Merges (n : ℕ) (meets : List (List ℕ)) (a b graph : List ℕ) : Type 0 where
+pub record Merges (n : ℕ) (meets : ℕ → ℕ → ℕ) (a b graph : List ℕ) : Type 0 where
   pub class : List ℕ
   pub labels : List ℕ
   pub start : List ℕ
@@ -105,6 +105,6 @@ pub record Merges (n : ℕ) (meets : List (List ℕ)) (a b graph : List ℕ) : T
   pub first : Placed a 0 start end pool
   pub second : Placed b (size a) start end pool
   pub closed : Closed (size a + size b) (size a) start end pool class start′ end′ pool′ used
-  pub lowers : (c : ℕ) → c < size a + size b → labelOfClass labels c ≡ loweredBoth n meets a b class c
+  pub lowers : ClassLabels n meets a b class labels
   pub below : Below 128 labels
   pub built : ClassGraph (size a + size b) class labels start′ end′ pool′ graph

@@ -10,24 +10,31 @@ pub const LABELS: usize = 510 * HEADER;
 ghost use Prim.Native.Nat.{ℕ, _+_, _-_, _≤_, _<_};
 ghost use lib.ListN.{length, getD};
 ghost use mathlib.Core.Path.{_≡_};
+ghost use mathlib.Core.Bool.{false};
 ghost use Rattle.lattice.specs.Label.{plain};
+ghost use Rattle.lattice.specs.Sets.{Ready, meetIn};
 ghost use Rattle.layout.specs.Builder.{stated};
 ghost use Rattle.graphs.specs.Rows.{from};
 ghost use Rattle.graphs.specs.Unify.{anyOf};
 ghost use Rattle.layout.specs.Layout.{Recorded, Shaped, size, labelAt};
 ghost use Rattle.unify.specs.Outcome.{contradicts};
-ghost use Rattle.unify.specs.Lowered.{Below, Lowerable, Lowers, MeetsBelow, labelOfClass, labelWords, loweredBoth, meetLabels};
+ghost use Rattle.unify.specs.Lowered.{Below, ClassLabels, Lowerable, Lowers, Meeting, labelOfClass, labelWords, meetLabels};
 ghost use Rattle.unify.specs.Rows.{Operand};
 
-// The meet of two labels: the meet of their types, and the overlap of their ranges.
-fn meet(meets: &[[u8; 64]; 64], a: Label, b: Label) -> Label
-    requires { ⌜ (a .kind < 64) × (b .kind < 64) ⌝ }
-    ensures { λ r. ⌜ stated r ≡ meetLabels (now (meets .entry)) (stated a) (stated b) ⌝ }
+// The meet of two labels over n types: the meet of their types, and the overlap of their ranges.
+fn meet<'a>(
+    n: usize,
+    sets: &'a [u64; lattice::sets::WORDS],
+    cells: &'a [[u8; 64]; 64],
+    a: Label,
+    b: Label,
+) -> Label
+    requires { ⌜ (a .kind < n) × (b .kind < n) × (n ≤ 64) ⌝ }
+    requires { ⌜ Ready false n (now sets) ⌝ }
+    ensures { λ r. ⌜ stated r ≡ meetLabels (meetIn n (now (sets .entry)) (now (cells .entry))) (stated a) (stated b) ⌝ }
 {
-    let i = a.kind as usize;
-    let j = b.kind as usize;
     Label {
-        kind: meets[i][j],
+        kind: lattice::sets::meet(n, sets, cells, a.kind as usize, b.kind as usize),
         lowest: layout::greater(a.lowest, b.lowest),
         highest: layout::lesser(a.highest, b.highest),
     }
@@ -35,7 +42,9 @@ fn meet(meets: &[[u8; 64]; 64], a: Label, b: Label) -> Label
 
 // Meets the label of each node's class with the node's label, the last node first. Node v of the graph is node shift + v of both.
 fn lower<'a>(
-    meets: &'a [[u8; 64]; 64],
+    n: usize,
+    sets: &'a [u64; lattice::sets::WORDS],
+    cells: &'a [[u8; 64]; 64],
     graph: &'a [u16],
     class: &'a [u16; 510],
     shift: usize,
@@ -43,18 +52,20 @@ fn lower<'a>(
 )
     requires { ⌜ Recorded (now graph) ⌝ }
     requires { ⌜ (shift ≤ 255) × (length (now labels) ≡ labelWords) ⌝ }
-    requires { ⌜ ((n : ℕ) × Lowerable n (now meets) (now graph) (now labels)) ⌝ }
+    requires { ⌜ Lowerable n (meetIn n (now sets) (now cells)) (now graph) (now labels) × Ready false n (now sets) ⌝ }
     requires { ⌜ ((v : ℕ) → v < size (now graph) → getD (now class) (shift + v) 0 < 510) ⌝ }
     ensures { λ _. ⌜ length (now (labels .exit)) ≡ labelWords ⌝ }
-    ensures { λ _. ⌜ ((n : ℕ) → Lowerable n (now (meets .entry)) (now (graph .entry)) (now (labels .entry)) → Below n (now (labels .exit))) ⌝ }
-    ensures { λ _. ⌜ Lowers (now (meets .entry)) (now (graph .entry)) (now (class .entry)) shift (now (labels .entry)) (now (labels .exit)) ⌝ }
+    ensures { λ _. ⌜ Below n (now (labels .exit)) ⌝ }
+    ensures { λ _. ⌜ Lowers (meetIn n (now (sets .entry)) (now (cells .entry))) (now (graph .entry)) (now (class .entry)) shift (now (labels .entry)) (now (labels .exit)) ⌝ }
 {
     let mut v = graph[0] as usize;
     while 0 < v {
         v -= 1;
         let c = class[shift + v] as usize;
         let lower = meet(
-            meets,
+            n,
+            sets,
+            cells,
             layout::label_at(graph, v),
             layout::label_from(labels, HEADER * c),
         );
@@ -83,24 +94,25 @@ fn clear(n: usize, nodes: usize, labels: &mut [u16; LABELS])
 // The labels of the classes of two graphs' nodes over n types: top, met with the labels of the nodes.
 pub fn class_labels<'a>(
     n: usize,
-    meets: &'a [[u8; 64]; 64],
+    sets: &'a [u64; lattice::sets::WORDS],
+    cells: &'a [[u8; 64]; 64],
     a: &'a [u16],
     b: &'a [u16],
     class: &'a [u16; 510],
 ) -> [u16; LABELS]
     requires { ⌜ (0 < n) × (n ≤ 64) ⌝ }
-    requires { ⌜ MeetsBelow n (now meets) ⌝ }
+    requires { ⌜ Meeting n (now sets) (now cells) ⌝ }
     requires { ⌜ Operand n (now a) ⌝ }
     requires { ⌜ Operand n (now b) ⌝ }
     requires { ⌜ ((x : ℕ) → x < size (now a) + size (now b) → getD (now class) x 0 < 510) ⌝ }
     ensures { λ r. ⌜ Below n r × (length r ≡ labelWords) ⌝ }
-    ensures { λ r. ⌜ ((c : ℕ) → c < size (now (a .entry)) + size (now (b .entry)) → labelOfClass r c ≡ loweredBoth n (now (meets .entry)) (now (a .entry)) (now (b .entry)) (now (class .entry)) c) ⌝ }
+    ensures { λ r. ⌜ ClassLabels n (meetIn n (now (sets .entry)) (now (cells .entry))) (now (a .entry)) (now (b .entry)) (now (class .entry)) r ⌝ }
 {
     let mut labels = [0u16; LABELS];
     let shift = a[0] as usize;
     clear(n, shift + b[0] as usize, &mut labels);
-    lower(meets, b, class, shift, &mut labels);
-    lower(meets, a, class, 0, &mut labels);
+    lower(n, sets, cells, b, class, shift, &mut labels);
+    lower(n, sets, cells, a, class, 0, &mut labels);
     labels
 }
 

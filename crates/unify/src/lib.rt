@@ -9,8 +9,9 @@ use encode::Written;
 ghost use mathlib.Core.Path.{_≡_};
 ghost use Prim.Native.Nat.{_≤_, _<_};
 ghost use lib.ListN.{length};
+ghost use Rattle.lattice.specs.Sets.{meetIn};
 ghost use Rattle.encode.specs.Encode.{yielding};
-ghost use Rattle.unify.specs.Lowered.{MeetsBelow};
+ghost use Rattle.unify.specs.Lowered.{Meeting};
 ghost use Rattle.unify.specs.Outcome.{unifyingOut};
 ghost use Rattle.unify.specs.Rows.{Merges, Operand, classWords, placesFor};
 
@@ -30,18 +31,19 @@ const LARGE: usize = 510 * layout::HEADER + 4096 + 64 * 509;
 // Builds the graph of the classes of both graphs' nodes. The pool takes the words of both graphs and the rows of merged classes.
 fn merge_within<'a>(
     n: usize,
-    meets: &'a [[u8; 64]; 64],
+    sets: &'a [u64; lattice::sets::WORDS],
+    cells: &'a [[u8; 64]; 64],
     a: &'a [u16],
     b: &'a [u16],
     pool: &mut [u16],
     graph: &mut [u16; quotient::GRAPH],
 )
     requires { ⌜ (0 < n) × (n ≤ 64) ⌝ }
-    requires { ⌜ MeetsBelow n (now meets) ⌝ }
+    requires { ⌜ Meeting n (now sets) (now cells) ⌝ }
     requires { ⌜ Operand n (now a) ⌝ }
     requires { ⌜ Operand n (now b) ⌝ }
     requires { ⌜ (placesFor (now a) (now b) ≤ length (now pool)) × (length (now graph) ≡ classWords) ⌝ }
-    ensures { λ _. ⌜ Merges n (now (meets .entry)) (now (a .entry)) (now (b .entry)) (now (graph .exit)) ⌝ }
+    ensures { λ _. ⌜ Merges n (meetIn n (now (sets .entry)) (now (cells .entry))) (now (a .entry)) (now (b .entry)) (now (graph .exit)) ⌝ }
 {
     let mut start = [0u16; 510];
     let mut end = [0u16; 510];
@@ -53,52 +55,54 @@ fn merge_within<'a>(
     beside::copy_spans(a, 0, 0, &mut start, &mut end);
     beside::copy_spans(b, at, second, &mut start, &mut end);
     classes::close(nodes, second, &mut class, &mut start, &mut end, pool, used);
-    let labels = labels::class_labels(n, meets, a, b, &class);
+    let labels = labels::class_labels(n, sets, cells, a, b, &class);
     quotient::quotient(nodes, &class, &labels, &start, &end, pool, graph);
 }
 
 // The same with a pool no larger than the graphs ask for: a merge takes up to 64 places, and there are fewer merges than nodes.
 fn merge<'a>(
     n: usize,
-    meets: &'a [[u8; 64]; 64],
+    sets: &'a [u64; lattice::sets::WORDS],
+    cells: &'a [[u8; 64]; 64],
     a: &'a [u16],
     b: &'a [u16],
     graph: &mut [u16; quotient::GRAPH],
 )
     requires { ⌜ (0 < n) × (n ≤ 64) ⌝ }
-    requires { ⌜ MeetsBelow n (now meets) ⌝ }
+    requires { ⌜ Meeting n (now sets) (now cells) ⌝ }
     requires { ⌜ Operand n (now a) ⌝ }
     requires { ⌜ Operand n (now b) ⌝ }
     requires { ⌜ length (now graph) ≡ classWords ⌝ }
-    ensures { λ _. ⌜ Merges n (now (meets .entry)) (now (a .entry)) (now (b .entry)) (now (graph .exit)) ⌝ }
+    ensures { λ _. ⌜ Merges n (meetIn n (now (sets .entry)) (now (cells .entry))) (now (a .entry)) (now (b .entry)) (now (graph .exit)) ⌝ }
 {
     let words = beside::word_count(a) + beside::word_count(b);
     let nodes = a[0] as usize + b[0] as usize;
     if words + 64 * (nodes - 1) <= SMALL {
         let mut pool = [0u16; SMALL];
-        merge_within(n, meets, a, b, &mut pool, graph);
+        merge_within(n, sets, cells, a, b, &mut pool, graph);
     } else {
         let mut pool = [0u16; LARGE];
-        merge_within(n, meets, a, b, &mut pool, graph);
+        merge_within(n, sets, cells, a, b, &mut pool, graph);
     }
 }
 
-// Writes the unification of two graphs over n types.
+// Writes the unification of two graphs over n types, with the meets of types as they are held.
 pub fn unify<'a>(
     n: usize,
-    meets: &'a [[u8; 64]; 64],
+    sets: &'a [u64; lattice::sets::WORDS],
+    cells: &'a [[u8; 64]; 64],
     a: &'a [u16],
     b: &'a [u16],
     out: &mut [u8],
 ) -> Combined
     requires { ⌜ (0 < n) × (n ≤ 64) ⌝ }
-    requires { ⌜ MeetsBelow n (now meets) ⌝ }
+    requires { ⌜ Meeting n (now sets) (now cells) ⌝ }
     requires { ⌜ Operand n (now a) ⌝ }
     requires { ⌜ Operand n (now b) ⌝ }
-    ensures { λ r. ⌜ yielding r (now (out .exit)) ≡ unifyingOut n (now (meets .entry)) (now (a .entry)) (now (b .entry)) (now (out .entry)) ⌝ }
+    ensures { λ r. ⌜ yielding r (now (out .exit)) ≡ unifyingOut n (meetIn n (now (sets .entry)) (now (cells .entry))) (now (a .entry)) (now (b .entry)) (now (out .entry)) ⌝ }
 {
     let mut graph = [0u16; quotient::GRAPH];
-    merge(n, meets, a, b, &mut graph);
+    merge(n, sets, cells, a, b, &mut graph);
     let mut order = [0u16; 510];
     if visits::cycle::has_cycle(&graph, &mut order) {
         return Combined::Cycle;

@@ -4,6 +4,7 @@
 
 use reference::difference::difference;
 use reference::graph::Graph;
+use reference::house;
 use reference::order::subsumption;
 use reference::random::{self, Shape, TableBytes, Xorshift};
 use reference::record;
@@ -38,14 +39,15 @@ impl Input {
 }
 
 /// The names of the tables.
-const KINDS: [&str; 3] = ["4", "64", "64 rivals"];
+const KINDS: [&str; 4] = ["4", "64", "64 house", "64 rivals"];
 
-/// The table of a name: 4 types, 64, or 64 that do not admit differences and are not
-/// numbered along their order.
+/// The table of a name: 4 types, the subsets of six atoms, the house types, or 64 types
+/// that are not distributive and not numbered along their order.
 fn table(kind: &str) -> TableBytes {
     match kind {
         "4" => random::diamond(),
         "64" => random::boolean(6),
+        "64 house" => house::table(),
         _ => random::large_rival_table(&mut Xorshift::new(64)),
     }
 }

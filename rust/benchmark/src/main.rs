@@ -1,6 +1,7 @@
 //! Prints what a call takes, at graphs of 8, 40 and 255 nodes and tables of 4 types, of
-//! 64, and of 64 rivals, which do not admit differences, without level ranges and with
-//! them: where valgrind is there, the instructions that a call of the engine and of the peer runs, which repeat; then the
+//! the 64 subsets of six atoms, of the 64 house types, and of 64 rivals, which do not admit
+//! differences, without level ranges and with them: where valgrind is there, the
+//! instructions that a call of the engine and of the peer runs, which repeat; then the
 //! times by the engine, by the peer and by the reference, which do so only on a machine
 //! that has nothing else to do.
 

@@ -1,6 +1,6 @@
 -- What follows reading two records: a refusal, or their common part.
-use Rattle.layout.specs.Layout.{rowsOf}
-use Rattle.engine.specs.Pair.{joined}
+use Rattle.lattice.specs.Sets.{joinIn}
+use Rattle.engine.specs.Pair.{joinedHeld}
 use Rattle.engine.proofs.Replies.{refused-both}
 use Rattle.engine.proofs.CommonParts.{joined-as}
 use borrow.Author.Needs.{needs}
@@ -22,14 +22,14 @@ reply-of-requires c κs = search needs
 returns : tie.Need-returns
 returns c = let start = c .before .before .before .before .before .before in
     refused-both (start .args .out .now)
-    (joined (start .args .joins .now) (start .args .out .now) (rowsOf (start .args .a .now)) (rowsOf (start .args .b .now))) _ _ (c .before .verdict .given .1)
+    (joinedHeld (start .args .n) (start .args .sets .now) (start .args .cells .now) (start .args .out .now) (start .args .a .now) (start .args .b .now)) _ _ (c .before .verdict .given .1)
 
 same-length : tie.Need-same-length
 same-length c = search needs
 
 returns-2 : tie.Need-returns-2
 returns-2 c = let start = c .before .before .before .before .before .before .before .before .before .before in
-    joined-as (start .args .joins .now) (start .args .a .now) (start .args .b .now) (start .args .out .now) (c .before .before .before .before .before .enum-told .given .1)
+    joined-as (joinIn (start .args .n) (start .args .sets .now) (start .args .cells .now)) (start .args .a .now) (start .args .b .now) (start .args .out .now) (c .before .before .before .before .before .enum-told .given .1)
     (c .before .before .before .generalize .ensures) (c .reply-of .ensures)
 
 pub generalize-over-spec : {M : Type 1} → statement M

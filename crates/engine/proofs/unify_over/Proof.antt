@@ -1,6 +1,6 @@
 -- What follows reading two records: a refusal, or their combination.
-use Rattle.layout.specs.Layout.{rowsOf}
-use Rattle.engine.specs.Pair.{met}
+use Rattle.lattice.specs.Sets.{meetIn}
+use Rattle.engine.specs.Pair.{metHeld}
 use Rattle.engine.proofs.Replies.{refused-both}
 use Rattle.engine.proofs.Combinations.{met-as}
 use borrow.Author.Needs.{needs}
@@ -22,14 +22,14 @@ combined-reply-requires c κs = search needs
 returns : tie.Need-returns
 returns c = let start = c .before .before .before .before .before .before in
     refused-both (start .args .out .now)
-    (met (start .args .n) (start .args .meets .now) (start .args .out .now) (rowsOf (start .args .a .now)) (rowsOf (start .args .b .now))) _ _ (c .before .verdict .given .1)
+    (metHeld (start .args .n) (start .args .sets .now) (start .args .cells .now) (start .args .out .now) (start .args .a .now) (start .args .b .now)) _ _ (c .before .verdict .given .1)
 
 same-length : tie.Need-same-length
 same-length c = search needs
 
 returns-2 : tie.Need-returns-2
 returns-2 c = let start = c .before .before .before .before .before .before .before .before .before .before in
-    met-as (start .args .n) (start .args .meets .now) (start .args .a .now) (start .args .b .now) (start .args .out .now) (c .before .before .before .before .before .enum-told .given .1)
+    met-as (start .args .n) (meetIn (start .args .n) (start .args .sets .now) (start .args .cells .now)) (start .args .a .now) (start .args .b .now) (start .args .out .now) (c .before .before .before .before .before .enum-told .given .1)
     (c .before .before .before .unify .ensures) (c .combined-reply .ensures)
 
 pub unify-over-spec : {M : Type 1} → statement M

@@ -1,29 +1,29 @@
 -- `generalize` meets its contract: the pairs before `head` have their rows.
 use mathlib.Core.Path.{_∙_, sym, ap, ap₂, refl}
-use mathlib.Core.List.{List}
 use mathlib.Core.Logic.{inl, inr}
-use Prim.Native.Nat.{ℕ, _+_, _-_, _*_, _/_, _%_, _≤_}
+use Prim.Native.Nat.{ℕ, _+_, _-_, _*_, _≤_}
 use native.Mathlib.Omega.{arith}
-use lib.ListN.{length, getD, replicate, length-replicate, getD-replicate}
+use lib.ListN.{length, replicate, length-replicate, getD-replicate}
 use Rattle.graphs.specs.Number.{Canonical}
 use Rattle.lattice.specs.Label.{Label}
+use Rattle.lattice.specs.Sets.{joinIn}
 use Rattle.layout.specs.Layout.{header}
 use Rattle.layout.specs.Builder.{putLabel}
 use Rattle.layout.proofs.Builder.{length-put}
 use Rattle.encode.specs.Encode.{writtenOut}
 use Rattle.generalize.specs.Pairs.{joinsOf}
-use Rattle.generalize.proofs.Building.{Building, base, build-start, build-step, types-known}
+use Rattle.generalize.proofs.Building.{Building, base, build-start, build-step}
 use Rattle.generalize.proofs.Result.{too-large, many-pairs, many-links, build-sound, build-canonical}
 use borrow.Author.Needs.{needs}
 use Rattle.generalize.proofs.generalize.Statement.{statement}
 use Rattle.generalize.proofs.generalize.Tie as tie
 
 abbrev Inv-loop : tie.InvT-loop
-Inv-loop joins a b out marks₀ queue₀ words₀ at₀ count₀ head₀ marks queue words at count head =
-    Building joins a b head count at marks queue words × (at ≤ base + head * header + 2048)
+Inv-loop n sets cells a b out marks₀ queue₀ words₀ at₀ count₀ head₀ marks queue words at count head =
+    Building (joinIn n sets cells) a b head count at marks queue words × (at ≤ base + head * header + 2048)
 
 abbrev μ-loop : tie.MeasureT-loop
-μ-loop joins a b out marks₀ queue₀ words₀ at₀ count₀ head₀ marks queue words at count head = 255 - head
+μ-loop n sets cells a b out marks₀ queue₀ words₀ at₀ count₀ head₀ marks queue words at count head = 255 - head
 
 array-write-marks : tie.Need-array-write-marks Inv-loop μ-loop
 array-write-marks c = search needs
@@ -35,7 +35,7 @@ array-write-words : tie.Need-array-write-words Inv-loop μ-loop
 array-write-words c = search needs
 
 loop-holds : tie.Need-loop-holds Inv-loop μ-loop
-loop-holds c = let st = c .before .before .before in (build-start (st .args .joins .now) (st .pre .0) (st .pre .1 .0) (st .pre .1 .1) (replicate 65025 255) (replicate 255 0) (replicate 2879 0) (length-replicate {A = ℕ} 65025 255) (λ p h. getD-replicate {A = ℕ} 65025 p 255 0 h) (length-replicate {A = ℕ} 255 0) (getD-replicate {A = ℕ} 255 0 0 0 (omega arith)) (length-replicate {A = ℕ} 2879 0), omega arith)
+loop-holds c = let st = c .before .before .before in (build-start (joinIn (st .args .n) (st .args .sets .now) (st .args .cells .now)) (st .pre .0) (st .pre .1 .0) (st .args .n, st .pre .1 .1 .0) (replicate 65025 255) (replicate 255 0) (replicate 2879 0) (length-replicate {A = ℕ} 65025 255) (λ p h. getD-replicate {A = ℕ} 65025 p 255 0 h) (length-replicate {A = ℕ} 255 0) (getD-replicate {A = ℕ} 255 0 0 0 (omega arith)) (length-replicate {A = ℕ} 2879 0), omega arith)
 
 mul-pair : tie.Need-mul-pair Inv-loop μ-loop
 mul-pair c = omega (arith, c .loop-test .taken, c .before .loop .inv .0 .marked .few)
@@ -53,7 +53,18 @@ label-at-requires-2 : tie.Need-label-at-requires-2 Inv-loop μ-loop
 label-at-requires-2 c κs = (c .before .before .loop .inv .0 .right .sound .shaped, c .before .before .loop .inv .0 .inside (c .before .before .loop .head) (c .before .loop-test .taken) .1)
 
 join-requires : tie.Need-join-requires Inv-loop μ-loop
-join-requires c κs = let k = types-known (c .before .before .before .loop .inv .0) (c .before .before .loop-test .taken) in (omega (arith, ap (λ (l : Label). l .type) (c .before .label-at .ensures), k .0 .type), omega (arith, ap (λ (l : Label). l .type) (c .label-at2 .ensures), k .1 .type))
+join-requires c κs =
+    let st = c .before .before .before .before .before .before .before in
+    let able = st .pre .1 .1 .0 in
+    let turn = c .before .before .before .loop in
+    let inside = turn .inv .0 .inside (turn .head) (c .before .before .loop-test .taken) in (
+      (
+        omega (arith, ap (λ (l : Label). l .type) (c .before .label-at .ensures), able .left _ (inside .0) .type),
+        omega (arith, ap (λ (l : Label). l .type) (c .label-at2 .ensures), able .right _ (inside .1) .type),
+        able .few,
+      ),
+      st .pre .1 .1 .1,
+    )
 
 slice-aggregate-put-label : tie.Need-slice-aggregate-put-label Inv-loop μ-loop
 slice-aggregate-put-label c = sym (c .before .before .before .before .before .loop .inv .0 .long)
@@ -68,7 +79,7 @@ pair-links-requires : tie.Need-pair-links-requires Inv-loop μ-loop
 pair-links-requires c κs = let s = c .before .before .before .before .before .before .before .before .before .before .loop .inv .0 in (s .left, (s .right, (s .inside (c .before .before .before .before .before .before .before .before .before .before .loop .head) (c .before .before .before .before .before .before .before .before .before .loop-test .taken), (s .marked, (ap length (c .before .before .before .before .put-label .ensures) ∙ length-put (c .before .before .before .before .before .before .before .before .before .before .loop .words) (c .before .before .before .before .before .before .before .before .before .before .loop .at) _ ∙ s .long, omega (arith, c .before .before .before .before .before .before .before .before .before .loop-test .taken, c .before .before .before .before .before .before .before .before .before .before .loop .inv .0 .marked .few, c .before .before .before .before .before .before .before .before .before .before .loop .inv .1))))))
 
 returns : tie.Need-returns Inv-loop μ-loop
-returns c = let s = c .before .before .before .before .before .before .before .before .before .before .before .before .loop .inv .0 in let st = c .before .before .before .before .before .before .before .before .before .before .before .before .before .before .before .before in sym (too-large (st .args .joins .now) (s .left) (s .right) (st .args .out .now) (inl (many-pairs s (c .before .before .before .before .before .before .before .before .before .before .before .loop-test .taken) (c .before .pair-links .ensures .full (c .if1 .taken)))))
+returns c = let s = c .before .before .before .before .before .before .before .before .before .before .before .before .loop .inv .0 in let st = c .before .before .before .before .before .before .before .before .before .before .before .before .before .before .before .before in sym (too-large (joinIn (st .args .n) (st .args .sets .now) (st .args .cells .now)) (s .left) (s .right) (st .args .out .now) (inl (many-pairs s (c .before .before .before .before .before .before .before .before .before .before .before .loop-test .taken) (c .before .pair-links .ensures .full (c .if1 .taken)))))
 
 cast-words-2 : tie.Need-cast-words-2 Inv-loop μ-loop
 cast-words-2 c = omega (arith, c .before .pair-links .ensures .added (omega (arith, c .if1 .left)) .short, c .before .before .before .before .before .before .before .before .before .before .before .loop-test .taken, c .before .before .before .before .before .before .before .before .before .before .before .before .loop .inv .0 .marked .few, c .before .before .before .before .before .before .before .before .before .before .before .before .loop .inv .1)
@@ -95,13 +106,13 @@ add-if2-2 : tie.Need-add-if2-2 Inv-loop μ-loop
 add-if2-2 c = omega (arith, c .before .before .before .before .before .before .before .before .before .before .before .loop-test .taken, c .before .before .before .before .before .before .before .before .before .before .before .before .loop .inv .0 .marked .few)
 
 returns-2 : tie.Need-returns-2 Inv-loop μ-loop
-returns-2 c = let s = c .before .before .before .before .before .before .before .before .before .before .before .before .before .loop .inv .0 in let st = c .before .before .before .before .before .before .before .before .before .before .before .before .before .before .before .before .before in sym (too-large (st .args .joins .now) (s .left) (s .right) (st .args .out .now) (inr (many-links (build-step (c .before .before .before .before .before .before .before .before .before .before .before .before .before .loop .inv .0) (c .before .before .before .before .before .before .before .before .before .before .before .before .loop-test .taken) (c .before .before .before .before .before .before .before .before .before .before .before .before .before .loop .inv .1) _ refl _ (c .before .before .before .before .before .before .before .put-label .ensures ∙ ap (putLabel (c .before .before .before .before .before .before .before .before .before .before .before .before .before .loop .words) (c .before .before .before .before .before .before .before .before .before .before .before .before .before .loop .at)) (c .before .before .before .before .before .before .before .before .before .join .ensures ∙ ap₂ (joinsOf (c .before .before .before .before .before .before .before .before .before .before .before .before .before .before .before .before .before .args .joins .now) .join) (c .before .before .before .before .before .before .before .before .before .before .before .label-at .ensures) (c .before .before .before .before .before .before .before .before .before .before .label-at2 .ensures))) _ _ _ _ (c .before .before .pair-links .ensures .added (omega (arith, c .before .if1 .left)))) (omega (arith, c .if2 .taken)))))
+returns-2 c = let s = c .before .before .before .before .before .before .before .before .before .before .before .before .before .loop .inv .0 in let st = c .before .before .before .before .before .before .before .before .before .before .before .before .before .before .before .before .before in sym (too-large (joinIn (st .args .n) (st .args .sets .now) (st .args .cells .now)) (s .left) (s .right) (st .args .out .now) (inr (many-links (build-step (c .before .before .before .before .before .before .before .before .before .before .before .before .before .loop .inv .0) (c .before .before .before .before .before .before .before .before .before .before .before .before .loop-test .taken) (c .before .before .before .before .before .before .before .before .before .before .before .before .before .loop .inv .1) _ refl _ (c .before .before .before .before .before .before .before .put-label .ensures ∙ ap (putLabel (c .before .before .before .before .before .before .before .before .before .before .before .before .before .loop .words) (c .before .before .before .before .before .before .before .before .before .before .before .before .before .loop .at)) (c .before .before .before .before .before .before .before .before .before .join .ensures ∙ ap₂ (joinsOf (joinIn (c .before .before .before .before .before .before .before .before .before .before .before .before .before .before .before .before .before .args .n) (c .before .before .before .before .before .before .before .before .before .before .before .before .before .before .before .before .before .args .sets .now) (c .before .before .before .before .before .before .before .before .before .before .before .before .before .before .before .before .before .args .cells .now)) .join) (c .before .before .before .before .before .before .before .before .before .before .before .label-at .ensures) (c .before .before .before .before .before .before .before .before .before .before .label-at2 .ensures))) _ _ _ _ (c .before .before .pair-links .ensures .added (omega (arith, c .before .if1 .left)))) (omega (arith, c .if2 .taken)))))
 
 loop-less : tie.Need-loop-less Inv-loop μ-loop
 loop-less c = omega (arith, c .before .before .before .before .before .before .before .before .before .before .before .before .loop-test .taken, c .before .before .before .before .before .before .before .before .before .before .before .before .before .loop .inv .0 .marked .few)
 
 loop-again : tie.Need-loop-again Inv-loop μ-loop
-loop-again c = (build-step (c .before .before .before .before .before .before .before .before .before .before .before .before .before .loop .inv .0) (c .before .before .before .before .before .before .before .before .before .before .before .before .loop-test .taken) (c .before .before .before .before .before .before .before .before .before .before .before .before .before .loop .inv .1) _ refl _ (c .before .before .before .before .before .before .before .put-label .ensures ∙ ap (putLabel (c .before .before .before .before .before .before .before .before .before .before .before .before .before .loop .words) (c .before .before .before .before .before .before .before .before .before .before .before .before .before .loop .at)) (c .before .before .before .before .before .before .before .before .before .join .ensures ∙ ap₂ (joinsOf (c .before .before .before .before .before .before .before .before .before .before .before .before .before .before .before .before .before .args .joins .now) .join) (c .before .before .before .before .before .before .before .before .before .before .before .label-at .ensures) (c .before .before .before .before .before .before .before .before .before .before .label-at2 .ensures))) _ _ _ _ (c .before .before .pair-links .ensures .added (omega (arith, c .before .if1 .left))), omega (arith, c .if2 .left))
+loop-again c = (build-step (c .before .before .before .before .before .before .before .before .before .before .before .before .before .loop .inv .0) (c .before .before .before .before .before .before .before .before .before .before .before .before .loop-test .taken) (c .before .before .before .before .before .before .before .before .before .before .before .before .before .loop .inv .1) _ refl _ (c .before .before .before .before .before .before .before .put-label .ensures ∙ ap (putLabel (c .before .before .before .before .before .before .before .before .before .before .before .before .before .loop .words) (c .before .before .before .before .before .before .before .before .before .before .before .before .before .loop .at)) (c .before .before .before .before .before .before .before .before .before .join .ensures ∙ ap₂ (joinsOf (joinIn (c .before .before .before .before .before .before .before .before .before .before .before .before .before .before .before .before .before .args .n) (c .before .before .before .before .before .before .before .before .before .before .before .before .before .before .before .before .before .args .sets .now) (c .before .before .before .before .before .before .before .before .before .before .before .before .before .before .before .before .before .args .cells .now)) .join) (c .before .before .before .before .before .before .before .before .before .before .before .label-at .ensures) (c .before .before .before .before .before .before .before .before .before .before .label-at2 .ensures))) _ _ _ _ (c .before .before .pair-links .ensures .added (omega (arith, c .before .if1 .left))), omega (arith, c .if2 .left))
 
 cast-words-3 : tie.Need-cast-words-3 Inv-loop μ-loop
 cast-words-3 c = omega (arith, c .before .loop .inv .0 .marked .few)

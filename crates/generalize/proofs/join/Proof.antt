@@ -1,24 +1,17 @@
 -- `join` meets its contract: component by component.
-use mathlib.Core.Path.{refl}
 use Rattle.lattice.proofs.Lawful.{label-parts}
 use borrow.Author.Needs.{needs}
 use Rattle.generalize.proofs.join.Statement.{statement}
 use Rattle.generalize.proofs.join.Tie as tie
 
-cast-i : tie.Need-cast-i
-cast-i c = search needs
+cast-join : tie.Need-cast-join
+cast-join c = search needs
 
-cast-j : tie.Need-cast-j
-cast-j c = search needs
+cast-join-2 : tie.Need-cast-join-2
+cast-join-2 c = search needs
 
-mul-t6 : tie.Need-mul-t6
-mul-t6 c = search needs
-
-index-1-t11 : tie.Need-index-1-t11
-index-1-t11 c = search needs
-
-index-2-t11 : tie.Need-index-2-t11
-index-2-t11 c = search needs
+join-requires : tie.Need-join-requires
+join-requires c κs = search needs
 
 lesser-requires : tie.Need-lesser-requires
 lesser-requires c κs = search needs
@@ -27,17 +20,9 @@ greater-requires : tie.Need-greater-requires
 greater-requires c κs = search needs
 
 returns : tie.Need-returns
-returns c = label-parts refl (c .before .lesser .ensures) (c .greater .ensures)
+returns c = label-parts (c .before .before .join .ensures) (c .before .lesser .ensures) (c .greater .ensures)
 
 pub join-spec : {M : Type 1} → statement M
 join-spec =
     tie.close
-    (tie.spec
-    cast-i
-    cast-j
-    mul-t6
-    index-1-t11
-    index-2-t11
-    lesser-requires
-    greater-requires
-    returns)
+    (tie.spec cast-join cast-join-2 join-requires lesser-requires greater-requires returns)

@@ -1,8 +1,9 @@
 -- `accept` meets its contract: where every two types have a meet, the table is accepted.
-use mathlib.Core.Bool.{true, false}
+use mathlib.Core.Path.{sym, _∙_}
+use mathlib.Core.Bool.{false}
 use borrow.Author.Needs.{needs}
 use Rattle.lattice.proofs.Every.{refuted, held}
-use Rattle.lattice.proofs.Opening.{size-facts, answer-size, answer-order, side-sided, answer-found}
+use Rattle.lattice.proofs.Opening.{size-facts, answer-size, answer-order, lower-words, answer-found}
 use Rattle.lattice.proofs.accept.Statement.{statement}
 use Rattle.lattice.proofs.accept.Tie as tie
 
@@ -34,7 +35,10 @@ are-bounded-requires c κs =
     let size = held (tested .before .before .before .before .before .is-sized .ensures) (tested .before .before .before .before .if1 .left) in
     let words = tested .before .before .before .read-words .ensures in
     let order = held (tested .before .is-ordered .ensures) (tested .if2 .left) in
-    (size-facts _ _ size .1, side-sided (start .args .n) (start .args .table .now) _ size words order false _ words)
+    (size-facts _ _ size .1, lower-words (start .args .n) (start .args .table .now) _ size words order)
+
+bounded-requires : tie.Need-bounded-requires
+bounded-requires c κs = search needs
 
 returns-3 : tie.Need-returns-3
 returns-3 c =
@@ -43,18 +47,8 @@ returns-3 c =
     let size = held (tested .before .before .before .before .before .is-sized .ensures) (tested .before .before .before .before .if1 .left) in
     let words = tested .before .before .before .read-words .ensures in
     let order = held (tested .before .is-ordered .ensures) (tested .if2 .left) in
-    answer-found (start .args .n) (start .args .table .now) _ size words order false _ words false
-    (refuted (c .before .are-bounded .ensures) (c .if3 .taken))
-
-returns-4 : tie.Need-returns-4
-returns-4 c =
-    let tested = c .before .before .before in
-    let start = tested .before .before .before .before .before .before .before in
-    let size = held (tested .before .before .before .before .before .is-sized .ensures) (tested .before .before .before .before .if1 .left) in
-    let words = tested .before .before .before .read-words .ensures in
-    let order = held (tested .before .is-ordered .ensures) (tested .if2 .left) in
-    answer-found (start .args .n) (start .args .table .now) _ size words order false _ words true
-    (held (c .before .are-bounded .ensures) (c .if3 .left))
+    c .bounded .ensures ∙
+    answer-found (start .args .n) (start .args .table .now) _ size words order false _ words _ (sym (c .before .are-bounded .ensures))
 
 pub accept-spec : {M : Type 1} → statement M
 accept-spec =
@@ -66,5 +60,5 @@ accept-spec =
     is-ordered-requires
     returns-2
     are-bounded-requires
-    returns-3
-    returns-4)
+    bounded-requires
+    returns-3)

@@ -1,8 +1,13 @@
--- `open_meets` meets its contract: the table is filled with the meets, and accepted where all are found.
-use mathlib.Core.Bool.{true, false}
+-- `open_meets` meets its contract: the types are held as sets, or the cells are filled with the meets; accepted where all bounds are found.
+use mathlib.Core.Path.{refl, sym, _∙_}
+use mathlib.Core.Bool.{false}
+use native.Mathlib.Omega.{arith}
 use borrow.Author.Needs.{needs}
+use Rattle.lattice.specs.declared.TableFault.the-variants.{Size, Order}
+use Rattle.lattice.specs.Table.{meet}
 use Rattle.lattice.proofs.Every.{refuted, held}
-use Rattle.lattice.proofs.Opening.{size-facts, opening-size, opening-order, side-sided, opening-found}
+use Rattle.lattice.proofs.Opening.{size-facts, answer-size, answer-order, opening-refused, lower-words, side-sided, opening-found, cells-filled}
+use Rattle.lattice.proofs.Types.{holding-sets, holding-cells}
 use Rattle.lattice.proofs.open_meets.Statement.{statement}
 use Rattle.lattice.proofs.open_meets.Tie as tie
 
@@ -12,7 +17,8 @@ is-sized-requires c κs = search needs
 returns : tie.Need-returns
 returns c =
     let start = c .before .before .before in
-    opening-size (start .args .n) (start .args .table .now) _ _ (refuted (c .before .is-sized .ensures) (c .if1 .taken))
+    opening-refused (start .args .n) (start .args .table .now) false _ _ _ _ Size
+    (answer-size (start .args .n) (start .args .table .now) (refuted (c .before .is-sized .ensures) (c .if1 .taken)))
 
 read-words-requires : tie.Need-read-words-requires
 read-words-requires c κs = size-facts _ _ (held (c .before .is-sized .ensures) (c .if1 .left)) .1
@@ -23,40 +29,75 @@ is-ordered-requires c κs = size-facts _ _ (held (c .before .before .before .is-
 returns-2 : tie.Need-returns-2
 returns-2 c =
     let start = c .before .before .before .before .before .before .before in
-    opening-order (start .args .n) (start .args .table .now) _ _ _ (held (c .before .before .before .before .before .is-sized .ensures) (c .before .before .before .before .if1 .left))
-    (c .before .before .before .read-words .ensures)
-    (refuted (c .before .is-ordered .ensures) (c .if2 .taken))
+    let size = held (c .before .before .before .before .before .is-sized .ensures) (c .before .before .before .before .if1 .left) in
+    opening-refused (start .args .n) (start .args .table .now) false _ _ _ _ Order
+    (answer-order (start .args .n) (start .args .table .now) _ size (c .before .before .before .read-words .ensures)
+    (refuted (c .before .is-ordered .ensures) (c .if2 .taken)))
 
-fill-requires : tie.Need-fill-requires
-fill-requires c κs =
-    let tested = c .before .before in
-    let start = tested .before .before .before .before .before .before .before in
-    let size = held (tested .before .before .before .before .before .is-sized .ensures) (tested .before .before .before .before .if1 .left) in
-    let words = tested .before .before .before .read-words .ensures in
-    let order = held (tested .before .is-ordered .ensures) (tested .if2 .left) in
-    (size-facts _ _ size .1, side-sided (start .args .n) (start .args .table .now) _ size words order false _ words)
+hold-requires : tie.Need-hold-requires
+hold-requires c κs =
+    let start = c .before .before .before .before .before .before .before .before .before in
+    let n = start .args .n in
+    let t = start .args .table .now in
+    let size = held (c .before .before .before .before .before .before .before .is-sized .ensures) (c .before .before .before .before .before .before .if1 .left) in
+    let words = c .before .before .before .before .before .read-words .ensures in
+    let order = held (c .before .before .before .is-ordered .ensures) (c .before .before .if2 .left) in
+    ((omega (arith, size-facts n t size .0), size-facts n t size .1, side-sided n t _ size words order false _ words), start .pre)
+
+are-bounded-requires : tie.Need-are-bounded-requires
+are-bounded-requires c κs =
+    let start = c .before .before .before .before .before .before .before .before .before .before .before .before in
+    let n = start .args .n in
+    let t = start .args .table .now in
+    let size = held (c .before .before .before .before .before .before .before .before .before .before .is-sized .ensures) (c .before .before .before .before .before .before .before .before .before .if1 .left) in
+    let words = c .before .before .before .before .before .before .before .before .read-words .ensures in
+    let order = held (c .before .before .before .before .before .before .is-ordered .ensures) (c .before .before .before .before .before .if2 .left) in
+    (size-facts n t size .1, lower-words n t _ size words order)
+
+bounded-requires : tie.Need-bounded-requires
+bounded-requires c κs = search needs
 
 returns-3 : tie.Need-returns-3
 returns-3 c =
-    let tested = c .before .before .before .before in
-    let start = tested .before .before .before .before .before .before .before in
-    let size = held (tested .before .before .before .before .before .is-sized .ensures) (tested .before .before .before .before .if1 .left) in
-    let words = tested .before .before .before .read-words .ensures in
-    let order = held (tested .before .is-ordered .ensures) (tested .if2 .left) in
-    opening-found (start .args .n) (start .args .table .now) _ size words order false _ words false _ _
-    (refuted (c .before .fill .ensures .0) (c .if3 .taken))
-    (c .before .fill .ensures .1)
+    let start = c .before .before .before .before .before .before .before .before .before .before .before .before .before .before in
+    let n = start .args .n in
+    let t = start .args .table .now in
+    let size = held (c .before .before .before .before .before .before .before .before .before .before .before .before .is-sized .ensures) (c .before .before .before .before .before .before .before .before .before .before .before .if1 .left) in
+    let words = c .before .before .before .before .before .before .before .before .before .before .read-words .ensures in
+    let order = held (c .before .before .before .before .before .before .before .before .is-ordered .ensures) (c .before .before .before .before .before .before .before .if2 .left) in
+    let hold = c .before .before .before .before .hold in
+    let prime = sym (hold .ensures .0) ∙ c .before .before .before .if3 .taken in
+    opening-found n t _ size words order false _ words _ false (c .bounded .ensures) (sym (c .before .are-bounded .ensures))
+    λ ok. holding-sets n t ok _ words false (meet n t) _ _ _ prime (hold .ensures .1 .0 (c .before .before .before .if3 .taken)) refl
+
+fill-requires : tie.Need-fill-requires
+fill-requires c κs =
+    let start = c .before .before .before .before .before .before .before .before .before .before .before .before .before in
+    let n = start .args .n in
+    let t = start .args .table .now in
+    let size = held (c .before .before .before .before .before .before .before .before .before .before .before .is-sized .ensures) (c .before .before .before .before .before .before .before .before .before .before .if1 .left) in
+    let words = c .before .before .before .before .before .before .before .before .before .read-words .ensures in
+    let order = held (c .before .before .before .before .before .before .before .is-ordered .ensures) (c .before .before .before .before .before .before .if2 .left) in
+    (size-facts n t size .1, side-sided n t _ size words order false _ words)
+
+bounded-requires-2 : tie.Need-bounded-requires-2
+bounded-requires-2 c κs = search needs
 
 returns-4 : tie.Need-returns-4
 returns-4 c =
-    let tested = c .before .before .before .before in
-    let start = tested .before .before .before .before .before .before .before in
-    let size = held (tested .before .before .before .before .before .is-sized .ensures) (tested .before .before .before .before .if1 .left) in
-    let words = tested .before .before .before .read-words .ensures in
-    let order = held (tested .before .is-ordered .ensures) (tested .if2 .left) in
-    opening-found (start .args .n) (start .args .table .now) _ size words order false _ words true _ _
-    (held (c .before .fill .ensures .0) (c .if3 .left))
-    (c .before .fill .ensures .1)
+    let start = c .before .before .before .before .before .before .before .before .before .before .before .before .before .before .before in
+    let n = start .args .n in
+    let t = start .args .table .now in
+    let size = held (c .before .before .before .before .before .before .before .before .before .before .before .before .before .is-sized .ensures) (c .before .before .before .before .before .before .before .before .before .before .before .before .if1 .left) in
+    let words = c .before .before .before .before .before .before .before .before .before .before .before .read-words .ensures in
+    let order = held (c .before .before .before .before .before .before .before .before .before .is-ordered .ensures) (c .before .before .before .before .before .before .before .before .if2 .left) in
+    let hold = c .before .before .before .before .before .hold in
+    let left = c .before .before .before .before .if3 .left in
+    let fill = c .before .fill in
+    opening-found n t _ size words order false _ words _ false (c .bounded2 .ensures) (sym (fill .ensures .0))
+    λ ok.
+    holding-cells n t ok _ words false (meet n t) _ _ _ (sym (hold .ensures .0) ∙ left) (hold .ensures .1 .1 left)
+    (cells-filled n t _ size words order false _ words _ _ (fill .ensures .1))
 
 pub open-meets-spec : {M : Type 1} → statement M
 open-meets-spec =
@@ -67,6 +108,10 @@ open-meets-spec =
     read-words-requires
     is-ordered-requires
     returns-2
-    fill-requires
+    hold-requires
+    are-bounded-requires
+    bounded-requires
     returns-3
+    fill-requires
+    bounded-requires-2
     returns-4)

@@ -28,6 +28,11 @@ impl TableBytes {
         TableBytes { n, bytes }
     }
 
+    /// Whether bit j of row i stands, of a table that has these rows.
+    fn has_below(&self, j: usize, i: usize) -> bool {
+        self.bytes[8 * i + j / 8] >> (j % 8) & 1 == 1
+    }
+
     /// The accepted table; stops the program where it is not accepted.
     pub fn accepted(&self) -> Table {
         Table::accept(self.n, &self.bytes).expect("a table that is accepted")
@@ -47,6 +52,36 @@ pub fn chain(n: usize) -> TableBytes {
 /// The boolean lattice of the subsets of so many atoms, at most 6.
 pub fn boolean(atoms: usize) -> TableBytes {
     TableBytes::of_relation(1 << atoms, |j, i| j & !i == 0)
+}
+
+/// How the types between the least and the greatest are numbered.
+#[derive(Clone, Copy, Debug, PartialEq, Eq)]
+pub enum Numbering {
+    /// A type above another has the greater number.
+    Along,
+    /// It has the lesser number.
+    Against,
+    /// In any order.
+    Across,
+}
+
+impl Numbering {
+    /// All of them.
+    pub const ALL: [Numbering; 3] = [Numbering::Along, Numbering::Against, Numbering::Across];
+}
+
+/// The same types numbered anew, but for the least and the greatest.
+pub fn numbered(random: &mut Xorshift, table: &TableBytes, numbering: Numbering) -> TableBytes {
+    let mut types: Vec<usize> = (0..table.n).collect();
+    let middle = &mut types[1..table.n - 1];
+    // A type above another has more types below it.
+    middle.sort_by_key(|&i| (0..table.n).filter(|&j| table.has_below(j, i)).count());
+    match numbering {
+        Numbering::Along => {}
+        Numbering::Against => middle.reverse(),
+        Numbering::Across => random.shuffle(middle),
+    }
+    TableBytes::of_relation(table.n, |j, i| table.has_below(types[j], types[i]))
 }
 
 /// The lattice of so many middle types, mutually unordered; `middles(3)` is M3.
@@ -127,8 +162,9 @@ pub fn bounded_order(random: &mut Xorshift) -> TableBytes {
 
 /// The table with a new least type below its own, which becomes type 1.
 fn lifted(table: &TableBytes) -> TableBytes {
-    let below = |j: usize, i: usize| table.bytes[8 * i + j / 8] >> (j % 8) & 1 == 1;
-    TableBytes::of_relation(table.n + 1, |j, i| j == 0 || (i > 0 && below(j - 1, i - 1)))
+    TableBytes::of_relation(table.n + 1, |j, i| {
+        j == 0 || (i > 0 && table.has_below(j - 1, i - 1))
+    })
 }
 
 /// The six types of Paper 6: 2, 3 and 4 above 1, mutually unordered.

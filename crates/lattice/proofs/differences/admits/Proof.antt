@@ -8,8 +8,8 @@ use Rattle.lattice.proofs.differences.admits.Tie as tie
 read-words-requires : tie.Need-read-words-requires
 read-words-requires c κs = accepted-size _ _ (c .before .pre) .1
 
-are-primes-requires : tie.Need-are-primes-requires
-are-primes-requires c κs =
+find-irreducibles-requires : tie.Need-find-irreducibles-requires
+find-irreducibles-requires c κs =
     let start = c .before .before .before in (
       accepted-size _ _ (start .pre) .1,
       accepted-sided (start .args .n) (start .args .table .now) (start .pre) _ (c .before .read-words .ensures),
@@ -18,7 +18,7 @@ are-primes-requires c κs =
 returns : tie.Need-returns
 returns c =
     let start = c .before .before .before .before in
-    c .are-primes .ensures ∙ primes-admit (start .args .n) (start .args .table .now) _ (start .pre) (c .before .before .read-words .ensures)
+    c .find-irreducibles .ensures .primes ∙ primes-admit (start .args .n) (start .args .table .now) _ (start .pre) (c .before .before .read-words .ensures)
 
 pub admits-spec : {M : Type 1} → statement M
-admits-spec = tie.close (tie.spec read-words-requires are-primes-requires returns)
+admits-spec = tie.close (tie.spec read-words-requires find-irreducibles-requires returns)

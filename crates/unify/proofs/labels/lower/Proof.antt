@@ -1,10 +1,10 @@
 -- `lower` meets its contract: the nodes from v on have lowered the labels of their classes.
-use mathlib.Core.Path.{_∙_, ap, ap₂, subst, sym}
+use mathlib.Core.Path.{_∙_, ap, ap₂}
 use Prim.Native.Nat.{_+_, _-_, _*_}
 use native.Mathlib.Omega.{arith}
 use lib.ListN.{getD}
 use Rattle.lattice.specs.Label.{Label}
-use Rattle.lattice.specs.Labels.{Known}
+use Rattle.lattice.specs.Sets.{meetIn}
 use Rattle.lattice.proofs.Lawful.{known-more}
 use Rattle.layout.specs.Layout.{header}
 use Rattle.layout.specs.Builder.{putLabel}
@@ -15,11 +15,11 @@ use Rattle.unify.proofs.labels.lower.Statement.{statement}
 use Rattle.unify.proofs.labels.lower.Tie as tie
 
 abbrev Inv-loop : tie.InvT-loop
-Inv-loop meets graph class shift labels₀ v₀ labels v =
-    Lowering meets graph class shift labels₀ labels v
+Inv-loop n sets cells graph class shift labels₀ v₀ labels v =
+    Lowering (meetIn n sets cells) graph class shift labels₀ labels v
 
 abbrev μ-loop : tie.MeasureT-loop
-μ-loop meets graph class shift labels₀ v₀ labels v = v
+μ-loop n sets cells graph class shift labels₀ v₀ labels v = v
 
 shared-slice-read-v : tie.Need-shared-slice-read-v Inv-loop μ-loop
 shared-slice-read-v c = omega (arith, directory (c .before .before .pre .0 .sound .shaped))
@@ -52,10 +52,10 @@ mul-label-from : tie.Need-mul-label-from Inv-loop μ-loop
 mul-label-from c = omega (arith, (c .before .before .before .before .before .before .before .before .pre .1 .1 .1 (c .before .before .before .before .before .loop .v - 1) (omega (arith, c .before .before .before .before .loop-test .taken, c .before .before .before .before .before .loop .inv .most))))
 
 label-from-requires : tie.Need-label-from-requires Inv-loop μ-loop
-label-from-requires c κs = (omega (arith, (c .before .before .before .before .before .before .before .before .pre .1 .1 .1 (c .before .before .before .before .before .loop .v - 1) (omega (arith, c .before .before .before .before .loop-test .taken, c .before .before .before .before .before .loop .inv .most))), c .before .before .before .before .before .loop .inv .long), let able = c .before .before .before .before .before .before .before .before .pre .1 .1 .0 .1 in known-more (omega (arith, able .few)) (class-known (c .before .before .before .before .before .loop .inv) able (c .before .before .before .before .loop-test .taken) (c .before .before .before .before .before .before .before .before .pre .1 .1 .1 (c .before .before .before .before .before .loop .v - 1) (omega (arith, c .before .before .before .before .loop-test .taken, c .before .before .before .before .before .loop .inv .most)))))
+label-from-requires c κs = (omega (arith, (c .before .before .before .before .before .before .before .before .pre .1 .1 .1 (c .before .before .before .before .before .loop .v - 1) (omega (arith, c .before .before .before .before .loop-test .taken, c .before .before .before .before .before .loop .inv .most))), c .before .before .before .before .before .loop .inv .long), let able = c .before .before .before .before .before .before .before .before .pre .1 .1 .0 .0 in known-more (omega (arith, able .few)) (class-known (c .before .before .before .before .before .loop .inv) able (c .before .before .before .before .loop-test .taken) (c .before .before .before .before .before .before .before .before .pre .1 .1 .1 (c .before .before .before .before .before .loop .v - 1) (omega (arith, c .before .before .before .before .loop-test .taken, c .before .before .before .before .before .loop .inv .most)))))
 
 meet-requires : tie.Need-meet-requires Inv-loop μ-loop
-meet-requires c κs = let able = c .before .before .before .before .before .before .before .before .before .pre .1 .1 .0 .1 in let s = c .before .before .before .before .before .before .loop .inv in let h = c .before .before .before .before .before .loop-test .taken in let p = (c .before .before .before .before .before .before .before .before .before .pre .1 .1 .1 (c .before .before .before .before .before .before .loop .v - 1) (omega (arith, c .before .before .before .before .before .loop-test .taken, c .before .before .before .before .before .before .loop .inv .most))) in (omega (arith, ap (λ (l : Label). l .type) (c .before .before .before .label-at .ensures), node-known s able h p .type, able .few), omega (arith, ap (λ (l : Label). l .type) (c .label-from .ensures), class-known s able h p .type, able .few))
+meet-requires c κs = let able = c .before .before .before .before .before .before .before .before .before .pre .1 .1 .0 .0 in let s = c .before .before .before .before .before .before .loop .inv in let h = c .before .before .before .before .before .loop-test .taken in let p = (c .before .before .before .before .before .before .before .before .before .pre .1 .1 .1 (c .before .before .before .before .before .before .loop .v - 1) (omega (arith, c .before .before .before .before .before .loop-test .taken, c .before .before .before .before .before .before .loop .inv .most))) in ((omega (arith, ap (λ (l : Label). l .type) (c .before .before .before .label-at .ensures), node-known s able h p .type), omega (arith, ap (λ (l : Label). l .type) (c .label-from .ensures), class-known s able h p .type), able .few), c .before .before .before .before .before .before .before .before .before .pre .1 .1 .0 .1)
 
 mul-put-label : tie.Need-mul-put-label Inv-loop μ-loop
 mul-put-label c = omega (arith, (c .before .before .before .before .before .before .before .before .before .before .before .pre .1 .1 .1 (c .before .before .before .before .before .before .before .before .loop .v - 1) (omega (arith, c .before .before .before .before .before .before .before .loop-test .taken, c .before .before .before .before .before .before .before .before .loop .inv .most))))
@@ -67,10 +67,10 @@ loop-less : tie.Need-loop-less Inv-loop μ-loop
 loop-less c = omega (arith, c .before .before .before .before .before .before .before .before .loop-test .taken)
 
 loop-again : tie.Need-loop-again Inv-loop μ-loop
-loop-again c = let w = c .before .before .before .before .before .before .before .before .before .before .before .before in let x = c .before .before .before .before .before .before .before .before .before .loop in lower-step (x .inv) (w .pre .1 .1 .0 .1) (c .before .before .before .before .before .before .before .before .loop-test .taken) (c .before .before .before .before .before .before .before .before .before .before .before .before .pre .1 .1 .1 (c .before .before .before .before .before .before .before .before .before .loop .v - 1) (omega (arith, c .before .before .before .before .before .before .before .before .loop-test .taken, c .before .before .before .before .before .before .before .before .before .loop .inv .most))) (c .put-label .ensures ∙ ap (putLabel (x .labels) (header * getD (w .args .class .now) (w .args .shift + (x .v - 1)) 0)) (c .before .before .meet .ensures ∙ ap₂ (meetLabels (w .args .meets .now)) (c .before .before .before .before .before .before .label-at .ensures) (c .before .before .before .label-from .ensures)))
+loop-again c = let w = c .before .before .before .before .before .before .before .before .before .before .before .before in let x = c .before .before .before .before .before .before .before .before .before .loop in lower-step (x .inv) (w .pre .1 .1 .0 .0) (c .before .before .before .before .before .before .before .before .loop-test .taken) (c .before .before .before .before .before .before .before .before .before .before .before .before .pre .1 .1 .1 (c .before .before .before .before .before .before .before .before .before .loop .v - 1) (omega (arith, c .before .before .before .before .before .before .before .before .loop-test .taken, c .before .before .before .before .before .before .before .before .before .loop .inv .most))) (c .put-label .ensures ∙ ap (putLabel (x .labels) (header * getD (w .args .class .now) (w .args .shift + (x .v - 1)) 0)) (c .before .before .meet .ensures ∙ ap₂ (meetLabels (meetIn (w .args .n) (w .args .sets .now) (w .args .cells .now))) (c .before .before .before .before .before .before .label-at .ensures) (c .before .before .before .label-from .ensures)))
 
 returns : tie.Need-returns Inv-loop μ-loop
-returns c = (c .before .loop .inv .long, (c .before .loop .inv .below, lower-done (c .before .loop .inv) (omega (arith, c .loop-test .left))))
+returns c = (c .before .loop .inv .long, (c .before .loop .inv .below _ (c .before .before .before .before .pre .1 .1 .0 .0), lower-done (c .before .loop .inv) (omega (arith, c .loop-test .left))))
 
 pub lower-spec : {M : Type 1} → statement M
 lower-spec =

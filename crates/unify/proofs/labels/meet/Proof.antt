@@ -1,24 +1,17 @@
 -- `meet` meets its contract: component by component.
-use mathlib.Core.Path.{refl}
 use Rattle.lattice.proofs.Lawful.{label-parts}
 use borrow.Author.Needs.{needs}
 use Rattle.unify.proofs.labels.meet.Statement.{statement}
 use Rattle.unify.proofs.labels.meet.Tie as tie
 
-cast-i : tie.Need-cast-i
-cast-i c = search needs
+cast-meet : tie.Need-cast-meet
+cast-meet c = search needs
 
-cast-j : tie.Need-cast-j
-cast-j c = search needs
+cast-meet-2 : tie.Need-cast-meet-2
+cast-meet-2 c = search needs
 
-mul-t6 : tie.Need-mul-t6
-mul-t6 c = search needs
-
-index-1-t11 : tie.Need-index-1-t11
-index-1-t11 c = search needs
-
-index-2-t11 : tie.Need-index-2-t11
-index-2-t11 c = search needs
+meet-requires : tie.Need-meet-requires
+meet-requires c κs = search needs
 
 greater-requires : tie.Need-greater-requires
 greater-requires c κs = search needs
@@ -27,17 +20,9 @@ lesser-requires : tie.Need-lesser-requires
 lesser-requires c κs = search needs
 
 returns : tie.Need-returns
-returns c = label-parts refl (c .before .greater .ensures) (c .lesser .ensures)
+returns c = label-parts (c .before .before .meet .ensures) (c .before .greater .ensures) (c .lesser .ensures)
 
 pub meet-spec : {M : Type 1} → statement M
 meet-spec =
     tie.close
-    (tie.spec
-    cast-i
-    cast-j
-    mul-t6
-    index-1-t11
-    index-2-t11
-    greater-requires
-    lesser-requires
-    returns)
+    (tie.spec cast-meet cast-meet-2 meet-requires greater-requires lesser-requires returns)
