@@ -3,15 +3,24 @@
 //! and the capital that it has in text. Over a general graph, what a difference keeps is
 //! bold, with its reasons, and what the general graph gives is grey.
 
-use crate::graph::{Graph, Link};
+use crate::graph::{Graph, Link, Node};
 use crate::notation;
 use crate::table::Table;
 use crate::why::{Kept, meaning, word};
 use record_engine::Reason;
 
-/// With more links than this, `dot` is told to lay the picture out in seconds: straight
-/// lines, labels at the tails, few attempts at fewer crossings. It takes minutes else.
+/// With more links than this, `dot` is told to lay the picture out soon: straight lines,
+/// labels at the tails, few attempts at fewer crossings. It takes minutes else.
 const MANY_LINKS: usize = 300;
+
+/// With more links than this, it would take seconds all the same, for a picture too dense
+/// to be read: nodes have their places from here.
+const TOO_MANY_LINKS: usize = 1000;
+
+/// The distance of two columns and of two rows, in points; the next node of a row stands
+/// four columns on.
+const COLUMN: i64 = 45;
+const ROW: i64 = 90;
 
 /// How much a part of a picture is to be seen.
 const GREY_LINE: &str = "color=\"#9a9a9a\"";
@@ -37,7 +46,10 @@ fn picture(table: &Table, graph: &Graph, over: Option<(&Kept, &str)>) -> String 
         "  node [shape=box, style=\"rounded,filled\", fillcolor=white, fontname=\"Helvetica\", fontsize=14];\n",
         "  edge [fontname=\"Helvetica\", fontsize=13, arrowsize=0.8];\n",
     ));
-    if many {
+    let places = (graph.link_count() > TOO_MANY_LINKS).then(|| places(graph));
+    if places.is_some() {
+        dot += "  graph [layout=nop, splines=line];\n";
+    } else if many {
         dot += "  graph [splines=line, ranksep=0.7, mclimit=0.05, nslimit=0.05, nslimit1=0.05];\n";
     }
     if let Some((kept, general)) = over {
@@ -46,7 +58,8 @@ fn picture(table: &Table, graph: &Graph, over: Option<(&Kept, &str)>) -> String 
     let kept = over.map(|(kept, _)| kept);
     for (number, capital) in graph.capitals().into_iter().enumerate() {
         let said = kept.map(|kept| kept.nodes.get(&number));
-        dot += &node(table, graph, number, capital, said);
+        let place = places.as_ref().map(|places| places[number]);
+        dot += &node(table, &graph.nodes[number], number, capital, said, place);
     }
     for (parent, node) in graph.nodes.iter().enumerate() {
         for link in &node.links {
@@ -57,16 +70,16 @@ fn picture(table: &Table, graph: &Graph, over: Option<(&Kept, &str)>) -> String 
     dot + "}\n"
 }
 
-/// A node. Over a general graph, whether the difference keeps it, and what it says there,
-/// if it says anything.
+/// A node, at a place in points if it has one. Over a general graph, whether the difference
+/// keeps it, and what it says there, if it says anything.
 fn node(
     table: &Table,
-    graph: &Graph,
+    node: &Node,
     number: usize,
     capital: Option<String>,
     over: Option<Option<&Option<String>>>,
+    place: Option<[i64; 2]>,
 ) -> String {
-    let node = &graph.nodes[number];
     let own = notation::label(table, node);
     let mut text = own.clone();
     let mut looks = Vec::new();
@@ -87,7 +100,29 @@ fn node(
         }
     }
     let text = label("label", &text, "\\n");
+    let place = place.map(|[x, y]| format!("pos=\"{x},{y}\""));
+    looks.extend(place.as_deref());
     statement(&format!("n{number}"), &[&[&text[..]], &looks[..]].concat())
+}
+
+/// Where nodes stand, in points: in rows by the most links that lead to them from the root,
+/// along a row by number. Rows begin at four different columns in turn, so that fewer lines
+/// go through nodes.
+fn places(graph: &Graph) -> Vec<[i64; 2]> {
+    let mut rows = vec![0; graph.nodes.len()];
+    // As often as a path may have links; no node reaches itself.
+    for _ in &graph.nodes {
+        for (parent, node) in graph.nodes.iter().enumerate() {
+            for link in &node.links {
+                rows[link.target] = rows[link.target].max(rows[parent] + 1);
+            }
+        }
+    }
+    let place = |(number, &row): (usize, &i64)| {
+        let before = rows[..number].iter().filter(|&&other| other == row);
+        [COLUMN * (4 * before.count() as i64 + row % 4), -ROW * row]
+    };
+    rows.iter().enumerate().map(place).collect()
 }
 
 /// The line of a link with its feature in the middle, or at its tail where there are many.

@@ -3,6 +3,7 @@
 
 mod tool;
 
+use std::collections::BTreeSet;
 use std::fs;
 use std::path::Path;
 use std::time::{Duration, Instant};
@@ -65,6 +66,11 @@ fn the_largest_record_is_shown_read_and_drawn() {
     assert_eq!(dot.matches(" -> ").count(), 2048);
     assert!(dot.contains("splines=line") && dot.contains(" -> n1 [taillabel="));
     assert!(dot.matches("peripheries=2").count() > 200);
+    // Each node has a place of its own, so that `dot` need not look for one.
+    assert!(dot.contains("layout=nop"));
+    let places = dot.split("pos=\"").skip(1);
+    let places: BTreeSet<&str> = places.filter_map(|rest| rest.split('"').next()).collect();
+    assert_eq!(places.len(), 255);
 }
 
 #[test]
