@@ -11,9 +11,3 @@ pub mod CommonParts
 pub mod Combinations
 pub mod Differing
 pub mod Explaining
-pub mod Results
-pub mod Demanded
-pub mod Demands
-pub mod Broader
-pub mod Unranged
-pub mod Requests

@@ -2,10 +2,7 @@
 pub mod Reply
 pub mod Unification
 pub mod Pair
-pub mod Demand
 pub mod Difference
 pub mod Explained
-pub mod Before
 pub mod Renumbering
-pub mod Unranged
 pub mod Appropriate

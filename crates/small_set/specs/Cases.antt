@@ -18,7 +18,7 @@ use Rattle.engine.specs.Unification.{unifying}
 use Rattle.engine.specs.Difference.{differing, differingBy}
 use Rattle.engine.specs.Appropriate.{rewritingAppropriate, generalizingAppropriate}
 use Rattle.engine.specs.Explained.{explaining, explainingBy, explainedResult}
-use Rattle.engine.specs.Demand.{loneTop}
+use Rattle.demands.specs.Demand.{loneTop}
 use Rattle.encode.specs.Encode.{fitted}
 
 -- a type table and its number of types

@@ -14,13 +14,13 @@ use Rattle.lattice.specs.Labels.{tableLabels, OfAnySize}
 use Rattle.lattice.proofs.AnySize.{below-broader, greatest-monotone, least-monotone}
 use Rattle.record.specs.Read.{reading, accepted, graphOfRows}
 use Rattle.record.proofs.Theorems.{accepted-of-any-size}
 use Rattle.engine.specs.declared.Reply.the-variants.{Length, Cycle, Clash}
 use Rattle.engine.specs.Reply.{generalizing}
 use Rattle.engine.specs.Unification.{unifying}
-use Rattle.engine.specs.Demand.{Given, AnswersBelow}
-use Rattle.engine.proofs.Demanded.Order.{order-exact, below-given}
-use Rattle.engine.proofs.Demanded.CommonPart.{accepts, common-part}
-use Rattle.engine.proofs.Demanded.Combination.{none-exact, exists, written-combination}
+use Rattle.demands.specs.Demand.{Given, AnswersBelow}
+use Rattle.demands.proofs.Demanded.Order.{order-exact, below-given}
+use Rattle.demands.proofs.Demanded.CommonPart.{accepts, common-part}
+use Rattle.demands.proofs.Demanded.Combination.{none-exact, exists, written-combination}
 
 -- the records x and y are accepted, and x is below y
 pub record RecordBelow (n : ℕ) (t x y : List ℕ) : Type 0 where

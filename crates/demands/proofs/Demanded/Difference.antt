@@ -30,17 +30,17 @@ use Rattle.record.specs.Read.{reading, accepted, graphOfRows}
 use Rattle.record.proofs.Accepted.{Rules, accepted-rules}
 use Rattle.record.proofs.Theorems.{accepted-of-any-size, accepted-fits, written-accepted}
 use Rattle.groups.specs.Reading.{isReadingOrder}
 use Rattle.engine.specs.declared.Reply.the-variants as replies
 use Rattle.engine.specs.Reply.{Result, refusal, refusing, resultOf}
 use Rattle.engine.specs.Unification.{unifying}
 use Rattle.engine.specs.Difference.{allWanted, numbered, differenceRows, differed, differedRows, differing, differingBy}
-use Rattle.engine.specs.Demand.{Given, Large, Writes, MoreGeneral, remainder, Restores, Difference}
+use Rattle.demands.specs.Demand.{Given, Large, Writes, MoreGeneral, remainder, Restores, Difference}
 use Rattle.engine.proofs.Orders.{order-test}
-use Rattle.engine.proofs.Results.{resultFor, rewriting-is, result-writes, seven-bits}
-use Rattle.engine.proofs.Demanded.Order.{order-exact, above-exact}
-use Rattle.engine.proofs.Demanded.Combination.{other-refusal, greatest-result, written-combination}
-use Rattle.engine.proofs.Demanded.Wanted.{unwanted-exact, same-unwanted}
-use Rattle.engine.proofs.Demanded.Remainder.{rows-small, rows-restore}
+use Rattle.demands.proofs.Results.{resultFor, rewriting-is, result-writes, seven-bits}
+use Rattle.demands.proofs.Demanded.Order.{order-exact, above-exact}
+use Rattle.demands.proofs.Demanded.Combination.{other-refusal, greatest-result, written-combination}
+use Rattle.demands.proofs.Demanded.Wanted.{unwanted-exact, same-unwanted}
+use Rattle.demands.proofs.Demanded.Remainder.{rows-small, rows-restore}
 
 -- 12, then 13, else what writing answers
 abbrev chosen : Bool → Bool → Outcome → List ℕ → Result

@@ -23,11 +23,11 @@ use Rattle.lattice.proofs.AnySize.{combination-greatest}
 use Rattle.encode.specs.Encode.{fitted}
 use Rattle.record.specs.Read.{reading, accepted, graphOfRows}
 use Rattle.generalize.specs.Pairs.{samePair}
 use Rattle.engine.specs.declared.Reply.the-variants.{Length, Same, Cycle, Clash, TooLarge, NotBelow, NoWantedType}
 use Rattle.engine.specs.Reply.{Result, resultOf, rewriting, ordering, generalizing}
 use Rattle.engine.specs.Unification.{unifying}
 use Rattle.engine.specs.Difference.{differing}
-use Rattle.engine.specs.Demand.{
+use Rattle.demands.specs.Demand.{
   Given,
   AnswersBelow,
   AnswersNotBelow,
@@ -43,12 +43,12 @@ use Rattle.engine.specs.Demand.{
   Restores,
   Difference,
 }
-use Rattle.engine.proofs.Demanded.Output as Output
-use Rattle.engine.proofs.Demanded.Meaning as Meaning
-use Rattle.engine.proofs.Demanded.Order as Order
-use Rattle.engine.proofs.Demanded.CommonPart as Common
-use Rattle.engine.proofs.Demanded.Combination as Combined
-use Rattle.engine.proofs.Demanded.Difference as Differed
+use Rattle.demands.proofs.Demanded.Output as Output
+use Rattle.demands.proofs.Demanded.Meaning as Meaning
+use Rattle.demands.proofs.Demanded.Order as Order
+use Rattle.demands.proofs.Demanded.CommonPart as Common
+use Rattle.demands.proofs.Demanded.Combination as Combined
+use Rattle.demands.proofs.Demanded.Difference as Differed
 
 -- Demand 1: what is handed in determines the reply and each byte of the output. Each call's promise is an equation with its definition.
 -- Whatever is handed in, a refusal leaves the output as it was; beside a length the first bytes are a record, accepted when it is read and

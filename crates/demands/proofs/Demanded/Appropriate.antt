@@ -31,21 +31,21 @@ use Rattle.record.proofs.Theorems.{accepted-of-any-size}
 use Rattle.record.proofs.Allowed.{refused-appropriate, judged-appropriate, accepted-appropriate}
 use Rattle.record.proofs.Obeying.{appropriate-exact, appropriate-same, common-obeys, combination-obeys}
 use Rattle.generalize.specs.Pairs.{samePair}
 use Rattle.engine.specs.declared.Side.the-variants.{First, Second}
 use Rattle.engine.specs.declared.Reply.the-variants.{Length, Graph, TypeList}
 use Rattle.engine.specs.Reply.{Result, refusal, replyOf, refusing, checked, readBoth, rewritten, rewriting, generalized, generalizing}
 use Rattle.engine.specs.Unification.{sameEither, combined, unifiedRows, unifying}
 use Rattle.engine.specs.Difference.{differing}
 use Rattle.engine.specs.Appropriate.{rewritingAppropriate, generalizingAppropriate, unifyingAppropriate, Passes, Breaks, Fits, Obeys}
-use Rattle.engine.specs.Demand.{Given, WrittenRecord}
+use Rattle.demands.specs.Demand.{Given, WrittenRecord}
 use Rattle.engine.proofs.Replies.{table-accepted}
 use Rattle.engine.proofs.Listed.{Checks, table-before-list, list-refused, list-passed, list-exact, rewriting-checked, generalizing-checked, unifying-checked}
-use Rattle.engine.proofs.Demanded.Output.{generalizing-leaves, unifying-leaves}
-use Rattle.engine.proofs.Demanded.Meaning.{written-again, own-bytes}
-use Rattle.engine.proofs.Demanded.CommonPart.{common-part}
-use Rattle.engine.proofs.Demanded.Combination.{written-combination}
-use Rattle.engine.proofs.Demanded.Difference.{plain-parts}
-use Rattle.engine.proofs.Demanded.Difference as Differed
+use Rattle.demands.proofs.Demanded.Output.{generalizing-leaves, unifying-leaves}
+use Rattle.demands.proofs.Demanded.Meaning.{written-again, own-bytes}
+use Rattle.demands.proofs.Demanded.CommonPart.{common-part}
+use Rattle.demands.proofs.Demanded.Combination.{written-combination}
+use Rattle.demands.proofs.Demanded.Difference.{plain-parts}
+use Rattle.demands.proofs.Demanded.Difference as Differed
 
 -- One graph: 18, or what reading without a list gives.
 reading-kept : (n : ℕ) (t list bytes : List ℕ) →

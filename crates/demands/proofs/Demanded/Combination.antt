@@ -40,12 +40,12 @@ use Rattle.encode.specs.declared.Written.the-variants as outcome
 use Rattle.encode.specs.Encode.{writtenOut}
 use Rattle.record.specs.Read.{reading, accepted, graphOfRows}
 use Rattle.record.proofs.Theorems.{accepted-of-any-size, accepted-nodes}
 use Rattle.engine.specs.declared.Reply.the-variants as replies
 use Rattle.engine.specs.Reply.{Result, refusal, refusing, replyOf, resultOf}
 use Rattle.engine.specs.Unification.{sameEither, combined, unifiedRows, unifying}
-use Rattle.engine.specs.Demand.{Given, Writes, NoneBelow, Combination}
-use Rattle.engine.proofs.Results.{resultFor, result-writes, seven-bits}
-use Rattle.engine.proofs.Demanded.Order.{order-exact}
+use Rattle.demands.specs.Demand.{Given, Writes, NoneBelow, Combination}
+use Rattle.demands.proofs.Results.{resultFor, result-writes, seven-bits}
+use Rattle.demands.proofs.Demanded.Order.{order-exact}
 
 pub tells-either : Tells sameEither
 tells-either = same-beside eqb eqb tells-eqb tells-eqb

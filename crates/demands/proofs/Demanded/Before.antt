@@ -28,16 +28,16 @@ use Rattle.record.proofs.Accepted.{Rules, accepted-rules, rules-of-any-size, ru
 use Rattle.record.proofs.Theorems.{written-reads}
 use Rattle.graphs.proofs.Lists.{tells-eqb}
 use Rattle.difference.specs.Promise.{wantedAlong, allWantedAlong, differenceAlong}
 use Rattle.engine.specs.declared.Reply.{Reply}
 use Rattle.engine.specs.declared.Reply.the-variants.{NotBelow, NoWantedType}
 use Rattle.engine.specs.Reply.{Result, refusal, resultOf, refusing, checked, readBoth}
 use Rattle.engine.specs.Difference.{over, wantedAt, allWanted, differenceRows, differed, numbered, differedRows, differing}
-use Rattle.engine.specs.Before.{residualLabel, residualRows, differedBefore, differingBefore}
+use Rattle.demands.specs.Before.{residualLabel, residualRows, differedBefore, differingBefore}
 use Rattle.engine.proofs.Orders.{order-test}
 use Rattle.engine.proofs.Readings.{both-same}
 use Rattle.engine.proofs.Tables.{label-known}
-use Rattle.engine.proofs.Demanded.Combination.{other-refusal}
-use Rattle.engine.proofs.Demanded.Wanted.{meet-known, label-below}
+use Rattle.demands.proofs.Demanded.Combination.{other-refusal}
+use Rattle.demands.proofs.Demanded.Wanted.{meet-known, label-below}
 
 module _ (n : ℕ) (t : List ℕ) (ok : table.accepted n t ≡ true) (differ : table.admits n t ≡ true) where
   module _ (g s : List (Row Label)) (general : Rules n g) (specific : Rules n s)

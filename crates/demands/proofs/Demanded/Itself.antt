@@ -39,12 +39,12 @@ use Rattle.encode.specs.Encode.{bitsFrom, isFull, encodedLabel, encodedRow, enc
 use Rattle.record.specs.Read.{reading, accepted, graphOfRows}
 use Rattle.record.proofs.Accepted.{accepted-rules}
 use Rattle.record.proofs.Theorems.{accepted-of-any-size, written-reads}
 use Rattle.engine.specs.Reply.{resultOf}
 use Rattle.engine.specs.Difference.{differing}
-use Rattle.engine.specs.Demand.{Given, loneTop, remainder, Restores}
+use Rattle.demands.specs.Demand.{Given, loneTop, remainder, Restores}
 use Rattle.engine.proofs.Orders.{short}
-use Rattle.engine.proofs.Results.{seven-bits}
-use Rattle.engine.proofs.Demanded.Difference.{plain-parts, all-wanted, remainder-small, remainder-restores, remainder-result}
+use Rattle.demands.proofs.Results.{seven-bits}
+use Rattle.demands.proofs.Demanded.Difference.{plain-parts, all-wanted, remainder-small, remainder-restores, remainder-result}
 
 -- a graph of one node
 abbrev lone : Label → Graph Label ℕ

@@ -48,15 +48,15 @@ use Rattle.record.proofs.Accepted.{accepted-rules}
 use Rattle.record.proofs.Obeying as Obeying
 use Rattle.groups.specs.Reading.{isReadingOrder, EachOnce}
 use Rattle.groups.proofs.ReadingOrder as Reading
 use Rattle.engine.specs.declared.Side.the-variants.{First, Second}
 use Rattle.engine.specs.declared.Reply.{Reply}
 use Rattle.engine.specs.declared.Reply.the-variants.{Length, Same, Under, Above, Neither, Table, Graph as Refusal, Cycle, Clash, TooLarge, NotBelow, NoWantedType, TypeList, ReadingOrder, NoReasonRoom}
 use Rattle.engine.specs.Reply.{refusal, resultOf, refusing, checked, rewriting, ordering, generalizing}
 use Rattle.engine.specs.Unification.{unifying}
 use Rattle.engine.specs.Difference.{numbered, differing, differingBy}
 use Rattle.engine.specs.Explained.{explainedResult, lengthOf, reasonsOf, explaining, explainingBy, reasonFor, LinkReason}
-use Rattle.engine.specs.Before.{differingBefore}
-use Rattle.engine.specs.Unranged.{
+use Rattle.demands.specs.Before.{differingBefore}
+use Rattle.demands.specs.Unranged.{
   rewritingTypes,
   orderingTypes,
   generalizingTypes,
@@ -64,21 +64,21 @@ use Rattle.engine.specs.Unranged.{
   differingTypes,
   WritesUnranged,
 }
 use Rattle.engine.specs.Appropriate.{rewritingAppropriate, generalizingAppropriate, unifyingAppropriate, Passes, Breaks, Fits, Obeys}
-use Rattle.engine.specs.Demand.{Given, Leaves, Writes, AnswersBelow, AnswersNotBelow, WrittenRecord, loneTop, remainder, Restores, Difference}
+use Rattle.demands.specs.Demand.{Given, Leaves, Writes, AnswersBelow, AnswersNotBelow, WrittenRecord, loneTop, remainder, Restores, Difference}
 use Rattle.engine.specs.Pair.{parting}
-use Rattle.engine.proofs.Broader.{RecordBelow, answer-below, rows-below, below-answer, below-paths}
-use Rattle.engine.proofs.Broader as Broader
-use Rattle.engine.proofs.Demands.{meaning-bytes, meaning-order, written-one-form, order-exact, difference-not-below}
+use Rattle.demands.proofs.Broader.{RecordBelow, answer-below, rows-below, below-answer, below-paths}
+use Rattle.demands.proofs.Broader as Broader
+use Rattle.demands.proofs.Demands.{meaning-bytes, meaning-order, written-one-form, order-exact, difference-not-below}
 use Rattle.engine.proofs.Listed.{table-before-list, list-exact, differing-checked}
-use Rattle.engine.proofs.Demanded.Output as Output
-use Rattle.engine.proofs.Demanded.Order as Order
-use Rattle.engine.proofs.Demanded.Difference as Differed
-use Rattle.engine.proofs.Demanded.Reasons.{differing-other, differing-by-other, parting-low, no-room-exact, link-reasons, reasons-are, reasons-count, beside-room, beside-short, beside-refused}
-use Rattle.engine.proofs.Demanded.Before.{differing-before, never-unwanted}
-use Rattle.engine.proofs.Demanded.Itself.{itself}
-use Rattle.engine.proofs.Unranged as Unranged
-use Rattle.engine.proofs.Demanded.Appropriate as Listing
+use Rattle.demands.proofs.Demanded.Output as Output
+use Rattle.demands.proofs.Demanded.Order as Order
+use Rattle.demands.proofs.Demanded.Difference as Differed
+use Rattle.demands.proofs.Demanded.Reasons.{differing-other, differing-by-other, parting-low, no-room-exact, link-reasons, reasons-are, reasons-count, beside-room, beside-short, beside-refused}
+use Rattle.demands.proofs.Demanded.Before.{differing-before, never-unwanted}
+use Rattle.demands.proofs.Demanded.Itself.{itself}
+use Rattle.demands.proofs.Unranged as Unranged
+use Rattle.demands.proofs.Demanded.Appropriate as Listing
 
 -- Paper 1: a broader program never clashes anew. Where a is below b and c is below d, b combines with d if a combines with c; what is
 -- written of the narrower pair is below what is written of the broader one, of combinations and of common parts.

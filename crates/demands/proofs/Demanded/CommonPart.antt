@@ -18,11 +18,11 @@ use Rattle.record.specs.Read.{reading, accepted, graphOfRows}
 use Rattle.record.proofs.Theorems.{accepted-of-any-size}
 use Rattle.generalize.specs.Pairs.{samePair}
 use Rattle.generalize.proofs.Sides.{tells-pair}
 use Rattle.engine.specs.declared.Reply.the-variants.{Length}
 use Rattle.engine.specs.Reply.{generalized, generalizing}
-use Rattle.engine.specs.Demand.{Given, Writes, common, CommonPart}
-use Rattle.engine.proofs.Results.{result-writes, seven-bits}
-use Rattle.engine.proofs.Demanded.Order.{order-exact}
+use Rattle.demands.specs.Demand.{Given, Writes, common, CommonPart}
+use Rattle.demands.proofs.Results.{result-writes, seven-bits}
+use Rattle.demands.proofs.Demanded.Order.{order-exact}
 
 module _ (n : ℕ) (t a b : List ℕ) (s g : List (Row Label)) (given : Given n t a b s g) where
   pub accepts : table.accepted n t ≡ true

@@ -63,10 +63,10 @@ use Rattle.engine.specs.Reply.{
   generalized,
   generalizing,
 }
 use Rattle.engine.specs.Unification.{sameEither, combined, unifiedRows, unifying}
 use Rattle.engine.specs.Difference.{over, wantedAt, allWanted, differenceRows, differed, numbered, differedRows, differing}
-use Rattle.engine.specs.Demand.{Given, Wrote, common, remainder}
-use Rattle.engine.specs.Unranged.{
+use Rattle.demands.specs.Demand.{Given, Wrote, common, remainder}
+use Rattle.demands.specs.Unranged.{
   typesIn,
   graphOfTypes,
   plainForm,
@@ -88,12 +88,12 @@ use Rattle.engine.specs.Unranged.{
   differingTypes,
   WritesUnranged,
 }
-use Rattle.engine.proofs.Results.{resultFor, result-writes, seven-bits}
-use Rattle.engine.proofs.Demanded.CommonPart.{accepts, common-part-exists}
-use Rattle.engine.proofs.Demanded.Combination.{tells-either}
-use Rattle.engine.proofs.Demanded.Difference.{not-wanted, not-below, differs, difference-told, remainder-result, remainder-restores}
-use Rattle.engine.proofs.Demanded.Difference as Differed
-use Rattle.engine.proofs.Demanded.Output.{of-one, of-two}
+use Rattle.demands.proofs.Results.{resultFor, result-writes, seven-bits}
+use Rattle.demands.proofs.Demanded.CommonPart.{accepts, common-part-exists}
+use Rattle.demands.proofs.Demanded.Combination.{tells-either}
+use Rattle.demands.proofs.Demanded.Difference.{not-wanted, not-below, differs, difference-told, remainder-result, remainder-restores}
+use Rattle.demands.proofs.Demanded.Difference as Differed
+use Rattle.demands.proofs.Demanded.Output.{of-one, of-two}
 
 -- Written forms.
 

@@ -34,19 +34,19 @@ use Rattle.record.proofs.Theorems.{accepted-of-any-size, accepted-types}
 use Rattle.groups.specs.Reading.{isReadingOrder}
 use Rattle.generalize.specs.Pairs.{samePair}
 use Rattle.generalize.proofs.Sides.{tells-pair}
 use Rattle.engine.specs.declared.Side.{Side}
 use Rattle.engine.specs.declared.Side.the-variants.{First, Second}
 use Rattle.engine.specs.declared.Reply.{Reply}
 use Rattle.engine.specs.declared.Reply.the-variants as replies
 use Rattle.engine.specs.Reply.{Result, refusal, refusing, checked, checkedList, readBoth, rewritten, rewriting, generalizing, generalized}
 use Rattle.engine.specs.Unification.{sameEither, unifiedRows, unifying}
 use Rattle.engine.specs.Difference.{differedRows, differing, differingBy}
-use Rattle.engine.specs.Demand.{Given, Leaves, Large, common, remainder}
-use Rattle.engine.proofs.Results.{resultFor, result-writes, seven-bits}
-use Rattle.engine.proofs.Demanded.CommonPart.{common-part-exists}
-use Rattle.engine.proofs.Demanded.Combination.{refused-cycle, refused-clash, written, tells-either, combination-told}
-use Rattle.engine.proofs.Demanded.Combination as Combined
-use Rattle.engine.proofs.Demanded.Difference.{
+use Rattle.demands.specs.Demand.{Given, Leaves, Large, common, remainder}
+use Rattle.demands.proofs.Results.{resultFor, result-writes, seven-bits}
+use Rattle.demands.proofs.Demanded.CommonPart.{common-part-exists}
+use Rattle.demands.proofs.Demanded.Combination.{refused-cycle, refused-clash, written, tells-either, combination-told}
+use Rattle.demands.proofs.Demanded.Combination as Combined
+use Rattle.demands.proofs.Demanded.Difference.{
   not-wanted,
   not-below,
   differs,
@@ -55,7 +55,7 @@ use Rattle.engine.proofs.Demanded.Difference.{
   remainder-restores,
   remainder-small,
 }
-use Rattle.engine.proofs.Demanded.Difference as Differed
+use Rattle.demands.proofs.Demanded.Difference as Differed
 
 module _ (n : ℕ) (out : List ℕ) where
   -- the record beside a length is accepted, so it is no longer than the longest

@@ -18,14 +18,14 @@ use Rattle.lattice.specs.Labels.{tableLabels}
 use Rattle.record.specs.Read.{Reading, refused, accepted, reading, graphOfRows}
 use Rattle.record.specs.declared.GraphFault.{GraphFault}
 use Rattle.record.proofs.Accepted.{accepted-rules}
 use Rattle.engine.specs.declared.Side.the-variants.{First, Second}
 use Rattle.engine.specs.declared.kinds.Kind.{Kind}
 use Rattle.engine.specs.declared.kinds.Kind.the-variants as kind
 use Rattle.engine.specs.declared.Reply.{Reply}
 use Rattle.engine.specs.declared.Reply.the-variants.{Same, Under, Above, Neither, Table, Graph}
 use Rattle.engine.specs.Reply.{kindOf, checked, readBoth, rowsBelow, compared, ordered, ordering}
-use Rattle.engine.specs.Demand.{Given, AnswersBelow, AnswersNotBelow}
+use Rattle.demands.specs.Demand.{Given, AnswersBelow, AnswersNotBelow}
 use Rattle.engine.proofs.Orders.{order-test}
 
 -- the two tests that one of the four tells
 toldIn : Kind → Option (Bool × Bool)

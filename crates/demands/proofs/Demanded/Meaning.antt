@@ -25,12 +25,12 @@ use Rattle.record.specs.Read.{reading, accepted, graphOfRows}
 use Rattle.record.proofs.Rewritten.{form-again}
 use Rattle.record.proofs.Theorems.{accepted-of-any-size, accepted-fits, accepted-types}
 use Rattle.record.proofs.Theorems as record-theorems
 use Rattle.engine.specs.declared.Reply.the-variants.{Length, Same}
 use Rattle.engine.specs.Reply.{Result, resultOf, ordering, rewriting}
-use Rattle.engine.specs.Demand.{Given, WrittenRecord, Writes, Rewritten}
-use Rattle.engine.proofs.Results.{rewriting-is, result-writes}
-use Rattle.engine.proofs.Demanded.Order.{same-exact}
-use Rattle.engine.proofs.Demanded.Output.{rewriting-small}
+use Rattle.demands.specs.Demand.{Given, WrittenRecord, Writes, Rewritten}
+use Rattle.demands.proofs.Results.{rewriting-is, result-writes}
+use Rattle.demands.proofs.Demanded.Order.{same-exact}
+use Rattle.demands.proofs.Demanded.Output.{rewriting-small}
 
 module _ (n : ℕ) (t a : List ℕ) (rows : List (Row Label)) (opens : opened n t ≡ Accepted) (reads : reading n a ≡ accepted rows) (out : List ℕ) where
   -- rewriting refuses an accepted record by 8 alone, exactly where it is due

@@ -1,0 +1,4 @@
+-- The words that the demands on the calls and the change requests are stated in.
+pub mod Demand
+pub mod Before
+pub mod Unranged
