@@ -1,0 +1,63 @@
+-- Paper 6: tables with three rival types. a is the general record, b the specific one.
+use mathlib.Core.Path.{_≡_}
+use mathlib.Core.Bool.{true}
+use mathlib.Core.List.{List}
+use mathlib.Core.Logic.{_↔_, _⊎_}
+use Prim.Native.Nat.{ℕ}
+use lib.Dec.{eqb}
+use lib.ListN.{take}
+use Rattle.graphs.specs.Graph.{Below}
+use Rattle.graphs.specs.Rows.{Row}
+use Rattle.lattice.specs.Label.{Label}
+use Rattle.graphs.specs.Difference.{byNumber}
+use Rattle.graphs.proofs.Difference.ByNumber.{by-number-order}
+use Rattle.lattice.specs.declared.Opened.the-variants.{Accepted}
+use Rattle.lattice.specs.Reply.{opened}
+use Rattle.lattice.specs.Labels.{tableLabels, SomeUnwanted}
+use Rattle.lattice.specs.Table as types
+use Rattle.encode.specs.Encode.{fitted}
+use Rattle.record.specs.Read.{reading, accepted, graphOfRows}
+use Rattle.engine.specs.declared.Reply.the-variants.{Length, NotBelow, NoWantedType}
+use Rattle.engine.specs.Reply.{resultOf}
+use Rattle.engine.specs.Difference.{differing}
+use Rattle.demands.specs.Before.{differingBefore}
+use Rattle.demands.specs.Demand.{Given, Writes, loneTop, remainder, Restores, Difference}
+use Rattle.demands.proofs.Demanded.Difference as Differed
+use Rattle.demands.proofs.Demanded.Before.{differing-before, never-unwanted}
+use Rattle.demands.proofs.Demanded.Itself.{itself}
+
+module _ (n : ℕ) (t a b : List ℕ) (g s : List (Row Label)) (given : Given n t a b g s) (out : List ℕ) where
+  -- 13 is given exactly where s is below g and some node of s has no wanted type;
+  pub unwanted-exact : (differing n t a b out .reply ≡ NoWantedType) ↔
+      (Below (tableLabels n t) (graphOfRows s) (graphOfRows g) × SomeUnwanted n t (graphOfRows s) (graphOfRows g))
+  unwanted-exact = Differed.unwanted-reply-exact n t a b g s given by-number-order (Differed.plain-parts n t a b given out)
+
+  -- 12 is checked before it: it is given wherever s is not below g.
+  pub unwanted-after-below : (differing n t a b out .reply ≡ NotBelow) ↔ (Below (tableLabels n t) (graphOfRows s) (graphOfRows g) → ⊥)
+  unwanted-after-below = Differed.not-below-exact n t a b g s given by-number-order (Differed.plain-parts n t a b given out)
+
+  -- Over every accepted table, where s is below g: 13 for that reason, or the difference restores s and nothing more general of any size
+  -- does, and it is what the call writes;
+  pub restored-or-unwanted : Below (tableLabels n t) (graphOfRows s) (graphOfRows g) →
+      ((differing n t a b out .reply ≡ NoWantedType) × SomeUnwanted n t (graphOfRows s) (graphOfRows g)) ⊎
+      (Restores n t (remainder byNumber n t g s) (graphOfRows g) (graphOfRows s) × Writes n t eqb (remainder byNumber n t g s) out (differing n t a b out))
+  restored-or-unwanted = Differed.unwanted-or-restored n t a b g s given by-number-order (Differed.plain-parts n t a b given out)
+
+  -- the record that is written restores b byte for byte when it is combined with a, and of records too nothing more general does.
+  pub restored-bytes : (l : ℕ) → differing n t a b out .reply ≡ Length l → Difference n t a b g s (take l (differing n t a b out .output))
+  restored-bytes = Differed.written-difference n t a b g s given by-number-order (Differed.plain-parts n t a b given out)
+
+-- Where the table admits differences, every call for a difference gives what it gave before, reply and output, whatever is handed in
+-- beside the table;
+pub admitted-as-before : (n : ℕ) (t : List ℕ) → types.admits n t ≡ true → (a b out : List ℕ) →
+    differing n t a b out ≡ differingBefore n t a b out
+admitted-as-before = differing-before
+
+-- and 13 never comes.
+pub admitted-wanted : (n : ℕ) (t : List ℕ) → types.admits n t ≡ true → (a b out : List ℕ) → differing n t a b out .reply ≡ NoWantedType → ⊥
+admitted-wanted n t differ a b out = never-unwanted n t differ out a b
+
+-- A graph's difference from itself is a lone top, over every accepted table: its record where it fits, else 8.
+pub itself-lone-top : (n : ℕ) (t a : List ℕ) (s : List (Row Label)) → opened n t ≡ Accepted → reading n a ≡ accepted s → (out : List ℕ) →
+    differing n t a a out ≡ resultOf (fitted (loneTop n) out)
+itself-lone-top = itself

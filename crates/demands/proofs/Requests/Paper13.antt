@@ -1,0 +1,66 @@
+-- Paper 13: the reason beside each kept link. a is the general record, b the specific one, `old` the second output as it is lent.
+use mathlib.Core.Path.{_≡_}
+use mathlib.Core.List.{List, _++_}
+use mathlib.Core.Option.{some, none}
+use mathlib.Core.Logic.{_↔_}
+use Prim.Native.Nat.{ℕ, _≤_, _<_}
+use lib.Dec.{eqb}
+use lib.ListN.{length, drop}
+use Rattle.graphs.specs.Graph.{Reached, Below}
+use Rattle.graphs.specs.Rows.{Row}
+use Rattle.lattice.specs.Label.{Label}
+use Rattle.graphs.specs.Number.{canonical, written}
+use Rattle.graphs.specs.Large.{linksIn}
+use Rattle.graphs.specs.Difference.{byNumber}
+use Rattle.graphs.specs.Reasons.{alongLinks, writtenOrder}
+use Rattle.graphs.proofs.Difference.ByNumber.{by-number-order}
+use Rattle.lattice.specs.Labels.{tableLabels}
+use Rattle.record.specs.Read.{graphOfRows}
+use Rattle.engine.specs.declared.Reply.the-variants.{Length, NoReasonRoom}
+use Rattle.engine.specs.Difference.{numbered, differing}
+use Rattle.engine.specs.Explained.{explainedResult, lengthOf, reasonsOf, explaining, reasonFor, LinkReason}
+use Rattle.demands.specs.Demand.{Given, remainder}
+use Rattle.demands.proofs.Demanded.Reasons.{differing-other, no-room-exact, link-reasons, reasons-are, reasons-count, beside-room, beside-short, beside-refused}
+
+module _ (n : ℕ) (t a b out old : List ℕ) where
+  -- The record and its reply are those of the plain call, where that gives a length and the reasons fit, "further bytes unchanged";
+  pub explained-record : (l : ℕ) → differing n t a b out .reply ≡ Length l → length (reasonsOf byNumber n t a b) ≤ length old →
+      explaining n t a b out old ≡
+      explainedResult (Length l) (differing n t a b out .output) (reasonsOf byNumber n t a b ++ drop (length (reasonsOf byNumber n t a b)) old)
+  unfolding explaining
+  explained-record = beside-room (differing n t a b out) (reasonsOf byNumber n t a b) out old
+
+  -- "too few bytes lent for the reasons gives 22, after 8, with both buffers unchanged";
+  pub explained-short : (l : ℕ) → differing n t a b out .reply ≡ Length l → length old < length (reasonsOf byNumber n t a b) →
+      explaining n t a b out old ≡ explainedResult NoReasonRoom out old
+  unfolding explaining
+  explained-short = beside-short (differing n t a b out) (reasonsOf byNumber n t a b) out old
+
+  -- 22 exactly there;
+  pub explained-no-room : (explaining n t a b out old .reply ≡ NoReasonRoom) ↔
+      ((l : ℕ) × (differing n t a b out .reply ≡ Length l) × (length old < length (reasonsOf byNumber n t a b)))
+  unfolding explaining
+  explained-no-room = no-room-exact (differing n t a b out) (reasonsOf byNumber n t a b) out old (differing-other n t a b out)
+
+  -- and every other refusal is that of the plain call, with both outputs unchanged.
+  pub explained-refused : lengthOf (differing n t a b out .reply) ≡ none →
+      explaining n t a b out old ≡ explainedResult (differing n t a b out .reply) out old
+  unfolding explaining
+  explained-refused = beside-refused (differing n t a b out) (reasonsOf byNumber n t a b) out old
+
+module _ (n : ℕ) (t a b : List ℕ) (g s : List (Row Label)) (given : Given n t a b g s) where
+  -- "One byte for each of its links, in record order": the reasons are those of the links of the difference, node after node as its
+  -- record numbers them, and each node's links by feature;
+  pub reasons-in-order : reasonsOf byNumber n t a b ≡
+      alongLinks (remainder byNumber n t g s) (λ l v. reasonFor byNumber n t g (numbered (canonical eqb (graphOfRows s))) l v) (writtenOrder eqb (remainder byNumber n t g s))
+  reasons-in-order = reasons-are n t a b g s given byNumber
+
+  -- as many as the record has links.
+  pub reasons-counted : (rows : List (Row Label)) → canonical eqb (remainder byNumber n t g s) ≡ written rows → length (reasonsOf byNumber n t a b) ≡ linksIn rows
+  reasons-counted = reasons-count n t a b g s given byNumber
+
+  -- "Each byte's fact is to be shown true of the two graphs": of each link of the difference, s being numbered as written.
+  pub reasons-true : Below (tableLabels n t) (graphOfRows s) (graphOfRows g) → (u f v : ℕ) →
+      Reached (graphOfRows (numbered (canonical eqb (graphOfRows s)))) u → remainder byNumber n t g s .link u f ≡ some v →
+      LinkReason byNumber n t g (numbered (canonical eqb (graphOfRows s))) u f v
+  reasons-true = link-reasons n t a b g s given by-number-order
