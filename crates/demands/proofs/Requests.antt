@@ -1,7 +1,6 @@
 -- The change requests, one file for each paper and one theorem for each sentence, about the definitions that the calls are proved equal
--- to. The definitions that the statements use stand in `Reply`, `Unification`, `Difference`, `Explained`, `Appropriate` of `engine`, and in
--- `Before`, `Unranged` and `Demand`; the proofs are cited. n and t are the table, out and out′ are the outputs lent; a, b, c and d are the
--- records.
+-- to. Those stand in `engine`, the words that only the statements use in specs/; the proofs are cited. n and t are the table, out and out′
+-- are the outputs lent; a, b, c and d are the records.
 pub mod Paper01
 pub mod Paper03
 pub mod Paper06

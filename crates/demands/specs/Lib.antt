@@ -2,3 +2,5 @@
 pub mod Demand
 pub mod Before
 pub mod Unranged
+pub mod Appropriate
+pub mod Explained

@@ -2,16 +2,14 @@
 -- those of the call without them, `differing` or `differingBy`.
 use mathlib.Core.Bool.{Bool, cond}
 use mathlib.Core.List.{List, [], _++_}
-use mathlib.Core.Option.{Option, none, some, Option·getD}
+use mathlib.Core.Option.{Option, none, some}
 use Prim.Native.Nat.{ℕ}
 use lib.Dec.{eqb, leb}
 use lib.ListN.{length, drop}
-use Rattle.graphs.specs.Rows.{Row, from}
+use Rattle.graphs.specs.Rows.{Row}
 use Rattle.graphs.specs.Number.{canonical}
 use Rattle.graphs.specs.Difference.{Link, byNumber, byReading}
-use Rattle.graphs.specs.Reasons.{reasonAt, IsReason}
-use Rattle.lattice.specs.Label.{Label, noLabel}
-use Rattle.lattice.specs.Labels.{tableLabels}
+use Rattle.lattice.specs.Label.{Label}
 use Rattle.encode.specs.declared.Marked.{Marked}
 use Rattle.encode.specs.declared.Marked.the-variants as marked
 use Rattle.record.specs.Read.{graphOfRows, reading}
@@ -21,7 +19,7 @@ use Rattle.engine.specs.declared.kinds.Kind.the-variants as kind
 use Rattle.engine.specs.declared.Reply.{Reply}
 use Rattle.engine.specs.declared.Reply.the-variants.{NoReasonRoom}
 use Rattle.engine.specs.Reply.{Result, kindOf, replyOf, readBoth}
-use Rattle.engine.specs.Difference.{over, wantedAt, numbered, differing, differingBy}
+use Rattle.engine.specs.Difference.{over, numbered, differing, differingBy}
 
 -- a reply and the two outputs beside it
 pub record Explained : Type 0 where
@@ -73,16 +71,6 @@ explaining n t a b out old = beside (differing n t a b out) (reasonsOf byNumber 
 -- the same by a list of features (document 02, Paper 10)
 unfoldable pub explainingBy : ℕ → List ℕ → List ℕ → List ℕ → List ℕ → List ℕ → List ℕ → Explained
 explainingBy n t list a b out old = beside (differingBy n t list a b out) (reasonsOf (byReading list) n t a b) out old
-
--- the reason for a link of the difference of g and s that enters v
-abbrev pub reasonFor : (Link ℕ → Link ℕ → Bool) → ℕ → List ℕ → List (Row Label) → List (Row Label) → Link ℕ → ℕ → ℕ
-reasonFor earlier n t g s l v = reasonAt eqb eqb (graphOfRows s) (from 0 (length s)) (graphOfRows g) (from 0 (length g)) (over s g) earlier l v
-
--- the reason for the link from u by f, which enters v, tells what it should
-abbrev pub LinkReason : (Link ℕ → Link ℕ → Bool) → ℕ → List ℕ → List (Row Label) → List (Row Label) → ℕ → ℕ → ℕ → Type 0
-LinkReason earlier n t g s u f v =
-    IsReason (tableLabels n t) eqb eqb earlier (graphOfRows s) (from 0 (length s)) (graphOfRows g) (from 0 (length g)) (over s g)
-    (λ v. Option·getD (wantedAt n t s g v) noLabel) (u, f) v (reasonFor earlier n t g s (u, f) v)
 
 -- what writing with marks answers, as a reply
 abbrev pub markedReply : Marked → Reply

@@ -36,7 +36,8 @@ use Rattle.engine.specs.declared.Reply.the-variants.{Length, Graph, TypeList}
 use Rattle.engine.specs.Reply.{Result, refusal, replyOf, refusing, checked, readBoth, rewritten, rewriting, generalized, generalizing}
 use Rattle.engine.specs.Unification.{sameEither, combined, unifiedRows, unifying}
 use Rattle.engine.specs.Difference.{differing}
-use Rattle.engine.specs.Appropriate.{rewritingAppropriate, generalizingAppropriate, unifyingAppropriate, Passes, Breaks, Fits, Obeys}
+use Rattle.engine.specs.Appropriate.{rewritingAppropriate, generalizingAppropriate, unifyingAppropriate}
+use Rattle.demands.specs.Appropriate.{Passes, Breaks, Fits, Obeys}
 use Rattle.demands.specs.Demand.{Given, WrittenRecord}
 use Rattle.engine.proofs.Replies.{table-accepted}
 use Rattle.engine.proofs.Listed.{Checks, table-before-list, list-refused, list-passed, list-exact, rewriting-checked, generalizing-checked, unifying-checked}

@@ -41,7 +41,8 @@ use Rattle.engine.specs.Reply.{Result, kindOf, refusal, resultOf, refusing, che
 use Rattle.engine.specs.Difference.{wantedAt, allWanted, numbered, differenceRows, differed, differedRows, differing, differingBy}
 use Rattle.engine.specs.Pair.{parting}
 use Rattle.demands.specs.Demand.{Given, remainder}
-use Rattle.engine.specs.Explained.{Explained, explainedResult, lengthIn, lengthOf, lengthBeside, beside, reasonsOf, LinkReason, reasonFor}
+use Rattle.engine.specs.Explained.{Explained, explainedResult, lengthIn, lengthOf, lengthBeside, beside, reasonsOf}
+use Rattle.demands.specs.Explained.{reasonFor, LinkReason}
 use Rattle.engine.proofs.Numbers.{kind-injective}
 use Rattle.engine.proofs.Over.{over-map}
 use Rattle.demands.proofs.Demanded.Combination.{other-refusal}

@@ -23,7 +23,8 @@ use Rattle.engine.specs.declared.Reply.the-variants.{Length, Graph as Refusal, 
 use Rattle.engine.specs.Reply.{refusing, rewriting, generalizing}
 use Rattle.engine.specs.Unification.{unifying}
 use Rattle.engine.specs.Difference.{differing}
-use Rattle.engine.specs.Appropriate.{rewritingAppropriate, generalizingAppropriate, unifyingAppropriate, Passes, Breaks, Fits, Obeys}
+use Rattle.engine.specs.Appropriate.{rewritingAppropriate, generalizingAppropriate, unifyingAppropriate}
+use Rattle.demands.specs.Appropriate.{Passes, Breaks, Fits, Obeys}
 use Rattle.demands.specs.Demand.{Given}
 use Rattle.demands.proofs.Demanded.Appropriate as Listing
 

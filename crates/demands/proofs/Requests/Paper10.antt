@@ -29,7 +29,8 @@ use Rattle.engine.specs.declared.Reply.{Reply}
 use Rattle.engine.specs.declared.Reply.the-variants.{Length, Table, Graph as Refusal, TooLarge, NotBelow, NoWantedType, ReadingOrder, NoReasonRoom}
 use Rattle.engine.specs.Reply.{refusal, refusing, checked}
 use Rattle.engine.specs.Difference.{numbered, differing, differingBy}
-use Rattle.engine.specs.Explained.{explainedResult, lengthOf, reasonsOf, explainingBy, reasonFor, LinkReason}
+use Rattle.engine.specs.Explained.{explainedResult, lengthOf, reasonsOf, explainingBy}
+use Rattle.demands.specs.Explained.{reasonFor, LinkReason}
 use Rattle.demands.specs.Demand.{Given, Leaves, Writes, remainder, Restores, Difference}
 use Rattle.engine.specs.Pair.{parting}
 use Rattle.engine.proofs.Listed.{table-before-list, list-exact, differing-checked}

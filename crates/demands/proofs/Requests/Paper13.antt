@@ -18,7 +18,8 @@ use Rattle.lattice.specs.Labels.{tableLabels}
 use Rattle.record.specs.Read.{graphOfRows}
 use Rattle.engine.specs.declared.Reply.the-variants.{Length, NoReasonRoom}
 use Rattle.engine.specs.Difference.{numbered, differing}
-use Rattle.engine.specs.Explained.{explainedResult, lengthOf, reasonsOf, explaining, reasonFor, LinkReason}
+use Rattle.engine.specs.Explained.{explainedResult, lengthOf, reasonsOf, explaining}
+use Rattle.demands.specs.Explained.{reasonFor, LinkReason}
 use Rattle.demands.specs.Demand.{Given, remainder}
 use Rattle.demands.proofs.Demanded.Reasons.{differing-other, no-room-exact, link-reasons, reasons-are, reasons-count, beside-room, beside-short, beside-refused}
 

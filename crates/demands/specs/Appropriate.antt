@@ -1,0 +1,28 @@
+-- What is said of the calls with a list of types for features (document 02, Paper 9).
+use mathlib.Core.Path.{_≡_}
+use mathlib.Core.List.{List}
+use mathlib.Core.Option.{some}
+use Prim.Native.Nat.{ℕ}
+use Rattle.graphs.specs.Rows.{Row}
+use Rattle.lattice.specs.Label.{Label}
+use Rattle.encode.specs.Encode.{fitted}
+use Rattle.record.specs.Read.{reading, accepted, graphOfRows}
+use Rattle.record.specs.Appropriate.{Appropriate}
+use Rattle.engine.specs.Reply.{Result, refusal, resultOf}
+use Rattle.engine.specs.Appropriate.{rewritingAppropriate}
+
+-- a result that is neither 17 nor 18
+abbrev pub Passes : Result → Type 0
+Passes r = (refusal (r .reply) ≡ some 17 → ⊥) × (refusal (r .reply) ≡ some 18 → ⊥)
+
+-- a record that is accepted without the list, "with a link that the list forbids", or with none
+abbrev pub Breaks : ℕ → List ℕ → List ℕ → List ℕ → Type 0
+Breaks n t list bytes =
+    (rows : List (Row Label)) × (reading n bytes ≡ accepted rows) × (Appropriate t list (graphOfRows rows) → ⊥)
+
+abbrev pub Fits : ℕ → List ℕ → List ℕ → List ℕ → Type 0
+Fits n t list bytes = (rows : List (Row Label)) × (reading n bytes ≡ accepted rows) × Appropriate t list (graphOfRows rows)
+
+-- rewriting the record with the list gives that record, or 8 where it does not fit
+abbrev pub Obeys : ℕ → List ℕ → List ℕ → List ℕ → Type 0
+Obeys n t list bytes = (out : List ℕ) → rewritingAppropriate n t list bytes out ≡ resultOf (fitted bytes out)
