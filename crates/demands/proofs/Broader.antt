@@ -14,7 +14,7 @@ use Rattle.lattice.specs.Labels.{tableLabels, OfAnySize}
 use Rattle.lattice.proofs.AnySize.{below-broader, greatest-monotone, least-monotone}
 use Rattle.record.specs.Read.{reading, accepted, graphOfRows}
 use Rattle.record.proofs.Theorems.{accepted-of-any-size}
-use Rattle.engine.specs.declared.Reply.the-variants.{Length, Cycle, Clash}
+use Rattle.replies.specs.declared.Reply.the-variants.{Length, Cycle, Clash}
 use Rattle.engine.specs.Reply.{generalizing}
 use Rattle.engine.specs.Unification.{unifying}
 use Rattle.demands.specs.Demand.{Given, AnswersBelow}

@@ -23,8 +23,9 @@ use Rattle.lattice.proofs.AnySize.{combination-greatest}
 use Rattle.encode.specs.Encode.{fitted}
 use Rattle.record.specs.Read.{reading, accepted, graphOfRows}
 use Rattle.generalize.specs.Pairs.{samePair}
-use Rattle.engine.specs.declared.Reply.the-variants.{Length, Same, Cycle, Clash, TooLarge, NotBelow, NoWantedType}
-use Rattle.engine.specs.Reply.{Result, resultOf, rewriting, ordering, generalizing}
+use Rattle.replies.specs.declared.Reply.the-variants.{Length, Same, Cycle, Clash, TooLarge, NotBelow, NoWantedType}
+use Rattle.replies.specs.Reply.{Result, resultOf}
+use Rattle.engine.specs.Reply.{rewriting, ordering, generalizing}
 use Rattle.engine.specs.Unification.{unifying}
 use Rattle.engine.specs.Difference.{differing}
 use Rattle.demands.specs.Demand.{

@@ -26,9 +26,10 @@ use Rattle.encode.specs.Encode.{encoded, fitted, writtenOut}
 use Rattle.record.specs.Read.{reading, accepted, graphOfRows}
 use Rattle.record.proofs.Rewritten.{written-injective}
 use Rattle.record.proofs.Theorems.{written-reads}
-use Rattle.engine.specs.declared.Reply.{Reply}
-use Rattle.engine.specs.declared.Reply.the-variants.{Length, NoRoom, TooLarge}
-use Rattle.engine.specs.Reply.{Result, refusing, resultOf, rewriting}
+use Rattle.replies.specs.declared.Reply.{Reply}
+use Rattle.replies.specs.declared.Reply.the-variants.{Length, NoRoom, TooLarge}
+use Rattle.replies.specs.Reply.{Result, refusing, resultOf}
+use Rattle.engine.specs.Reply.{rewriting}
 use Rattle.demands.specs.Demand.{Large, Wrote, Writes}
 
 -- the types of a graph of any size over an accepted table have seven bits

@@ -45,24 +45,11 @@ use Rattle.record.proofs.Unranged.{reading-unranged, reading-plain, written-unr
 use Rattle.generalize.specs.Pairs.{samePair}
 use Rattle.generalize.proofs.Sides.{tells-pair}
 use Rattle.difference.specs.Promise.{wantedAlong, allWantedAlong, differenceAlong}
-use Rattle.engine.specs.declared.Side.{Side}
-use Rattle.engine.specs.declared.Reply.{Reply}
-use Rattle.engine.specs.declared.Reply.the-variants.{Table, Graph as Refusal, Cycle, Clash, NotBelow, NoWantedType}
-use Rattle.engine.specs.Reply.{
-  refusal,
-  resultOf,
-  refusing,
-  checked,
-  readBoth,
-  rewritten,
-  rewriting,
-  rowsBelow,
-  compared,
-  ordered,
-  ordering,
-  generalized,
-  generalizing,
-}
+use Rattle.replies.specs.declared.Side.{Side}
+use Rattle.replies.specs.declared.Reply.{Reply}
+use Rattle.replies.specs.declared.Reply.the-variants.{Table, Graph as Refusal, Cycle, Clash, NotBelow, NoWantedType}
+use Rattle.replies.specs.Reply.{refusal, resultOf, refusing}
+use Rattle.engine.specs.Reply.{checked, readBoth, rewritten, rewriting, rowsBelow, compared, ordered, ordering, generalized, generalizing}
 use Rattle.engine.specs.Unification.{sameEither, combined, unifiedRows, unifying}
 use Rattle.engine.specs.Difference.{over, wantedAt, allWanted, differenceRows, differed, numbered, differedRows, differing}
 use Rattle.demands.specs.Demand.{Given, Wrote, common, remainder}

@@ -8,7 +8,7 @@ use Rattle.lattice.specs.Label.{Label}
 use Rattle.encode.specs.Encode.{fitted}
 use Rattle.record.specs.Read.{reading, accepted, graphOfRows}
 use Rattle.record.specs.Appropriate.{Appropriate}
-use Rattle.engine.specs.Reply.{Result, refusal, resultOf}
+use Rattle.replies.specs.Reply.{Result, refusal, resultOf}
 use Rattle.engine.specs.Appropriate.{rewritingAppropriate}
 
 -- a result that is neither 17 nor 18

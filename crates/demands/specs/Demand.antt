@@ -20,8 +20,9 @@ use Rattle.lattice.specs.Reply.{opened}
 use Rattle.lattice.specs.Labels.{tableLabels, OfAnySize, LeastOfAnySize, GreatestOfAnySize, IsCombination}
 use Rattle.encode.specs.Encode.{encoded}
 use Rattle.record.specs.Read.{reading, accepted, graphOfRows}
-use Rattle.engine.specs.declared.Reply.the-variants.{Length, Same, Under, Above, Neither, NoRoom, TooLarge}
-use Rattle.engine.specs.Reply.{Result, refusal, ordering, rewriting}
+use Rattle.replies.specs.declared.Reply.the-variants.{Length, Same, Under, Above, Neither, NoRoom, TooLarge}
+use Rattle.replies.specs.Reply.{Result, refusal}
+use Rattle.engine.specs.Reply.{ordering, rewriting}
 use Rattle.engine.specs.Unification.{unifying}
 use Rattle.engine.specs.Difference.{numbered, differenceRows}
 

@@ -23,10 +23,11 @@ use Rattle.encode.specs.Encode.{writtenOut}
 use Rattle.record.specs.Read.{Reading, refused, accepted}
 use Rattle.record.specs.Unranged.{unranged, plainRows, readingTypes}
 use Rattle.generalize.specs.Pairs.{samePair}
-use Rattle.engine.specs.declared.Side.the-variants.{First}
-use Rattle.engine.specs.declared.Reply.{Reply}
-use Rattle.engine.specs.declared.Reply.the-variants as reply
-use Rattle.engine.specs.Reply.{Result, resultOf, refusing, checked, readBoth, compared}
+use Rattle.replies.specs.declared.Side.the-variants.{First}
+use Rattle.replies.specs.declared.Reply.{Reply}
+use Rattle.replies.specs.declared.Reply.the-variants as reply
+use Rattle.replies.specs.Reply.{Result, resultOf, refusing}
+use Rattle.engine.specs.Reply.{checked, readBoth, compared}
 use Rattle.engine.specs.Unification.{sameEither}
 use Rattle.engine.specs.Difference.{over}
 

@@ -29,9 +29,10 @@ use Rattle.unify.specs.Outcome.{meetsOf, unifiedOut}
 use Rattle.unify.specs.Rows.{Operand}
 use Rattle.engine.specs.declared.PairVerdict.{PairVerdict}
 use Rattle.engine.specs.declared.PairVerdict.the-variants as pair
-use Rattle.engine.specs.declared.Reply.{Reply}
-use Rattle.engine.specs.declared.Reply.the-variants.{Table}
-use Rattle.engine.specs.Reply.{Result, resulting, refusing, readBoth}
+use Rattle.replies.specs.declared.Reply.{Reply}
+use Rattle.replies.specs.declared.Reply.the-variants.{Table}
+use Rattle.replies.specs.Reply.{Result, resulting, refusing}
+use Rattle.engine.specs.Reply.{readBoth}
 use Rattle.engine.specs.Unification.{combined, unifiedRows, unifying}
 use Rattle.engine.specs.Pair.{afterBoth, met, combinedReply}
 use Rattle.engine.proofs.Replies.{table-refused, table-accepted}

@@ -27,9 +27,10 @@ use Rattle.generalize.specs.Pairs.{JoinsBelow, joinsOf, samePair}
 use Rattle.generalize.proofs.Sides.{tells-pair}
 use Rattle.engine.specs.declared.PairVerdict.{PairVerdict}
 use Rattle.engine.specs.declared.PairVerdict.the-variants as pair
-use Rattle.engine.specs.declared.Reply.{Reply}
-use Rattle.engine.specs.declared.Reply.the-variants.{Table}
-use Rattle.engine.specs.Reply.{resulting, resultOf, replyOf, refusing, readBoth, generalized, generalizing}
+use Rattle.replies.specs.declared.Reply.{Reply}
+use Rattle.replies.specs.declared.Reply.the-variants.{Table}
+use Rattle.replies.specs.Reply.{resulting, resultOf, replyOf, refusing}
+use Rattle.engine.specs.Reply.{readBoth, generalized, generalizing}
 use Rattle.engine.specs.Pair.{JoinsReady, afterBoth, joined}
 use Rattle.engine.proofs.Replies.{replied-as, table-refused, table-accepted}
 use Rattle.engine.proofs.Readings.{Accepts, Ruled, accepts-recorded, both-same}

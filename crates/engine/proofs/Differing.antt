@@ -45,12 +45,12 @@ use Rattle.groups.specs.Marks.{Marked}
 use Rattle.groups.proofs.Ordering.{earlier-by-order}
 use Rattle.difference.specs.Asked.{Asked, Prepared}
 use Rattle.difference.specs.Wanted.{WantsAll}
-use Rattle.engine.specs.declared.Side.{Side}
+use Rattle.replies.specs.declared.Side.{Side}
 use Rattle.engine.specs.declared.PairVerdict.{PairVerdict}
 use Rattle.engine.specs.declared.PairVerdict.the-variants as pair
-use Rattle.engine.specs.declared.Reply.{Reply}
-use Rattle.engine.specs.declared.Reply.the-variants.{Table, Graph, NotBelow, NoWantedType}
-use Rattle.engine.specs.Reply.{Result, resulting, resultOf, replyOf, refusing}
+use Rattle.replies.specs.declared.Reply.{Reply}
+use Rattle.replies.specs.declared.Reply.the-variants.{Table, Graph, NotBelow, NoWantedType}
+use Rattle.replies.specs.Reply.{Result, resulting, resultOf, replyOf, refusing}
 use Rattle.engine.specs.Difference.{over, wantedAt, allWanted, differenceRows, differed, numbered, differedRows, differing, differingBy}
 use Rattle.engine.specs.Explained.{reasonsRows}
 use Rattle.engine.specs.Pair.{ReadsBoth, parting}

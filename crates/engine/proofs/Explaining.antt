@@ -25,15 +25,15 @@ use Rattle.subsume.specs.declared.Order.the-variants as order
 use Rattle.subsume.specs.Promise.{Orders}
 use Rattle.groups.specs.Reading.{isReadingOrder}
 use Rattle.difference.specs.Promise.{allWantedAlong, differenceAlong, reasonsAlong}
-use Rattle.engine.specs.declared.Side.{Side}
+use Rattle.replies.specs.declared.Side.{Side}
 use Rattle.engine.specs.declared.PairVerdict.{PairVerdict}
 use Rattle.engine.specs.declared.PairVerdict.the-variants as pair
-use Rattle.engine.specs.declared.Reply.{Reply}
-use Rattle.engine.specs.declared.Reply.the-variants.{Length, Table, Graph, ReadingOrder, NoReasonRoom}
-use Rattle.engine.specs.Reply.{Result, resulting, resultOf}
+use Rattle.replies.specs.declared.Reply.{Reply}
+use Rattle.replies.specs.declared.Reply.the-variants.{Length, Table, Graph, ReadingOrder, NoReasonRoom}
+use Rattle.replies.specs.Reply.{Result, resulting, resultOf, lengthOf}
 use Rattle.engine.specs.Difference.{numbered, differed}
 use Rattle.engine.specs.Pair.{ReadsBoth, parting, partingExplained}
-use Rattle.engine.specs.Explained.{Explained, explainedResult, lengthOf, lengthBeside, beside, reasonsRows, reasonsOf, explaining, explainingBy, markedReply}
+use Rattle.engine.specs.Explained.{Explained, explainedResult, lengthBeside, beside, reasonsRows, reasonsOf, explaining, explainingBy, markedReply}
 use Rattle.engine.proofs.Readings.{Accepts, accepts-rules, both-next}
 use Rattle.engine.proofs.Listed.{table-before-list, list-refused, differing-checked}
 use Rattle.engine.proofs.Differing.{Renumbered, reasons-along, differed-as, parting-refused, parting-both, differing-refused, differing-accepted, differing-by-accepted}

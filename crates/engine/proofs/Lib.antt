@@ -1,5 +1,4 @@
 -- Laws of the calls.
-pub mod Numbers
 pub mod Readings
 pub mod Replies
 pub mod Listed

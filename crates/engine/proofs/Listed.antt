@@ -11,9 +11,10 @@ use Rattle.lattice.specs.Reply as table
 use Rattle.graphs.specs.Difference.{byReading}
 use Rattle.groups.specs.Reading.{isReadingOrder}
 use Rattle.record.specs.Appropriate.{listAccepted, readingAppropriate}
-use Rattle.engine.specs.declared.Reply.{Reply}
-use Rattle.engine.specs.declared.Reply.the-variants.{Table, TypeList, ReadingOrder}
-use Rattle.engine.specs.Reply.{Result, refusing, checkedList, readBoth, rewritten, generalized}
+use Rattle.replies.specs.declared.Reply.{Reply}
+use Rattle.replies.specs.declared.Reply.the-variants.{Table, TypeList, ReadingOrder}
+use Rattle.replies.specs.Reply.{Result, refusing}
+use Rattle.engine.specs.Reply.{checkedList, readBoth, rewritten, generalized}
 use Rattle.engine.specs.Unification.{unifiedRows}
 use Rattle.engine.specs.Difference.{differingBy}
 use Rattle.engine.specs.Pair.{parting}

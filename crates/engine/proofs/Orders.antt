@@ -28,8 +28,8 @@ use Rattle.record.proofs.Accepted.{Rules, rules-linked, rules-of-any-size}
 use Rattle.subsume.specs.declared.Order.{Order}
 use Rattle.subsume.specs.declared.Order.the-variants as order
 use Rattle.subsume.specs.Promise.{Orders}
-use Rattle.engine.specs.declared.Reply.{Reply}
-use Rattle.engine.specs.declared.Reply.the-variants.{Table}
+use Rattle.replies.specs.declared.Reply.{Reply}
+use Rattle.replies.specs.declared.Reply.the-variants.{Table}
 use Rattle.engine.specs.Reply.{readBoth, rowsBelow, isBelow, compared, ordered, ordering}
 use Rattle.engine.proofs.Readings.{Accepts, accepts-rules, both-next}
 use Rattle.engine.proofs.Replies.{table-refused, table-accepted}

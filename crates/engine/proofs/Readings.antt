@@ -19,12 +19,13 @@ use Rattle.record.specs.Reads.{Holds, Tells, verdictOf}
 use Rattle.record.specs.Appropriate.{readingAppropriate}
 use Rattle.record.proofs.Accepted.{Rules, accepted-rules}
 use Rattle.record.proofs.Allowed.{accepted-appropriate}
-use Rattle.engine.specs.declared.Side.{Side}
+use Rattle.replies.specs.declared.Side.{Side}
 use Rattle.engine.specs.declared.PairVerdict.{PairVerdict}
 use Rattle.engine.specs.declared.PairVerdict.the-variants as pair
-use Rattle.engine.specs.declared.Reply.{Reply}
-use Rattle.engine.specs.declared.Reply.the-variants.{Graph}
-use Rattle.engine.specs.Reply.{Result, refusing, readBoth, rewrittenRows, rewritten}
+use Rattle.replies.specs.declared.Reply.{Reply}
+use Rattle.replies.specs.declared.Reply.the-variants.{Graph}
+use Rattle.replies.specs.Reply.{Result, refusing}
+use Rattle.engine.specs.Reply.{readBoth, rewrittenRows, rewritten}
 use Rattle.engine.specs.Pair.{ReadsBoth, jointVerdict, afterReading, afterBoth}
 
 -- a record that is accepted, with the words that hold its rows

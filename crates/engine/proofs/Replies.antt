@@ -15,13 +15,14 @@ use Rattle.record.specs.declared.GraphFault.{GraphFault}
 use Rattle.record.specs.declared.reading.Verdict.{Verdict}
 use Rattle.record.specs.declared.reading.Verdict.the-variants.{Accepted, Refused}
 use Rattle.record.specs.Read.{reading}
-use Rattle.engine.specs.declared.Side.{Side}
-use Rattle.engine.specs.declared.Side.the-variants.{First}
+use Rattle.replies.specs.declared.Side.{Side}
+use Rattle.replies.specs.declared.Side.the-variants.{First}
 use Rattle.engine.specs.declared.PairVerdict.{PairVerdict}
 use Rattle.engine.specs.declared.PairVerdict.the-variants as pair
-use Rattle.engine.specs.declared.Reply.{Reply}
-use Rattle.engine.specs.declared.Reply.the-variants.{Table, Graph}
-use Rattle.engine.specs.Reply.{Result, resulting, checked, refusing, replyOf, resultOf, rewriting, rewrittenRows, rewritten}
+use Rattle.replies.specs.declared.Reply.{Reply}
+use Rattle.replies.specs.declared.Reply.the-variants.{Table, Graph}
+use Rattle.replies.specs.Reply.{Result, resulting, refusing, replyOf, resultOf}
+use Rattle.engine.specs.Reply.{checked, rewriting, rewrittenRows, rewritten}
 use Rattle.engine.specs.Pair.{afterReading, afterBoth}
 
 -- what writing yields, as a result

@@ -3,8 +3,9 @@
 use mathlib.Core.List.{List}
 use Prim.Native.Nat.{ℕ}
 use Rattle.record.specs.Appropriate.{listAccepted, readingAppropriate}
-use Rattle.engine.specs.declared.Reply.the-variants.{TypeList}
-use Rattle.engine.specs.Reply.{Result, refusing, checkedList, readBoth, rewritten, generalized}
+use Rattle.replies.specs.declared.Reply.the-variants.{TypeList}
+use Rattle.replies.specs.Reply.{Result, refusing}
+use Rattle.engine.specs.Reply.{checkedList, readBoth, rewritten, generalized}
 use Rattle.engine.specs.Unification.{unifiedRows}
 
 -- "A list entry of n or more, or a list not of 64 bytes, is 17, after the table": each call has the table's 1 to 3, then 17.

@@ -16,8 +16,9 @@ use Rattle.encode.specs.Encode.{writtenOut}
 use Rattle.record.specs.Read.{graphOfRows, reading}
 use Rattle.groups.specs.Reading.{isReadingOrder}
 use Rattle.difference.specs.Promise.{wantedAlong, allWantedAlong, differenceAlong}
-use Rattle.engine.specs.declared.Reply.the-variants.{NotBelow, NoWantedType, ReadingOrder}
-use Rattle.engine.specs.Reply.{Result, resultOf, refusing, checked, checkedList, readBoth, rowsBelow}
+use Rattle.replies.specs.declared.Reply.the-variants.{NotBelow, NoWantedType, ReadingOrder}
+use Rattle.replies.specs.Reply.{Result, resultOf, refusing}
+use Rattle.engine.specs.Reply.{checked, checkedList, readBoth, rowsBelow}
 
 -- the node that the first pair with y has beside it
 unfoldable pub firstAt : ℕ → List (ℕ × ℕ) → ℕ

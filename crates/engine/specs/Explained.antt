@@ -14,11 +14,10 @@ use Rattle.encode.specs.declared.Marked.{Marked}
 use Rattle.encode.specs.declared.Marked.the-variants as marked
 use Rattle.record.specs.Read.{graphOfRows, reading}
 use Rattle.difference.specs.Promise.{reasonsAlong}
-use Rattle.engine.specs.declared.kinds.Kind.{Kind}
-use Rattle.engine.specs.declared.kinds.Kind.the-variants as kind
-use Rattle.engine.specs.declared.Reply.{Reply}
-use Rattle.engine.specs.declared.Reply.the-variants.{NoReasonRoom}
-use Rattle.engine.specs.Reply.{Result, kindOf, replyOf, readBoth}
+use Rattle.replies.specs.declared.Reply.{Reply}
+use Rattle.replies.specs.declared.Reply.the-variants.{NoReasonRoom}
+use Rattle.replies.specs.Reply.{Result, lengthOf, replyOf}
+use Rattle.engine.specs.Reply.{readBoth}
 use Rattle.engine.specs.Difference.{over, numbered, differing, differingBy}
 
 -- a reply and the two outputs beside it
@@ -29,19 +28,6 @@ pub record Explained : Type 0 where
 
 abbrev pub explainedResult : Reply → List ℕ → List ℕ → Explained
 explainedResult reply output reasons = record { reply = reply; output = output; reasons = reasons }
-
-abbrev pub lengthIn : Kind → Option ℕ
-lengthIn (kind.Length l) = some l
-lengthIn kind.Same = none
-lengthIn kind.Under = none
-lengthIn kind.Above = none
-lengthIn kind.Neither = none
-lengthIn (kind.Refused number) = none
-lengthIn (kind.RefusedGraph number side) = none
-
--- the record's length, where a reply tells of one
-abbrev pub lengthOf : Reply → Option ℕ
-lengthOf reply = lengthIn (kindOf reply)
 
 -- "Beside the record, one byte for each of its links .., further bytes unchanged"; "too few bytes lent for the reasons gives 22, after 8,
 -- with both buffers unchanged". Every other refusal of the plain call stays, both outputs as they were.

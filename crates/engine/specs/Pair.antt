@@ -24,15 +24,16 @@ use Rattle.generalize.specs.Pairs.{Joinable, joinsOf, samePair}
 use Rattle.unify.specs.declared.Combined.{Combined}
 use Rattle.unify.specs.declared.Combined.the-variants as unify
 use Rattle.unify.specs.Outcome.{meetsOf}
-use Rattle.engine.specs.declared.Side.the-variants.{First, Second}
+use Rattle.replies.specs.declared.Side.the-variants.{First, Second}
 use Rattle.engine.specs.declared.PairVerdict.{PairVerdict}
 use Rattle.engine.specs.declared.PairVerdict.the-variants as pair
-use Rattle.engine.specs.declared.Reply.{Reply}
-use Rattle.engine.specs.declared.Reply.the-variants.{Graph, Cycle, Clash}
+use Rattle.replies.specs.declared.Reply.{Reply}
+use Rattle.replies.specs.declared.Reply.the-variants.{Graph, Cycle, Clash}
 use Rattle.engine.specs.Unification.{combined}
 use Rattle.engine.specs.Difference.{differed, differedRows}
 use Rattle.engine.specs.Explained.{Explained, beside, reasonsRows, reasonsOf}
-use Rattle.engine.specs.Reply.{Result, replyOf, resultOf, refusing, readBoth}
+use Rattle.replies.specs.Reply.{Result, replyOf, resultOf, refusing}
+use Rattle.engine.specs.Reply.{readBoth}
 
 -- "first graph 4 to 7; second graph 4 to 7"
 abbrev pub jointVerdict : Verdict → Verdict → PairVerdict

@@ -1,9 +1,7 @@
--- Replies: the number that documents 01 ("Returned by a call") and 02 give to each, and what each call answers and leaves in the output.
-use mathlib.Core.Path.{_≡_}
+-- What each call answers and leaves in the output (documents 01, "Returned by a call", and 02).
 use mathlib.Core.Bool.{Bool, true, false, cond}
 use mathlib.Core.List.{List}
-use mathlib.Core.Option.{Option, none, some}
-use Prim.Native.Nat.{ℕ, _≤_}
+use Prim.Native.Nat.{ℕ}
 use lib.Dec.{eqb}
 use lib.ListN.{length}
 use Rattle.graphs.specs.Rows.{Row}
@@ -15,75 +13,15 @@ use Rattle.lattice.specs.declared.Opened.{Opened}
 use Rattle.lattice.specs.declared.Opened.the-variants as opened
 use Rattle.lattice.specs.Reply as table
 use Rattle.lattice.specs.Labels.{tableLabels}
-use Rattle.encode.specs.declared.Written.{Written}
-use Rattle.encode.specs.declared.Written.the-variants as written
-use Rattle.encode.specs.Encode.{Outcome, writtenOut}
+use Rattle.encode.specs.Encode.{writtenOut}
 use Rattle.record.specs.Read as graph
 use Rattle.generalize.specs.Pairs.{samePair}
 use Rattle.subsume.specs.declared.Order.{Order}
 use Rattle.subsume.specs.declared.Order.the-variants as order
-use Rattle.engine.specs.declared.Side.the-variants.{First, Second}
-use Rattle.engine.specs.declared.kinds.Kind.{Kind}
-use Rattle.engine.specs.declared.kinds.Kind.the-variants as kind
-use Rattle.engine.specs.declared.Reply.{Reply}
-use Rattle.engine.specs.declared.Reply.the-variants.{Length, Same, Under, Above, Neither, Table, Graph, NoRoom, Cycle, Clash, TooLarge, NotBelow, NoWantedType, TypeList, ReadingOrder, NoReasonRoom}
-
--- what a reply tells: a refusal has a number, and one of a graph tells which of the two it is
-abbrev pub kindOf : Reply → Kind
-kindOf (Length l) = kind.Length l
-kindOf Same = kind.Same
-kindOf Under = kind.Under
-kindOf Above = kind.Above
-kindOf Neither = kind.Neither
-kindOf (Table fault) = kind.Refused (table.tableNumber fault)
-kindOf (Graph fault side) = kind.RefusedGraph (graph.graphNumber fault) side
-kindOf NoRoom = kind.Refused 8
-kindOf Cycle = kind.Refused 9
-kindOf Clash = kind.Refused 10
-kindOf TooLarge = kind.Refused 11
-kindOf NotBelow = kind.Refused 12
-kindOf NoWantedType = kind.Refused 13
-kindOf TypeList = kind.Refused 17
-kindOf ReadingOrder = kind.Refused 19
-kindOf NoReasonRoom = kind.Refused 22
-
-abbrev pub refusalIn : Kind → Option ℕ
-refusalIn (kind.Length l) = none
-refusalIn kind.Same = none
-refusalIn kind.Under = none
-refusalIn kind.Above = none
-refusalIn kind.Neither = none
-refusalIn (kind.Refused number) = some number
-refusalIn (kind.RefusedGraph number side) = some number
-
--- the number of a refusal
-abbrev pub refusal : Reply → Option ℕ
-refusal reply = refusalIn (kindOf reply)
-
--- a record that a reply tells of has at most so many bytes
-abbrev pub Bounded : Reply → ℕ → Type 0
-Bounded reply most = (l : ℕ) → reply ≡ Length l → l ≤ most
-
--- a reply and the output beside it
-pub record Result : Type 0 where
-  pub reply : Reply
-  pub output : List ℕ
-
-abbrev pub resulting : Reply → List ℕ → Result
-resulting r out = record { reply = r; output = out }
-
-abbrev pub replyOf : Written → Reply
-replyOf (written.Length l) = Length l
-replyOf written.TooLarge = TooLarge
-replyOf written.NoRoom = NoRoom
-
--- what writing a result answers
-abbrev pub resultOf : Outcome → Result
-resultOf o = resulting (replyOf (o .answer)) (o .output)
-
--- a refusal leaves the output as it was
-abbrev pub refusing : Reply → List ℕ → Result
-refusing r out = resulting r out
+use Rattle.replies.specs.declared.Side.the-variants.{First, Second}
+use Rattle.replies.specs.declared.Reply.{Reply}
+use Rattle.replies.specs.declared.Reply.the-variants.{Same, Under, Above, Neither, Table, Graph}
+use Rattle.replies.specs.Reply.{Result, resultOf, refusing}
 
 -- the table's 1 to 3, before what a call does; `refuse` makes what it gives of a refusal
 abbrev pub checked : {X : Type 0} → (Reply → X) → Opened → X → X

@@ -13,8 +13,9 @@ use Rattle.lattice.specs.Labels.{tableLabels}
 use Rattle.encode.specs.Encode.{writtenOut}
 use Rattle.record.specs.Read.{graphOfRows, reading}
 pub use Rattle.unify.specs.Outcome.{sameEither}
-use Rattle.engine.specs.declared.Reply.the-variants.{Cycle, Clash}
-use Rattle.engine.specs.Reply.{Result, resultOf, refusing, checked, readBoth}
+use Rattle.replies.specs.declared.Reply.the-variants.{Cycle, Clash}
+use Rattle.replies.specs.Reply.{Result, resultOf, refusing}
+use Rattle.engine.specs.Reply.{checked, readBoth}
 
 -- a loop, a clash and no loop, or the record in written form
 abbrev pub combined : Unified Label (ℕ ⊎ ℕ) → List ℕ → Result

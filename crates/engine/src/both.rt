@@ -2,8 +2,8 @@
 // a list of types for features (document 02, Paper 9).
 
 use crate::PairVerdict;
-use crate::Side;
 use record::reading::Verdict;
+use replies::Side;
 ghost use mathlib.Core.Path.{_≡_};
 ghost use mathlib.Core.Bool.{true};
 ghost use Prim.Native.Nat.{_≤_};

@@ -2,8 +2,8 @@
 // second, which is numbered as written before it is compared.
 
 use crate::PairVerdict;
-use crate::Reply;
 use groups::reading::LinkOrder;
+use replies::Reply;
 use subsume::Order;
 ghost use mathlib.Core.Path.{_≡_};
 ghost use mathlib.Core.Bool.{true};
@@ -13,7 +13,7 @@ ghost use Rattle.layout.specs.Layout.{longest, rowsOf};
 ghost use Rattle.groups.specs.Reading.{Fitting, earlierBy};
 ghost use Rattle.engine.specs.Difference.{differed};
 ghost use Rattle.engine.specs.Explained.{explainedResult};
-ghost use Rattle.engine.specs.Reply.{resulting};
+ghost use Rattle.replies.specs.Reply.{resulting};
 ghost use Rattle.engine.specs.Pair.{explainedWords, parting, partingExplained};
 ghost use Rattle.engine.specs.Renumbering.{Comparable};
 
@@ -68,7 +68,7 @@ fn difference_below<'a>(
     }
     let mut marks = [0u8; layout::LONGEST];
     groups::mark_links(s, g, &map, order, &mut marks);
-    crate::reply_of(difference::difference(n, table, s, &marks, &labels, words, out))
+    replies::reply_of(difference::difference(n, table, s, &marks, &labels, words, out))
 }
 
 // The difference of two records with the reasons for its links, over an accepted table with n types.

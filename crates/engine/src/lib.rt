@@ -2,11 +2,11 @@
 // refusal no byte of the output is written.
 
 use encode::Marked;
-use encode::Written;
 use lattice::Opened;
-use lattice::TableFault;
 use record::GraphFault;
 use record::reading::Verdict;
+use replies::Reply;
+use replies::Side;
 use subsume::Order;
 use unify::Combined;
 ghost use mathlib.Core.Path.{_≡_};
@@ -17,7 +17,8 @@ ghost use Rattle.record.specs.declared.reading.Verdict.the-variants.{Accepted};
 ghost use Rattle.unify.specs.Lowered.{Meeting};
 ghost use Rattle.unify.specs.Rows.{Operand};
 ghost use Rattle.engine.specs.declared.PairVerdict.the-variants.{Both};
-ghost use Rattle.engine.specs.Reply.{resulting, replyOf, readBoth, rewriting, rewrittenRows, isBelow, compared, ordering, ordered, generalizing};
+ghost use Rattle.replies.specs.Reply.{resulting};
+ghost use Rattle.engine.specs.Reply.{readBoth, rewriting, rewrittenRows, isBelow, compared, ordering, ordered, generalizing};
 ghost use Rattle.engine.specs.Unification.{unifying};
 ghost use Rattle.engine.specs.Difference.{differing, differingBy};
 ghost use Rattle.engine.specs.Appropriate.{rewritingAppropriate, generalizingAppropriate, unifyingAppropriate};
@@ -26,34 +27,7 @@ ghost use Rattle.engine.specs.Explained.{explaining, explainingBy, expla
 
 mod both;
 mod differences;
-pub mod kinds;
 mod link_orders;
-
-// Which of two graphs is refused; a lone graph counts as the first.
-pub enum Side {
-    First,
-    Second,
-}
-
-// What a call answers: the record's length, one of the order's four answers, seen from the first graph, or a refusal.
-pub enum Reply {
-    Length(usize),
-    Same,
-    Under,
-    Above,
-    Neither,
-    Table(TableFault),
-    Graph(GraphFault, Side),
-    NoRoom,
-    Cycle,
-    Clash,
-    TooLarge,
-    NotBelow,
-    NoWantedType,
-    TypeList,
-    ReadingOrder,
-    NoReasonRoom,
-}
 
 // Whether two records are accepted; else the first refusal and which graph it tells of.
 pub enum PairVerdict {
@@ -107,18 +81,7 @@ fn rewrite_over(verdict: Verdict, graph: &[u16], out: &mut [u8]) -> Reply
 {
     match verdict {
         Verdict::Refused(fault) => Reply::Graph(fault, Side::First),
-        Verdict::Accepted => reply_of(encode::canonical::write(graph, out)),
-    }
-}
-
-// What writing a result answers, as a reply.
-fn reply_of(written: Written) -> Reply
-    ensures { λ r. ⌜ r ≡ replyOf written ⌝ }
-{
-    match written {
-        Written::Length(length) => Reply::Length(length),
-        Written::TooLarge => Reply::TooLarge,
-        Written::NoRoom => Reply::NoRoom,
+        Verdict::Accepted => replies::reply_of(encode::canonical::write(graph, out)),
     }
 }
 
@@ -238,7 +201,7 @@ fn generalize_over<'a>(
 {
     match verdict {
         PairVerdict::Refused(fault, side) => Reply::Graph(fault, side),
-        PairVerdict::Both => reply_of(generalize::generalize(n, sets, cells, a, b, out)),
+        PairVerdict::Both => replies::reply_of(generalize::generalize(n, sets, cells, a, b, out)),
     }
 }
 
@@ -321,7 +284,7 @@ fn combined_reply(combined: Combined) -> Reply
     ensures { λ r. ⌜ r ≡ combinedReply combined ⌝ }
 {
     match combined {
-        Combined::Written(written) => reply_of(written),
+        Combined::Written(written) => replies::reply_of(written),
         Combined::Cycle => Reply::Cycle,
         Combined::Clash => Reply::Clash,
     }
@@ -419,7 +382,7 @@ fn marked_reply(marked: Marked) -> Reply
     ensures { λ r. ⌜ r ≡ markedReply marked ⌝ }
 {
     match marked {
-        Marked::Written(written) => reply_of(written),
+        Marked::Written(written) => replies::reply_of(written),
         Marked::NoMarkRoom => Reply::NoReasonRoom,
     }
 }

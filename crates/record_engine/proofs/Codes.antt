@@ -3,8 +3,8 @@ use mathlib.Core.Path.{_≡_, _∙_, ap}
 use mathlib.Core.List.{List}
 use Prim.Native.Nat.{ℕ}
 use Rattle.encode.specs.Encode.{yielding}
-use Rattle.engine.specs.declared.Reply.{Reply}
-use Rattle.engine.specs.Reply.{Result, resulting}
+use Rattle.replies.specs.declared.Reply.{Reply}
+use Rattle.replies.specs.Reply.{Result, resulting}
 use Rattle.engine.specs.Explained.{Explained, explainedResult}
 use Rattle.record_engine.specs.Code.{codeOf}
 use Rattle.record_engine.specs.Coded.{coded, codedBoth, yieldingBoth}

@@ -5,12 +5,12 @@ use Prim.Native.Nat.{ℕ, _-_, _≤_, _<_}
 use native.Mathlib.Omega.{arith}
 use borrow.Author.Tests.{lt-ltb, le-ltb}
 use lib.Dec.{eqb, ltb}
-use Rattle.engine.specs.declared.Side.the-variants.{First, Second}
-use Rattle.engine.specs.declared.kinds.Kind.{Kind}
-use Rattle.engine.specs.declared.kinds.Kind.the-variants.{Length, Same, Under, Above, Neither, Refused, RefusedGraph}
-use Rattle.engine.specs.declared.Reply.{Reply}
-use Rattle.engine.specs.Reply.{kindOf, Bounded}
-use Rattle.engine.proofs.Numbers.{numberIn, number-small, kind-injective, kind-bounded}
+use Rattle.replies.specs.declared.Side.the-variants.{First, Second}
+use Rattle.replies.specs.declared.kinds.Kind.{Kind}
+use Rattle.replies.specs.declared.kinds.Kind.the-variants.{Length, Same, Under, Above, Neither, Refused, RefusedGraph}
+use Rattle.replies.specs.declared.Reply.{Reply}
+use Rattle.replies.specs.Reply.{kindOf, Bounded}
+use Rattle.replies.proofs.Numbers.{numberIn, number-small, kind-injective, kind-bounded}
 use Rattle.record_engine.specs.Code.{codeFor, codeOf}
 
 -- What a code tells: from the order's answers on, from the side 2 on, from 1 on, from 0 on, and whatever it is.

@@ -1,12 +1,12 @@
 -- One number for a reply: the length itself, which is at most 4,854; for a refusal 2³² + 256 × the side + its number in document 01;
 -- for same, under, above and neither 2³³ and the three numbers after it.
 use Prim.Native.Nat.{ℕ, _+_, _*_}
-use Rattle.engine.specs.declared.Side.{Side}
-use Rattle.engine.specs.declared.Side.the-variants.{First, Second}
-use Rattle.engine.specs.declared.kinds.Kind.{Kind}
-use Rattle.engine.specs.declared.kinds.Kind.the-variants.{Length, Same, Under, Above, Neither, Refused, RefusedGraph}
-use Rattle.engine.specs.declared.Reply.{Reply}
-use Rattle.engine.specs.Reply.{kindOf}
+use Rattle.replies.specs.declared.Side.{Side}
+use Rattle.replies.specs.declared.Side.the-variants.{First, Second}
+use Rattle.replies.specs.declared.kinds.Kind.{Kind}
+use Rattle.replies.specs.declared.kinds.Kind.the-variants.{Length, Same, Under, Above, Neither, Refused, RefusedGraph}
+use Rattle.replies.specs.declared.Reply.{Reply}
+use Rattle.replies.specs.Reply.{kindOf}
 
 -- 0 stands for a refusal that tells of no graph
 abbrev pub sideNumber : Side → ℕ

@@ -3,8 +3,8 @@ use mathlib.Core.Bool.{cond}
 use mathlib.Core.List.{List}
 use Prim.Native.Nat.{ℕ}
 use Rattle.house.specs.House.{roomy, tabled}
-use Rattle.engine.specs.Reply.{Result, resulting}
-use Rattle.engine.specs.declared.Reply.the-variants.{Length, NoRoom}
+use Rattle.replies.specs.Reply.{Result, resulting}
+use Rattle.replies.specs.declared.Reply.the-variants.{Length, NoRoom}
 
 -- the length, 512, with the table's bytes first in the output; or 8, the output as it was
 abbrev pub tabling : List ℕ → Result

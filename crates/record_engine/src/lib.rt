@@ -2,9 +2,9 @@
 // records and an output or two, each slice as a pointer and a length, and answer one number. One function gives the table of the house
 // types.
 
-use engine::Reply;
-use engine::Side;
-use engine::kinds::Kind;
+use replies::Reply;
+use replies::Side;
+use replies::kinds::Kind;
 ghost use mathlib.Core.Path.{_≡_};
 ghost use Prim.Native.Nat.{_<_};
 ghost use Rattle.encode.specs.Encode.{yielding};
@@ -184,7 +184,7 @@ pub extern "C" fn record_house_table(out: &mut [u8]) -> u64
 fn code(reply: Reply) -> u64
     ensures { λ r. ⌜ r ≡ codeOf reply ⌝ }
 {
-    let kind = engine::kinds::kind_of(reply);
+    let kind = replies::kinds::kind_of(reply);
     match kind {
         Kind::Length(length) => length as u64,
         Kind::Same => 8589934592,

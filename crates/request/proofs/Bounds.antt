@@ -25,16 +25,17 @@ use Rattle.record.specs.Read as graph
 use Rattle.encode.specs.Encode.{encoded, fitted, writtenOut}
 use Rattle.encode.specs.declared.Written.the-variants as outcome
 use Rattle.generalize.specs.Pairs.{samePair}
-use Rattle.engine.specs.declared.Side.{Side}
-use Rattle.engine.specs.declared.Side.the-variants.{First, Second}
-use Rattle.engine.specs.declared.kinds.Kind.{Kind}
-use Rattle.engine.specs.declared.kinds.Kind.the-variants as kind
-use Rattle.engine.specs.declared.Reply.{Reply}
-use Rattle.engine.specs.declared.Reply.the-variants.{Length, Table, Graph, NoRoom, Cycle, Clash, TooLarge, NotBelow, NoWantedType}
-use Rattle.engine.specs.Reply.{Result, Bounded, kindOf, refusal, checked, refusing, readBoth, resultOf, generalizing, generalized, rowsBelow, compared, ordering, ordered}
+use Rattle.replies.specs.declared.Side.{Side}
+use Rattle.replies.specs.declared.Side.the-variants.{First, Second}
+use Rattle.replies.specs.declared.kinds.Kind.{Kind}
+use Rattle.replies.specs.declared.kinds.Kind.the-variants as kind
+use Rattle.replies.specs.declared.Reply.{Reply}
+use Rattle.replies.specs.declared.Reply.the-variants.{Length, Table, Graph, NoRoom, Cycle, Clash, TooLarge, NotBelow, NoWantedType}
+use Rattle.replies.specs.Reply.{Result, Bounded, kindOf, refusal, refusing, resultOf}
+use Rattle.engine.specs.Reply.{checked, readBoth, generalizing, generalized, rowsBelow, compared, ordering, ordered}
 use Rattle.engine.specs.Unification.{sameEither, combined, unifiedRows, unifying}
 use Rattle.engine.specs.Difference.{allWanted, differenceRows, differed, numbered, differedRows, differing}
-use Rattle.engine.proofs.Numbers.{numberIn, number-small, kind-bounded}
+use Rattle.replies.proofs.Numbers.{numberIn, number-small, kind-bounded}
 use Rattle.request.specs.declared.parse.Operation.{Operation}
 use Rattle.request.specs.declared.parse.Operation.the-variants.{Generalize, Unify, Difference, Order}
 use Rattle.request.specs.Request.{Request}

@@ -7,10 +7,10 @@ use native.Mathlib.Nat.{zero-add}
 use native.Mathlib.Omega.{arith}
 use lib.ListN.{length, drop, set, replicate, length-append, length-replicate}
 use lib.Seq.{sets-eq}
-use Rattle.engine.specs.declared.Side.{Side}
-use Rattle.engine.specs.declared.kinds.Kind.{Kind}
-use Rattle.engine.specs.declared.Reply.{Reply}
-use Rattle.engine.specs.Reply.{Result, resulting}
+use Rattle.replies.specs.declared.Side.{Side}
+use Rattle.replies.specs.declared.kinds.Kind.{Kind}
+use Rattle.replies.specs.declared.Reply.{Reply}
+use Rattle.replies.specs.Reply.{Result, resulting}
 use Rattle.request.specs.declared.Printed.{Printed}
 use Rattle.request.specs.declared.parse.Operation.{Operation}
 use Rattle.request.specs.declared.parse.Parts.{Parts}

@@ -3,12 +3,13 @@ use mathlib.Core.List.{List, [], _∷_, _++_}
 use mathlib.Core.Option.{Option, none, some}
 use Prim.Native.Nat.{ℕ}
 use lib.ListN.{length, take, drop, replicate}
-use Rattle.engine.specs.declared.Side.{Side}
-use Rattle.engine.specs.declared.Side.the-variants.{First, Second}
-use Rattle.engine.specs.declared.Reply.{Reply}
-use Rattle.engine.specs.declared.kinds.Kind.{Kind}
-use Rattle.engine.specs.declared.kinds.Kind.the-variants.{Length, Same, Under, Above, Neither, Refused, RefusedGraph}
-use Rattle.engine.specs.Reply.{Result, kindOf, refusing, generalizing, ordering}
+use Rattle.replies.specs.declared.Side.{Side}
+use Rattle.replies.specs.declared.Side.the-variants.{First, Second}
+use Rattle.replies.specs.declared.Reply.{Reply}
+use Rattle.replies.specs.declared.kinds.Kind.{Kind}
+use Rattle.replies.specs.declared.kinds.Kind.the-variants.{Length, Same, Under, Above, Neither, Refused, RefusedGraph}
+use Rattle.replies.specs.Reply.{Result, kindOf, refusing}
+use Rattle.engine.specs.Reply.{generalizing, ordering}
 use Rattle.engine.specs.Unification.{unifying}
 use Rattle.engine.specs.Difference.{differing}
 use Rattle.request.specs.declared.Printed.{Printed}

@@ -4,15 +4,15 @@ pub mod parse;
 pub mod reply;
 pub mod text;
 
-use engine::Reply;
 use parse::Operation;
 use parse::Parsed;
 use parse::Parts;
+use replies::Reply;
 ghost use mathlib.Core.Path.{_≡_};
 ghost use mathlib.Core.Option.{some};
 ghost use Prim.Native.Nat.{_≤_};
 ghost use lib.ListN.{length};
-ghost use Rattle.engine.specs.Reply.{resulting};
+ghost use Rattle.replies.specs.Reply.{resulting};
 ghost use Rattle.request.specs.Request.{requested};
 ghost use Rattle.request.specs.Parse.{AllInside, requestAt};
 ghost use Rattle.request.specs.Text.{Puts};

@@ -3,15 +3,15 @@
 use crate::text::put_decimal;
 use crate::text::put_hexadecimal;
 use crate::text::put_word;
-use engine::Reply;
-use engine::Side;
-use engine::kinds::Kind;
-use engine::kinds::kind_of;
+use replies::Reply;
+use replies::Side;
+use replies::kinds::Kind;
+use replies::kinds::kind_of;
 ghost use mathlib.Core.Path.{_≡_};
 ghost use mathlib.Core.List.{_++_};
 ghost use Prim.Native.Nat.{_+_, _<_, _≤_};
 ghost use lib.ListN.{length};
-ghost use Rattle.engine.specs.Reply.{Bounded};
+ghost use Rattle.replies.specs.Reply.{Bounded};
 ghost use Rattle.request.specs.Text.{Puts};
 ghost use Rattle.request.specs.Line.{okText, refusedText, replyText, sideText};
 

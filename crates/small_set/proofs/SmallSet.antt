@@ -77,7 +77,7 @@ use Rattle.engine.specs.Unification.{unifiedRows, unifying}
 use Rattle.engine.specs.Appropriate.{rewritingAppropriate, generalizingAppropriate}
 use Rattle.engine.specs.Difference.{firstAt, over, wantedAt, allWanted, differenceRows, differed, differedRows, differing, differingBy}
 use Rattle.engine.specs.Explained.{reasonsOf, explaining, explainingBy}
-use Rattle.engine.specs.declared.Reply.the-variants.{NoWantedType}
+use Rattle.replies.specs.declared.Reply.the-variants.{NoWantedType}
 use Rattle.demands.proofs.Demanded.Wanted.{meet-known, label-below, wanted-exact}
 use Rattle.demands.proofs.Requests.Paper06.{unwanted-exact, itself-lone-top}
 use Rattle.small_set.specs.Cases.{threeMiddles, twoOverTwo, NeverUnwanted, ItselfTop, AllHold, none-left, _and_, cases, SmallSet, FourAnswers, Reasons, ReadingOrders, AsSets}

@@ -11,9 +11,10 @@ use Rattle.lattice.specs.Label.{Label}
 use Rattle.lattice.specs.Table.{upto}
 use Rattle.lattice.specs.Sets.{distributive, setOf}
 use Rattle.record.specs.Read.{reading, accepted}
-use Rattle.engine.specs.declared.Reply.the-variants.{Length, Same, Under, Above, Neither, NoWantedType, ReadingOrder, NoReasonRoom}
-use Rattle.engine.specs.declared.Reply.{Reply}
-use Rattle.engine.specs.Reply.{Result, refusal, resulting, refusing, resultOf, rewriting, generalizing, ordering}
+use Rattle.replies.specs.declared.Reply.the-variants.{Length, Same, Under, Above, Neither, NoWantedType, ReadingOrder, NoReasonRoom}
+use Rattle.replies.specs.declared.Reply.{Reply}
+use Rattle.replies.specs.Reply.{Result, refusal, resulting, refusing, resultOf}
+use Rattle.engine.specs.Reply.{rewriting, generalizing, ordering}
 use Rattle.engine.specs.Unification.{unifying}
 use Rattle.engine.specs.Difference.{differing, differingBy}
 use Rattle.engine.specs.Appropriate.{rewritingAppropriate, generalizingAppropriate}

@@ -31,9 +31,10 @@ use Rattle.record.proofs.Theorems.{accepted-of-any-size}
 use Rattle.record.proofs.Allowed.{refused-appropriate, judged-appropriate, accepted-appropriate}
 use Rattle.record.proofs.Obeying.{appropriate-exact, appropriate-same, common-obeys, combination-obeys}
 use Rattle.generalize.specs.Pairs.{samePair}
-use Rattle.engine.specs.declared.Side.the-variants.{First, Second}
-use Rattle.engine.specs.declared.Reply.the-variants.{Length, Graph, TypeList}
-use Rattle.engine.specs.Reply.{Result, refusal, replyOf, refusing, checked, readBoth, rewritten, rewriting, generalized, generalizing}
+use Rattle.replies.specs.declared.Side.the-variants.{First, Second}
+use Rattle.replies.specs.declared.Reply.the-variants.{Length, Graph, TypeList}
+use Rattle.replies.specs.Reply.{Result, refusal, replyOf, refusing}
+use Rattle.engine.specs.Reply.{checked, readBoth, rewritten, rewriting, generalized, generalizing}
 use Rattle.engine.specs.Unification.{sameEither, combined, unifiedRows, unifying}
 use Rattle.engine.specs.Difference.{differing}
 use Rattle.engine.specs.Appropriate.{rewritingAppropriate, generalizingAppropriate, unifyingAppropriate}

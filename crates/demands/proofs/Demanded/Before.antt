@@ -28,9 +28,10 @@ use Rattle.record.proofs.Accepted.{Rules, accepted-rules, rules-of-any-size, ru
 use Rattle.record.proofs.Theorems.{written-reads}
 use Rattle.graphs.proofs.Lists.{tells-eqb}
 use Rattle.difference.specs.Promise.{wantedAlong, allWantedAlong, differenceAlong}
-use Rattle.engine.specs.declared.Reply.{Reply}
-use Rattle.engine.specs.declared.Reply.the-variants.{NotBelow, NoWantedType}
-use Rattle.engine.specs.Reply.{Result, refusal, resultOf, refusing, checked, readBoth}
+use Rattle.replies.specs.declared.Reply.{Reply}
+use Rattle.replies.specs.declared.Reply.the-variants.{NotBelow, NoWantedType}
+use Rattle.replies.specs.Reply.{Result, refusal, resultOf, refusing}
+use Rattle.engine.specs.Reply.{checked, readBoth}
 use Rattle.engine.specs.Difference.{over, wantedAt, allWanted, differenceRows, differed, numbered, differedRows, differing}
 use Rattle.demands.specs.Before.{residualLabel, residualRows, differedBefore, differingBefore}
 use Rattle.engine.proofs.Orders.{order-test}

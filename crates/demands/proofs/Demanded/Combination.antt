@@ -40,8 +40,8 @@ use Rattle.encode.specs.declared.Written.the-variants as outcome
 use Rattle.encode.specs.Encode.{writtenOut}
 use Rattle.record.specs.Read.{reading, accepted, graphOfRows}
 use Rattle.record.proofs.Theorems.{accepted-of-any-size, accepted-nodes}
-use Rattle.engine.specs.declared.Reply.the-variants as replies
-use Rattle.engine.specs.Reply.{Result, refusal, refusing, replyOf, resultOf}
+use Rattle.replies.specs.declared.Reply.the-variants as replies
+use Rattle.replies.specs.Reply.{Result, refusal, refusing, replyOf, resultOf}
 use Rattle.engine.specs.Unification.{sameEither, combined, unifiedRows, unifying}
 use Rattle.demands.specs.Demand.{Given, Writes, NoneBelow, Combination}
 use Rattle.demands.proofs.Results.{resultFor, result-writes, seven-bits}

@@ -18,7 +18,7 @@ use Rattle.record.specs.Read.{reading, accepted, graphOfRows}
 use Rattle.record.proofs.Theorems.{accepted-of-any-size}
 use Rattle.generalize.specs.Pairs.{samePair}
 use Rattle.generalize.proofs.Sides.{tells-pair}
-use Rattle.engine.specs.declared.Reply.the-variants.{Length}
+use Rattle.replies.specs.declared.Reply.the-variants.{Length}
 use Rattle.engine.specs.Reply.{generalized, generalizing}
 use Rattle.demands.specs.Demand.{Given, Writes, common, CommonPart}
 use Rattle.demands.proofs.Results.{result-writes, seven-bits}

@@ -30,8 +30,8 @@ use Rattle.record.specs.Read.{reading, accepted, graphOfRows}
 use Rattle.record.proofs.Accepted.{Rules, accepted-rules}
 use Rattle.record.proofs.Theorems.{accepted-of-any-size, accepted-fits, written-accepted}
 use Rattle.groups.specs.Reading.{isReadingOrder}
-use Rattle.engine.specs.declared.Reply.the-variants as replies
-use Rattle.engine.specs.Reply.{Result, refusal, refusing, resultOf}
+use Rattle.replies.specs.declared.Reply.the-variants as replies
+use Rattle.replies.specs.Reply.{Result, refusal, refusing, resultOf}
 use Rattle.engine.specs.Unification.{unifying}
 use Rattle.engine.specs.Difference.{allWanted, numbered, differenceRows, differed, differedRows, differing, differingBy}
 use Rattle.demands.specs.Demand.{Given, Large, Writes, MoreGeneral, remainder, Restores, Difference}

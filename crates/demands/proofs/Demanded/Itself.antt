@@ -39,7 +39,7 @@ use Rattle.encode.specs.Encode.{bitsFrom, isFull, encodedLabel, encodedRow, enc
 use Rattle.record.specs.Read.{reading, accepted, graphOfRows}
 use Rattle.record.proofs.Accepted.{accepted-rules}
 use Rattle.record.proofs.Theorems.{accepted-of-any-size, written-reads}
-use Rattle.engine.specs.Reply.{resultOf}
+use Rattle.replies.specs.Reply.{resultOf}
 use Rattle.engine.specs.Difference.{differing}
 use Rattle.demands.specs.Demand.{Given, loneTop, remainder, Restores}
 use Rattle.engine.proofs.Orders.{short}

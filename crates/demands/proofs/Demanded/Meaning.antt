@@ -25,8 +25,9 @@ use Rattle.record.specs.Read.{reading, accepted, graphOfRows}
 use Rattle.record.proofs.Rewritten.{form-again}
 use Rattle.record.proofs.Theorems.{accepted-of-any-size, accepted-fits, accepted-types}
 use Rattle.record.proofs.Theorems as record-theorems
-use Rattle.engine.specs.declared.Reply.the-variants.{Length, Same}
-use Rattle.engine.specs.Reply.{Result, resultOf, ordering, rewriting}
+use Rattle.replies.specs.declared.Reply.the-variants.{Length, Same}
+use Rattle.replies.specs.Reply.{Result, resultOf}
+use Rattle.engine.specs.Reply.{ordering, rewriting}
 use Rattle.demands.specs.Demand.{Given, WrittenRecord, Writes, Rewritten}
 use Rattle.demands.proofs.Results.{rewriting-is, result-writes}
 use Rattle.demands.proofs.Demanded.Order.{same-exact}

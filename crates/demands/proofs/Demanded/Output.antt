@@ -34,11 +34,12 @@ use Rattle.record.proofs.Theorems.{accepted-of-any-size, accepted-types}
 use Rattle.groups.specs.Reading.{isReadingOrder}
 use Rattle.generalize.specs.Pairs.{samePair}
 use Rattle.generalize.proofs.Sides.{tells-pair}
-use Rattle.engine.specs.declared.Side.{Side}
-use Rattle.engine.specs.declared.Side.the-variants.{First, Second}
-use Rattle.engine.specs.declared.Reply.{Reply}
-use Rattle.engine.specs.declared.Reply.the-variants as replies
-use Rattle.engine.specs.Reply.{Result, refusal, refusing, checked, checkedList, readBoth, rewritten, rewriting, generalizing, generalized}
+use Rattle.replies.specs.declared.Side.{Side}
+use Rattle.replies.specs.declared.Side.the-variants.{First, Second}
+use Rattle.replies.specs.declared.Reply.{Reply}
+use Rattle.replies.specs.declared.Reply.the-variants as replies
+use Rattle.replies.specs.Reply.{Result, refusal, refusing}
+use Rattle.engine.specs.Reply.{checked, checkedList, readBoth, rewritten, rewriting, generalizing, generalized}
 use Rattle.engine.specs.Unification.{sameEither, unifiedRows, unifying}
 use Rattle.engine.specs.Difference.{differedRows, differing, differingBy}
 use Rattle.demands.specs.Demand.{Given, Leaves, Large, common, remainder}

@@ -33,17 +33,18 @@ use Rattle.record.specs.Read.{Reading, refused, accepted, reading, graphOfRows,
 use Rattle.record.proofs.Accepted.{Rules, rules-of-any-size, rules-nodes}
 use Rattle.groups.specs.Reading.{isReadingOrder}
 use Rattle.difference.specs.Promise.{differenceAlong, reasonsAlong}
-use Rattle.engine.specs.declared.Reply.{Reply}
-use Rattle.engine.specs.declared.Reply.the-variants as replies
-use Rattle.engine.specs.declared.kinds.Kind.{Kind}
-use Rattle.engine.specs.declared.kinds.Kind.the-variants as kind
-use Rattle.engine.specs.Reply.{Result, kindOf, refusal, resultOf, refusing, checked, readBoth, rowsBelow}
+use Rattle.replies.specs.declared.Reply.{Reply}
+use Rattle.replies.specs.declared.Reply.the-variants as replies
+use Rattle.replies.specs.declared.kinds.Kind.{Kind}
+use Rattle.replies.specs.declared.kinds.Kind.the-variants as kind
+use Rattle.replies.specs.Reply.{Result, kindOf, refusal, resultOf, refusing, lengthIn, lengthOf}
+use Rattle.engine.specs.Reply.{checked, readBoth, rowsBelow}
 use Rattle.engine.specs.Difference.{wantedAt, allWanted, numbered, differenceRows, differed, differedRows, differing, differingBy}
 use Rattle.engine.specs.Pair.{parting}
 use Rattle.demands.specs.Demand.{Given, remainder}
-use Rattle.engine.specs.Explained.{Explained, explainedResult, lengthIn, lengthOf, lengthBeside, beside, reasonsOf}
+use Rattle.engine.specs.Explained.{Explained, explainedResult, lengthBeside, beside, reasonsOf}
 use Rattle.demands.specs.Explained.{reasonFor, LinkReason}
-use Rattle.engine.proofs.Numbers.{kind-injective}
+use Rattle.replies.proofs.Numbers.{kind-injective}
 use Rattle.engine.proofs.Over.{over-map}
 use Rattle.demands.proofs.Demanded.Combination.{other-refusal}
 use Rattle.demands.proofs.Demanded.Difference.{general-rules, form, form-is, form-below, form-rules}

@@ -16,7 +16,7 @@ use Rattle.lattice.specs.Labels.{tableLabels, OfAnySize, LeastOfAnySize, Greate
 use Rattle.lattice.proofs.Residuals.{opened-accepted}
 use Rattle.lattice.proofs.AnySize.{generalization-least, least-monotone, greatest-monotone, combines-broader, combines-not-refuted}
 use Rattle.record.specs.Read.{reading, accepted, graphOfRows}
-use Rattle.engine.specs.declared.Reply.the-variants.{Length, Cycle, Clash}
+use Rattle.replies.specs.declared.Reply.the-variants.{Length, Cycle, Clash}
 use Rattle.engine.specs.Reply.{generalizing}
 use Rattle.engine.specs.Unification.{unifying}
 use Rattle.demands.specs.Demand.{Given, AnswersBelow}

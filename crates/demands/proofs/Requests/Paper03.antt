@@ -13,8 +13,8 @@ use Rattle.lattice.specs.Reply.{opened}
 use Rattle.lattice.specs.Labels.{tableLabels}
 use Rattle.record.specs.declared.GraphFault.{GraphFault}
 use Rattle.record.specs.Read.{reading, accepted, graphOfRows}
-use Rattle.engine.specs.declared.Side.the-variants.{First, Second}
-use Rattle.engine.specs.declared.Reply.the-variants.{Length, Same, Under, Above, Neither, Graph as Refusal, NotBelow}
+use Rattle.replies.specs.declared.Side.the-variants.{First, Second}
+use Rattle.replies.specs.declared.Reply.the-variants.{Length, Same, Under, Above, Neither, Graph as Refusal, NotBelow}
 use Rattle.engine.specs.Reply.{rewriting, ordering}
 use Rattle.engine.specs.Difference.{differing}
 use Rattle.demands.specs.Demand.{Given, AnswersNotBelow, WrittenRecord}

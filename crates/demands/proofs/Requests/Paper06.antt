@@ -17,8 +17,8 @@ use Rattle.lattice.specs.Labels.{tableLabels, SomeUnwanted}
 use Rattle.lattice.specs.Table as types
 use Rattle.encode.specs.Encode.{fitted}
 use Rattle.record.specs.Read.{reading, accepted, graphOfRows}
-use Rattle.engine.specs.declared.Reply.the-variants.{Length, NotBelow, NoWantedType}
-use Rattle.engine.specs.Reply.{resultOf}
+use Rattle.replies.specs.declared.Reply.the-variants.{Length, NotBelow, NoWantedType}
+use Rattle.replies.specs.Reply.{resultOf}
 use Rattle.engine.specs.Difference.{differing}
 use Rattle.demands.specs.Before.{differingBefore}
 use Rattle.demands.specs.Demand.{Given, Writes, loneTop, remainder, Restores, Difference}

@@ -18,9 +18,10 @@ use Rattle.record.specs.Read.{reading, accepted, graphOfRows}
 use Rattle.record.specs.Appropriate.{listAccepted, appropriate, Appropriate}
 use Rattle.record.proofs.Accepted.{accepted-rules}
 use Rattle.record.proofs.Obeying as Obeying
-use Rattle.engine.specs.declared.Side.the-variants.{First, Second}
-use Rattle.engine.specs.declared.Reply.the-variants.{Length, Graph as Refusal, TypeList}
-use Rattle.engine.specs.Reply.{refusing, rewriting, generalizing}
+use Rattle.replies.specs.declared.Side.the-variants.{First, Second}
+use Rattle.replies.specs.declared.Reply.the-variants.{Length, Graph as Refusal, TypeList}
+use Rattle.replies.specs.Reply.{refusing}
+use Rattle.engine.specs.Reply.{rewriting, generalizing}
 use Rattle.engine.specs.Unification.{unifying}
 use Rattle.engine.specs.Difference.{differing}
 use Rattle.engine.specs.Appropriate.{rewritingAppropriate, generalizingAppropriate, unifyingAppropriate}

@@ -1,6 +1,6 @@
 -- The number of a reply is its code: by what the reply tells.
 use mathlib.Core.Path.{sym, _∙_, ap}
-use Rattle.engine.proofs.Numbers.{number-small}
+use Rattle.replies.proofs.Numbers.{number-small}
 use Rattle.record_engine.specs.Code.{codeFor, refusalCode}
 use borrow.Author.Needs.{needs}
 use Rattle.record_engine.proofs.code.Statement.{statement}

@@ -4,8 +4,8 @@ use mathlib.Core.Bool.{Bool, cond}
 use mathlib.Core.List.{List}
 use Prim.Native.Nat.{ℕ}
 use borrow.Author.Needs.{needs}
-use Rattle.engine.specs.declared.Reply.the-variants.{Length, NoRoom}
-use Rattle.engine.specs.Reply.{resulting}
+use Rattle.replies.specs.declared.Reply.the-variants.{Length, NoRoom}
+use Rattle.replies.specs.Reply.{resulting}
 use Rattle.record_engine.proofs.Codes.{codes}
 use Rattle.record_engine.proofs.record_house_table.Statement.{statement}
 use Rattle.record_engine.proofs.record_house_table.Tie as tie

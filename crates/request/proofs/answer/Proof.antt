@@ -1,7 +1,7 @@
 -- `answer` meets its contract: by the operation.
 use mathlib.Core.Path.{ap}
-use Rattle.engine.specs.declared.Reply.{Reply}
-use Rattle.engine.specs.Reply.{resulting}
+use Rattle.replies.specs.declared.Reply.{Reply}
+use Rattle.replies.specs.Reply.{resulting}
 use Rattle.request.proofs.Replies.{answers-by}
 use borrow.Author.Needs.{needs}
 use Rattle.request.proofs.answer.Statement.{statement}

@@ -3,7 +3,7 @@ use mathlib.Core.Path.{_≡_, sym, _∙_, ap}
 use native.Mathlib.Omega.{arith}
 use Prim.Native.Nat.{ℕ}
 use lib.ListN.{length, replicate, length-replicate}
-use Rattle.engine.specs.Reply.{Result}
+use Rattle.replies.specs.Reply.{Result}
 use Rattle.request.proofs.Bounds.{answering-bounded}
 use Rattle.request.proofs.Replies.{answered-is, puts-result}
 use borrow.Author.Needs.{needs}

@@ -15,7 +15,7 @@ use Rattle.engine.proofs.differences.difference_below.Tie as tie
 use Rattle.difference.proofs.difference.Reads as difference-reads
 use Rattle.difference.proofs.wanted.wanted_labels.Reads as wanted-labels-reads
 use Rattle.groups.proofs.mark_links.Reads as mark-links-reads
-use Rattle.engine.proofs.reply_of.Reads as reply-of-reads
+use Rattle.replies.proofs.reply_of.Reads as reply-of-reads
 use Rattle.subsume.proofs.subsume.Reads as subsume-reads
 
 subsume-requires : tie.Need-subsume-requires

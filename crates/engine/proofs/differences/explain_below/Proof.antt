@@ -7,7 +7,7 @@ use Rattle.lattice.proofs.Laws.{accepted-size}
 use Rattle.layout.specs.Layout.{longest}
 use Rattle.groups.specs.Reading.{earlierBy}
 use Rattle.difference.proofs.Result.{answers-wanted, lying-words}
-use Rattle.engine.specs.declared.Reply.the-variants.{NotBelow, NoWantedType}
+use Rattle.replies.specs.declared.Reply.the-variants.{NotBelow, NoWantedType}
 use Rattle.engine.proofs.Readings.{ready}
 use Rattle.engine.proofs.Differing.{loaded-accepts, ready-below, prepared-below, differed-refused, differed-unwanted}
 use Rattle.engine.proofs.Explaining.{refuses-beside, explained-below}

@@ -2,7 +2,7 @@
 use mathlib.Core.Path.{sym, _∙_}
 use native.Mathlib.Omega.{arith}
 use lib.Seq.{length-take-le}
-use Rattle.engine.proofs.Numbers.{kind-bounded, number-small}
+use Rattle.replies.proofs.Numbers.{kind-bounded, number-small}
 use Rattle.request.proofs.Replies.{puts-kind}
 use borrow.Author.Needs.{needs}
 use Rattle.request.proofs.reply.put_reply.Statement.{statement}

@@ -9,11 +9,11 @@ use lib.ListN.{getD}
 use Rattle.lattice.specs.declared.TableFault.the-variants.{Size, Order, Bounds}
 use Rattle.record.specs.declared.GraphFault.{GraphFault}
 use Rattle.record.specs.declared.GraphFault.the-variants.{Malformed, OutOfRange, Cyclic, Unreached, Inappropriate}
-use Rattle.engine.specs.declared.kinds.Kind.{Kind}
-use Rattle.engine.specs.declared.kinds.Kind.the-variants as kind
-use Rattle.engine.specs.declared.Reply.{Reply}
-use Rattle.engine.specs.declared.Reply.the-variants.{Length, Same, Under, Above, Neither, Table, Graph, NoRoom, Cycle, Clash, TooLarge, NotBelow, NoWantedType, TypeList, ReadingOrder, NoReasonRoom}
-use Rattle.engine.specs.Reply.{kindOf, Bounded}
+use Rattle.replies.specs.declared.kinds.Kind.{Kind}
+use Rattle.replies.specs.declared.kinds.Kind.the-variants as kind
+use Rattle.replies.specs.declared.Reply.{Reply}
+use Rattle.replies.specs.declared.Reply.the-variants.{Length, Same, Under, Above, Neither, Table, Graph, NoRoom, Cycle, Clash, TooLarge, NotBelow, NoWantedType, TypeList, ReadingOrder, NoReasonRoom}
+use Rattle.replies.specs.Reply.{kindOf, Bounded}
 
 -- refusals by their numbers, of which 0, 4 to 7, 14 to 16, 18, 20 and 21 are not among these
 refusals : List Reply

@@ -1,8 +1,8 @@
 use mathlib.Core.Path.{ap, sym}
-use Rattle.engine.specs.Reply.{replyOf}
+use Rattle.replies.specs.Reply.{replyOf}
 use borrow.Author.Needs.{needs}
-use Rattle.engine.proofs.reply_of.Statement.{statement}
-use Rattle.engine.proofs.reply_of.Tie as tie
+use Rattle.replies.proofs.reply_of.Statement.{statement}
+use Rattle.replies.proofs.reply_of.Tie as tie
 
 enum-known-written : tie.Need-enum-known-written
 enum-known-written c = search needs

@@ -1,10 +1,10 @@
 -- `kinds::kind_of` meets its contract: by the reply, the numbers of its parts by their contracts.
 use mathlib.Core.Path.{sym, _∙_, ap}
-use Rattle.engine.specs.declared.kinds.Kind.the-variants.{Refused, RefusedGraph}
-use Rattle.engine.specs.Reply.{kindOf}
+use Rattle.replies.specs.declared.kinds.Kind.the-variants.{Refused, RefusedGraph}
+use Rattle.replies.specs.Reply.{kindOf}
 use borrow.Author.Needs.{needs}
-use Rattle.engine.proofs.kinds.kind_of.Statement.{statement}
-use Rattle.engine.proofs.kinds.kind_of.Tie as tie
+use Rattle.replies.proofs.kinds.kind_of.Statement.{statement}
+use Rattle.replies.proofs.kinds.kind_of.Tie as tie
 
 enum-known-reply : tie.Need-enum-known-reply
 enum-known-reply c = search needs

@@ -7,7 +7,7 @@ use record::GraphFault;
 ghost use mathlib.Core.Path.{_≡_};
 ghost use Rattle.lattice.specs.Reply.{tableNumber};
 ghost use Rattle.record.specs.Read.{graphNumber};
-ghost use Rattle.engine.specs.Reply.{kindOf};
+ghost use Rattle.replies.specs.Reply.{kindOf};
 
 // What a reply tells: a refusal has a number, and one of a graph tells which of the two it is.
 pub enum Kind {

@@ -1,0 +1,2 @@
+-- What a call answers, and the output beside it.
+pub mod Reply

@@ -1,0 +1,46 @@
+// What a call answers.
+
+use encode::Written;
+use lattice::TableFault;
+use record::GraphFault;
+ghost use mathlib.Core.Path.{_≡_};
+ghost use Rattle.replies.specs.Reply.{replyOf};
+
+pub mod kinds;
+
+// Which of two graphs is refused; a lone graph counts as the first.
+pub enum Side {
+    First,
+    Second,
+}
+
+// What a call answers: the record's length, one of the order's four answers, seen from the first graph, or a refusal.
+pub enum Reply {
+    Length(usize),
+    Same,
+    Under,
+    Above,
+    Neither,
+    Table(TableFault),
+    Graph(GraphFault, Side),
+    NoRoom,
+    Cycle,
+    Clash,
+    TooLarge,
+    NotBelow,
+    NoWantedType,
+    TypeList,
+    ReadingOrder,
+    NoReasonRoom,
+}
+
+// What writing a result answers, as a reply.
+pub fn reply_of(written: Written) -> Reply
+    ensures { λ r. ⌜ r ≡ replyOf written ⌝ }
+{
+    match written {
+        Written::Length(length) => Reply::Length(length),
+        Written::TooLarge => Reply::TooLarge,
+        Written::NoRoom => Reply::NoRoom,
+    }
+}
