@@ -10,18 +10,21 @@ use lib.Dec.{eqb}
 use lib.ListN.{length}
 use Rattle.graphs.specs.Graph.{Reached}
 use Rattle.graphs.specs.Rows.{Row}
+use Rattle.graphs.proofs.Search.{true-false}
 use Rattle.lattice.specs.Label.{Label}
 use Rattle.lattice.specs.Labels.{Known}
 use Rattle.lattice.proofs.Lawful.{known-more}
 use Rattle.layout.specs.Layout.{Sound, Recorded, longest, size, labelAt, rowsOf, graphIn}
 use Rattle.layout.proofs.Rows.{length-rows}
+use Rattle.encode.specs.Encode.{encoded}
 use Rattle.record.specs.declared.GraphFault.{GraphFault}
 use Rattle.record.specs.declared.reading.Verdict.{Verdict}
 use Rattle.record.specs.declared.reading.Verdict.the-variants.{Accepted, Refused}
 use Rattle.record.specs.Read.{Reading, refused, accepted, reading}
-use Rattle.record.specs.Reads.{Holds, Tells, verdictOf}
+use Rattle.record.specs.Reads.{Holds, Loaded, Tells, verdictOf}
 use Rattle.record.specs.Appropriate.{listAccepted, readingAppropriate}
 use Rattle.record.proofs.Accepted.{Rules, accepted-rules}
+use Rattle.record.proofs.Rewritten.{rules-read}
 use Rattle.record.proofs.Allowed.{accepted-appropriate, list-long}
 use Rattle.replies.specs.declared.Side.{Side}
 use Rattle.replies.specs.declared.Side.the-variants.{First, Second}
@@ -189,3 +192,34 @@ module _ {n : ℕ} {o : Reading} {v : Verdict} {ws : List ℕ} (one : Tells n o 
 pub both-accept : (n : ℕ) (t list a b : List ℕ) {v : PairVerdict} {ws ws₂ : List ℕ} → ReadsBeside n t list a b v ws ws₂ → v ≡ pair.Both →
     Accepts n a ws × Accepts n b ws₂
 both-accept n t list a b reads e = let (one, other) = both-told reads e in (accepts-beside n t list a one, accepts-beside n t list b other)
+
+-- an accepted record's words hold acceptable rows
+pub accepts-loaded : {n : ℕ} {bytes ws : List ℕ} → Accepts n bytes ws → Loaded n ws
+accepts-loaded {n} {ws = ws} given =
+    record {
+      acceptable = rules-read n (rowsOf ws) (accepts-rules given);
+      sound = given .sound;
+      small = given .small;
+      typed = given .typed;
+    }
+
+-- and such words are those of an accepted record
+pub loaded-accepts : {n : ℕ} {ws : List ℕ} → Loaded n ws → Accepts n (encoded (rowsOf ws)) ws
+loaded-accepts given = record { is = given .acceptable; sound = given .sound; small = given .small; typed = given .typed }
+
+-- both records' words hold acceptable rows
+pub both-loaded : (n : ℕ) (t list a b : List ℕ) {v : PairVerdict} {ws ws₂ : List ℕ} → ReadsBeside n t list a b v ws ws₂ → v ≡ pair.Both →
+    Loaded n ws × Loaded n ws₂
+both-loaded n t list a b reads e = let (one, other) = both-accept n t list a b reads e in (accepts-loaded one, accepts-loaded other)
+
+-- Without a list.
+
+pub optional-none : (n : ℕ) (list : List ℕ) → length list ≡ 0 → Optional n list
+optional-none n list none e = true-false (eq-eqb (length list) 0 none) e
+
+pub reads-plain : (n : ℕ) (t list a b : List ℕ) {v : PairVerdict} {ws ws₂ : List ℕ} → length list ≡ 0 → ReadsBeside n t list a b v ws ws₂ →
+    ReadsBoth n (reading n a) (reading n b) v ws ws₂
+reads-plain n t list a b {v} {ws} {ws₂} none reads =
+    let e = eq-eqb (length list) 0 none in
+    subst (λ (o : Reading). ReadsBoth n o (reading n b) v ws ws₂) (reading-plain n t list a e)
+    (subst (λ (p : Reading). ReadsBoth n (readingBeside n t list a) p v ws ws₂) (reading-plain n t list b e) reads)
