@@ -14,12 +14,12 @@ use Rattle.layout.proofs.Rows.{length-rows}
 use Rattle.lattice.specs.declared.TableFault.{TableFault}
 use Rattle.lattice.specs.declared.Opened.the-variants as opened
 use Rattle.lattice.specs.Table.{accepted, meet}
-use Rattle.lattice.specs.Sets.{Holding, meetIn}
+use Rattle.bounds.specs.Sets.{Holding, meetIn}
 use Rattle.lattice.specs.Reply as table
 use Rattle.lattice.proofs.Laws.{accepted-size, zero-type}
 use Rattle.lattice.proofs.Transfer.{same-unification}
-use Rattle.lattice.proofs.Types.{meets-known}
-use Rattle.lattice.proofs.Residuals.{opened-accepted}
+use Rattle.bounds.proofs.Types.{meets-known}
+use Rattle.lattice.proofs.Acceptance.{opened-accepted}
 use Rattle.encode.specs.Encode.{Yield, yielding}
 use Rattle.record.specs.Read.{Reading, reading}
 use Rattle.record.proofs.Accepted.{Rules, accepted-rules}

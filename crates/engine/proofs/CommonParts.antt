@@ -12,13 +12,13 @@ use Rattle.layout.specs.Layout.{graphOfRows, graphIn, rowsOf}
 use Rattle.lattice.specs.declared.TableFault.{TableFault}
 use Rattle.lattice.specs.declared.Opened.the-variants as opened
 use Rattle.lattice.specs.Table.{accepted, join}
-use Rattle.lattice.specs.Sets.{Holding, Ready, joinIn}
+use Rattle.bounds.specs.Sets.{Holding, Ready, joinIn}
 use Rattle.lattice.specs.Reply as table
 use Rattle.lattice.specs.Labels.{tableLabels}
 use Rattle.lattice.proofs.Laws.{accepted-size, zero-type}
 use Rattle.lattice.proofs.Lawful.{label-parts}
-use Rattle.lattice.proofs.Types.{joins-known}
-use Rattle.lattice.proofs.Residuals.{opened-accepted}
+use Rattle.bounds.proofs.Types.{joins-known}
+use Rattle.lattice.proofs.Acceptance.{opened-accepted}
 use Rattle.encode.specs.declared.Written.{Written}
 use Rattle.encode.specs.Encode.{yielding, writtenOut}
 use Rattle.record.specs.Read.{Reading, reading}

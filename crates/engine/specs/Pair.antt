@@ -19,7 +19,7 @@ use Rattle.record.specs.declared.reading.Verdict.the-variants.{Accepted, Refuse
 use Rattle.record.specs.Read.{Reading, accepted, reading}
 use Rattle.record.specs.Appropriate.{readingAppropriate}
 use Rattle.record.specs.Reads.{Holds, verdictOf}
-use Rattle.lattice.specs.Sets.{Ready, meetIn, joinIn}
+use Rattle.bounds.specs.Sets.{Ready, meetIn, joinIn}
 use Rattle.generalize.specs.Pairs.{Joinable, joinsOf, samePair}
 use Rattle.unify.specs.declared.Combined.{Combined}
 use Rattle.unify.specs.declared.Combined.the-variants as unify

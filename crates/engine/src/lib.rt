@@ -136,9 +136,9 @@ fn order_reply(below: Order, above: Order) -> Reply
 pub fn generalize(n: usize, table: &[u8], first: &[u8], second: &[u8], out: &mut [u8]) -> Reply
     ensures { λ r. ⌜ resulting r (now (out .exit)) ≡ generalizing n (now (table .entry)) (now (first .entry)) (now (second .entry)) (now (out .entry)) ⌝ }
 {
-    let mut sets = [0u64; lattice::sets::WORDS];
+    let mut sets = [0u64; bounds::sets::WORDS];
     let mut cells = [[0u8; 64]; 64];
-    let opened = lattice::open_joins(n, table, &mut sets, &mut cells);
+    let opened = bounds::open_joins(n, table, &mut sets, &mut cells);
     match opened {
         Opened::Refused(fault) => Reply::Table(fault),
         Opened::Accepted => {
@@ -161,9 +161,9 @@ pub fn generalize_appropriate(
 ) -> Reply
     ensures { λ r. ⌜ resulting r (now (out .exit)) ≡ generalizingAppropriate n (now (table .entry)) (now (list .entry)) (now (first .entry)) (now (second .entry)) (now (out .entry)) ⌝ }
 {
-    let mut sets = [0u64; lattice::sets::WORDS];
+    let mut sets = [0u64; bounds::sets::WORDS];
     let mut cells = [[0u8; 64]; 64];
-    let opened = lattice::open_joins(n, table, &mut sets, &mut cells);
+    let opened = bounds::open_joins(n, table, &mut sets, &mut cells);
     match opened {
         Opened::Refused(fault) => Reply::Table(fault),
         Opened::Accepted => {
@@ -189,7 +189,7 @@ pub fn generalize_appropriate(
 // What follows reading: the common part, by the joins of a table with n types, where both graphs are accepted.
 fn generalize_over<'a>(
     n: usize,
-    sets: &'a [u64; lattice::sets::WORDS],
+    sets: &'a [u64; bounds::sets::WORDS],
     cells: &'a [[u8; 64]; 64],
     verdict: PairVerdict,
     a: &'a [u16],
@@ -209,9 +209,9 @@ fn generalize_over<'a>(
 pub fn unify(n: usize, table: &[u8], first: &[u8], second: &[u8], out: &mut [u8]) -> Reply
     ensures { λ r. ⌜ resulting r (now (out .exit)) ≡ unifying n (now (table .entry)) (now (first .entry)) (now (second .entry)) (now (out .entry)) ⌝ }
 {
-    let mut sets = [0u64; lattice::sets::WORDS];
+    let mut sets = [0u64; bounds::sets::WORDS];
     let mut cells = [[0u8; 64]; 64];
-    let opened = lattice::open_meets(n, table, &mut sets, &mut cells);
+    let opened = bounds::open_meets(n, table, &mut sets, &mut cells);
     match opened {
         Opened::Refused(fault) => Reply::Table(fault),
         Opened::Accepted => {
@@ -234,9 +234,9 @@ pub fn unify_appropriate(
 ) -> Reply
     ensures { λ r. ⌜ resulting r (now (out .exit)) ≡ unifyingAppropriate n (now (table .entry)) (now (list .entry)) (now (first .entry)) (now (second .entry)) (now (out .entry)) ⌝ }
 {
-    let mut sets = [0u64; lattice::sets::WORDS];
+    let mut sets = [0u64; bounds::sets::WORDS];
     let mut cells = [[0u8; 64]; 64];
-    let opened = lattice::open_meets(n, table, &mut sets, &mut cells);
+    let opened = bounds::open_meets(n, table, &mut sets, &mut cells);
     match opened {
         Opened::Refused(fault) => Reply::Table(fault),
         Opened::Accepted => {
@@ -262,7 +262,7 @@ pub fn unify_appropriate(
 // What follows reading: the combination, by the meets of a table with n types, where both graphs are accepted.
 fn unify_over<'a>(
     n: usize,
-    sets: &'a [u64; lattice::sets::WORDS],
+    sets: &'a [u64; bounds::sets::WORDS],
     cells: &'a [[u8; 64]; 64],
     verdict: PairVerdict,
     a: &'a [u16],

@@ -8,7 +8,7 @@ use lib.ListN.{getD}
 use Rattle.graphs.specs.Rows.{from}
 use Rattle.lattice.specs.Label.{Label, plain}
 use Rattle.lattice.specs.Labels.{Known}
-use Rattle.lattice.specs.Sets.{Ready, meetIn}
+use Rattle.bounds.specs.Sets.{Ready, meetIn}
 use Rattle.layout.specs.Layout.{size, header, labelAt, labelFrom}
 use Rattle.unify.specs.Outcome.{meetsOf}
 

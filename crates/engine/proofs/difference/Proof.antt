@@ -1,7 +1,7 @@
 -- The difference on bytes: the table is opened.
 use mathlib.Core.Path.{sym, _∙_}
 use borrow.Author.Needs.{needs}
-use Rattle.lattice.proofs.Residuals.{opened-accepted}
+use Rattle.lattice.proofs.Acceptance.{opened-accepted}
 use Rattle.engine.proofs.Differing.{differing-refused, differing-accepted}
 use Rattle.engine.proofs.difference.Statement.{statement}
 use Rattle.engine.proofs.difference.Tie as tie

@@ -2,7 +2,7 @@
 use mathlib.Core.Path.{sym, _∙_}
 use borrow.Author.Needs.{needs}
 use borrow.Author.Tests.{not-true, not-false}
-use Rattle.lattice.proofs.Residuals.{opened-accepted}
+use Rattle.lattice.proofs.Acceptance.{opened-accepted}
 use Rattle.engine.proofs.Listed.{table-before-list, list-refused, differing-checked}
 use Rattle.engine.proofs.Differing.{differing-by-accepted}
 use Rattle.engine.proofs.difference_by.Statement.{statement}

@@ -1,7 +1,7 @@
 -- The difference with its reasons on bytes: the table is opened.
 use mathlib.Core.Path.{sym, _∙_}
 use borrow.Author.Needs.{needs}
-use Rattle.lattice.proofs.Residuals.{opened-accepted}
+use Rattle.lattice.proofs.Acceptance.{opened-accepted}
 use Rattle.engine.proofs.Explaining.{explaining-refused, explaining-accepted}
 use Rattle.engine.proofs.difference_explained.Statement.{statement}
 use Rattle.engine.proofs.difference_explained.Tie as tie

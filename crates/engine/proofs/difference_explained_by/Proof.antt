@@ -2,7 +2,7 @@
 use mathlib.Core.Path.{sym, _∙_}
 use borrow.Author.Needs.{needs}
 use borrow.Author.Tests.{not-true, not-false}
-use Rattle.lattice.proofs.Residuals.{opened-accepted}
+use Rattle.lattice.proofs.Acceptance.{opened-accepted}
 use Rattle.engine.proofs.Explaining.{explaining-by-refused, explaining-by-list, explaining-by-accepted}
 use Rattle.engine.proofs.difference_explained_by.Statement.{statement}
 use Rattle.engine.proofs.difference_explained_by.Tie as tie

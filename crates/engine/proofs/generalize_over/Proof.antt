@@ -1,5 +1,5 @@
 -- What follows reading two records: a refusal, or their common part.
-use Rattle.lattice.specs.Sets.{joinIn}
+use Rattle.bounds.specs.Sets.{joinIn}
 use Rattle.engine.specs.Pair.{joinedHeld}
 use Rattle.engine.proofs.Replies.{refused-both}
 use Rattle.engine.proofs.CommonParts.{joined-as}

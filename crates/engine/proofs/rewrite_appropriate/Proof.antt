@@ -2,7 +2,7 @@
 use mathlib.Core.Path.{sym, _∙_}
 use borrow.Author.Tests.{not-true, not-false}
 use Rattle.lattice.proofs.Laws.{accepted-size}
-use Rattle.lattice.proofs.Residuals.{opened-accepted}
+use Rattle.lattice.proofs.Acceptance.{opened-accepted}
 use Rattle.engine.proofs.Readings.{told, after-reading}
 use Rattle.engine.proofs.Listed.{table-before-list, list-refused, list-passed, rewriting-checked}
 use borrow.Author.Needs.{needs}

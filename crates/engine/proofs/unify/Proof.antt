@@ -1,6 +1,6 @@
 -- The combination on bytes: the table is opened, then both records are read.
 use mathlib.Core.Path.{refl, sym, _∙_}
-use Rattle.lattice.proofs.Residuals.{opened-accepted}
+use Rattle.lattice.proofs.Acceptance.{opened-accepted}
 use Rattle.engine.specs.Pair.{met}
 use Rattle.engine.proofs.Readings.{both-accept, after-both}
 use Rattle.engine.proofs.Combinations.{unifying-refused, unifying-accepted, combinable, ready-to-combine}

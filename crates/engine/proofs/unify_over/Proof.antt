@@ -1,5 +1,5 @@
 -- What follows reading two records: a refusal, or their combination.
-use Rattle.lattice.specs.Sets.{meetIn}
+use Rattle.bounds.specs.Sets.{meetIn}
 use Rattle.engine.specs.Pair.{metHeld}
 use Rattle.engine.proofs.Replies.{refused-both}
 use Rattle.engine.proofs.Combinations.{met-as}

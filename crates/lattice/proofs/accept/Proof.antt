@@ -3,7 +3,7 @@ use mathlib.Core.Path.{sym, _∙_}
 use mathlib.Core.Bool.{false}
 use borrow.Author.Needs.{needs}
 use Rattle.lattice.proofs.Every.{refuted, held}
-use Rattle.lattice.proofs.Opening.{size-facts, answer-size, answer-order, lower-words, answer-found}
+use Rattle.lattice.proofs.Acceptance.{size-facts, answer-size, answer-order, lower-words, answer-found}
 use Rattle.lattice.proofs.accept.Statement.{statement}
 use Rattle.lattice.proofs.accept.Tie as tie
 

@@ -1,0 +1,47 @@
+-- From what acceptance answers, and what is held, to what opening ensures.
+use Prim.Native.Nat.{ℕ}
+use mathlib.Core.Path.{_≡_, _∙_}
+use mathlib.Core.Bool.{Bool, true, false, cond}
+use mathlib.Core.List.{List}
+use mathlib.Core.Option.{Option}
+use native.Mathlib.Omega.{arith}
+use Rattle.lattice.specs.declared.TableFault.{TableFault}
+use Rattle.lattice.specs.declared.TableFault.the-variants.{Bounds}
+use Rattle.lattice.specs.declared.Opened.{Opened}
+use Rattle.lattice.specs.declared.Opened.the-variants.{Accepted, Refused}
+use Rattle.lattice.specs.Table.{every, sized, accepted, boundRow, overwrite, filled}
+use Rattle.lattice.specs.Reply.{opened}
+use Rattle.lattice.specs.Words.{Words, wordBound, allFound, rowOrdered}
+use Rattle.lattice.proofs.OrderLaws.{facts-ordered}
+use Rattle.lattice.proofs.BoundLaws.{sideBound}
+use Rattle.lattice.proofs.Rows.{overwrite-same}
+use Rattle.lattice.proofs.Acceptance.{accepted-opened, table-ordered, side-bound, answer-found}
+use Rattle.bounds.specs.Sets.{Holding}
+use Rattle.bounds.specs.Opening.{Opening}
+
+-- nothing of a refused table is held
+module _ (n : ℕ) (t : List ℕ) (up : Bool) (bound : ℕ → ℕ → Option ℕ) (sets : List ℕ) (cells₀ cells : List (List ℕ)) where
+  pub opening-refused : (f : TableFault) → Refused f ≡ opened n t → Opening up n t bound (Refused f) sets cells₀ cells
+  opening-refused f e =
+      record {
+        answers = e;
+        holds = λ ok.
+            let q : Refused f ≡ Accepted = e ∙ accepted-opened n t ok in let z : _≡_ {A = ℕ} 0 1 = cc in absurd (omega arith);
+      }
+
+-- an order: its words, and the answer by whether all bounds of one side were found
+module _ (n : ℕ) (t down : List ℕ) (s : sized n t ≡ true) (words : Words n t false down) (order : every n (rowOrdered n down) ≡ true)
+    (up : Bool) (ws : List ℕ) (made : Words n t up ws) where
+  -- what is held of the table stands beside the answer
+  pub opening-found : (b held : Bool) {bound : ℕ → ℕ → Option ℕ} {answer : Opened} {sets : List ℕ} {cells₀ cells : List (List ℕ)}
+      → answer ≡ cond b Accepted (Refused Bounds) → allFound n (wordBound n ws) ≡ b
+      → (accepted n t ≡ true → Holding held n t bound sets cells₀ cells) → Opening held n t bound answer sets cells₀ cells
+  opening-found b held q e h = record { answers = q ∙ answer-found n t down s words order up ws made b e; holds = h }
+
+  -- the cells that are filled by the bounds of the words
+  pub cells-filled : (cells₀ cells : List (List ℕ)) → cells ≡ overwrite n (boundRow n (wordBound n ws)) cells₀
+      → cells ≡ filled n t (sideBound n t up) cells₀
+  unfolding filled
+  cells-filled cells₀ cells f =
+      rw (s, facts-ordered n t (table-ordered n t down s words order))
+      (f ∙ overwrite-same n _ _ (side-bound n t down s words order up ws made) cells₀)
