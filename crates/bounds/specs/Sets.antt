@@ -83,9 +83,9 @@ abbrev pub Held : Bool → ℕ → List ℕ → Type 0
 Held true = JoinsHeld
 Held false = MeetsHeld
 
--- what a call asks of lent words, whatever form the types have
-abbrev pub Ready : Bool → ℕ → List ℕ → Type 0
-Ready up n sets = asSets n sets ≡ true → Held up n sets
+-- What a meet or a join asks of lent words: if they hold sets, a set can be turned back into its type.
+abbrev pub Seekable : Bool → ℕ → List ℕ → Type 0
+Seekable up n sets = asSets n sets ≡ true → Held up n sets
 
 -- `part` has every type that is in the words of all types of a set, and is part of the word of one of them
 pub record Above (sets : List ℕ) (set part : ℕ) : Type 0 where
@@ -108,4 +108,4 @@ pub record Holding (up : Bool) (n : ℕ) (t : List ℕ) (bound : ℕ → ℕ →
   pub unfilled : distributive n t ≡ true → cells ≡ cells₀
   pub no-set : distributive n t ≡ false → setIn sets (n - 1) ≡ 0
   pub filled-cells : distributive n t ≡ false → cells ≡ filled n t bound cells₀
-  pub held : Ready up n sets
+  pub held : Seekable up n sets

@@ -8,13 +8,13 @@ ghost use lib.ListN.{length};
 ghost use Rattle.lattice.specs.Table.{every, cell};
 ghost use Rattle.lattice.specs.Words.{Sided, holder};
 ghost use Rattle.bounds.specs.Primes.{wordPrime};
-ghost use Rattle.bounds.specs.Sets.{setIn, meetIn, joinIn, Among, Ready, Above, Sets};
+ghost use Rattle.bounds.specs.Sets.{setIn, meetIn, joinIn, Among, Seekable, Above, Sets};
 
-// The words that a call holds of the types: the set of type a at a, and at 64 + a a word of types by which a set's type is sought.
+// The number of words. `sets[a]` is the set of type a; `sets[64 + a]`: candidate types when a set is turned back into a type.
 pub const WORDS: usize = 128;
 
-// Holds the types of an order as sets, and answers whether every irreducible type is prime; where one is not, no type has a set. A set's
-// type is sought among the types above its members for `up`, else among those below both types.
+// Holds the types of an order as sets, and answers whether every irreducible type is prime. If one is not, the greatest type gets
+// the empty set. For `up`, `sets[64 + a]` gets the types above a if a is irreducible, else 0; for meets, the types below a.
 pub fn hold(n: usize, down: &[u64; 64], up: bool, sets: &mut [u64; WORDS]) -> bool
     requires { ⌜ (0 < n) × (n ≤ 64) × Sided n (now down) ⌝ }
     requires { ⌜ length (now sets) ≡ 128 ⌝ }
@@ -82,7 +82,7 @@ pub fn meet<'a>(
     b: usize,
 ) -> u8
     requires { ⌜ (a < n) × (b < n) × (n ≤ 64) ⌝ }
-    requires { ⌜ Ready false n (now sets) ⌝ }
+    requires { ⌜ Seekable false n (now sets) ⌝ }
     ensures { λ r. ⌜ r ≡ meetIn n (now (sets .entry)) (now (cells .entry)) a b ⌝ }
 {
     if sets[n - 1] == 0 {
@@ -107,7 +107,7 @@ pub fn join<'a>(
     b: usize,
 ) -> u8
     requires { ⌜ (a < n) × (b < n) × (n ≤ 64) ⌝ }
-    requires { ⌜ Ready true n (now sets) ⌝ }
+    requires { ⌜ Seekable true n (now sets) ⌝ }
     ensures { λ r. ⌜ r ≡ joinIn n (now (sets .entry)) (now (cells .entry)) a b ⌝ }
 {
     if sets[n - 1] == 0 {

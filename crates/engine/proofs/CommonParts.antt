@@ -12,7 +12,7 @@ use Rattle.layout.specs.Layout.{graphOfRows, graphIn, rowsOf}
 use Rattle.lattice.specs.declared.TableFault.{TableFault}
 use Rattle.lattice.specs.declared.Opened.the-variants as opened
 use Rattle.lattice.specs.Table.{accepted, join}
-use Rattle.bounds.specs.Sets.{Holding, Ready, joinIn}
+use Rattle.bounds.specs.Sets.{Holding, Seekable, joinIn}
 use Rattle.lattice.specs.Reply as table
 use Rattle.lattice.specs.Labels.{tableLabels}
 use Rattle.lattice.proofs.Laws.{accepted-size, zero-type}
@@ -40,7 +40,7 @@ use Rattle.engine.proofs.Tables.{label-known, canonical-same}
 pub record Joining (n : ℕ) (sets : List ℕ) (cells : List (List ℕ)) : Type 0 where
   pub few : n ≤ 64
   pub below : JoinsBelow n (joinIn n sets cells)
-  pub ready : Ready true n sets
+  pub ready : Seekable true n sets
 
 -- What the common part asks of two accepted graphs.
 pub ready-to-join : {n : ℕ} {a b g h sets : List ℕ} {cells : List (List ℕ)} → Joining n sets cells → Accepts n a g × Accepts n b h →

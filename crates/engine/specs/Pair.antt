@@ -19,7 +19,7 @@ use Rattle.record.specs.declared.reading.Verdict.the-variants.{Accepted, Refuse
 use Rattle.record.specs.Read.{Reading, accepted, reading}
 use Rattle.record.specs.Appropriate.{readingAppropriate}
 use Rattle.record.specs.Reads.{Holds, verdictOf}
-use Rattle.bounds.specs.Sets.{Ready, meetIn, joinIn}
+use Rattle.bounds.specs.Sets.{Seekable, meetIn, joinIn}
 use Rattle.generalize.specs.Pairs.{Joinable, joinsOf, samePair}
 use Rattle.unify.specs.declared.Combined.{Combined}
 use Rattle.unify.specs.declared.Combined.the-variants as unify
@@ -65,7 +65,7 @@ afterBoth pair.Both out next = next
 
 -- what the common part of two graphs asks of them and of the joins of n types as they are held
 abbrev pub JoinsReady : ℕ → List ℕ → List (List ℕ) → List ℕ → List ℕ → Type 0
-JoinsReady n sets cells g h = Recorded g × (Recorded h × (Joinable n (joinIn n sets cells) g h × Ready true n sets))
+JoinsReady n sets cells g h = Recorded g × (Recorded h × (Joinable n (joinIn n sets cells) g h × Seekable true n sets))
 
 -- the common part of two graphs in written form, by given joins
 unfoldable pub joined : (ℕ → ℕ → ℕ) → List ℕ → List (Row Label) → List (Row Label) → Result

@@ -138,7 +138,7 @@ pub fn generalize(n: usize, table: &[u8], first: &[u8], second: &[u8], out: &mut
 {
     let mut sets = [0u64; bounds::sets::WORDS];
     let mut cells = [[0u8; 64]; 64];
-    let opened = bounds::open_joins(n, table, &mut sets, &mut cells);
+    let opened = bounds::open(n, table, true, &mut sets, &mut cells);
     match opened {
         Opened::Refused(fault) => Reply::Table(fault),
         Opened::Accepted => {
@@ -163,7 +163,7 @@ pub fn generalize_appropriate(
 {
     let mut sets = [0u64; bounds::sets::WORDS];
     let mut cells = [[0u8; 64]; 64];
-    let opened = bounds::open_joins(n, table, &mut sets, &mut cells);
+    let opened = bounds::open(n, table, true, &mut sets, &mut cells);
     match opened {
         Opened::Refused(fault) => Reply::Table(fault),
         Opened::Accepted => {
@@ -211,7 +211,7 @@ pub fn unify(n: usize, table: &[u8], first: &[u8], second: &[u8], out: &mut [u8]
 {
     let mut sets = [0u64; bounds::sets::WORDS];
     let mut cells = [[0u8; 64]; 64];
-    let opened = bounds::open_meets(n, table, &mut sets, &mut cells);
+    let opened = bounds::open(n, table, false, &mut sets, &mut cells);
     match opened {
         Opened::Refused(fault) => Reply::Table(fault),
         Opened::Accepted => {
@@ -236,7 +236,7 @@ pub fn unify_appropriate(
 {
     let mut sets = [0u64; bounds::sets::WORDS];
     let mut cells = [[0u8; 64]; 64];
-    let opened = bounds::open_meets(n, table, &mut sets, &mut cells);
+    let opened = bounds::open(n, table, false, &mut sets, &mut cells);
     match opened {
         Opened::Refused(fault) => Reply::Table(fault),
         Opened::Accepted => {

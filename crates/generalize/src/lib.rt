@@ -7,7 +7,7 @@ ghost use mathlib.Core.Path.{_≡_};
 ghost use mathlib.Core.Bool.{true};
 ghost use Prim.Native.Nat.{_≤_, _<_};
 ghost use lib.ListN.{length};
-ghost use Rattle.bounds.specs.Sets.{Ready, joinIn};
+ghost use Rattle.bounds.specs.Sets.{Seekable, joinIn};
 ghost use Rattle.layout.specs.Builder.{stated};
 ghost use Rattle.layout.specs.Layout.{Recorded, longest, size};
 ghost use Rattle.encode.specs.Encode.{yielding};
@@ -112,7 +112,7 @@ fn join<'a>(
     b: Label,
 ) -> Label
     requires { ⌜ (a .kind < n) × (b .kind < n) × (n ≤ 64) ⌝ }
-    requires { ⌜ Ready true n (now sets) ⌝ }
+    requires { ⌜ Seekable true n (now sets) ⌝ }
     ensures { λ r. ⌜ stated r ≡ joinsOf (joinIn n (now (sets .entry)) (now (cells .entry))) .join (stated a) (stated b) ⌝ }
 {
     Label {
@@ -134,7 +134,7 @@ pub fn generalize<'a>(
     requires { ⌜ Recorded (now a) ⌝ }
     requires { ⌜ Recorded (now b) ⌝ }
     requires { ⌜ Joinable n (joinIn n (now sets) (now cells)) (now a) (now b) ⌝ }
-    requires { ⌜ Ready true n (now sets) ⌝ }
+    requires { ⌜ Seekable true n (now sets) ⌝ }
     ensures { λ r. ⌜ yielding r (now (out .exit)) ≡ productOut (joinIn n (now (sets .entry)) (now (cells .entry))) (now (a .entry)) (now (b .entry)) (now (out .entry)) ⌝ }
 {
     let mut marks = [CLEAR; 65025];

@@ -7,16 +7,17 @@ use native.Mathlib.Omega.{arith}
 use lib.ListN.{length, getD}
 use lib.Dec.{leb, eqb}
 use borrow.Author.Tests.{le-leb, lt-leb, leb-true, eqb-true}
+use Rattle.lattice.specs.declared.TableFault.{TableFault}
 use Rattle.lattice.specs.declared.TableFault.the-variants.{Size, Order, Bounds}
 use Rattle.lattice.specs.declared.Opened.{Opened}
 use Rattle.lattice.specs.declared.Opened.the-variants.{Accepted, Refused}
 use Rattle.lattice.specs.Table.{every, below, found, sized, ordered, bounded, accepted, meet, join}
-use Rattle.lattice.specs.Reply.{opened}
-use Rattle.lattice.specs.Words.{related, Words, bit, turned, wordBound, allFound, rowOrdered, Sided, Lower}
+use Rattle.lattice.specs.Reply.{opened, Tests}
+use Rattle.lattice.specs.Words.{related, sideBound, Words, bit, turned, wordBound, allFound, rowOrdered, OrderWords, Sided, Lower}
 use Rattle.lattice.proofs.Every.{and-left, and-right, and-both, every-at, every-all, same-test, true-not-false}
 use Rattle.lattice.proofs.OrderLaws.{Ordered, facts-ordered, rows-facts, rows-ordered, row-bit, side, sided, turned-words}
 use Rattle.lattice.proofs.WordLaws.{word-below}
-use Rattle.lattice.proofs.BoundLaws.{sideBound, bound-same, other-side}
+use Rattle.lattice.proofs.BoundLaws.{bound-same, other-side}
 use Rattle.lattice.proofs.Rows.{found-same}
 
 pub size-low : (n : ℕ) (t : List ℕ) → n < 2 → sized n t ≡ false
@@ -56,22 +57,34 @@ module _ (n : ℕ) (t : List ℕ) where
   unfolding opened
   answer-order down s words h = rw (s, unordered down s words h)
 
+-- what the tests of size and order answer, from the one that refuses or from both that pass
+module _ (n : ℕ) (t : List ℕ) {down : List ℕ} where
+  pub tests-refused : (fault : TableFault) → Refused fault ≡ opened n t → Tests n t (record { answer = Refused fault; down = down })
+  tests-refused fault e =
+      record { refused = λ other q. sym q ∙ e; passed = λ q. let z : _≡_ {A = ℕ} 0 1 = cc in absurd (omega arith) }
+
+  pub tests-passed : OrderWords n t down → Tests n t (record { answer = Accepted; down = down })
+  tests-passed passed = record { refused = λ other q. let z : _≡_ {A = ℕ} 0 1 = cc in absurd (omega arith); passed = λ q. passed }
+
 -- an order: its words, and the answer by whether all bounds of one side were found
-module _ (n : ℕ) (t down : List ℕ) (s : sized n t ≡ true) (words : Words n t false down) (order : every n (rowOrdered n down) ≡ true) where
+module _ (n : ℕ) (t down : List ℕ) (passed : OrderWords n t down) where
+  pub table-size : (2 ≤ n) × (n ≤ 64) × (length t ≡ 8 * n)
+  table-size = size-facts n t (passed .size)
+
   pub table-ordered : Ordered n t
-  table-ordered = rows-facts n t down (size-facts n t s .1) words order
+  table-ordered = rows-facts n t down (table-size .1) (passed .words) (passed .order)
 
   pub up-words : (up : List ℕ) → ((i : ℕ) → i < n → getD up i 0 ≡ turned n down i) → Words n t true up
-  up-words up made = turned-words n t down up (size-facts n t s .1) (size-facts n t s .2) words made
+  up-words up made = turned-words n t down up (table-size .1) (table-size .2) (passed .words) made
 
   -- the words of the types below each type, as the test of bounds asks for them
   pub lower-words : Lower n down
   lower-words =
-      let few : n ≤ 64 = size-facts n t s .1 in
-      let has : (i j : ℕ) → i < n → j < n → bit (getD down i 0) j ≡ below t j i = λ i j l r. row-bit n t down few words i j l (omega arith) in
+      let few : n ≤ 64 = table-size .1 in
+      let has : (i j : ℕ) → i < n → j < n → bit (getD down i 0) j ≡ below t j i = λ i j l r. row-bit n t down few (passed .words) i j l (omega arith) in
       record {
-        sided = sided n (related t false) down few (side n t false (size-facts n t s .2) table-ordered) words;
-        small = λ i l. subst (λ (w : ℕ). w < 2 ^ 64) (sym (words i l)) (word-below 64 (related t false i));
+        sided = sided n (related t false) down few (side n t false (table-size .2) table-ordered) (passed .words);
+        small = λ i l. subst (λ (w : ℕ). w < 2 ^ 64) (sym (passed .words i l)) (word-below 64 (related t false i));
         chain = λ i j k li lj lk e f.
             has i k li lk ∙ table-ordered .chain k j i lk lj li (sym (has j k lj lk) ∙ f) (sym (has i j li lj) ∙ e);
         most = λ i l. has (n - 1) i (omega arith) l ∙ table-ordered .top i l;
@@ -79,17 +92,17 @@ module _ (n : ℕ) (t down : List ℕ) (s : sized n t ≡ true) (words : Words n
 
   module _ (up : Bool) (ws : List ℕ) (made : Words n t up ws) where
     pub side-sided : Sided n ws
-    side-sided = sided n (related t up) ws (size-facts n t s .1) (side n t up (size-facts n t s .2) table-ordered) made
+    side-sided = sided n (related t up) ws (table-size .1) (side n t up (table-size .2) table-ordered) made
 
     -- the bound of two words is the bound of the table
     pub side-bound : (a b : ℕ) → a < n → b < n → wordBound n ws a b ≡ sideBound n t up a b
-    side-bound = bound-same n t (size-facts n t s .2) table-ordered up ws (size-facts n t s .1) made
+    side-bound = bound-same n t (table-size .2) table-ordered up ws (table-size .1) made
 
     -- every two types have a bound on the side exactly when they have a meet and a join
     side-bounded : allFound n (wordBound n ws) ≡ bounded n t
     unfolding allFound bounded
     side-bounded =
-        let f : (2 ≤ n) × (n ≤ 64) × (length t ≡ 8 * n) = size-facts n t s in
+        let f : (2 ≤ n) × (n ≤ 64) × (length t ≡ 8 * n) = table-size in
         found-same n (wordBound n ws) (sideBound n t up) side-bound ∙
         same-test _ _
         (λ h.
@@ -108,7 +121,7 @@ module _ (n : ℕ) (t down : List ℕ) (s : sized n t ≡ true) (words : Words n
 
     pub answer-found : (b : Bool) → allFound n (wordBound n ws) ≡ b → cond b Accepted (Refused Bounds) ≡ opened n t
     unfolding opened
-    answer-found b e = rw (s, facts-ordered n t table-ordered, ← side-bounded, e)
+    answer-found b e = rw (passed .size, facts-ordered n t table-ordered, ← side-bounded, e)
 
 -- The answer says whether the table is accepted.
 module _ (n : ℕ) (t : List ℕ) where

@@ -8,7 +8,7 @@ use mathlib.Core.Option.{Option}
 use lib.ListN.{getD}
 use lib.Dec.{leb, eqb}
 use lib.Bits.{bitAnd, bitXor}
-use Rattle.lattice.specs.Table.{every, last, implies, below, found, cell, wanted}
+use Rattle.lattice.specs.Table.{every, last, implies, below, found, sized, cell, meet, join, wanted}
 
 -- a bit as a number
 abbrev pub digit : Bool → ℕ
@@ -24,6 +24,11 @@ word (suc k) p = digit (p k) * 2 ^ k + word k p
 abbrev pub related : List ℕ → Bool → ℕ → ℕ → Bool
 related t true i j = below t i j
 related t false i j = below t j i
+
+-- the bound of two types on one side: the join for true, the meet for false
+abbrev pub sideBound : ℕ → List ℕ → Bool → ℕ → ℕ → Option ℕ
+sideBound n t true = join n t
+sideBound n t false = meet n t
 
 -- the words of one side of the types below n
 abbrev pub Words : ℕ → List ℕ → Bool → List ℕ → Type 0
@@ -57,6 +62,12 @@ pairOrdered ws i j = partOf (getD ws j 0) (getD ws i 0) && implies (bit (getD ws
 unfoldable pub rowOrdered : ℕ → List ℕ → ℕ → Bool
 rowOrdered n ws i = leb (getD ws i 0 / 2 ^ (n - 1)) 1 && bit (getD ws i 0) i && bit (getD ws i 0) 0 && bit (getD ws (n - 1) 0) i
     && every 64 λ j. implies (bit (getD ws i 0) j) (pairOrdered ws i j)
+
+-- the words of the types below each type, in a table that passes the tests of refusals 1 and 2
+pub record OrderWords (n : ℕ) (t ws : List ℕ) : Type 0 where
+  pub size : sized n t ≡ true
+  pub words : Words n t false ws
+  pub order : every n (rowOrdered n ws) ≡ true
 
 -- words of one side of an order: each has its own bit and none at n or above, and two types with each other's bit are one
 pub record Sided (n : ℕ) (ws : List ℕ) : Type 0 where

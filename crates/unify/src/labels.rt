@@ -12,7 +12,7 @@ ghost use lib.ListN.{length, getD};
 ghost use mathlib.Core.Path.{_≡_};
 ghost use mathlib.Core.Bool.{false};
 ghost use Rattle.lattice.specs.Label.{plain};
-ghost use Rattle.bounds.specs.Sets.{Ready, meetIn};
+ghost use Rattle.bounds.specs.Sets.{Seekable, meetIn};
 ghost use Rattle.layout.specs.Builder.{stated};
 ghost use Rattle.graphs.specs.Rows.{from};
 ghost use Rattle.graphs.specs.Unify.{anyOf};
@@ -30,7 +30,7 @@ fn meet<'a>(
     b: Label,
 ) -> Label
     requires { ⌜ (a .kind < n) × (b .kind < n) × (n ≤ 64) ⌝ }
-    requires { ⌜ Ready false n (now sets) ⌝ }
+    requires { ⌜ Seekable false n (now sets) ⌝ }
     ensures { λ r. ⌜ stated r ≡ meetLabels (meetIn n (now (sets .entry)) (now (cells .entry))) (stated a) (stated b) ⌝ }
 {
     Label {
@@ -52,7 +52,7 @@ fn lower<'a>(
 )
     requires { ⌜ Recorded (now graph) ⌝ }
     requires { ⌜ (shift ≤ 255) × (length (now labels) ≡ labelWords) ⌝ }
-    requires { ⌜ Lowerable n (meetIn n (now sets) (now cells)) (now graph) (now labels) × Ready false n (now sets) ⌝ }
+    requires { ⌜ Lowerable n (meetIn n (now sets) (now cells)) (now graph) (now labels) × Seekable false n (now sets) ⌝ }
     requires { ⌜ ((v : ℕ) → v < size (now graph) → getD (now class) (shift + v) 0 < 510) ⌝ }
     ensures { λ _. ⌜ length (now (labels .exit)) ≡ labelWords ⌝ }
     ensures { λ _. ⌜ Below n (now (labels .exit)) ⌝ }

@@ -13,8 +13,8 @@ use borrow.Author.Needs.{needs}
 use Rattle.engine.proofs.unify_appropriate.Statement.{statement}
 use Rattle.engine.proofs.unify_appropriate.Tie as tie
 
-open-meets-requires : tie.Need-open-meets-requires
-open-meets-requires c κs = length-replicate {A = ℕ} 128 0
+open-requires : tie.Need-open-requires
+open-requires c κs = length-replicate {A = ℕ} 128 0
 
 enum-known-opened : tie.Need-enum-known-opened
 enum-known-opened c = search needs
@@ -30,14 +30,14 @@ returns c =
     let a = c .before .before .before .before .before .before .before .before .before .before .before .before .args in
     list-refused
     (unifying-checked (a .n) (a .table .now) (a .list .now) (a .out .now) (a .first .now) (a .second .now))
-    (sym (c .before .before .before .before .open-meets .ensures .answers) ∙ c .before .before .enum-told .given .1)
+    (sym (c .before .before .before .before .open .ensures .answers) ∙ c .before .before .enum-told .given .1)
     (sym (c .before .is-list-accepted .ensures) ∙ not-true (c .before .is-list-accepted .result) (c .if1 .taken))
 
 read-both-appropriate-requires : tie.Need-read-both-appropriate-requires
 read-both-appropriate-requires c κs =
     let a = c .before .before .before .before .before .before .before .before .before .before .before .before .before .before .args in (
       (
-        accepted-size (a .n) (a .table .now) (opened-accepted (a .n) (a .table .now) _ (c .before .before .before .before .before .before .open-meets .ensures .answers) (c .before .before .before .before .enum-told .given .1)) .1,
+        accepted-size (a .n) (a .table .now) (opened-accepted (a .n) (a .table .now) _ (c .before .before .before .before .before .before .open .ensures .answers) (c .before .before .before .before .enum-told .given .1)) .1,
         sym (c .before .before .before .is-list-accepted .ensures) ∙ not-false (c .before .before .before .is-list-accepted .result) (c .before .before .if1 .left),
       ),
       search needs,
@@ -52,8 +52,8 @@ slice-aggregate-unify-over-2 c = search needs
 unify-over-requires : tie.Need-unify-over-requires
 unify-over-requires c κs =
     let a = c .before .before .before .before .before .before .before .before .before .before .before .before .before .before .before .before .before .before .before .before .args in
-    let ok = opened-accepted (a .n) (a .table .now) _ (c .before .before .before .before .before .before .before .before .before .before .before .before .open-meets .ensures .answers) (c .before .before .before .before .before .before .before .before .before .before .enum-told .given .1) in
-    let able = combinable (a .n) (a .table .now) _ _ _ ok refl (c .before .before .before .before .before .before .before .before .before .before .before .before .open-meets .ensures .holds ok) in
+    let ok = opened-accepted (a .n) (a .table .now) _ (c .before .before .before .before .before .before .before .before .before .before .before .before .open .ensures .answers) (c .before .before .before .before .before .before .before .before .before .before .enum-told .given .1) in
+    let able = combinable (a .n) (a .table .now) _ _ _ ok refl (c .before .before .before .before .before .before .before .before .before .before .before .before .open .ensures .holds ok) in
     (able, λ e. ready-to-combine (able .0 .1) (both-listed (a .n) (a .table .now) (a .list .now) (a .first .now) (a .second .now) (c .before .before .before .before .before .read-both-appropriate .ensures) e))
 
 returns-2 : tie.Need-returns-2
@@ -61,7 +61,7 @@ returns-2 c =
     let a = c .before .before .before .before .before .before .before .before .before .before .before .args in
     table-before-list
     (unifying-checked (a .n) (a .table .now) (a .list .now) (a .out .now) (a .first .now) (a .second .now)) _
-    (sym (c .before .before .before .open-meets .ensures .answers) ∙ c .before .opened .given .1)
+    (sym (c .before .before .before .open .ensures .answers) ∙ c .before .opened .given .1)
 
 same-length : tie.Need-same-length
 same-length c = search needs
@@ -69,20 +69,20 @@ same-length c = search needs
 returns-3 : tie.Need-returns-3
 returns-3 c =
     let a = c .before .before .before .before .before .before .before .before .before .before .before .before .before .before .before .before .before .before .before .before .before .before .before .args in
-    let ok = opened-accepted (a .n) (a .table .now) _ (c .before .before .before .before .before .before .before .before .before .before .before .before .before .before .before .open-meets .ensures .answers) (c .before .before .before .before .before .before .before .before .before .before .before .before .before .enum-told .given .1) in
+    let ok = opened-accepted (a .n) (a .table .now) _ (c .before .before .before .before .before .before .before .before .before .before .before .before .before .before .before .open .ensures .answers) (c .before .before .before .before .before .before .before .before .before .before .before .before .before .enum-told .given .1) in
     c .before .before .unify-over .ensures ∙ after-both (c .before .before .before .before .before .before .before .before .read-both-appropriate .ensures) (a .out .now) (met (a .n) _ (a .out .now)) ∙
-    met-same (a .n) (a .table .now) _ _ _ ok refl (c .before .before .before .before .before .before .before .before .before .before .before .before .before .before .before .open-meets .ensures .holds ok)
+    met-same (a .n) (a .table .now) _ _ _ ok refl (c .before .before .before .before .before .before .before .before .before .before .before .before .before .before .before .open .ensures .holds ok)
     (listed-rules (a .n) (a .table .now) (a .list .now) (a .first .now)) (listed-rules (a .n) (a .table .now) (a .list .now) (a .second .now)) (a .out .now) ∙
     list-passed
     (unifying-checked (a .n) (a .table .now) (a .list .now) (a .out .now) (a .first .now) (a .second .now))
-    (sym (c .before .before .before .before .before .before .before .before .before .before .before .before .before .before .before .open-meets .ensures .answers) ∙ c .before .before .before .before .before .before .before .before .before .before .before .before .before .enum-told .given .1)
+    (sym (c .before .before .before .before .before .before .before .before .before .before .before .before .before .before .before .open .ensures .answers) ∙ c .before .before .before .before .before .before .before .before .before .before .before .before .before .enum-told .given .1)
     (sym (c .before .before .before .before .before .before .before .before .before .before .before .before .is-list-accepted .ensures) ∙ not-false (c .before .before .before .before .before .before .before .before .before .before .before .before .is-list-accepted .result) (c .before .before .before .before .before .before .before .before .before .before .before .if1 .left))
 
 pub unify-appropriate-spec : {M : Type 1} → statement M
 unify-appropriate-spec =
     tie.close
     (tie.spec
-    open-meets-requires
+    open-requires
     enum-known-opened
     enum-told
     is-list-accepted-requires
