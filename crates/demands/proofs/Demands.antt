@@ -18,7 +18,7 @@ use Rattle.lattice.specs.Label.{Label}
 use Rattle.lattice.specs.declared.Opened.the-variants.{Accepted}
 use Rattle.lattice.specs.Reply.{opened}
 use Rattle.lattice.specs.Labels.{tableLabels, OfAnySize, LeastOfAnySize, GreatestOfAnySize, IsCombination, LabelClash, SomeUnwanted}
-use Rattle.lattice.proofs.Residuals.{opened-accepted}
+use Rattle.lattice.proofs.Acceptance.{opened-accepted}
 use Rattle.lattice.proofs.AnySize.{combination-greatest}
 use Rattle.encode.specs.Encode.{fitted}
 use Rattle.record.specs.Read.{reading, accepted, graphOfRows}

@@ -1,5 +1,6 @@
 -- From the combination by meets as they are held to what is answered: they are the meets of the accepted table.
 use mathlib.Core.Path.{_≡_, refl, sym, _∙_, ap, ap₂}
+use mathlib.Core.Bool.{false}
 use mathlib.Core.List.{List}
 use mathlib.Core.Logic.{_⊎_}
 use Prim.Native.Nat.{ℕ, _≤_, _<_}
@@ -8,11 +9,12 @@ use lib.ListN.{length}
 use Rattle.graphs.specs.Rows.{Row, from}
 use Rattle.graphs.specs.Unify.{Unified, cycle, clash, unified, unification}
 use Rattle.lattice.specs.Label.{Label}
-use Rattle.lattice.specs.Sets.{meetIn}
+use Rattle.bounds.specs.Opening.{OpenedFor}
+use Rattle.bounds.specs.Sets.{meetIn}
 use Rattle.lattice.specs.Labels.{tableLabels}
 use Rattle.lattice.proofs.Laws.{accepted-size, zero-type}
 use Rattle.lattice.proofs.Transfer.{same-unification}
-use Rattle.lattice.proofs.Types.{meets-known}
+use Rattle.bounds.proofs.Types.{meets-known}
 use Rattle.layout.specs.Layout.{size, graphOfRows, graphIn, rowsOf}
 use Rattle.layout.proofs.Rows.{length-rows}
 use Rattle.encode.specs.Encode.{Yield, yielding}
@@ -25,7 +27,7 @@ use Rattle.unify.specs.Rows.{Operand}
 use Rattle.replies.specs.declared.Reply.{Reply}
 use Rattle.replies.specs.Reply.{Result, resulting}
 use Rattle.pairs.proofs.Readings.{accepts-reached, accepts-recorded, accepts-rules, loaded-accepts}
-use Rattle.engine.specs.Unifying.{Meets, combined, combinedReply, unifiedRows}
+use Rattle.engine.specs.Unifying.{combined, combinedReply, unifiedRows}
 use Rattle.engine.proofs.Tables.{label-known}
 
 -- what combining yields, as a result
@@ -42,7 +44,7 @@ combined-is (unified u) out = refl
 abbrev byMeets : ℕ → (ℕ → ℕ → ℕ) → List ℕ → List ℕ → Unified Label (ℕ ⊎ ℕ)
 byMeets n meets g h = unification (meetsOf n meets) eqb eqb (graphIn g) (from 0 (size g)) (graphIn h) (from 0 (size h))
 
-module _ {n : ℕ} {t sets : List ℕ} {cells : List (List ℕ)} (meets : Meets n t sets cells) where
+module _ {n : ℕ} {t sets : List ℕ} {cells : List (List ℕ)} (meets : OpenedFor false n t sets cells) where
   -- what combining asks of a graph
   operand : {g : List ℕ} → Loaded n g → Operand n g
   operand one =

@@ -8,11 +8,12 @@ use Rattle.graphs.specs.Number.{Canonical, canonical}
 use Rattle.graphs.specs.Generalize.{generalization}
 use Rattle.lattice.specs.Label.{Label}
 use Rattle.layout.specs.Layout.{Recorded, graphOfRows, graphIn, rowsOf}
-use Rattle.lattice.specs.Sets.{Ready, joinIn}
+use Rattle.bounds.specs.Opening.{OpenedFor}
+use Rattle.bounds.specs.Sets.{Seekable, joinIn}
 use Rattle.lattice.specs.Labels.{tableLabels}
 use Rattle.lattice.proofs.Laws.{accepted-size, zero-type}
 use Rattle.lattice.proofs.Lawful.{label-parts}
-use Rattle.lattice.proofs.Types.{joins-known}
+use Rattle.bounds.proofs.Types.{joins-known}
 use Rattle.encode.specs.declared.Written.{Written}
 use Rattle.encode.specs.Encode.{yielding, writtenOut}
 use Rattle.record.specs.Reads.{Loaded}
@@ -22,14 +23,14 @@ use Rattle.generalize.proofs.Sides.{tells-pair}
 use Rattle.replies.specs.declared.Reply.{Reply}
 use Rattle.replies.specs.Reply.{resulting, resultOf, replyOf}
 use Rattle.pairs.proofs.Readings.{accepts-recorded, accepts-rules, loaded-accepts}
-use Rattle.engine.specs.Generalizing.{Joins, generalized}
+use Rattle.engine.specs.Generalizing.{generalized}
 use Rattle.engine.proofs.Written.{replied-as}
 use Rattle.engine.proofs.Tables.{label-known, canonical-same}
 
-module _ {n : ℕ} {t sets : List ℕ} {cells : List (List ℕ)} (joins : Joins n t sets cells) where
+module _ {n : ℕ} {t sets : List ℕ} {cells : List (List ℕ)} (joins : OpenedFor true n t sets cells) where
   -- what the common part asks of two graphs and of the joins
   pub ready-to-join : {g h : List ℕ} → Loaded n g → Loaded n h →
-      Recorded g × (Recorded h × (Joinable n (joinIn n sets cells) g h × Ready true n sets))
+      Recorded g × (Recorded h × (Joinable n (joinIn n sets cells) g h × Seekable true n sets))
   ready-to-join one other =
       let few = accepted-size n t (joins .ok) .1 in (
         accepts-recorded few (loaded-accepts one),

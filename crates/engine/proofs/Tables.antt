@@ -20,7 +20,7 @@ use Rattle.lattice.specs.declared.Opened.the-variants.{Accepted}
 use Rattle.lattice.specs.Reply.{opened}
 use Rattle.lattice.proofs.Lawful.{plain-known}
 use Rattle.lattice.proofs.Laws.{accepted-size}
-use Rattle.lattice.proofs.Residuals.{opened-accepted}
+use Rattle.lattice.proofs.Acceptance.{opened-accepted}
 use Rattle.record.proofs.Nodes.{node-row}
 use Rattle.record.proofs.Accepted.{Rules}
 

@@ -1,16 +1,11 @@
 -- The common part of two graphs in written form, over an accepted table (document 01, "Common part").
-use mathlib.Core.Path.{_≡_}
-use mathlib.Core.Bool.{true}
 use mathlib.Core.List.{List}
 use Prim.Native.Nat.{ℕ}
-use lib.ListN.{length}
 use Rattle.graphs.specs.Rows.{Row}
 use Rattle.graphs.specs.Number.{canonical}
 use Rattle.graphs.specs.Generalize.{generalization}
 use Rattle.lattice.specs.Label.{Label}
 use Rattle.lattice.specs.Labels.{tableLabels}
-use Rattle.lattice.specs.Table.{accepted, join}
-use Rattle.lattice.specs.Sets.{Holding}
 use Rattle.encode.specs.Encode.{writtenOut}
 use Rattle.record.specs.Read.{graphOfRows}
 use Rattle.generalize.specs.Pairs.{samePair}
@@ -26,10 +21,3 @@ generalized n t out g h =
 abbrev pub generalizedBeside : ℕ → List ℕ → List ℕ → List ℕ → List ℕ → List ℕ → Result
 generalizedBeside n t list a b out =
     readBoth (λ r. refusing r out) (readingBeside n t list a) (readingBeside n t list b) (generalized n t out)
-
--- words and cells as opening an accepted table for its joins leaves them; `lent` are the cells before
-pub record Joins (n : ℕ) (t sets : List ℕ) (cells : List (List ℕ)) : Type 0 where
-  pub ok : accepted n t ≡ true
-  pub lent : List (List ℕ)
-  pub long : length lent ≡ 64
-  pub holding : Holding true n t (join n t) sets lent cells

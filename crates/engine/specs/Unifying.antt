@@ -1,6 +1,4 @@
 -- The combination of two graphs in written form, over an accepted table (document 01, "Combination").
-use mathlib.Core.Path.{_≡_}
-use mathlib.Core.Bool.{true, false}
 use mathlib.Core.List.{List}
 use mathlib.Core.Logic.{_⊎_}
 use Prim.Native.Nat.{ℕ}
@@ -11,8 +9,6 @@ use Rattle.graphs.specs.Number.{canonical}
 use Rattle.graphs.specs.Unify.{Unified, cycle, clash, unified, unification}
 use Rattle.lattice.specs.Label.{Label}
 use Rattle.lattice.specs.Labels.{tableLabels}
-use Rattle.lattice.specs.Table.{accepted, meet}
-use Rattle.lattice.specs.Sets.{Holding}
 use Rattle.encode.specs.Encode.{writtenOut}
 use Rattle.record.specs.Read.{graphOfRows}
 pub use Rattle.unify.specs.Outcome.{sameEither}
@@ -40,13 +36,6 @@ unifiedRows n t out g h =
 abbrev pub unifiedBeside : ℕ → List ℕ → List ℕ → List ℕ → List ℕ → List ℕ → Result
 unifiedBeside n t list a b out =
     readBoth (λ r. refusing r out) (readingBeside n t list a) (readingBeside n t list b) (unifiedRows n t out)
-
--- words and cells as opening an accepted table for its meets leaves them; `lent` are the cells before
-pub record Meets (n : ℕ) (t sets : List ℕ) (cells : List (List ℕ)) : Type 0 where
-  pub ok : accepted n t ≡ true
-  pub lent : List (List ℕ)
-  pub long : length lent ≡ 64
-  pub holding : Holding false n t (meet n t) sets lent cells
 
 -- what combining answers, as a reply
 abbrev pub combinedReply : Combined → Reply

@@ -4,26 +4,28 @@ use pairs::PairVerdict;
 use replies::Reply;
 use unify::Combined;
 ghost use mathlib.Core.Path.{_≡_};
+ghost use mathlib.Core.Bool.{false};
 ghost use mathlib.Core.List.{List};
 ghost use Prim.Native.Nat.{ℕ};
+ghost use Rattle.bounds.specs.Opening.{OpenedFor};
 ghost use Rattle.layout.specs.Layout.{rowsOf};
 ghost use Rattle.record.specs.Reads.{Loaded};
 ghost use Rattle.pairs.specs.Pair.{Optional};
 ghost use Rattle.replies.specs.Reply.{resulting};
-ghost use Rattle.engine.specs.Unifying.{Meets, combinedReply, unifiedBeside, unifiedRows};
+ghost use Rattle.engine.specs.Unifying.{combinedReply, unifiedBeside, unifiedRows};
 
 // Writes the combination of two records.
 pub fn of_records<'a>(
     n: usize,
     table: &[u8],
     list: &[u8],
-    sets: &'a [u64; lattice::sets::WORDS],
+    sets: &'a [u64; bounds::sets::WORDS],
     cells: &'a [[u8; 64]; 64],
     first: &[u8],
     second: &[u8],
     out: &mut [u8],
 ) -> Reply
-    requires { ⌜ Meets n (now table) (now sets) (now cells) × Optional n (now list) ⌝ }
+    requires { ⌜ OpenedFor false n (now table) (now sets) (now cells) × Optional n (now list) ⌝ }
     ensures { λ r. ⌜ resulting r (now (out .exit)) ≡ unifiedBeside n (now (table .entry)) (now (list .entry)) (now (first .entry)) (now (second .entry)) (now (out .entry)) ⌝ }
 {
     let mut a = [layout::BLANK; layout::LONGEST];
@@ -38,14 +40,14 @@ pub fn of_records<'a>(
 // Writes the combination of two graphs in words.
 pub fn of_graphs<'a>(
     n: usize,
-    sets: &'a [u64; lattice::sets::WORDS],
+    sets: &'a [u64; bounds::sets::WORDS],
     cells: &'a [[u8; 64]; 64],
     a: &'a [u16],
     b: &'a [u16],
     out: &mut [u8],
 ) -> Reply
-    requires { ⌜ ((t : List ℕ) × Meets n t (now sets) (now cells)) × (Loaded n (now a) × Loaded n (now b)) ⌝ }
-    ensures { λ r. ⌜ ((t : List ℕ) → Meets n t (now (sets .entry)) (now (cells .entry)) →
+    requires { ⌜ ((t : List ℕ) × OpenedFor false n t (now sets) (now cells)) × (Loaded n (now a) × Loaded n (now b)) ⌝ }
+    ensures { λ r. ⌜ ((t : List ℕ) → OpenedFor false n t (now (sets .entry)) (now (cells .entry)) →
         resulting r (now (out .exit)) ≡ unifiedRows n t (now (out .entry)) (rowsOf (now (a .entry))) (rowsOf (now (b .entry)))) ⌝ }
 {
     combined_reply(unify::unify(n, sets, cells, a, b, out))

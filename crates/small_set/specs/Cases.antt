@@ -9,7 +9,7 @@ use lib.ListN.{length, drop, replicate}
 use Rattle.graphs.specs.Rows.{Row, from}
 use Rattle.lattice.specs.Label.{Label}
 use Rattle.lattice.specs.Table.{upto}
-use Rattle.lattice.specs.Sets.{distributive, setOf}
+use Rattle.bounds.specs.Sets.{distributive, setOf}
 use Rattle.record.specs.Read.{reading, accepted}
 use Rattle.replies.specs.declared.Reply.the-variants.{Length, Same, Under, Above, Neither, NoWantedType, ReadingOrder, NoReasonRoom}
 use Rattle.replies.specs.declared.Reply.{Reply}

@@ -9,7 +9,7 @@ use encode::Written;
 ghost use mathlib.Core.Path.{_≡_};
 ghost use Prim.Native.Nat.{_≤_, _<_};
 ghost use lib.ListN.{length};
-ghost use Rattle.lattice.specs.Sets.{meetIn};
+ghost use Rattle.bounds.specs.Sets.{meetIn};
 ghost use Rattle.encode.specs.Encode.{yielding};
 ghost use Rattle.unify.specs.Lowered.{Meeting};
 ghost use Rattle.unify.specs.Outcome.{unifyingOut};
@@ -31,7 +31,7 @@ const LARGE: usize = 510 * layout::HEADER + 4096 + 64 * 509;
 // Builds the graph of the classes of both graphs' nodes. The pool takes the words of both graphs and the rows of merged classes.
 fn merge_within<'a>(
     n: usize,
-    sets: &'a [u64; lattice::sets::WORDS],
+    sets: &'a [u64; bounds::sets::WORDS],
     cells: &'a [[u8; 64]; 64],
     a: &'a [u16],
     b: &'a [u16],
@@ -62,7 +62,7 @@ fn merge_within<'a>(
 // The same with a pool no larger than the graphs ask for: a merge takes up to 64 places, and there are fewer merges than nodes.
 fn merge<'a>(
     n: usize,
-    sets: &'a [u64; lattice::sets::WORDS],
+    sets: &'a [u64; bounds::sets::WORDS],
     cells: &'a [[u8; 64]; 64],
     a: &'a [u16],
     b: &'a [u16],
@@ -89,7 +89,7 @@ fn merge<'a>(
 // Writes the unification of two graphs over n types, with the meets of types as they are held.
 pub fn unify<'a>(
     n: usize,
-    sets: &'a [u64; lattice::sets::WORDS],
+    sets: &'a [u64; bounds::sets::WORDS],
     cells: &'a [[u8; 64]; 64],
     a: &'a [u16],
     b: &'a [u16],

@@ -19,7 +19,7 @@ use Rattle.lattice.specs.declared.Opened.{Opened}
 use Rattle.lattice.specs.declared.Opened.the-variants as opened
 use Rattle.lattice.specs.Labels.{tableLabels}
 use Rattle.lattice.specs.Reply as table
-use Rattle.lattice.proofs.Residuals.{opened-accepted}
+use Rattle.lattice.proofs.Acceptance.{opened-accepted}
 use Rattle.encode.specs.declared.Written.{Written}
 use Rattle.encode.specs.declared.Written.the-variants as written
 use Rattle.encode.specs.Encode.{writtenOut}

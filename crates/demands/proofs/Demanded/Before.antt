@@ -21,7 +21,7 @@ use Rattle.lattice.specs.Labels.{tableLabels, wantedRange, wantedLabel}
 use Rattle.lattice.proofs.Every.{every-all}
 use Rattle.lattice.proofs.Lawful.{inside}
 use Rattle.lattice.proofs.Laws.{zero-type, residual-exists, wanted-residual}
-use Rattle.lattice.proofs.Residuals.{opened-accepted}
+use Rattle.lattice.proofs.Acceptance.{opened-accepted}
 use Rattle.encode.specs.Encode.{Outcome, encoded, writtenOut}
 use Rattle.record.specs.Read.{Reading, refused, accepted, graphOfRows, reading}
 use Rattle.record.proofs.Accepted.{Rules, accepted-rules, rules-of-any-size, rules-types, rules-fit}

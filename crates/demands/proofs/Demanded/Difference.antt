@@ -21,7 +21,7 @@ use Rattle.lattice.specs.Table as table
 use Rattle.lattice.specs.Reply.{opened}
 use Rattle.lattice.specs.Labels.{tableLabels, SomeUnwanted}
 use Rattle.lattice.proofs.Every.{not-false-true}
-use Rattle.lattice.proofs.Residuals.{opened-accepted}
+use Rattle.lattice.proofs.Acceptance.{opened-accepted}
 use Rattle.lattice.proofs.Relabel.{same-below-left, same-below-right}
 use Rattle.lattice.proofs.Transfer.{same-of-any-size}
 use Rattle.lattice.proofs.AnySize.{same-greatest, greatest-sides}

@@ -34,7 +34,7 @@ use Rattle.lattice.proofs.Lawful.{inside-le, le-antisymmetric, le-reflexive, pl
 use Rattle.lattice.proofs.Plain.{contradiction-plain}
 use Rattle.lattice.proofs.WantedLabels.{wanted-at, wanted-label-of-same}
 use Rattle.lattice.proofs.Relabel.{same-below-right}
-use Rattle.lattice.proofs.Residuals.{opened-accepted}
+use Rattle.lattice.proofs.Acceptance.{opened-accepted}
 use Rattle.encode.specs.Encode.{bitsFrom, isFull, encodedLabel, encodedRow, encodedRows, encoded, fitted, writtenOut}
 use Rattle.record.specs.Read.{reading, accepted, graphOfRows}
 use Rattle.record.proofs.Accepted.{accepted-rules}

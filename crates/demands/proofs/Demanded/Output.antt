@@ -21,7 +21,7 @@ use Rattle.lattice.specs.declared.Opened.{Opened}
 use Rattle.lattice.specs.declared.Opened.the-variants as opened
 use Rattle.lattice.specs.Table as types
 use Rattle.lattice.specs.Reply as table
-use Rattle.lattice.proofs.Residuals.{opened-accepted}
+use Rattle.lattice.proofs.Acceptance.{opened-accepted}
 use Rattle.lattice.specs.Labels.{OfAnySize}
 use Rattle.encode.specs.Encode.{encoded}
 use Rattle.encode.proofs.Lengths.{longest}

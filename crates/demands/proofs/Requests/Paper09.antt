@@ -12,7 +12,7 @@ use Rattle.lattice.specs.Label.{Label}
 use Rattle.lattice.specs.declared.Opened.the-variants.{Accepted}
 use Rattle.lattice.specs.Reply.{opened}
 use Rattle.lattice.specs.Labels.{tableLabels, OfAnySize, LeastOfAnySize, GreatestOfAnySize, IsCombination}
-use Rattle.lattice.proofs.Residuals.{opened-accepted}
+use Rattle.lattice.proofs.Acceptance.{opened-accepted}
 use Rattle.record.specs.declared.GraphFault.the-variants.{Inappropriate}
 use Rattle.record.specs.Read.{reading, accepted, graphOfRows}
 use Rattle.record.specs.Appropriate.{listAccepted, appropriate, Appropriate}

@@ -2,7 +2,7 @@
 use mathlib.Core.Path.{sym, _∙_}
 use Prim.Native.Nat.{ℕ}
 use lib.ListN.{length-replicate}
-use Rattle.lattice.specs.Sets.{meetIn}
+use Rattle.bounds.specs.Sets.{meetIn}
 use Rattle.unify.proofs.Sharing.{class-sound}
 use Rattle.unify.proofs.Result.{answers-cycle, answers-clash, answers-written}
 use borrow.Author.Needs.{needs}
