@@ -15,7 +15,7 @@ use Rattle.record.specs.declared.GraphFault.{GraphFault}
 use Rattle.record.specs.declared.reading.Verdict.{Verdict}
 use Rattle.record.specs.declared.reading.Verdict.the-variants.{Accepted, Refused}
 use Rattle.record.specs.Read.{Reading, refused, accepted, reading}
-use Rattle.record.specs.Reads.{Holds, Tells, verdictOf}
+use Rattle.record.specs.Reads.{Holds, ReadsAs, verdictOf}
 use Rattle.record.specs.Appropriate.{readingAppropriate}
 use Rattle.record.proofs.Accepted.{Rules, accepted-rules}
 use Rattle.record.proofs.Allowed.{accepted-appropriate}
@@ -74,12 +74,12 @@ accepts-recorded few given =
 -- One record.
 
 module _ {n : ℕ} {ws : List ℕ} {v : Verdict} where
-  pub told : {o : Reading} → Tells n o v ws → v ≡ Accepted → Told n o ws
+  pub told : {o : Reading} → ReadsAs n o v ws → v ≡ Accepted → Told n o ws
   told {o = refused fault} tells e = let z : _≡_ {A = ℕ} 0 1 = cc (tells .verdict) in absurd (omega arith)
   told {o = accepted rows} tells e = told-held refl (tells .graph rows refl)
 
   -- the refusal, or the record in written form
-  pub after-reading : {o : Reading} → Tells n o v ws → (out : List ℕ) → afterReading v out (rewrittenRows out (rowsOf ws)) ≡ rewritten o out
+  pub after-reading : {o : Reading} → ReadsAs n o v ws → (out : List ℕ) → afterReading v out (rewrittenRows out (rowsOf ws)) ≡ rewritten o out
   after-reading {o = refused fault} tells out = ap (λ (w : Verdict). afterReading w out (rewrittenRows out (rowsOf ws))) (tells .verdict)
   after-reading {o = accepted rows} tells out =
       ap (λ (w : Verdict). afterReading w out (rewrittenRows out (rowsOf ws))) (tells .verdict) ∙
