@@ -164,6 +164,6 @@ pub fn kept_nodes<'a>(
     keep_labelled(n, table, s[0] as usize, labels, keep);
     // there is no cycle: only the order is needed
     let mut order = [0u16; 510];
-    visits::cycle::has_cycle(s, &mut order);
+    visits::sorting::sort_targets_first(s, &mut order);
     keep_below(s, marks, &order, keep)
 }

@@ -9,7 +9,7 @@ use Rattle.record.specs.declared.GraphFault.{GraphFault}
 use Rattle.record.specs.declared.reading.Verdict.{Verdict}
 use Rattle.record.specs.declared.reading.Verdict.the-variants.{Accepted, Refused}
 use Rattle.record.specs.Read.{Reading}
-use Rattle.record.specs.Reads.{Tells}
+use Rattle.record.specs.Reads.{ReadsAs}
 use Rattle.replies.specs.declared.Side.the-variants.{First}
 use Rattle.replies.specs.declared.Reply.{Reply}
 use Rattle.replies.specs.declared.Reply.the-variants.{Graph}
@@ -22,7 +22,7 @@ pub replied-as : {o : Outcome} {w : Written} {r : Reply} {new : List ℕ} → yi
 replied-as {new = new} yields said = ap (λ (q : Reply). resulting q new) said ∙ ap resultOf yields
 
 -- the refusal of a lone graph, and its written form
-module _ {n : ℕ} {o : Reading} {v : Verdict} {ws : List ℕ} (tells : Tells n o v ws) (out : List ℕ) where
+module _ {n : ℕ} {o : Reading} {v : Verdict} {ws : List ℕ} (tells : ReadsAs n o v ws) (out : List ℕ) where
   pub rewritten-refused : (fault : GraphFault) → v ≡ Refused fault → resulting (Graph fault First) out ≡ rewritten o out
   rewritten-refused fault e = sym (ap (λ (i : Reading). rewritten i out) (told-refused tells fault e))
 

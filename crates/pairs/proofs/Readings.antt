@@ -21,7 +21,7 @@ use Rattle.record.specs.declared.GraphFault.{GraphFault}
 use Rattle.record.specs.declared.reading.Verdict.{Verdict}
 use Rattle.record.specs.declared.reading.Verdict.the-variants.{Accepted, Refused}
 use Rattle.record.specs.Read.{Reading, refused, accepted, reading}
-use Rattle.record.specs.Reads.{Holds, Loaded, Tells, verdictOf}
+use Rattle.record.specs.Reads.{Holds, Loaded, ReadsAs, verdictOf}
 use Rattle.record.specs.Appropriate.{listAccepted, readingAppropriate}
 use Rattle.record.proofs.Accepted.{Rules, accepted-rules}
 use Rattle.record.proofs.Rewritten.{rules-read}
@@ -60,11 +60,11 @@ accepted-long n list e = ap (λ (k : ℕ). eqb k 0) (list-long n list e)
 
 -- Reading beside a list that is empty, and one that is not.
 module _ (n : ℕ) (t list bytes : List ℕ) {v : Verdict} {ws : List ℕ} where
-  pub tells-plain : length list ≡ 0 → Tells n (reading n bytes) v ws → Tells n (readingBeside n t list bytes) v ws
-  tells-plain none = subst (λ (o : Reading). Tells n o v ws) (sym (reading-plain n t list bytes (eq-eqb (length list) 0 none)))
+  pub tells-plain : length list ≡ 0 → ReadsAs n (reading n bytes) v ws → ReadsAs n (readingBeside n t list bytes) v ws
+  tells-plain none = subst (λ (o : Reading). ReadsAs n o v ws) (sym (reading-plain n t list bytes (eq-eqb (length list) 0 none)))
 
-  pub tells-listed : (length list ≡ 0 → ⊥) → Tells n (readingAppropriate n t list bytes) v ws → Tells n (readingBeside n t list bytes) v ws
-  tells-listed some = subst (λ (o : Reading). Tells n o v ws) (sym (reading-listed n t list bytes (ne-eqb (length list) 0 some)))
+  pub tells-listed : (length list ≡ 0 → ⊥) → ReadsAs n (readingAppropriate n t list bytes) v ws → ReadsAs n (readingBeside n t list bytes) v ws
+  tells-listed some = subst (λ (o : Reading). ReadsAs n o v ws) (sym (reading-listed n t list bytes (ne-eqb (length list) 0 some)))
 
 -- a record that is accepted, with the words that hold its rows
 pub record Accepts (n : ℕ) (bytes ws : List ℕ) : Type 0 where
@@ -107,13 +107,13 @@ accepts-beside n t list bytes {ws} told =
 -- One record.
 
 module _ {n : ℕ} {ws : List ℕ} {v : Verdict} where
-  pub told-refused : {o : Reading} → Tells n o v ws → (fault : GraphFault) → v ≡ Refused fault → o ≡ refused fault
+  pub told-refused : {o : Reading} → ReadsAs n o v ws → (fault : GraphFault) → v ≡ Refused fault → o ≡ refused fault
   told-refused {o = refused other} tells fault e =
       let same : other ≡ fault = cc (tells .verdict, e) in
       ap refused same
   told-refused {o = accepted rows} tells fault e = let z : _≡_ {A = ℕ} 0 1 = cc (tells .verdict, e) in absurd (omega arith)
 
-  pub told-accepted : {o : Reading} → Tells n o v ws → v ≡ Accepted → Told n o ws
+  pub told-accepted : {o : Reading} → ReadsAs n o v ws → v ≡ Accepted → Told n o ws
   told-accepted {o = refused fault} tells e = let z : _≡_ {A = ℕ} 0 1 = cc (tells .verdict) in absurd (omega arith)
   told-accepted {o = accepted rows} tells e = told-held refl (tells .graph rows refl)
 
@@ -159,7 +159,7 @@ module _ {n : ℕ} {o p : Reading} {v : PairVerdict} {ws ws₂ : List ℕ} (read
         ap₂ (λ (i j : Reading). readBoth refuse i j next) (one .is) (other .is)
 
 -- What reading one after the other comes to.
-module _ {n : ℕ} {o : Reading} {v : Verdict} {ws : List ℕ} (one : Tells n o v ws) (long : length ws ≡ longest) where
+module _ {n : ℕ} {o : Reading} {v : Verdict} {ws : List ℕ} (one : ReadsAs n o v ws) (long : length ws ≡ longest) where
   pub reads-first-refused : {p : Reading} {ws₂ : List ℕ} → length ws₂ ≡ longest → {fault : GraphFault} → v ≡ Refused fault →
       ReadsBoth n o p (pair.Refused fault First) ws ws₂
   reads-first-refused {p} other-long {fault} e =
@@ -171,7 +171,7 @@ module _ {n : ℕ} {o : Reading} {v : Verdict} {ws : List ℕ} (one : Tells n o 
         other-long = other-long;
       }
 
-  module _ (passes : v ≡ Accepted) {p : Reading} {w : Verdict} {ws₂ : List ℕ} (two : Tells n p w ws₂) (other-long : length ws₂ ≡ longest) where
+  module _ (passes : v ≡ Accepted) {p : Reading} {w : Verdict} {ws₂ : List ℕ} (two : ReadsAs n p w ws₂) (other-long : length ws₂ ≡ longest) where
     reads-second : ReadsBoth n o p (jointVerdict Accepted w) ws ws₂
     reads-second =
         record {

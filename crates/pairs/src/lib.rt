@@ -8,7 +8,7 @@ ghost use mathlib.Core.Path.{_≡_};
 ghost use Prim.Native.Nat.{_≤_};
 ghost use lib.ListN.{length};
 ghost use Rattle.layout.specs.Layout.{longest};
-ghost use Rattle.record.specs.Reads.{Tells};
+ghost use Rattle.record.specs.Reads.{ReadsAs};
 ghost use Rattle.pairs.specs.Pair.{Optional, ReadsBeside, readingBeside};
 
 // Whether two records are accepted; else the first refusal and which graph it tells of.
@@ -26,7 +26,7 @@ pub fn read_one(
     graph: &mut [u16; layout::LONGEST],
 ) -> Verdict
     requires { ⌜ (n ≤ 64) × Optional n (now list) × (length (now graph) ≡ longest) ⌝ }
-    ensures { λ r. ⌜ Tells n (readingBeside n (now (table .entry)) (now (list .entry)) (now (bytes .entry))) r (now (graph .exit)) ⌝ }
+    ensures { λ r. ⌜ ReadsAs n (readingBeside n (now (table .entry)) (now (list .entry)) (now (bytes .entry))) r (now (graph .exit)) ⌝ }
     ensures { λ r. ⌜ length (now (graph .exit)) ≡ longest ⌝ }
 {
     if list.len() == 0 {

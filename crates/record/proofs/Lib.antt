@@ -12,6 +12,7 @@ pub mod Examples
 pub mod Counting
 pub mod Passes
 pub mod Words
-pub mod Judging
+pub mod Judged
+pub mod Parsed
 pub mod Allowed
 pub mod Obeying

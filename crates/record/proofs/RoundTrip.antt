@@ -17,7 +17,7 @@ use Rattle.graphs.specs.Graph.{Graph, Reached, Tells}
 use Rattle.graphs.specs.Rows.{Row, from, target}
 use Rattle.graphs.specs.Number.{countSome, canonical, written}
 use Rattle.graphs.specs.Large.{Ascending, linksIn}
-use Rattle.graphs.proofs.Form.Rules.{form-nonempty, form-links, form-labels, form-ascending, form-features}
+use Rattle.graphs.proofs.Form.Rules.{form-labels}
 use Rattle.lattice.specs.Label.{Label}
 use Rattle.decode.specs.Decode.{Taken, changed, takeTarget, takeLinks, takeRow, takeRows, bitOf, whole, decoded}
 use Rattle.decode.proofs.Decoded.{Proper}
@@ -191,8 +191,3 @@ module _ {A : Type 0} (same : A → A → Bool) (tells : Tells same) (g : Graph 
   form-types r m =
       let (v, reached, label) = form-labels same tells g narrow form e r m in
       subst (λ (l : Label). l .type < 128) (sym label) (types v reached)
-
-  pub written-decodes : decoded (encoded form) ≡ some form
-  written-decodes =
-      decode-encode form (form-nonempty same tells g narrow form e) (form-links same tells g narrow form e) form-types
-      (λ r m. (form-ascending same tells g narrow form e r m, form-features same tells g narrow form e r m))

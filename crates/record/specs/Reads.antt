@@ -23,12 +23,12 @@ pub record Holds (n : ℕ) (rows : List (Row Label)) (ws : List ℕ) : Type 0 wh
   pub typed : (v : ℕ) → v < size ws → Known n (labelAt ws v)
 
 -- the verdict of a reading, and beside an acceptance the graph
-pub record Tells (n : ℕ) (o : Reading) (v : Verdict) (ws : List ℕ) : Type 0 where
+pub record ReadsAs (n : ℕ) (o : Reading) (v : Verdict) (ws : List ℕ) : Type 0 where
   pub verdict : v ≡ verdictOf o
   pub graph : (rows : List (Row Label)) → o ≡ accepted rows → Holds n rows ws
 
 abbrev pub Reads : ℕ → List ℕ → Verdict → List ℕ → Type 0
-Reads n bytes v ws = Tells n (reading n bytes) v ws
+Reads n bytes v ws = ReadsAs n (reading n bytes) v ws
 
 -- rows whose record is accepted over a table with n types
 abbrev pub Acceptable : ℕ → List (Row Label) → Type 0

@@ -1,6 +1,7 @@
 // Reading records: a record's graph, or the first of refusals 4 to 7 that applies, each over the whole record before the next.
 
 pub mod appropriate;
+pub mod judging;
 pub mod peeling;
 pub mod reading;
 

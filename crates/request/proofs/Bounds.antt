@@ -41,7 +41,7 @@ use Rattle.request.specs.declared.parse.Operation.the-variants.{Generali
 use Rattle.request.specs.Request.{Request}
 use Rattle.request.specs.Line.{answered, answering, kindText, refusedText, replyText, sideText}
 use Rattle.request.specs.Words.{wordsFor}
-use Rattle.request.proofs.Texts.{decimal-short, refused-short, length-hexadecimal}
+use Rattle.text.proofs.Texts.{decimal-short, length-hexadecimal}
 
 -- A reply's length fits in the output.
 
@@ -150,6 +150,10 @@ answered-bounded q l e =
 side-short : (which : Side) → length (sideText which) ≤ 7
 side-short First = omega arith
 side-short Second = omega arith
+
+-- the text of a refusal has at most twelve bytes
+pub refused-short : (number : ℕ) → number < 10000 → length (refusedText number) ≤ 12
+refused-short number h = omega (arith, decimal-short number h)
 
 kind-short : (k : Kind) (out : List ℕ) → ((l : ℕ) → k ≡ kind.Length l → l ≤ 4854) → numberIn k < 256 → length (kindText k out) ≤ 9716
 kind-short (kind.Length l) out h small =

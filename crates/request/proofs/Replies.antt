@@ -16,10 +16,10 @@ use Rattle.request.specs.declared.parse.Operation.{Operation}
 use Rattle.request.specs.declared.parse.Parts.{Parts}
 use Rattle.request.specs.Request.{Request, requested}
 use Rattle.request.specs.Parse.{between, requestAt}
-use Rattle.request.specs.Text.{Puts}
+use Rattle.text.specs.Text.{Puts}
 use Rattle.request.specs.Line.{answered, answering, ended, kindText, lineFor, lineOf, printed, replyText, sideText, textOf}
 use Rattle.request.specs.Words.{wordsFor}
-use Rattle.request.proofs.Texts.{puts-then, puts-byte}
+use Rattle.text.proofs.Texts.{puts-then, puts-byte}
 use Rattle.request.proofs.Bounds.{words-short}
 
 -- the text of what an equal reply tells

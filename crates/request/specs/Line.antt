@@ -16,7 +16,7 @@ use Rattle.request.specs.declared.Printed.{Printed}
 use Rattle.request.specs.declared.parse.Operation.{Operation}
 use Rattle.request.specs.declared.parse.Operation.the-variants.{Generalize, Unify, Difference, Order}
 use Rattle.request.specs.Request.{Request, requested}
-use Rattle.request.specs.Text.{decimal, hexadecimal}
+use Rattle.text.specs.Text.{decimal, hexadecimal}
 
 -- `bad input`
 abbrev pub badInput : List ℕ

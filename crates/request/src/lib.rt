@@ -2,7 +2,6 @@
 
 pub mod parse;
 pub mod reply;
-pub mod text;
 
 use parse::Operation;
 use parse::Parsed;
@@ -15,7 +14,7 @@ ghost use lib.ListN.{length};
 ghost use Rattle.replies.specs.Reply.{resulting};
 ghost use Rattle.request.specs.Request.{requested};
 ghost use Rattle.request.specs.Parse.{AllInside, requestAt};
-ghost use Rattle.request.specs.Text.{Puts};
+ghost use Rattle.text.specs.Text.{Puts};
 ghost use Rattle.request.specs.Line.{answering, lineOf, printed};
 ghost use Rattle.request.specs.Words.{wordsFor};
 

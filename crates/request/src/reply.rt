@@ -1,18 +1,18 @@
 // A reply as the words of a line.
 
-use crate::text::put_decimal;
-use crate::text::put_hexadecimal;
-use crate::text::put_word;
 use replies::Reply;
 use replies::Side;
 use replies::kinds::Kind;
 use replies::kinds::kind_of;
+use text::put_decimal;
+use text::put_hexadecimal;
+use text::put_word;
 ghost use mathlib.Core.Path.{_≡_};
 ghost use mathlib.Core.List.{_++_};
 ghost use Prim.Native.Nat.{_+_, _<_, _≤_};
 ghost use lib.ListN.{length};
 ghost use Rattle.replies.specs.Reply.{Bounded};
-ghost use Rattle.request.specs.Text.{Puts};
+ghost use Rattle.text.specs.Text.{Puts};
 ghost use Rattle.request.specs.Line.{okText, refusedText, replyText, sideText};
 
 // A record and its length.

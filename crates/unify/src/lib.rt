@@ -1,8 +1,8 @@
 // Unification, document 01's combination: the nodes of both graphs are merged into classes, and the graph of the classes is written.
 // The nodes of the second graph are numbered after those of the first.
 
-pub mod beside;
 pub mod labels;
+pub mod operands;
 pub mod quotient;
 
 use encode::Written;
@@ -50,10 +50,10 @@ fn merge_within<'a>(
     let mut class = [0u16; 510];
     let second = a[0] as usize;
     let nodes = second + b[0] as usize;
-    let at = beside::copy_words(a, 0, 0, pool);
-    let used = beside::copy_words(b, at, second, pool);
-    beside::copy_spans(a, 0, 0, &mut start, &mut end);
-    beside::copy_spans(b, at, second, &mut start, &mut end);
+    let at = operands::copy_words(a, 0, 0, pool);
+    let used = operands::copy_words(b, at, second, pool);
+    operands::copy_spans(a, 0, 0, &mut start, &mut end);
+    operands::copy_spans(b, at, second, &mut start, &mut end);
     classes::close(nodes, second, &mut class, &mut start, &mut end, pool, used);
     let labels = labels::class_labels(n, sets, cells, a, b, &class);
     quotient::quotient(nodes, &class, &labels, &start, &end, pool, graph);
@@ -75,7 +75,7 @@ fn merge<'a>(
     requires { ⌜ length (now graph) ≡ classWords ⌝ }
     ensures { λ _. ⌜ Merges n (meetIn n (now (sets .entry)) (now (cells .entry))) (now (a .entry)) (now (b .entry)) (now (graph .exit)) ⌝ }
 {
-    let words = beside::word_count(a) + beside::word_count(b);
+    let words = operands::word_count(a) + operands::word_count(b);
     let nodes = a[0] as usize + b[0] as usize;
     if words + 64 * (nodes - 1) <= SMALL {
         let mut pool = [0u16; SMALL];
@@ -104,7 +104,7 @@ pub fn unify<'a>(
     let mut graph = [0u16; quotient::GRAPH];
     merge(n, sets, cells, a, b, &mut graph);
     let mut order = [0u16; 510];
-    if visits::cycle::has_cycle(&graph, &mut order) {
+    if visits::sorting::sort_targets_first(&graph, &mut order) {
         return Combined::Cycle;
     }
     if labels::has_clash(&graph) {

@@ -4,7 +4,7 @@ ghost use mathlib.Core.Path.{_≡_};
 ghost use Prim.Native.Nat.{ℕ, _≤_, _<_};
 ghost use lib.ListN.{length, getD};
 ghost use Rattle.layout.specs.Layout.{Sound};
-ghost use Rattle.visits.specs.Visiting.{Finds, Ready, below, seenOf};
+ghost use Rattle.visits.specs.Visiting.{Finds, Visitable, below, seenOf};
 ghost use Rattle.visits.specs.Walks.{Numbers};
 
 // The number of a node that has none yet.
@@ -20,7 +20,7 @@ fn visit<'a>(
     depth: usize,
     given: usize,
 ) -> usize
-    requires { ⌜ Ready (now graph) (now numbers) (now visited) v given ⌝ }
+    requires { ⌜ Visitable (now graph) (now numbers) (now visited) v given ⌝ }
     ensures { λ r. ⌜ Finds (now (graph .entry)) (below (now (graph .entry)) depth v (seenOf (now (visited .entry)) given)) r (now (numbers .exit)) (now (visited .exit)) ⌝ }
 {
     numbers[v] = given as u16;

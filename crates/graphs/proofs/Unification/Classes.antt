@@ -28,13 +28,8 @@ use Rattle.graphs.proofs.Search.{
   select-length,
   select-fewer-strict,
 }
+use Rattle.graphs.proofs.Product.{both-some}
 use Rattle.graphs.proofs.Unification.Related.{Related, roots, back, next, feat, Listing, Classes, related-constant, related-listed}
-
-both-some : {A B : Type 0} (o : Option A) (p : Option B) (v : A) (w : B) → both o p ≡ some (v, w) → (o ≡ some v) × (p ≡ some w)
-both-some none p v w e = none-some e
-both-some (some x) none v w e = none-some e
-both-some (some x) (some y) v w e =
-    (ap (λ z. some (z .0)) (some-injective e), ap (λ z. some (z .1)) (some-injective e))
 
 -- Merges.
 
@@ -124,7 +119,7 @@ module _ {N : Type 0} {same : N → N → Bool} (tells : Tells same) (link : N �
       let (q, e3) = cond-some (same (name x) (name y)) (split x y) (v, w) e2 in
       let (f, k, e4) = firstOf-some (λ f. apart same name (both (link x f) (link y f))) features (v, w) e3 in
       let (e5, d) = apart-some tells name (both (link x f) (link y f)) v w e4 in
-      let (a, b) = both-some (link x f) (link y f) v w e5 in
+      let (a, b) = both-some (link x f) (link y f) e5 in
       record {
         x = x;
         y = y;

@@ -7,7 +7,7 @@ use Rattle.difference.proofs.keep.kept_nodes.Tie as tie
 use Rattle.difference.proofs.keep.keep_below.Reads as keep-below-reads
 use Rattle.difference.proofs.keep.keep_entered.Reads as keep-entered-reads
 use Rattle.difference.proofs.keep.keep_labelled.Reads as keep-labelled-reads
-use Rattle.visits.proofs.cycle.has_cycle.Reads as has-cycle-reads
+use Rattle.visits.proofs.sorting.sort_targets_first.Reads as sort-targets-first-reads
 
 -- src/keep.rt:150:5
 element-write-keep : tie.Need-element-write-keep
@@ -30,12 +30,12 @@ keep-labelled-requires : tie.Need-keep-labelled-requires
 keep-labelled-requires c κs = search needs
 
 -- src/keep.rt:155:5
-has-cycle-requires : tie.Need-has-cycle-requires
-has-cycle-requires c κs = search needs
+sort-targets-first-requires : tie.Need-sort-targets-first-requires
+sort-targets-first-requires c κs = search needs
 
 -- src/keep.rt:156:5
 keep-below-requires : tie.Need-keep-below-requires
-keep-below-requires c κs = (ready-with (c .before .before .before .before .before .before .before .before .before .before .before .pre .1 .0 .0) (c .before .before .before .before .keep-labelled .ensures .long), sorted-from (c .before .before .has-cycle .ensures .0) (c .before .before .before .before .before .before .before .before .before .before .before .pre .1 .1), c .before .before .has-cycle .ensures .1)
+keep-below-requires c κs = (ready-with (c .before .before .before .before .before .before .before .before .before .before .before .pre .1 .0 .0) (c .before .before .before .before .keep-labelled .ensures .long), sorted-from (c .before .before .sort-targets-first .ensures .0) (c .before .before .before .before .before .before .before .before .before .before .before .pre .1 .1), c .before .before .sort-targets-first .ensures .1)
 
 -- src/keep.rt:137:1
 returns : tie.Need-returns
@@ -50,6 +50,6 @@ kept-nodes-spec =
     shared-slice-read-keep-labelled
     cast-keep-labelled
     keep-labelled-requires
-    has-cycle-requires
+    sort-targets-first-requires
     keep-below-requires
     returns)

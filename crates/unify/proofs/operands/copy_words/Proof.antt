@@ -9,8 +9,8 @@ use Rattle.unify.specs.Rows.{WordsCopied}
 use Rattle.layout.proofs.Order.{directory, rows-inside, row-low}
 use Rattle.layout.proofs.Sums.{words-few}
 use Rattle.unify.proofs.Copying.{words-start, words-step, words-done}
-use Rattle.unify.proofs.beside.copy_words.Statement.{statement}
-use Rattle.unify.proofs.beside.copy_words.Tie as tie
+use Rattle.unify.proofs.operands.copy_words.Statement.{statement}
+use Rattle.unify.proofs.operands.copy_words.Tie as tie
 use Rattle.std.proofs.num.wrapping_add_u16.Reads as wrapping-add-u16-reads
 
 abbrev Inv-loop : tie.InvT-loop

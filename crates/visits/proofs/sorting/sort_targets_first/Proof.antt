@@ -1,4 +1,4 @@
--- `has_cycle` meets its contract. In the sweep the nodes before v are finished and none is on the way down; the measure is the nodes left.
+-- `sort_targets_first` meets its contract. In the sweep the nodes before v are finished and none is on the way down; the measure is the nodes left.
 use mathlib.Core.Path.{refl}
 use mathlib.Core.Logic.{⊎-elim}
 use Prim.Native.Nat.{_-_}
@@ -6,8 +6,8 @@ use native.Mathlib.Omega.{arith}
 use Rattle.layout.proofs.Places.{sized}
 use Rattle.visits.proofs.Colouring.{Sweeping, sweeping-start, sweeping-entered, sweeping-over, sweeping-down, sweeping-sorts, looped-sorts}
 use borrow.Author.Needs.{needs}
-use Rattle.visits.proofs.cycle.has_cycle.Statement.{statement}
-use Rattle.visits.proofs.cycle.has_cycle.Tie as tie
+use Rattle.visits.proofs.sorting.sort_targets_first.Statement.{statement}
+use Rattle.visits.proofs.sorting.sort_targets_first.Tie as tie
 
 abbrev Inv-loop : tie.InvT-loop
 Inv-loop graph order₀ nodes colour₀ count₀ v₀ order colour count v =
@@ -55,8 +55,8 @@ loop-again c = ⊎-elim (λ w. rw (w .7, w .8, w .9) (sweeping-down (c .before .
 returns-2 : tie.Need-returns-2 Inv-loop μ-loop
 returns-2 c = (sweeping-sorts (c .before .loop .inv) (c .loop-test .left), c .before .loop .inv .placed .roomy)
 
-pub has-cycle-spec : {M : Type 1} → statement M
-has-cycle-spec =
+pub sort-targets-first-spec : {M : Type 1} → statement M
+sort-targets-first-spec =
     tie.close
     (tie.spec
     Inv-loop

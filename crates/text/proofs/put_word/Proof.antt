@@ -1,11 +1,11 @@
--- `text::put_word` meets its contract: in a turn the next byte is put.
+-- `put_word` meets its contract: in a turn the next byte is put.
 use Prim.Native.Nat.{_-_, _≤_}
 use native.Mathlib.Omega.{arith}
 use borrow.Author.Needs.{needs}
 use lib.ListN.{length, drop, drop-of-length-le}
-use Rattle.request.proofs.Texts.{Putting, put-begin, put-room, put-step, put-end, word-more}
-use Rattle.request.proofs.text.put_word.Statement.{statement}
-use Rattle.request.proofs.text.put_word.Tie as tie
+use Rattle.text.proofs.Texts.{Putting, put-begin, put-room, put-step, put-end, word-more}
+use Rattle.text.proofs.put_word.Statement.{statement}
+use Rattle.text.proofs.put_word.Tie as tie
 
 abbrev Inv-loop : tie.InvT-loop
 Inv-loop word at out₀ next₀ i₀ out next i = (i ≤ length word) × Putting word at out₀ (drop i word) next out

@@ -6,8 +6,8 @@ use Rattle.unify.specs.Rows.{SpansCopied}
 use Rattle.layout.proofs.Order.{directory, row-low}
 use Rattle.unify.proofs.Words.{row-near, row-near-end}
 use Rattle.unify.proofs.Copying.{spans-start, spans-step, spans-done}
-use Rattle.unify.proofs.beside.copy_spans.Statement.{statement}
-use Rattle.unify.proofs.beside.copy_spans.Tie as tie
+use Rattle.unify.proofs.operands.copy_spans.Statement.{statement}
+use Rattle.unify.proofs.operands.copy_spans.Tie as tie
 
 abbrev Inv-loop : tie.InvT-loop
 Inv-loop graph at shift start₀ end₀ nodes first v₀ start end v =

@@ -1,18 +1,18 @@
--- `text::put_decimal` meets its contract: the last digit behind those of the tenth part.
+-- `put_decimal` meets its contract: the last digit behind those of the tenth part.
 use mathlib.Core.Path.{ap}
 use Prim.Native.Nat.{ℕ, _<_}
 use native.Mathlib.Omega.{arith}
 use lib.ListN.{length}
-use Rattle.request.proofs.Texts.{decimal-one, decimal-length, puts-digit, puts-last}
+use Rattle.text.proofs.Texts.{decimal-one, decimal-length, puts-digit, puts-last}
 use borrow.Author.Needs.{needs}
 use borrow.Fn.Kinds.{In}
 use borrow.Fn.PlainCycle.{Measures, is, falls, and}
-use Rattle.request.proofs.text.put_decimal.Reads as put-decimal
-use Rattle.request.proofs.text.put_decimal.Kinds as put-decimal-kinds
-use Rattle.request.proofs.text.+put_decimal.Lts-put_decimal as put-decimal-lts
-use Rattle.request.proofs.text.digit.Reads as digit-reads
-use Rattle.request.proofs.text.+put_decimal.{statement}
-use Rattle.request.proofs.text.+put_decimal.Tie.{close}
+use Rattle.text.proofs.put_decimal.Reads as put-decimal
+use Rattle.text.proofs.put_decimal.Kinds as put-decimal-kinds
+use Rattle.text.proofs.+put_decimal.Lts-put_decimal as put-decimal-lts
+use Rattle.text.proofs.digit.Reads as digit-reads
+use Rattle.text.proofs.+put_decimal.{statement}
+use Rattle.text.proofs.+put_decimal.Tie.{close}
 
 abbrev μ-put-decimal : Measures 1 put-decimal-kinds.ps ℕ
 μ-put-decimal κs a = a .0

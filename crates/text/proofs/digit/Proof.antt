@@ -1,8 +1,8 @@
--- `text::digit` meets its contract.
+-- `digit` meets its contract.
 use borrow.Author.Needs.{needs}
 use borrow.Author.Tests.{lt-ltb, le-ltb}
-use Rattle.request.proofs.text.digit.Statement.{statement}
-use Rattle.request.proofs.text.digit.Tie as tie
+use Rattle.text.proofs.digit.Statement.{statement}
+use Rattle.text.proofs.digit.Tie as tie
 
 add-result : tie.Need-add-result
 add-result c = search needs

@@ -1,13 +1,13 @@
--- `text::put_hexadecimal` meets its contract: in a turn the two digits of the next byte are put.
+-- `put_hexadecimal` meets its contract: in a turn the two digits of the next byte are put.
 use mathlib.Core.Path.{refl}
 use Prim.Native.Nat.{_-_, _≤_}
 use native.Mathlib.Omega.{arith}
 use borrow.Author.Needs.{needs}
 use lib.ListN.{length, drop, length-set}
-use Rattle.request.specs.Text.{hexadecimal}
-use Rattle.request.proofs.Texts.{Putting, put-begin, put-room, put-two, put-end, hexadecimal-more, hexadecimal-done}
-use Rattle.request.proofs.text.put_hexadecimal.Statement.{statement}
-use Rattle.request.proofs.text.put_hexadecimal.Tie as tie
+use Rattle.text.specs.Text.{hexadecimal}
+use Rattle.text.proofs.Texts.{Putting, put-begin, put-room, put-two, put-end, hexadecimal-more, hexadecimal-done}
+use Rattle.text.proofs.put_hexadecimal.Statement.{statement}
+use Rattle.text.proofs.put_hexadecimal.Tie as tie
 
 abbrev Inv-loop : tie.InvT-loop
 Inv-loop bytes at out₀ next₀ i₀ out next i =

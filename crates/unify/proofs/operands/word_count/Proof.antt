@@ -3,8 +3,8 @@ use native.Mathlib.Omega.{arith}
 use Rattle.layout.specs.Layout.{size}
 use Rattle.layout.proofs.Order.{directory, row-low}
 use borrow.Author.Needs.{needs}
-use Rattle.unify.proofs.beside.word_count.Statement.{statement}
-use Rattle.unify.proofs.beside.word_count.Tie as tie
+use Rattle.unify.proofs.operands.word_count.Statement.{statement}
+use Rattle.unify.proofs.operands.word_count.Tie as tie
 
 shared-slice-read-nodes : tie.Need-shared-slice-read-nodes
 shared-slice-read-nodes c = omega (arith, directory (c .before .pre .sound .shaped))

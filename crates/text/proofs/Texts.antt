@@ -10,9 +10,8 @@ use borrow.Author.Tests.{lt-ltb, le-ltb, ltb-false}
 use lib.Dec.{ltb}
 use lib.ListN.{length, getD, set, drop, length-append, length-set, drop-of-length-le}
 use lib.Seq.{sets, drop-cons}
-use Rattle.encode.proofs.Stores.{sets-append}
-use Rattle.request.specs.Text.{Puts, decimal, decimalWithin, digitOf, hexadecimal}
-use Rattle.request.specs.Line.{refusedText}
+use Rattle.graphs.proofs.Stores.{sets-append}
+use Rattle.text.specs.Text.{Puts, decimal, decimalWithin, digitOf, hexadecimal}
 
 -- one text behind another
 pub puts-then : {a b : List ℕ} {at middle next : ℕ} {old part new : List ℕ} →
@@ -145,7 +144,3 @@ pub puts-digit : (n at d : ℕ) (old : List ℕ) → n < 10 → d ≡ digitOf n 
 puts-digit n at d old h e =
     subst (λ (text : List ℕ). Puts text at old (at + 1) (set old at d))
     (ap (λ (x : ℕ). x ∷ []) e ∙ sym (decimal-one n h)) (puts-byte at old d)
-
--- the text of a refusal has at most twelve bytes
-pub refused-short : (number : ℕ) → number < 10000 → length (refusedText number) ≤ 12
-refused-short number h = omega (arith, decimal-short number h)

@@ -1,9 +1,9 @@
-// Text: bytes put into the output from a place on; each function answers the next place.
+// Numbers and words as text: bytes put into the output from a place on; each function answers the next place.
 
 ghost use mathlib.Core.Path.{_≡_};
 ghost use Prim.Native.Nat.{_+_, _<_, _≤_};
 ghost use lib.ListN.{length};
-ghost use Rattle.request.specs.Text.{Puts, decimal, digitOf, hexadecimal};
+ghost use Rattle.text.specs.Text.{Puts, decimal, digitOf, hexadecimal};
 
 // A word.
 pub fn put_word(word: &[u8], at: usize, out: &mut [u8]) -> usize

@@ -1,4 +1,5 @@
-// Acyclicity: depth-first over all nodes with three colours. It also yields the nodes in an order with targets first.
+// Sorting the nodes of a graph with targets first, which fails exactly where there is a cycle: depth-first over all nodes with three
+// colours.
 
 ghost use lib.ListN.{length};
 ghost use mathlib.Core.Path.{_≡_};
@@ -51,8 +52,8 @@ fn finish<'a>(
     Leaving::Count(count + 1)
 }
 
-// Whether some node reaches itself; if none does, `order` holds the nodes with targets first.
-pub fn has_cycle<'a>(graph: &'a [u16], order: &mut [u16; 510]) -> bool
+// Sorts the nodes into `order` with targets first. Answers whether there is a cycle, which leaves them unsorted.
+pub fn sort_targets_first<'a>(graph: &'a [u16], order: &mut [u16; 510]) -> bool
     requires { ⌜ Sound (now graph) ⌝ }
     requires { ⌜ length (now order) ≡ 510 ⌝ }
     ensures { λ r. ⌜ Sorts (now (graph .entry)) (now (order .exit)) r ⌝ }

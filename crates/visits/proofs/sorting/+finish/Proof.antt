@@ -22,11 +22,11 @@ use Rattle.visits.proofs.Colouring.{
   finishes,
   leaves-back,
 }
-use Rattle.visits.proofs.cycle.finish.Reads as finish
-use Rattle.visits.proofs.cycle.finish.Kinds as kinds
-use Rattle.visits.proofs.cycle.+finish.Lts-finish as lts
-use Rattle.visits.proofs.cycle.+finish.{statement}
-use Rattle.visits.proofs.cycle.+finish.Tie.{close}
+use Rattle.visits.proofs.sorting.finish.Reads as finish
+use Rattle.visits.proofs.sorting.finish.Kinds as kinds
+use Rattle.visits.proofs.sorting.+finish.Lts-finish as lts
+use Rattle.visits.proofs.sorting.+finish.{statement}
+use Rattle.visits.proofs.sorting.+finish.Tie.{close}
 
 abbrev μ-finish : Measures 3 kinds.ps ℕ
 μ-finish κs a = whites (size (a .0 .now)) (a .1 .0 .now)
