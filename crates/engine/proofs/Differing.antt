@@ -39,8 +39,8 @@ use Rattle.subsume.specs.declared.Order.{Order}
 use Rattle.subsume.specs.declared.Order.the-variants as order
 use Rattle.subsume.specs.Promise.{Orders}
 use Rattle.difference.specs.Promise.{wantedAlong, allWantedAlong, differenceAlong, reasonsAlong}
-use Rattle.groups.specs.declared.reading.LinkOrder.{LinkOrder}
-use Rattle.groups.specs.Reading.{isReadingOrder, earlierBy}
+use Rattle.groups.specs.declared.link_orders.LinkOrder.{LinkOrder}
+use Rattle.groups.specs.LinkOrders.{isReadingOrder, earlierBy}
 use Rattle.groups.specs.Marks.{Marked}
 use Rattle.groups.proofs.Ordering.{earlier-by-order}
 use Rattle.difference.specs.Asked.{Asked, Prepared}

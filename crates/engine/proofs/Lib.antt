@@ -2,7 +2,6 @@
 pub mod Readings
 pub mod Replies
 pub mod Listed
-pub mod LinkOrders
 pub mod Tables
 pub mod Orders
 pub mod Over

@@ -14,7 +14,7 @@ use Rattle.lattice.specs.Label.{Label}
 use Rattle.lattice.specs.Reply.{opened}
 use Rattle.encode.specs.Encode.{writtenOut}
 use Rattle.record.specs.Read.{graphOfRows, reading}
-use Rattle.groups.specs.Reading.{isReadingOrder}
+use Rattle.groups.specs.LinkOrders.{isReadingOrder}
 use Rattle.difference.specs.Promise.{wantedAlong, allWantedAlong, differenceAlong}
 use Rattle.replies.specs.declared.Reply.the-variants.{NotBelow, NoWantedType, ReadingOrder}
 use Rattle.replies.specs.Reply.{Result, resultOf, refusing}

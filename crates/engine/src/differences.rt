@@ -2,7 +2,7 @@
 // second, which is numbered as written before it is compared.
 
 use crate::PairVerdict;
-use groups::reading::LinkOrder;
+use groups::link_orders::LinkOrder;
 use replies::Reply;
 use subsume::Order;
 ghost use mathlib.Core.Path.{_≡_};
@@ -10,7 +10,7 @@ ghost use mathlib.Core.Bool.{true};
 ghost use lib.ListN.{length};
 ghost use Rattle.lattice.specs.Table.{accepted};
 ghost use Rattle.layout.specs.Layout.{longest, rowsOf};
-ghost use Rattle.groups.specs.Reading.{Fitting, earlierBy};
+ghost use Rattle.groups.specs.LinkOrders.{Fitting, earlierBy};
 ghost use Rattle.engine.specs.Difference.{differed};
 ghost use Rattle.engine.specs.Explained.{explainedResult};
 ghost use Rattle.replies.specs.Reply.{resulting};

@@ -27,7 +27,6 @@ ghost use Rattle.engine.specs.Explained.{explaining, explainingBy, expla
 
 mod both;
 mod differences;
-mod link_orders;
 
 // Whether two records are accepted; else the first refusal and which graph it tells of.
 pub enum PairVerdict {
@@ -298,7 +297,7 @@ pub fn difference(n: usize, table: &[u8], first: &[u8], second: &[u8], out: &mut
     match opened {
         Opened::Refused(fault) => Reply::Table(fault),
         Opened::Accepted => {
-            let order = link_orders::by_number();
+            let order = groups::link_orders::by_number();
             differences::difference_over(n, table, order, first, second, out)
         }
     }
@@ -319,10 +318,10 @@ pub fn difference_by(
     match opened {
         Opened::Refused(fault) => Reply::Table(fault),
         Opened::Accepted => {
-            if !groups::reading::is_reading_order(list) {
+            if !groups::link_orders::is_reading_order(list) {
                 return Reply::ReadingOrder;
             }
-            let order = link_orders::by_list(list);
+            let order = groups::link_orders::by_list(list);
             differences::difference_over(n, table, order, first, second, out)
         }
     }
@@ -345,7 +344,7 @@ pub fn difference_explained(
     match opened {
         Opened::Refused(fault) => Reply::Table(fault),
         Opened::Accepted => {
-            let order = link_orders::by_number();
+            let order = groups::link_orders::by_number();
             differences::explain_over(n, table, order, first, second, out, reasons)
         }
     }
@@ -368,10 +367,10 @@ pub fn difference_explained_by(
     match opened {
         Opened::Refused(fault) => Reply::Table(fault),
         Opened::Accepted => {
-            if !groups::reading::is_reading_order(list) {
+            if !groups::link_orders::is_reading_order(list) {
                 return Reply::ReadingOrder;
             }
-            let order = link_orders::by_list(list);
+            let order = groups::link_orders::by_list(list);
             differences::explain_over(n, table, order, first, second, out, reasons)
         }
     }

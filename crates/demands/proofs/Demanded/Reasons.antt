@@ -31,7 +31,7 @@ use Rattle.record.specs.declared.GraphFault.{GraphFault}
 use Rattle.record.specs.declared.GraphFault.the-variants as faults
 use Rattle.record.specs.Read.{Reading, refused, accepted, reading, graphOfRows, graphNumber}
 use Rattle.record.proofs.Accepted.{Rules, rules-of-any-size, rules-nodes}
-use Rattle.groups.specs.Reading.{isReadingOrder}
+use Rattle.groups.specs.LinkOrders.{isReadingOrder}
 use Rattle.difference.specs.Promise.{differenceAlong, reasonsAlong}
 use Rattle.replies.specs.declared.Reply.{Reply}
 use Rattle.replies.specs.declared.Reply.the-variants as replies

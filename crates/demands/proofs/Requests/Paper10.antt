@@ -22,7 +22,7 @@ use Rattle.lattice.specs.Reply.{opened}
 use Rattle.lattice.specs.Labels.{tableLabels, SomeUnwanted}
 use Rattle.record.specs.declared.GraphFault.{GraphFault}
 use Rattle.record.specs.Read.{reading, refused, accepted, graphOfRows}
-use Rattle.groups.specs.Reading.{isReadingOrder, EachOnce}
+use Rattle.groups.specs.LinkOrders.{isReadingOrder, EachOnce}
 use Rattle.groups.proofs.ReadingOrder as Reading
 use Rattle.replies.specs.declared.Side.the-variants.{First, Second}
 use Rattle.replies.specs.declared.Reply.{Reply}

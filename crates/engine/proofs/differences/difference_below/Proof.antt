@@ -5,7 +5,7 @@ use borrow.Author.Tests.{not-true, not-false}
 use lib.ListN.{length-replicate}
 use Rattle.lattice.proofs.Laws.{accepted-size}
 use Rattle.layout.specs.Layout.{longest}
-use Rattle.groups.specs.Reading.{earlierBy}
+use Rattle.groups.specs.LinkOrders.{earlierBy}
 use Rattle.difference.proofs.Result.{answers-wanted, lying-words}
 use Rattle.engine.proofs.Readings.{ready}
 use Rattle.engine.proofs.Differing.{loaded-accepts, ready-below, prepared-below, differed-refused, differed-unwanted, differed-as}

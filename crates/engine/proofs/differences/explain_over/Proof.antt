@@ -2,7 +2,7 @@
 use Prim.Native.Nat.{ℕ}
 use native.Mathlib.Omega.{arith}
 use lib.ListN.{length-replicate}
-use Rattle.groups.specs.Reading.{earlierBy}
+use Rattle.groups.specs.LinkOrders.{earlierBy}
 use Rattle.engine.proofs.Readings.{both-accept}
 use Rattle.engine.proofs.Differing.{accepts-loaded, renumbered}
 use Rattle.engine.proofs.Explaining.{explain-refused, explain-both}

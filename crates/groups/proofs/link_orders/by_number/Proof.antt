@@ -1,7 +1,7 @@
 -- `by_number` meets its contract: the list is not asked.
-use Rattle.engine.proofs.LinkOrders.{number-order}
-use Rattle.engine.proofs.link_orders.by_number.Statement.{statement}
-use Rattle.engine.proofs.link_orders.by_number.Tie as tie
+use Rattle.groups.proofs.LinkOrders.{number-order}
+use Rattle.groups.proofs.link_orders.by_number.Statement.{statement}
+use Rattle.groups.proofs.link_orders.by_number.Tie as tie
 
 returns : tie.Need-returns
 returns c = number-order _

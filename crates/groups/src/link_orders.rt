@@ -5,8 +5,8 @@ ghost use mathlib.Core.Path.{_≡_};
 ghost use Prim.Native.Nat.{ℕ, _<_};
 ghost use mathlib.Core.Bool.{true};
 ghost use lib.ListN.{length, getD};
-ghost use Rattle.graphs.specs.Difference.{placeIn};
-ghost use Rattle.groups.specs.Reading.{Fitting, Ranks, isReadingOrder};
+ghost use Rattle.graphs.specs.Difference.{byNumber, byReading, placeIn};
+ghost use Rattle.groups.specs.LinkOrders.{Fitting, Ranks, earlierBy, isReadingOrder};
 
 // The number of features.
 pub const FEATURES: usize = 64;
@@ -38,6 +38,33 @@ pub fn is_reading_order(list: &[u8]) -> bool
         i += 1;
     }
     true
+}
+
+// "Links are ordered by parent number, then feature."
+pub fn by_number() -> LinkOrder
+    ensures { λ r. ⌜ Fitting r × (earlierBy r ≡ byNumber) ⌝ }
+{
+    LinkOrder {
+        listed: false,
+        list: [0u8; FEATURES],
+    }
+}
+
+// "By the feature's place in the list, then by parent number", for a list of all 64 features, each once.
+pub fn by_list(list: &[u8]) -> LinkOrder
+    requires { ⌜ isReadingOrder (now list) ≡ true ⌝ }
+    ensures { λ r. ⌜ Fitting r × (earlierBy r ≡ byReading (now (list .entry))) ⌝ }
+{
+    let mut copy = [0u8; FEATURES];
+    let mut i = 0;
+    while i < FEATURES {
+        copy[i] = list[i];
+        i += 1;
+    }
+    LinkOrder {
+        listed: true,
+        list: copy,
+    }
 }
 
 // The place of each feature in a list that has each once.
