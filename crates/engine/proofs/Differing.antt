@@ -58,7 +58,7 @@ use Rattle.engine.specs.Renumbering.{Acceptable, Loaded, Comparable}
 use Rattle.engine.proofs.Readings.{Accepts, accepts-rules, accepts-reached, accepts-recorded, both-refused, both-next}
 use Rattle.engine.proofs.Replies.{table-refused, table-accepted}
 use Rattle.engine.proofs.Listed.{list-passed, differing-checked}
-use Rattle.engine.proofs.Orders.{order-test}
+use Rattle.record.proofs.Ordered.{order-test}
 use Rattle.engine.proofs.Over.{over-only}
 
 -- an accepted record's words hold acceptable rows

@@ -23,7 +23,7 @@ use Rattle.lattice.specs.Labels.{tableLabels}
 use Rattle.record.specs.Read.{graphOfRows}
 use Rattle.record.proofs.Accepted.{Rules, rules-of-any-size}
 use Rattle.engine.specs.Difference.{firstAt, over}
-use Rattle.engine.proofs.Orders.{short}
+use Rattle.record.proofs.Ordered.{short}
 
 -- the first pair with y stands in the list
 first-listed : (y : ℕ) (xs : List (ℕ × ℕ)) (x : ℕ) → List·Memᴰ (x, y) xs → List·Memᴰ (firstAt y xs, y) xs

@@ -18,7 +18,8 @@ use Rattle.groups.specs.LinkOrders.{isReadingOrder}
 use Rattle.difference.specs.Promise.{wantedAlong, allWantedAlong, differenceAlong}
 use Rattle.replies.specs.declared.Reply.the-variants.{NotBelow, NoWantedType, ReadingOrder}
 use Rattle.replies.specs.Reply.{Result, resultOf, refusing}
-use Rattle.engine.specs.Reply.{checked, checkedList, readBoth, rowsBelow}
+use Rattle.subsume.specs.Promise.{rowsBelow}
+use Rattle.engine.specs.Reply.{checked, checkedList, readBoth}
 
 -- the node that the first pair with y has beside it
 unfoldable pub firstAt : ℕ → List (ℕ × ℕ) → ℕ

@@ -3,10 +3,8 @@ use mathlib.Core.Bool.{Bool, true, false, cond}
 use mathlib.Core.List.{List}
 use Prim.Native.Nat.{ℕ}
 use lib.Dec.{eqb}
-use lib.ListN.{length}
 use Rattle.graphs.specs.Rows.{Row}
 use Rattle.graphs.specs.Number.{canonical}
-use Rattle.graphs.specs.Order.{subsumes}
 use Rattle.graphs.specs.Generalize.{generalization}
 use Rattle.lattice.specs.Label.{Label}
 use Rattle.lattice.specs.declared.Opened.{Opened}
@@ -16,8 +14,7 @@ use Rattle.lattice.specs.Labels.{tableLabels}
 use Rattle.encode.specs.Encode.{writtenOut}
 use Rattle.record.specs.Read as graph
 use Rattle.generalize.specs.Pairs.{samePair}
-use Rattle.subsume.specs.declared.Order.{Order}
-use Rattle.subsume.specs.declared.Order.the-variants as order
+use Rattle.subsume.specs.Promise.{rowsBelow}
 use Rattle.replies.specs.declared.Side.the-variants.{First, Second}
 use Rattle.replies.specs.declared.Reply.{Reply}
 use Rattle.replies.specs.declared.Reply.the-variants.{Same, Under, Above, Neither, Table, Graph}
@@ -51,15 +48,6 @@ rewritten (graph.accepted rows) out = rewrittenRows out rows
 -- "Rewriting one record in written form is a call too": the table's 1 to 3, the graph's 4 to 7, then 8
 unfoldable pub rewriting : ℕ → List ℕ → List ℕ → List ℕ → Result
 rewriting n t bytes out = checked (λ r. refusing r out) (table.opened n t) (rewritten (graph.reading n bytes) out)
-
--- whether the first of two graphs is below the second
-abbrev pub rowsBelow : ℕ → List ℕ → List (Row Label) → List (Row Label) → Bool
-rowsBelow n t s g = subsumes (tableLabels n t) eqb eqb (graph.graphOfRows s) (graph.graphOfRows g) (length g)
-
--- the same, as a walk answers it
-abbrev pub isBelow : Order → Bool
-isBelow order.Below = true
-isBelow order.NotBelow = false
 
 -- "one of four: same, under, above, neither, seen from the first graph": whether it is below the second, and the second below it
 abbrev pub compared : Bool → Bool → Reply

@@ -6,6 +6,7 @@ pub mod Unranged
 pub mod Nodes
 pub mod Reaching
 pub mod Accepted
+pub mod Ordered
 pub mod Rewritten
 pub mod Theorems
 pub mod Examples

@@ -35,7 +35,7 @@ use Rattle.replies.specs.Reply.{Result, refusal, refusing, resultOf}
 use Rattle.engine.specs.Unification.{unifying}
 use Rattle.engine.specs.Difference.{allWanted, numbered, differenceRows, differed, differedRows, differing, differingBy}
 use Rattle.demands.specs.Demand.{Given, Large, Writes, MoreGeneral, remainder, Restores, Difference}
-use Rattle.engine.proofs.Orders.{order-test}
+use Rattle.record.proofs.Ordered.{order-test}
 use Rattle.demands.proofs.Results.{resultFor, rewriting-is, result-writes, seven-bits}
 use Rattle.demands.proofs.Demanded.Order.{order-exact, above-exact}
 use Rattle.demands.proofs.Demanded.Combination.{other-refusal, greatest-result, written-combination}

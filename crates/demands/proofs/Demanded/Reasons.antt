@@ -38,7 +38,8 @@ use Rattle.replies.specs.declared.Reply.the-variants as replies
 use Rattle.replies.specs.declared.kinds.Kind.{Kind}
 use Rattle.replies.specs.declared.kinds.Kind.the-variants as kind
 use Rattle.replies.specs.Reply.{Result, kindOf, refusal, resultOf, refusing, lengthIn, lengthOf}
-use Rattle.engine.specs.Reply.{checked, readBoth, rowsBelow}
+use Rattle.subsume.specs.Promise.{rowsBelow}
+use Rattle.engine.specs.Reply.{checked, readBoth}
 use Rattle.engine.specs.Difference.{wantedAt, allWanted, numbered, differenceRows, differed, differedRows, differing, differingBy}
 use Rattle.engine.specs.Pair.{parting}
 use Rattle.demands.specs.Demand.{Given, remainder}
