@@ -1,6 +1,3 @@
 -- Laws of the difference.
 pub mod Wanting
-pub mod Keeping
-pub mod Thinning
-pub mod Explaining
 pub mod Result

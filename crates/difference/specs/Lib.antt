@@ -2,6 +2,3 @@
 pub mod Wanted
 pub mod Asked
 pub mod Promise
-pub mod Keeping
-pub mod Thinning
-pub mod Explaining

@@ -1,9 +1,6 @@
 // The difference of g and s, for s below g (document 01, "Difference"): the links of s that lead their group and enter a kept
 // node, between nodes that carry their wanted labels. Which links lead their group is marked before, by `groups`.
 
-pub mod keep;
-pub mod reasons;
-pub mod rows;
 pub mod wanted;
 
 use encode::Marked;
@@ -12,7 +9,7 @@ ghost use mathlib.Core.Path.{_≡_};
 ghost use lib.ListN.{length};
 ghost use Rattle.layout.specs.Layout.{longest};
 ghost use Rattle.difference.specs.Asked.{Preparable};
-ghost use Rattle.difference.specs.Explaining.{Made};
+ghost use Rattle.keeping.specs.Explaining.{Made};
 ghost use Rattle.difference.specs.Promise.{Differs, Reasoned};
 
 // Fills words with the rows of the difference: `marks` has the marks of the links of s, and `labels` the wanted label of each node of s.
@@ -28,8 +25,8 @@ fn make<'a>(
     ensures { λ _. ⌜ Made n (now (table .entry)) (now (s .entry)) (now (marks .entry)) (now (labels .entry)) (now (words .exit)) ⌝ }
 {
     let mut keep = [0u8; 255];
-    keep::kept_nodes(n, table, s, marks, labels, &mut keep);
-    rows::kept_links(s, marks, &keep, labels, words)
+    keeping::keep::kept_nodes(n, table, s, marks, labels, &mut keep);
+    keeping::rows::kept_links(s, marks, &keep, labels, words)
 }
 
 // Writes the difference. Its rows are made in `words`.
@@ -65,6 +62,6 @@ pub fn explain<'a>(
     let mut words = [layout::BLANK; layout::LONGEST];
     make(n, table, s, marks, labels, &mut words);
     let mut reasons = [0u8; layout::LONGEST];
-    reasons::explain_links(s, marks, &words, &mut reasons);
+    keeping::reasons::explain_links(s, marks, &words, &mut reasons);
     encode::canonical::write_marked(&words, &reasons, out, beside)
 }

@@ -9,7 +9,7 @@ use Rattle.graphs.specs.Number.{Canonical}
 use Rattle.lattice.specs.Label.{Label}
 use Rattle.layout.specs.Layout.{longest}
 use Rattle.encode.specs.Marks.{markedOut}
-use Rattle.difference.proofs.Result.{ready-words, made-sound, made-canonical, made-copied, made-reasons}
+use Rattle.difference.proofs.Result.{markable-words, made-sound, made-canonical, made-copied, made-reasons}
 use Rattle.difference.proofs.explain.Statement.{statement}
 use Rattle.difference.proofs.explain.Tie as tie
 
@@ -22,7 +22,7 @@ slice-aggregate-explain-links c = search needs
 explain-links-requires : tie.Need-explain-links-requires
 explain-links-requires c κs =
     let given = c .before .before .before .before .before .before .before .before .pre .3 in (
-      λ meeting h. ready-words (given .asked) (given .marked .stands .long) h,
+      λ meeting h. markable-words (given .asked) (given .marked .stands .long) h,
       (made-copied given (c .before .before .make .ensures), length-replicate {A = ℕ} longest 0),
     )
 
