@@ -2,3 +2,6 @@
 pub mod Wanted
 pub mod Asked
 pub mod Promise
+pub mod Comparable
+pub mod Difference
+pub mod Explained

@@ -1,65 +1,40 @@
--- From what renumbering, the order and the difference promise to what the call replies: s in written form has the rows that renumbering
--- reads, and the difference along the order's node map is the difference.
-use mathlib.Core.Path.{_≡_, refl, sym, _∙_, ap, ap₂, subst, fun-ext}
-use mathlib.Core.Bool.{Bool, true, false, cond}
+-- From what renumbering and the difference promise to what the call replies: s in written form has the rows that renumbering reads.
+use mathlib.Core.Path.{_≡_, sym, _∙_, ap, subst}
+use mathlib.Core.Bool.{Bool, true}
 use mathlib.Core.List.{List, [], List·Memᴰ}
-use mathlib.Core.Option.{Option, Option·getD}
 use Prim.Native.Nat.{ℕ, _<_}
 use native.Mathlib.Omega.{arith}
 use lib.Dec.{eqb}
-use lib.ListN.{length, getD}
-use Rattle.graphs.specs.Graph.{Graph as TypedGraph}
-use Rattle.graphs.specs.Map.{NodeMap}
-use Rattle.graphs.specs.Rows.{Row, from}
+use Rattle.graphs.specs.Rows.{Row}
 use Rattle.graphs.specs.Number.{canonical}
-use Rattle.graphs.specs.Order.{subsumes}
 use Rattle.graphs.specs.Difference.{Link, byNumber, byReading}
-use Rattle.graphs.specs.Reasons.{alongLinks, writtenOrder}
-use Rattle.graphs.proofs.Lists.{from-range, tells-eqb}
-use Rattle.graphs.proofs.Below.{map-below}
-use Rattle.graphs.proofs.Difference.Agree.{meetOver-agree, reason-agree, difference-agree}
-use Rattle.lattice.specs.Label.{Label, noLabel}
+use Rattle.graphs.proofs.Lists.{tells-eqb}
+use Rattle.lattice.specs.Label.{Label}
 use Rattle.layout.specs.Layout.{size, labelAt, linksAt, graphOfRows, rowsOf, graphIn}
 use Rattle.layout.proofs.Rows.{rows-member}
 use Rattle.lattice.specs.declared.TableFault.{TableFault}
 use Rattle.lattice.specs.declared.Opened.the-variants as opened
-use Rattle.lattice.specs.Table as types
 use Rattle.lattice.specs.Reply as table
-use Rattle.lattice.specs.Labels.{Known, tableLabels, wantedLabel}
-use Rattle.lattice.proofs.Every.{every-same}
-use Rattle.lattice.proofs.Laws.{accepted-size}
-use Rattle.encode.specs.declared.Written.{Written}
-use Rattle.encode.specs.Encode.{encoded, writtenOut, yielding}
+use Rattle.lattice.specs.Labels.{Known}
+use Rattle.encode.specs.Encode.{encoded}
 use Rattle.encode.specs.Copies.{Renumbers}
 use Rattle.record.specs.declared.GraphFault.{GraphFault}
 use Rattle.record.specs.Read.{reading}
 use Rattle.record.proofs.Accepted.{Rules, accepted-rules, rules-of-any-size, rules-types, rules-fit}
 use Rattle.record.proofs.Rewritten.{form-rules, rules-read}
-use Rattle.subsume.specs.declared.Order.{Order}
-use Rattle.subsume.specs.declared.Order.the-variants as order
-use Rattle.subsume.specs.Promise.{Orders}
-use Rattle.difference.specs.Promise.{wantedAlong, allWantedAlong, differenceAlong, reasonsAlong}
-use Rattle.groups.specs.declared.link_orders.LinkOrder.{LinkOrder}
-use Rattle.groups.specs.LinkOrders.{isReadingOrder, earlierBy}
-use Rattle.groups.specs.Marks.{Marked}
-use Rattle.groups.proofs.Ordering.{earlier-by-order}
-use Rattle.difference.specs.Asked.{Asked, Prepared}
-use Rattle.difference.specs.Wanted.{WantsAll}
+use Rattle.groups.specs.LinkOrders.{isReadingOrder}
+use Rattle.difference.specs.Comparable.{Acceptable, Loaded}
+use Rattle.difference.specs.Difference.{differed, numbered, differedRows}
 use Rattle.replies.specs.declared.Side.{Side}
 use Rattle.engine.specs.declared.PairVerdict.{PairVerdict}
 use Rattle.engine.specs.declared.PairVerdict.the-variants as pair
-use Rattle.replies.specs.declared.Reply.{Reply}
-use Rattle.replies.specs.declared.Reply.the-variants.{Table, Graph, NotBelow, NoWantedType}
-use Rattle.replies.specs.Reply.{Result, resulting, resultOf, replyOf, refusing}
-use Rattle.engine.specs.Difference.{over, wantedAt, allWanted, differenceRows, differed, numbered, differedRows, differing, differingBy}
-use Rattle.engine.specs.Explained.{reasonsRows}
+use Rattle.replies.specs.declared.Reply.the-variants.{Table, Graph}
+use Rattle.replies.specs.Reply.{Result, resulting, refusing}
+use Rattle.engine.specs.Difference.{differing, differingBy}
 use Rattle.engine.specs.Pair.{ReadsBoth, parting}
-use Rattle.engine.specs.Renumbering.{Acceptable, Loaded, Comparable}
-use Rattle.engine.proofs.Readings.{Accepts, accepts-rules, accepts-reached, accepts-recorded, both-refused, both-next}
+use Rattle.engine.proofs.Readings.{Accepts, accepts-rules, both-refused, both-next}
 use Rattle.engine.proofs.Replies.{table-refused, table-accepted}
 use Rattle.engine.proofs.Listed.{list-passed, differing-checked}
-use Rattle.record.proofs.Ordered.{order-test}
-use Rattle.engine.proofs.Over.{over-only}
 
 -- an accepted record's words hold acceptable rows
 pub accepts-loaded : {n : ℕ} {bytes ws : List ℕ} → Accepts n bytes ws → Loaded n ws
@@ -70,10 +45,6 @@ accepts-loaded {n} {ws = ws} given =
       small = given .small;
       typed = given .typed;
     }
-
--- and such words are those of an accepted record
-pub loaded-accepts : {n : ℕ} {ws : List ℕ} → Loaded n ws → Accepts n (encoded (rowsOf ws)) ws
-loaded-accepts given = record { is = given .acceptable; sound = given .sound; small = given .small; typed = given .typed }
 
 -- Renumbering.
 
@@ -108,117 +79,6 @@ renumbered n g given {ws = ws} holds =
           };
       rows-are = same ∙ sym (ap numbered fits);
     }
-
--- The difference along a node map.
-
-module _ (n : ℕ) (t : List ℕ) (s g : List (Row Label)) (map : List ℕ) (general : Rules n g)
-    (along : NodeMap (tableLabels n t) (graphOfRows s) (graphOfRows g) (λ y. getD map y 0)) where
-  lies : (y : ℕ) → y < length g → getD map y 0 ≡ over s g y
-  lies y h = sym (over-only n t g s general (map-below along) (λ y. getD map y 0) along y h)
-
-  -- the wanted labels along it are the wanted labels
-  wanted-along : (v : ℕ) → wantedAlong n t s g (λ y. getD map y 0) v ≡ wantedAt n t s g v
-  unfolding wantedAlong
-  wanted-along v =
-      ap (wantedLabel n t (graphOfRows s .label v))
-      (meetOver-agree (tableLabels n t) eqb (graphOfRows g) (from 0 (length g)) (λ y. getD map y 0) (over s g)
-      (λ y m. lies y (omega (arith, from-range 0 (length g) y m))) v)
-
-  all-along : allWantedAlong n t s g (λ y. getD map y 0) ≡ allWanted n t s g
-  unfolding allWantedAlong
-  all-along =
-      every-same (λ v. types.found (wantedAlong n t s g (λ y. getD map y 0) v)) (λ v. types.found (wantedAt n t s g v)) (length s)
-      (λ v _. ap types.found (wanted-along v))
-
-  -- and the difference along it is the difference
-  difference-along : (earlier : Link ℕ → Link ℕ → Bool) → differenceAlong earlier n t s g (λ y. getD map y 0) ≡ differenceRows earlier n t g s
-  unfolding differenceAlong
-  difference-along earlier =
-      difference-agree (tableLabels n t) eqb eqb earlier (graphOfRows s) (from 0 (length s)) (graphOfRows g) (from 0 (length g))
-      (λ y. getD map y 0) (over s g) (λ v. Option·getD (wantedAlong n t s g (λ y. getD map y 0) v) noLabel)
-      (λ v. Option·getD (wantedAt n t s g v) noLabel) (λ y m. lies y (omega (arith, from-range 0 (length g) y m)))
-      (λ v. ap (λ (o : Option Label). Option·getD o noLabel) (wanted-along v))
-
-  -- with its reasons
-  pub reasons-along : (earlier : Link ℕ → Link ℕ → Bool) → reasonsAlong earlier n t s g (λ y. getD map y 0) ≡ reasonsRows earlier n t g s
-  unfolding reasonsAlong
-  reasons-along earlier =
-      ap₂ (λ (d : TypedGraph Label ℕ) (value : Link ℕ → ℕ → ℕ). alongLinks d value (writtenOrder eqb d)) (difference-along earlier)
-      (fun-ext λ l. fun-ext λ v.
-      reason-agree eqb eqb (graphOfRows s) (from 0 (length s)) (graphOfRows g) (from 0 (length g)) (λ y. getD map y 0) (over s g)
-      (λ y m. lies y (omega (arith, from-range 0 (length g) y m))) earlier l v)
-
--- what the difference asks
-pub ready-below : (n : ℕ) (t g s : List ℕ) {answer : Order} {map : List ℕ} → Comparable n t g s →
-    Orders n t (rowsOf s) (rowsOf g) answer map → answer ≡ order.Below → Asked n t g s map
-ready-below n t g s given orders below =
-    let few = accepted-size n t (given .accepts) .1 in
-    let one = loaded-accepts (given .general) in
-    let other = loaded-accepts (given .specific) in
-    record {
-      ok = given .accepts;
-      upper = accepts-recorded few one;
-      lower = accepts-recorded few other;
-      short = given .short;
-      upper-typed = one .typed;
-      lower-typed = other .typed;
-      upper-reached = accepts-reached one;
-      lower-reached = accepts-reached other;
-      any-size = rules-of-any-size n (rowsOf s) (accepts-rules other) t .any-size;
-      lies = orders .yes-stands below;
-    }
-
--- and what writing it asks
-pub prepared-below : (order : LinkOrder) (n : ℕ) (t g s : List ℕ) {map marks labels : List ℕ} {wanted : Bool} → Asked n t g s map →
-    WantsAll n t s g map wanted labels → wanted ≡ true → Marked (earlierBy order) s g map marks →
-    Prepared (earlierBy order) n t g s map marks labels
-prepared-below order n t g s asked wants all marked =
-    record { asked = asked; wants = wants .wants all; strict = earlier-by-order order; marked = marked }
-
-module _ (earlier : Link ℕ → Link ℕ → Bool) (n : ℕ) (t out : List ℕ) {a : List ℕ} (g s : List ℕ) (given : Accepts n a g) {answer : Order} {map : List ℕ}
-    (orders : Orders n t (rowsOf s) (rowsOf g) answer map) where
-  abbrev below : Bool
-  below = subsumes (tableLabels n t) eqb eqb (graphIn s) (graphIn g) (length (rowsOf g))
-
-  abbrev written : Result
-  written = resultOf (writtenOut (canonical eqb (differenceRows earlier n t (rowsOf g) (rowsOf s))) out)
-
-  abbrev chosen : Bool → Bool → Result
-  chosen lies all = cond lies (cond all written (refusing NoWantedType out)) (refusing NotBelow out)
-
-  -- 12
-  pub differed-refused : answer ≡ order.NotBelow → resulting NotBelow out ≡ differed earlier n t out (rowsOf g) (rowsOf s)
-  unfolding differed
-  differed-refused e = sym (ap (λ (b : Bool). chosen b (allWanted n t (rowsOf s) (rowsOf g))) (go below refl))
-    where
-      go : (b : Bool) → below ≡ b → b ≡ false
-      go false q = refl
-      go true q = absurd (orders .no-stands e (order-test n t (rowsOf s) (rowsOf g) (accepts-rules given) .0 q))
-
-  module _ (e : answer ≡ order.Below) where
-    lies-below : below ≡ true
-    lies-below = order-test n t (rowsOf s) (rowsOf g) (accepts-rules given) .1 (map-below (orders .yes-stands e))
-
-    chosen-all : (b : Bool) → b ≡ allWantedAlong n t (rowsOf s) (rowsOf g) (λ y. getD map y 0) →
-        chosen true b ≡ differed earlier n t out (rowsOf g) (rowsOf s)
-    unfolding differed
-    chosen-all b all =
-        ap (chosen true) (all ∙ all-along n t (rowsOf s) (rowsOf g) map (accepts-rules given) (orders .yes-stands e)) ∙
-        ap (λ (x : Bool). chosen x (allWanted n t (rowsOf s) (rowsOf g))) (sym lies-below)
-
-    -- 13
-    pub differed-unwanted : false ≡ allWantedAlong n t (rowsOf s) (rowsOf g) (λ y. getD map y 0) →
-        resulting NoWantedType out ≡ differed earlier n t out (rowsOf g) (rowsOf s)
-    differed-unwanted = chosen-all false
-
-    pub differed-as : true ≡ allWantedAlong n t (rowsOf s) (rowsOf g) (λ y. getD map y 0) → {w : Written} {r : Reply} {new : List ℕ} →
-        yielding w new ≡ writtenOut (canonical eqb (differenceAlong earlier n t (rowsOf s) (rowsOf g) (λ y. getD map y 0))) out →
-        r ≡ replyOf w → resulting r new ≡ differed earlier n t out (rowsOf g) (rowsOf s)
-    differed-as all {new = new} answers said =
-        ap (λ (x : Reply). resulting x new) said ∙ ap resultOf answers ∙
-        ap (λ k. resultOf (writtenOut (canonical eqb k) out))
-        (difference-along n t (rowsOf s) (rowsOf g) map (accepts-rules given) (orders .yes-stands e) earlier) ∙
-        chosen-all true all
 
 -- Over an accepted table.
 

@@ -4,7 +4,6 @@ pub mod Replies
 pub mod Listed
 pub mod Tables
 pub mod Orders
-pub mod Over
 pub mod CommonParts
 pub mod Combinations
 pub mod Differing

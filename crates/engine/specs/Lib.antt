@@ -4,5 +4,4 @@ pub mod Unification
 pub mod Pair
 pub mod Difference
 pub mod Explained
-pub mod Renumbering
 pub mod Appropriate

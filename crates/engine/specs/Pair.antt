@@ -24,14 +24,17 @@ use Rattle.generalize.specs.Pairs.{Joinable, joinsOf, samePair}
 use Rattle.unify.specs.declared.Combined.{Combined}
 use Rattle.unify.specs.declared.Combined.the-variants as unify
 use Rattle.unify.specs.Outcome.{meetsOf}
+use Rattle.groups.specs.LinkOrders.{earlierBy}
+use Rattle.difference.specs.declared.Options.{Options}
+use Rattle.difference.specs.Difference.{differedRows}
+use Rattle.difference.specs.Explained.{Explained, withReasons, withReasonsIf}
 use Rattle.replies.specs.declared.Side.the-variants.{First, Second}
 use Rattle.engine.specs.declared.PairVerdict.{PairVerdict}
 use Rattle.engine.specs.declared.PairVerdict.the-variants as pair
 use Rattle.replies.specs.declared.Reply.{Reply}
 use Rattle.replies.specs.declared.Reply.the-variants.{Graph, Cycle, Clash}
 use Rattle.engine.specs.Unification.{combined}
-use Rattle.engine.specs.Difference.{differed, differedRows}
-use Rattle.engine.specs.Explained.{Explained, beside, reasonsRows, reasonsOf}
+use Rattle.engine.specs.Explained.{reasonsOf}
 use Rattle.replies.specs.Reply.{Result, replyOf, resultOf, refusing}
 use Rattle.engine.specs.Reply.{readBoth}
 
@@ -99,12 +102,12 @@ parting earlier n t a b out = readBoth (λ r. refusing r out) (reading n a) (rea
 
 -- the same with its reasons
 abbrev pub partingExplained : (Link ℕ → Link ℕ → Bool) → ℕ → List ℕ → List ℕ → List ℕ → List ℕ → List ℕ → Explained
-partingExplained earlier n t a b out old = beside (parting earlier n t a b out) (reasonsOf earlier n t a b) out old
+partingExplained earlier n t a b out old = withReasons (parting earlier n t a b out) (reasonsOf earlier n t a b) out old
 
--- the difference of graphs in words with its reasons
-abbrev pub explainedWords : (Link ℕ → Link ℕ → Bool) → ℕ → List ℕ → List ℕ → List ℕ → List ℕ → List ℕ → Explained
-explainedWords earlier n t g s out old =
-    beside (differed earlier n t out (rowsOf g) (rowsOf s)) (reasonsRows earlier n t (rowsOf g) (rowsOf s)) out old
+-- the same as a call asks for it, with its reasons or without them
+abbrev pub partingWith : Options → ℕ → List ℕ → List ℕ → List ℕ → List ℕ → List ℕ → Explained
+partingWith options n t a b out old =
+    withReasonsIf (options .explained) (parting (earlierBy (options .order)) n t a b out) (reasonsOf (earlierBy (options .order)) n t a b) out old
 
 -- what combining answers, as a reply
 abbrev pub combinedReply : Combined → Reply

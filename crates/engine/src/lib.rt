@@ -1,7 +1,7 @@
 // The public calls on bytes: a table, one or two records, and an output that the caller lends. Every call answers a `Reply`; on a
 // refusal no byte of the output is written.
 
-use encode::Marked;
+use difference::Options;
 use lattice::Opened;
 use record::GraphFault;
 use record::reading::Verdict;
@@ -16,6 +16,7 @@ ghost use Rattle.layout.specs.Layout.{Sound, rowsOf};
 ghost use Rattle.record.specs.declared.reading.Verdict.the-variants.{Accepted};
 ghost use Rattle.unify.specs.Lowered.{Meeting};
 ghost use Rattle.unify.specs.Rows.{Operand};
+ghost use Rattle.difference.specs.Explained.{explainedResult};
 ghost use Rattle.engine.specs.declared.PairVerdict.the-variants.{Both};
 ghost use Rattle.replies.specs.Reply.{resulting};
 ghost use Rattle.subsume.specs.Promise.{isBelow};
@@ -24,7 +25,7 @@ ghost use Rattle.engine.specs.Unification.{unifying};
 ghost use Rattle.engine.specs.Difference.{differing, differingBy};
 ghost use Rattle.engine.specs.Appropriate.{rewritingAppropriate, generalizingAppropriate, unifyingAppropriate};
 ghost use Rattle.engine.specs.Pair.{JoinsReady, afterReading, joinedAfter, metAfter, combinedReply};
-ghost use Rattle.engine.specs.Explained.{explaining, explainingBy, explainedResult, markedReply};
+ghost use Rattle.engine.specs.Explained.{explaining, explainingBy};
 
 mod both;
 mod differences;
@@ -298,8 +299,12 @@ pub fn difference(n: usize, table: &[u8], first: &[u8], second: &[u8], out: &mut
     match opened {
         Opened::Refused(fault) => Reply::Table(fault),
         Opened::Accepted => {
-            let order = groups::link_orders::by_number();
-            differences::difference_over(n, table, order, first, second, out)
+            let options = Options {
+                order: groups::link_orders::by_number(),
+                explained: false,
+            };
+            let mut none = [0u8; 0];
+            differences::difference_over(n, table, options, first, second, out, &mut none)
         }
     }
 }
@@ -322,8 +327,12 @@ pub fn difference_by(
             if !groups::link_orders::is_reading_order(list) {
                 return Reply::ReadingOrder;
             }
-            let order = groups::link_orders::by_list(list);
-            differences::difference_over(n, table, order, first, second, out)
+            let options = Options {
+                order: groups::link_orders::by_list(list),
+                explained: false,
+            };
+            let mut none = [0u8; 0];
+            differences::difference_over(n, table, options, first, second, out, &mut none)
         }
     }
 }
@@ -345,8 +354,11 @@ pub fn difference_explained(
     match opened {
         Opened::Refused(fault) => Reply::Table(fault),
         Opened::Accepted => {
-            let order = groups::link_orders::by_number();
-            differences::explain_over(n, table, order, first, second, out, reasons)
+            let options = Options {
+                order: groups::link_orders::by_number(),
+                explained: true,
+            };
+            differences::difference_over(n, table, options, first, second, out, reasons)
         }
     }
 }
@@ -371,18 +383,11 @@ pub fn difference_explained_by(
             if !groups::link_orders::is_reading_order(list) {
                 return Reply::ReadingOrder;
             }
-            let order = groups::link_orders::by_list(list);
-            differences::explain_over(n, table, order, first, second, out, reasons)
+            let options = Options {
+                order: groups::link_orders::by_list(list),
+                explained: true,
+            };
+            differences::difference_over(n, table, options, first, second, out, reasons)
         }
-    }
-}
-
-// What writing a result with reasons answers, as a reply.
-fn marked_reply(marked: Marked) -> Reply
-    ensures { λ r. ⌜ r ≡ markedReply marked ⌝ }
-{
-    match marked {
-        Marked::Written(written) => replies::reply_of(written),
-        Marked::NoMarkRoom => Reply::NoReasonRoom,
     }
 }

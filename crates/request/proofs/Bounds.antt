@@ -35,7 +35,8 @@ use Rattle.replies.specs.Reply.{Result, Bounded, kindOf, refusal, refusing, res
 use Rattle.subsume.specs.Promise.{rowsBelow}
 use Rattle.engine.specs.Reply.{checked, readBoth, generalizing, generalized, compared, ordering, ordered}
 use Rattle.engine.specs.Unification.{sameEither, combined, unifiedRows, unifying}
-use Rattle.engine.specs.Difference.{allWanted, differenceRows, differed, numbered, differedRows, differing}
+use Rattle.difference.specs.Difference.{allWanted, differenceRows, differed, numbered, differedRows}
+use Rattle.engine.specs.Difference.{differing}
 use Rattle.replies.proofs.Numbers.{numberIn, number-small, kind-bounded}
 use Rattle.request.specs.declared.parse.Operation.{Operation}
 use Rattle.request.specs.declared.parse.Operation.the-variants.{Generalize, Unify, Difference, Order}

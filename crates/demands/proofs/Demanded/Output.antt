@@ -41,7 +41,8 @@ use Rattle.replies.specs.declared.Reply.the-variants as replies
 use Rattle.replies.specs.Reply.{Result, refusal, refusing}
 use Rattle.engine.specs.Reply.{checked, checkedList, readBoth, rewritten, rewriting, generalizing, generalized}
 use Rattle.engine.specs.Unification.{sameEither, unifiedRows, unifying}
-use Rattle.engine.specs.Difference.{differedRows, differing, differingBy}
+use Rattle.difference.specs.Difference.{differedRows}
+use Rattle.engine.specs.Difference.{differing, differingBy}
 use Rattle.demands.specs.Demand.{Given, Leaves, Large, common, remainder}
 use Rattle.demands.proofs.Results.{resultFor, result-writes, seven-bits}
 use Rattle.demands.proofs.Demanded.CommonPart.{common-part-exists}

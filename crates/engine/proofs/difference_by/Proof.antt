@@ -5,6 +5,7 @@ use borrow.Author.Tests.{not-true, not-false}
 use Rattle.lattice.proofs.Residuals.{opened-accepted}
 use Rattle.engine.proofs.Listed.{table-before-list, list-refused, differing-checked}
 use Rattle.engine.proofs.Differing.{differing-by-accepted}
+use Rattle.engine.proofs.Explaining.{plain-part}
 use Rattle.engine.proofs.difference_by.Statement.{statement}
 use Rattle.engine.proofs.difference_by.Tie as tie
 
@@ -28,12 +29,16 @@ returns c =
     (sym (c .before .is-reading-order .ensures) ∙ not-true (c .before .is-reading-order .result) (c .if1 .taken))
 
 by-list-requires : tie.Need-by-list-requires
-by-list-requires c κs = sym (c .before .is-reading-order .ensures) ∙ not-false (c .before .is-reading-order .result) (c .if1 .left)
+by-list-requires c κs =
+    sym (c .before .is-reading-order .ensures) ∙ not-false (c .before .is-reading-order .result) (c .if1 .left)
+
+slice-aggregate-difference-over : tie.Need-slice-aggregate-difference-over
+slice-aggregate-difference-over c = search needs
 
 difference-over-requires : tie.Need-difference-over-requires
 difference-over-requires c κs =
-    let start = c .before .before .before .before .before .before .before .before .before .before .before .before in
-    (opened-accepted (start .args .n) (start .args .table .now) _ (c .before .before .before .before .before .before .accept .ensures) (c .before .before .before .before .enum-told .given .1), c .before .by-list .ensures .0)
+    let start = c .before .before .before .before .before .before .before .before .before .before .before .before .before in
+    (opened-accepted (start .args .n) (start .args .table .now) _ (c .before .before .before .before .before .before .before .accept .ensures) (c .before .before .before .before .before .enum-told .given .1), c .before .before .by-list .ensures .0)
 
 returns-2 : tie.Need-returns-2
 returns-2 c =
@@ -46,11 +51,11 @@ same-length c = search needs
 
 returns-3 : tie.Need-returns-3
 returns-3 c =
-    let a = c .before .before .before .before .before .before .before .before .before .before .before .before .before .before .before .args in
+    let a = c .before .before .before .before .before .before .before .before .before .before .before .before .before .before .before .before .before .args in
     differing-by-accepted (a .n) (a .table .now) (a .first .now) (a .second .now) (a .out .now) (a .list .now)
-    (sym (c .before .before .before .before .before .before .before .before .before .accept .ensures) ∙ c .before .before .before .before .before .before .before .enum-told .given .1)
-    (sym (c .before .before .before .before .before .before .is-reading-order .ensures) ∙ not-false (c .before .before .before .before .before .before .is-reading-order .result) (c .before .before .before .before .before .if1 .left))
-    (c .before .before .before .before .by-list .ensures .1) (c .before .before .difference-over .ensures)
+    (sym (c .before .before .before .before .before .before .before .before .before .before .before .accept .ensures) ∙ c .before .before .before .before .before .before .before .before .before .enum-told .given .1)
+    (sym (c .before .before .before .before .before .before .before .before .is-reading-order .ensures) ∙ not-false (c .before .before .before .before .before .before .before .before .is-reading-order .result) (c .before .before .before .before .before .before .before .if1 .left))
+    (c .before .before .before .before .before .before .by-list .ensures .1) (plain-part (c .before .before .before .difference-over .ensures))
 
 pub difference-by-spec : {M : Type 1} → statement M
 difference-by-spec =
@@ -62,6 +67,7 @@ difference-by-spec =
     is-reading-order-requires
     returns
     by-list-requires
+    slice-aggregate-difference-over
     difference-over-requires
     returns-2
     same-length

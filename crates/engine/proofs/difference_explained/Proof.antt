@@ -18,16 +18,15 @@ enum-told c = search needs
 by-number-requires : tie.Need-by-number-requires
 by-number-requires c κs = search needs
 
-explain-over-requires : tie.Need-explain-over-requires
-explain-over-requires c κs =
+difference-over-requires : tie.Need-difference-over-requires
+difference-over-requires c κs =
     let start = c .before .before .before .before .before .before .before .before .before .before .before in
     (opened-accepted (start .args .n) (start .args .table .now) _ (c .before .before .before .before .before .accept .ensures) (c .before .before .before .enum-told .given .1), c .before .before .by-number .ensures .0)
 
 returns : tie.Need-returns
 returns c =
     let start = c .before .before .before .before .before .before .before .before .before in
-    explaining-refused (start .args .n) (start .args .table .now) (start .args .first .now) (start .args .second .now) (start .args .out .now) (start .args .reasons .now) _
-    (sym (c .before .before .before .accept .ensures) ∙ c .before .opened .given .1)
+    explaining-refused (start .args .n) (start .args .table .now) (start .args .first .now) (start .args .second .now) (start .args .out .now) (start .args .reasons .now) _ (sym (c .before .before .before .accept .ensures) ∙ c .before .opened .given .1)
 
 same-length : tie.Need-same-length
 same-length c = search needs
@@ -38,8 +37,8 @@ same-length-2 c = search needs
 returns-2 : tie.Need-returns-2
 returns-2 c =
     let start = c .before .before .before .before .before .before .before .before .before .before .before .before .before .before .before .before in
-    explaining-accepted (start .args .n) (start .args .table .now) (start .args .first .now) (start .args .second .now) (start .args .out .now) (start .args .reasons .now)
-    (sym (c .before .before .before .before .before .before .before .before .before .before .accept .ensures) ∙ c .before .before .before .before .before .before .before .before .enum-told .given .1) (c .before .before .before .before .before .before .before .by-number .ensures .1) (c .before .before .before .before .explain-over .ensures)
+    explaining-accepted (start .args .n) (start .args .table .now) (start .args .first .now) (start .args .second .now) (start .args .out .now) (start .args .reasons .now) (sym (c .before .before .before .before .before .before .before .before .before .before .accept .ensures) ∙ c .before .before .before .before .before .before .before .before .enum-told .given .1)
+    (c .before .before .before .before .before .before .before .by-number .ensures .1) (c .before .before .before .before .difference-over .ensures)
 
 pub difference-explained-spec : {M : Type 1} → statement M
 difference-explained-spec =
@@ -49,7 +48,7 @@ difference-explained-spec =
     enum-known-opened
     enum-told
     by-number-requires
-    explain-over-requires
+    difference-over-requires
     returns
     same-length
     same-length-2

@@ -27,10 +27,11 @@ returns c =
     (sym (c .before .is-reading-order .ensures) ∙ not-true (c .before .is-reading-order .result) (c .if1 .taken))
 
 by-list-requires : tie.Need-by-list-requires
-by-list-requires c κs = sym (c .before .is-reading-order .ensures) ∙ not-false (c .before .is-reading-order .result) (c .if1 .left)
+by-list-requires c κs =
+    sym (c .before .is-reading-order .ensures) ∙ not-false (c .before .is-reading-order .result) (c .if1 .left)
 
-explain-over-requires : tie.Need-explain-over-requires
-explain-over-requires c κs =
+difference-over-requires : tie.Need-difference-over-requires
+difference-over-requires c κs =
     let start = c .before .before .before .before .before .before .before .before .before .before .before .before .before .before in
     (opened-accepted (start .args .n) (start .args .table .now) _ (c .before .before .before .before .before .before .before .accept .ensures) (c .before .before .before .before .before .enum-told .given .1), c .before .before .by-list .ensures .0)
 
@@ -51,7 +52,7 @@ returns-3 c =
     explaining-by-accepted (a .n) (a .table .now) (a .first .now) (a .second .now) (a .out .now) (a .reasons .now) (a .list .now)
     (sym (c .before .before .before .before .before .before .before .before .before .before .before .before .accept .ensures) ∙ c .before .before .before .before .before .before .before .before .before .before .enum-told .given .1)
     (sym (c .before .before .before .before .before .before .before .before .before .is-reading-order .ensures) ∙ not-false (c .before .before .before .before .before .before .before .before .before .is-reading-order .result) (c .before .before .before .before .before .before .before .before .if1 .left))
-    (c .before .before .before .before .before .before .before .by-list .ensures .1) (c .before .before .before .before .explain-over .ensures)
+    (c .before .before .before .before .before .before .before .by-list .ensures .1) (c .before .before .before .before .difference-over .ensures)
 
 pub difference-explained-by-spec : {M : Type 1} → statement M
 difference-explained-by-spec =
@@ -63,7 +64,7 @@ difference-explained-by-spec =
     is-reading-order-requires
     returns
     by-list-requires
-    explain-over-requires
+    difference-over-requires
     returns-2
     same-length
     same-length-2
