@@ -49,9 +49,11 @@ use Rattle.replies.specs.declared.Side.{Side}
 use Rattle.replies.specs.declared.Reply.{Reply}
 use Rattle.replies.specs.declared.Reply.the-variants.{Table, Graph as Refusal, Cycle, Clash, NotBelow, NoWantedType}
 use Rattle.replies.specs.Reply.{refusal, resultOf, refusing}
-use Rattle.engine.specs.Reply.{checked, readBoth, rewritten, rewriting, rowsBelow, compared, ordered, ordering, generalized, generalizing}
+use Rattle.subsume.specs.Promise.{rowsBelow}
+use Rattle.engine.specs.Reply.{checked, readBoth, rewritten, rewriting, compared, ordered, ordering, generalized, generalizing}
 use Rattle.engine.specs.Unification.{sameEither, combined, unifiedRows, unifying}
-use Rattle.engine.specs.Difference.{over, wantedAt, allWanted, differenceRows, differed, numbered, differedRows, differing}
+use Rattle.difference.specs.Difference.{over, wantedAt, allWanted, differenceRows, differed, numbered, differedRows}
+use Rattle.engine.specs.Difference.{differing}
 use Rattle.demands.specs.Demand.{Given, Wrote, common, remainder}
 use Rattle.demands.specs.Unranged.{
   typesIn,

@@ -24,7 +24,7 @@ use Rattle.replies.specs.declared.Reply.the-variants.{Length, Same, Under, Abov
 use Rattle.replies.specs.Reply.{Result, refusal}
 use Rattle.engine.specs.Reply.{ordering, rewriting}
 use Rattle.engine.specs.Unification.{unifying}
-use Rattle.engine.specs.Difference.{numbered, differenceRows}
+use Rattle.difference.specs.Difference.{numbered, differenceRows}
 
 -- An accepted table, and two accepted records with their rows.
 pub record Given (n : ℕ) (t a b : List ℕ) (s g : List (Row Label)) : Type 0 where

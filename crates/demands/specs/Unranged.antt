@@ -29,7 +29,7 @@ use Rattle.replies.specs.declared.Reply.the-variants as reply
 use Rattle.replies.specs.Reply.{Result, resultOf, refusing}
 use Rattle.engine.specs.Reply.{checked, readBoth, compared}
 use Rattle.engine.specs.Unification.{sameEither}
-use Rattle.engine.specs.Difference.{over}
+use Rattle.difference.specs.Difference.{over}
 
 -- the types of rows
 abbrev pub typesIn : List (Row Label) → List (Row ℕ)

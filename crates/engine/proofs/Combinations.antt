@@ -26,7 +26,7 @@ use Rattle.unify.specs.Outcome.{meetsOf, unifiedOut}
 use Rattle.unify.specs.Rows.{Operand}
 use Rattle.replies.specs.declared.Reply.{Reply}
 use Rattle.replies.specs.Reply.{Result, resulting}
-use Rattle.pairs.proofs.Readings.{accepts-reached, accepts-recorded, accepts-rules, loaded-accepts}
+use Rattle.record.proofs.Loaded.{loaded-reached, loaded-recorded, loaded-rules}
 use Rattle.engine.specs.Unifying.{combined, combinedReply, unifiedRows}
 use Rattle.engine.proofs.Tables.{label-known}
 
@@ -49,9 +49,9 @@ module _ {n : ℕ} {t sets : List ℕ} {cells : List (List ℕ)} (meets : Opened
   operand : {g : List ℕ} → Loaded n g → Operand n g
   operand one =
       record {
-        recorded = accepts-recorded (accepted-size n t (meets .ok) .1) (loaded-accepts one);
+        recorded = loaded-recorded (accepted-size n t (meets .ok) .1) one;
         labelled = one .typed;
-        reached = accepts-reached (loaded-accepts one);
+        reached = loaded-reached one;
       }
 
   -- and of two graphs and the meets
@@ -90,4 +90,4 @@ module _ {n : ℕ} {t sets : List ℕ} {cells : List (List ℕ)} (meets : Opened
       sym
       (ap₂ (λ (k l : ℕ). combined (unification (meetsOf n (meetIn n sets cells)) eqb eqb (graphIn g) (from 0 k) (graphIn h) (from 0 l)) out)
       (length-rows g 0 (size g)) (length-rows h 0 (size h))) ∙
-      held-unified out (rowsOf g) (rowsOf h) (accepts-rules (loaded-accepts one)) (accepts-rules (loaded-accepts other))
+      held-unified out (rowsOf g) (rowsOf h) (loaded-rules one) (loaded-rules other)

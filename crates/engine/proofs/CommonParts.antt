@@ -22,7 +22,7 @@ use Rattle.generalize.specs.Pairs.{Joinable, joinsOf, samePair}
 use Rattle.generalize.proofs.Sides.{tells-pair}
 use Rattle.replies.specs.declared.Reply.{Reply}
 use Rattle.replies.specs.Reply.{resulting, resultOf, replyOf}
-use Rattle.pairs.proofs.Readings.{accepts-recorded, accepts-rules, loaded-accepts}
+use Rattle.record.proofs.Loaded.{loaded-recorded, loaded-rules}
 use Rattle.engine.specs.Generalizing.{generalized}
 use Rattle.engine.proofs.Written.{replied-as}
 use Rattle.engine.proofs.Tables.{label-known, canonical-same}
@@ -33,9 +33,9 @@ module _ {n : ℕ} {t sets : List ℕ} {cells : List (List ℕ)} (joins : Opened
       Recorded g × (Recorded h × (Joinable n (joinIn n sets cells) g h × Seekable true n sets))
   ready-to-join one other =
       let few = accepted-size n t (joins .ok) .1 in (
-        accepts-recorded few (loaded-accepts one),
+        loaded-recorded few one,
         (
-          accepts-recorded few (loaded-accepts other),
+          loaded-recorded few other,
           (
             record {
               few = few;
@@ -70,4 +70,4 @@ module _ {n : ℕ} {t sets : List ℕ} {cells : List (List ℕ)} (joins : Opened
   generalized-as {g} {h} out one other yields said =
       replied-as yields said ∙
       ap (λ (c : Canonical Label). resultOf (writtenOut c out))
-      (held-generalized (rowsOf g) (rowsOf h) (accepts-rules (loaded-accepts one)) (accepts-rules (loaded-accepts other)))
+      (held-generalized (rowsOf g) (rowsOf h) (loaded-rules one) (loaded-rules other))

@@ -3,3 +3,4 @@ pub mod Rewriting
 pub mod Ordering
 pub mod Generalizing
 pub mod Unifying
+pub mod Differing

@@ -2,26 +2,11 @@
 use mathlib.Core.Bool.{Bool, true, false}
 use mathlib.Core.List.{List}
 use Prim.Native.Nat.{ℕ}
-use lib.Dec.{eqb}
-use lib.ListN.{length}
 use Rattle.graphs.specs.Rows.{Row}
-use Rattle.graphs.specs.Order.{subsumes}
 use Rattle.lattice.specs.Label.{Label}
-use Rattle.lattice.specs.Labels.{tableLabels}
-use Rattle.record.specs.Read.{graphOfRows}
-use Rattle.subsume.specs.declared.Order.{Order}
-use Rattle.subsume.specs.declared.Order.the-variants as order
+use Rattle.subsume.specs.Promise.{rowsBelow}
 use Rattle.replies.specs.declared.Reply.{Reply}
 use Rattle.replies.specs.declared.Reply.the-variants.{Same, Under, Above, Neither}
-
--- whether the first of two graphs is below the second
-abbrev pub rowsBelow : ℕ → List ℕ → List (Row Label) → List (Row Label) → Bool
-rowsBelow n t s g = subsumes (tableLabels n t) eqb eqb (graphOfRows s) (graphOfRows g) (length g)
-
--- the same, as a walk answers it
-abbrev pub isBelow : Order → Bool
-isBelow order.Below = true
-isBelow order.NotBelow = false
 
 -- "one of four: same, under, above, neither, seen from the first graph": whether it is below the second, and the second below it
 abbrev pub compared : Bool → Bool → Reply

@@ -9,7 +9,8 @@ ghost use Rattle.layout.specs.Layout.{rowsOf};
 ghost use Rattle.record.specs.Read.{reading};
 ghost use Rattle.record.specs.Reads.{Loaded};
 ghost use Rattle.pairs.specs.Pair.{readBoth};
-ghost use Rattle.engine.specs.Ordering.{compared, isBelow, ordered};
+ghost use Rattle.subsume.specs.Promise.{isBelow};
+ghost use Rattle.engine.specs.Ordering.{compared, ordered};
 
 // The order of two records over an accepted table with n types.
 pub fn of_records(n: usize, table: &[u8], first: &[u8], second: &[u8]) -> Reply

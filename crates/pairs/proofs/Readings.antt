@@ -3,27 +3,22 @@
 use mathlib.Core.Path.{_≡_, refl, sym, _∙_, ap, ap₂, subst}
 use mathlib.Core.Bool.{Bool, true, false, cond}
 use mathlib.Core.List.{List}
-use Prim.Native.Nat.{ℕ, _≤_, _<_}
+use Prim.Native.Nat.{ℕ}
 use native.Mathlib.Omega.{arith}
 use borrow.Author.Tests.{eq-eqb, ne-eqb}
 use lib.Dec.{eqb}
 use lib.ListN.{length}
-use Rattle.graphs.specs.Graph.{Reached}
 use Rattle.graphs.specs.Rows.{Row}
 use Rattle.graphs.proofs.Search.{true-false}
 use Rattle.lattice.specs.Label.{Label}
-use Rattle.lattice.specs.Labels.{Known}
-use Rattle.lattice.proofs.Lawful.{known-more}
-use Rattle.layout.specs.Layout.{Sound, Recorded, longest, size, labelAt, rowsOf, graphIn}
-use Rattle.layout.proofs.Rows.{length-rows}
-use Rattle.encode.specs.Encode.{encoded}
+use Rattle.layout.specs.Layout.{longest, rowsOf}
 use Rattle.record.specs.declared.GraphFault.{GraphFault}
 use Rattle.record.specs.declared.reading.Verdict.{Verdict}
 use Rattle.record.specs.declared.reading.Verdict.the-variants.{Accepted, Refused}
 use Rattle.record.specs.Read.{Reading, refused, accepted, reading}
 use Rattle.record.specs.Reads.{Holds, Loaded, ReadsAs, verdictOf}
 use Rattle.record.specs.Appropriate.{listAccepted, readingAppropriate}
-use Rattle.record.proofs.Accepted.{Rules, accepted-rules}
+use Rattle.record.proofs.Accepted.{accepted-rules}
 use Rattle.record.proofs.Rewritten.{rules-read}
 use Rattle.record.proofs.Allowed.{accepted-appropriate, list-long}
 use Rattle.replies.specs.declared.Side.{Side}
@@ -66,30 +61,6 @@ module _ (n : ℕ) (t list bytes : List ℕ) {v : Verdict} {ws : List ℕ} where
   pub tells-listed : (length list ≡ 0 → ⊥) → ReadsAs n (readingAppropriate n t list bytes) v ws → ReadsAs n (readingBeside n t list bytes) v ws
   tells-listed some = subst (λ (o : Reading). ReadsAs n o v ws) (sym (reading-listed n t list bytes (ne-eqb (length list) 0 some)))
 
--- a record that is accepted, with the words that hold its rows
-pub record Accepts (n : ℕ) (bytes ws : List ℕ) : Type 0 where
-  pub is : reading n bytes ≡ accepted (rowsOf ws)
-  pub sound : Sound ws
-  pub small : size ws ≤ 255
-  pub typed : (v : ℕ) → v < size ws → Known n (labelAt ws v)
-
-pub accepts-rules : {n : ℕ} {bytes ws : List ℕ} → Accepts n bytes ws → Rules n (rowsOf ws)
-accepts-rules {n} {bytes} {ws} given = accepted-rules n bytes (rowsOf ws) (given .is)
-
--- its nodes are reached
-pub accepts-reached : {n : ℕ} {bytes ws : List ℕ} → Accepts n bytes ws → (v : ℕ) → v < size ws → Reached (graphIn ws) v
-accepts-reached {ws = ws} given v h = accepts-rules given .reached v (omega (arith, length-rows ws 0 (size ws)))
-
--- it is the graph of a record over a table
-pub accepts-recorded : {n : ℕ} {bytes ws : List ℕ} → n ≤ 64 → Accepts n bytes ws → Recorded ws
-accepts-recorded few given =
-    record {
-      sound = given .sound;
-      small = given .small;
-      short = accepts-rules given .links;
-      typed = λ v h. known-more few (given .typed v h);
-    }
-
 -- words that hold the rows that a reading accepts
 pub record Told (n : ℕ) (o : Reading) (ws : List ℕ) : Type 0 where
   pub is : o ≡ accepted (rowsOf ws)
@@ -99,10 +70,16 @@ told-held : {n : ℕ} {o : Reading} {ws : List ℕ} {rows : List (Row Label)} �
 told-held {n} {ws = ws} e held =
     record { is = e ∙ ap accepted (sym (held .rows-are)); holds = subst (λ (rs : List (Row Label)). Holds n rs ws) (sym (held .rows-are)) held }
 
-pub accepts-beside : (n : ℕ) (t list bytes : List ℕ) {ws : List ℕ} → Told n (readingBeside n t list bytes) ws → Accepts n bytes ws
-accepts-beside n t list bytes {ws} told =
+-- they hold acceptable rows
+pub told-loaded : (n : ℕ) (t list bytes : List ℕ) {ws : List ℕ} → Told n (readingBeside n t list bytes) ws → Loaded n ws
+told-loaded n t list bytes {ws} told =
     let held = told .holds in
-    record { is = accepted-beside n t list bytes (rowsOf ws) (told .is); sound = held .sound; small = held .small; typed = held .typed }
+    record {
+      acceptable = rules-read n (rowsOf ws) (accepted-rules n bytes (rowsOf ws) (accepted-beside n t list bytes (rowsOf ws) (told .is)));
+      sound = held .sound;
+      small = held .small;
+      typed = held .typed;
+    }
 
 -- One record.
 
@@ -118,10 +95,6 @@ module _ {n : ℕ} {ws : List ℕ} {v : Verdict} where
   told-accepted {o = accepted rows} tells e = told-held refl (tells .graph rows refl)
 
 -- Two records.
-
--- what an operation on two graphs asks of them
-pub ready : {n : ℕ} {a b g h : List ℕ} → n ≤ 64 → Accepts n a g × Accepts n b h → Recorded g × Recorded h
-ready few (one, other) = (accepts-recorded few one, accepts-recorded few other)
 
 module _ {n : ℕ} {o p : Reading} {v : PairVerdict} {ws ws₂ : List ℕ} (reads : ReadsBoth n o p v ws ws₂) where
   joint : {w : PairVerdict} {i j : Reading} → v ≡ w → o ≡ i → p ≡ j → jointVerdict (verdictOf i) (verdictOf j) ≡ w
@@ -188,29 +161,10 @@ module _ {n : ℕ} {o : Reading} {v : Verdict} {ws : List ℕ} (one : ReadsAs n 
     pub reads-accepted : w ≡ Accepted → ReadsBoth n o p pair.Both ws ws₂
     reads-accepted e = subst (λ (u : Verdict). ReadsBoth n o p (jointVerdict Accepted u) ws ws₂) e reads-second
 
--- both records are accepted
-pub both-accept : (n : ℕ) (t list a b : List ℕ) {v : PairVerdict} {ws ws₂ : List ℕ} → ReadsBeside n t list a b v ws ws₂ → v ≡ pair.Both →
-    Accepts n a ws × Accepts n b ws₂
-both-accept n t list a b reads e = let (one, other) = both-told reads e in (accepts-beside n t list a one, accepts-beside n t list b other)
-
--- an accepted record's words hold acceptable rows
-pub accepts-loaded : {n : ℕ} {bytes ws : List ℕ} → Accepts n bytes ws → Loaded n ws
-accepts-loaded {n} {ws = ws} given =
-    record {
-      acceptable = rules-read n (rowsOf ws) (accepts-rules given);
-      sound = given .sound;
-      small = given .small;
-      typed = given .typed;
-    }
-
--- and such words are those of an accepted record
-pub loaded-accepts : {n : ℕ} {ws : List ℕ} → Loaded n ws → Accepts n (encoded (rowsOf ws)) ws
-loaded-accepts given = record { is = given .acceptable; sound = given .sound; small = given .small; typed = given .typed }
-
 -- both records' words hold acceptable rows
 pub both-loaded : (n : ℕ) (t list a b : List ℕ) {v : PairVerdict} {ws ws₂ : List ℕ} → ReadsBeside n t list a b v ws ws₂ → v ≡ pair.Both →
     Loaded n ws × Loaded n ws₂
-both-loaded n t list a b reads e = let (one, other) = both-accept n t list a b reads e in (accepts-loaded one, accepts-loaded other)
+both-loaded n t list a b reads e = let (one, other) = both-told reads e in (told-loaded n t list a one, told-loaded n t list b other)
 
 -- Without a list.
 

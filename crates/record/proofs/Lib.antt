@@ -6,7 +6,9 @@ pub mod Unranged
 pub mod Nodes
 pub mod Reaching
 pub mod Accepted
+pub mod Ordered
 pub mod Rewritten
+pub mod Loaded
 pub mod Theorems
 pub mod Examples
 pub mod Counting

@@ -32,9 +32,11 @@ use Rattle.replies.specs.declared.kinds.Kind.the-variants as kind
 use Rattle.replies.specs.declared.Reply.{Reply}
 use Rattle.replies.specs.declared.Reply.the-variants.{Length, Table, Graph, NoRoom, Cycle, Clash, TooLarge, NotBelow, NoWantedType}
 use Rattle.replies.specs.Reply.{Result, Bounded, kindOf, refusal, refusing, resultOf}
-use Rattle.engine.specs.Reply.{checked, readBoth, generalizing, generalized, rowsBelow, compared, ordering, ordered}
+use Rattle.subsume.specs.Promise.{rowsBelow}
+use Rattle.engine.specs.Reply.{checked, readBoth, generalizing, generalized, compared, ordering, ordered}
 use Rattle.engine.specs.Unification.{sameEither, combined, unifiedRows, unifying}
-use Rattle.engine.specs.Difference.{allWanted, differenceRows, differed, numbered, differedRows, differing}
+use Rattle.difference.specs.Difference.{allWanted, differenceRows, differed, numbered, differedRows}
+use Rattle.engine.specs.Difference.{differing}
 use Rattle.replies.proofs.Numbers.{numberIn, number-small, kind-bounded}
 use Rattle.request.specs.declared.parse.Operation.{Operation}
 use Rattle.request.specs.declared.parse.Operation.the-variants.{Generalize, Unify, Difference, Order}

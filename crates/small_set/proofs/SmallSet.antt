@@ -70,12 +70,13 @@ use Rattle.record.specs.Appropriate.{listAccepted, readingAppropriate, appropri
 use Rattle.record.proofs.Accepted.{accepted-rules}
 use Rattle.record.proofs.Theorems.{accepted-of-any-size}
 use Rattle.generalize.specs.Pairs.{samePair}
-use Rattle.groups.specs.Reading.{isReadingOrder}
+use Rattle.groups.specs.LinkOrders.{isReadingOrder}
 use Rattle.difference.specs.Promise.{wantedAlong, allWantedAlong, differenceAlong, reasonsAlong}
 use Rattle.engine.specs.Reply.{rewriting, generalized, generalizing, ordered as comparing, ordering}
 use Rattle.engine.specs.Unification.{unifiedRows, unifying}
 use Rattle.engine.specs.Appropriate.{rewritingAppropriate, generalizingAppropriate}
-use Rattle.engine.specs.Difference.{firstAt, over, wantedAt, allWanted, differenceRows, differed, differedRows, differing, differingBy}
+use Rattle.difference.specs.Difference.{firstAt, over, wantedAt, allWanted, differenceRows, differed, differedRows}
+use Rattle.engine.specs.Difference.{differing, differingBy}
 use Rattle.engine.specs.Explained.{reasonsOf, explaining, explainingBy}
 use Rattle.replies.specs.declared.Reply.the-variants.{NoWantedType}
 use Rattle.demands.proofs.Demanded.Wanted.{meet-known, label-below, wanted-exact}

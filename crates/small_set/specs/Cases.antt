@@ -18,7 +18,8 @@ use Rattle.engine.specs.Reply.{rewriting, generalizing, ordering}
 use Rattle.engine.specs.Unification.{unifying}
 use Rattle.engine.specs.Difference.{differing, differingBy}
 use Rattle.engine.specs.Appropriate.{rewritingAppropriate, generalizingAppropriate}
-use Rattle.engine.specs.Explained.{explaining, explainingBy, explainedResult}
+use Rattle.difference.specs.Explained.{explainedResult}
+use Rattle.engine.specs.Explained.{explaining, explainingBy}
 use Rattle.demands.specs.Demand.{loneTop}
 use Rattle.encode.specs.Encode.{fitted}
 

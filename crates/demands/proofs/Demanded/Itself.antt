@@ -42,7 +42,7 @@ use Rattle.record.proofs.Theorems.{accepted-of-any-size, written-reads}
 use Rattle.replies.specs.Reply.{resultOf}
 use Rattle.engine.specs.Difference.{differing}
 use Rattle.demands.specs.Demand.{Given, loneTop, remainder, Restores}
-use Rattle.engine.proofs.Orders.{short}
+use Rattle.record.proofs.Ordered.{short}
 use Rattle.demands.proofs.Results.{seven-bits}
 use Rattle.demands.proofs.Demanded.Difference.{plain-parts, all-wanted, remainder-small, remainder-restores, remainder-result}
 

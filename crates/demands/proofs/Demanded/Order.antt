@@ -24,9 +24,10 @@ use Rattle.replies.specs.declared.kinds.Kind.the-variants as kind
 use Rattle.replies.specs.declared.Reply.{Reply}
 use Rattle.replies.specs.declared.Reply.the-variants.{Same, Under, Above, Neither, Table, Graph}
 use Rattle.replies.specs.Reply.{kindOf}
-use Rattle.engine.specs.Reply.{checked, readBoth, rowsBelow, compared, ordered, ordering}
+use Rattle.subsume.specs.Promise.{rowsBelow}
+use Rattle.engine.specs.Reply.{checked, readBoth, compared, ordered, ordering}
 use Rattle.demands.specs.Demand.{Given, AnswersBelow, AnswersNotBelow}
-use Rattle.engine.proofs.Orders.{order-test}
+use Rattle.record.proofs.Ordered.{order-test}
 
 -- the two tests that one of the four tells
 toldIn : Kind → Option (Bool × Bool)

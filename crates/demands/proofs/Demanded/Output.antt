@@ -31,7 +31,7 @@ use Rattle.record.proofs.Nodes.{few-nodes, few-links}
 use Rattle.record.proofs.Accepted.{rules-linked, accepted-rules}
 use Rattle.record.proofs.Rewritten.{written-injective, form-again}
 use Rattle.record.proofs.Theorems.{accepted-of-any-size, accepted-types}
-use Rattle.groups.specs.Reading.{isReadingOrder}
+use Rattle.groups.specs.LinkOrders.{isReadingOrder}
 use Rattle.generalize.specs.Pairs.{samePair}
 use Rattle.generalize.proofs.Sides.{tells-pair}
 use Rattle.replies.specs.declared.Side.{Side}
@@ -41,7 +41,8 @@ use Rattle.replies.specs.declared.Reply.the-variants as replies
 use Rattle.replies.specs.Reply.{Result, refusal, refusing}
 use Rattle.engine.specs.Reply.{checked, checkedList, readBoth, rewritten, rewriting, generalizing, generalized}
 use Rattle.engine.specs.Unification.{sameEither, unifiedRows, unifying}
-use Rattle.engine.specs.Difference.{differedRows, differing, differingBy}
+use Rattle.difference.specs.Difference.{differedRows}
+use Rattle.engine.specs.Difference.{differing, differingBy}
 use Rattle.demands.specs.Demand.{Given, Leaves, Large, common, remainder}
 use Rattle.demands.proofs.Results.{resultFor, result-writes, seven-bits}
 use Rattle.demands.proofs.Demanded.CommonPart.{common-part-exists}

@@ -1,6 +1,6 @@
 -- Two graphs are compared in both directions.
 use mathlib.Core.Path.{_∙_}
-use Rattle.pairs.proofs.Readings.{loaded-accepts, ready}
+use Rattle.record.proofs.Loaded.{both-recorded}
 use Rattle.engine.proofs.Orders.{compared-ordered}
 use borrow.Author.Needs.{needs}
 use Rattle.engine.proofs.ordering.of_graphs.Statement.{statement}
@@ -9,12 +9,12 @@ use Rattle.engine.proofs.ordering.of_graphs.Tie as tie
 subsume-requires : tie.Need-subsume-requires
 subsume-requires c κs =
     let (n, (few, (one, other))) = c .before .before .before .pre in
-    ready few (loaded-accepts one, loaded-accepts other)
+    both-recorded few (one, other)
 
 subsume-requires-2 : tie.Need-subsume-requires-2
 subsume-requires-2 c κs =
     let (n, (few, (one, other))) = c .before .before .before .before .pre in
-    ready few (loaded-accepts other, loaded-accepts one)
+    both-recorded few (other, one)
 
 order-reply-requires : tie.Need-order-reply-requires
 order-reply-requires c κs = search needs
