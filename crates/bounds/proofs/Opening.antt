@@ -1,7 +1,7 @@
 -- From what acceptance answers, and what is held, to what opening ensures.
 use Prim.Native.Nat.{ℕ}
 use mathlib.Core.Path.{_≡_, _∙_}
-use mathlib.Core.Bool.{Bool, true, false, cond}
+use mathlib.Core.Bool.{Bool, true, cond}
 use mathlib.Core.List.{List}
 use mathlib.Core.Option.{Option}
 use native.Mathlib.Omega.{arith}
@@ -9,9 +9,9 @@ use Rattle.lattice.specs.declared.TableFault.{TableFault}
 use Rattle.lattice.specs.declared.TableFault.the-variants.{Bounds}
 use Rattle.lattice.specs.declared.Opened.{Opened}
 use Rattle.lattice.specs.declared.Opened.the-variants.{Accepted, Refused}
-use Rattle.lattice.specs.Table.{accepted, boundRow, overwrite, filled}
+use Rattle.lattice.specs.Table.{accepted, sideBound, boundRow, overwrite, filled}
 use Rattle.lattice.specs.Reply.{opened}
-use Rattle.lattice.specs.Words.{sideBound, Words, wordBound, allFound, OrderWords}
+use Rattle.lattice.specs.Words.{Words, wordBound, allFound, OrderWords}
 use Rattle.lattice.proofs.OrderLaws.{facts-ordered}
 use Rattle.lattice.proofs.Rows.{overwrite-same}
 use Rattle.lattice.proofs.Acceptance.{accepted-opened, table-ordered, side-bound, answer-found}

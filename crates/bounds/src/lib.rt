@@ -2,7 +2,7 @@
 // 3, and sets or cells that the caller lends hold the bounds of one side.
 ghost use mathlib.Core.Path.{_≡_};
 ghost use lib.ListN.{length};
-ghost use Rattle.lattice.specs.Words.{sideBound};
+ghost use Rattle.lattice.specs.Table.{sideBound};
 ghost use Rattle.bounds.specs.Opening.{Opening};
 use lattice::Opened;
 

@@ -11,9 +11,9 @@ use Rattle.lattice.specs.declared.TableFault.{TableFault}
 use Rattle.lattice.specs.declared.TableFault.the-variants.{Size, Order, Bounds}
 use Rattle.lattice.specs.declared.Opened.{Opened}
 use Rattle.lattice.specs.declared.Opened.the-variants.{Accepted, Refused}
-use Rattle.lattice.specs.Table.{every, below, found, sized, ordered, bounded, accepted, meet, join}
+use Rattle.lattice.specs.Table.{every, below, found, sized, ordered, bounded, accepted, meet, join, sideBound}
 use Rattle.lattice.specs.Reply.{opened, Tests}
-use Rattle.lattice.specs.Words.{related, sideBound, Words, bit, turned, wordBound, allFound, rowOrdered, OrderWords, Sided, Lower}
+use Rattle.lattice.specs.Words.{related, Words, bit, turned, wordBound, allFound, rowOrdered, OrderWords, Sided, Lower}
 use Rattle.lattice.proofs.Every.{and-left, and-right, and-both, every-at, every-all, same-test, true-not-false}
 use Rattle.lattice.proofs.OrderLaws.{Ordered, facts-ordered, rows-facts, rows-ordered, row-bit, side, sided, turned-words}
 use Rattle.lattice.proofs.WordLaws.{word-below}

@@ -5,7 +5,7 @@ use Prim.Native.Nat.{ℕ, zero, suc, _*_, _-_, _<_, _≤_}
 use mathlib.Core.Path.{_≡_, refl, sym, ap, subst, _∙_}
 use mathlib.Core.Bool.{Bool, true, false, _&&_}
 use mathlib.Core.List.{List}
-use mathlib.Core.Option.{Option, some}
+use mathlib.Core.Option.{some}
 use mathlib.Core.Logic.{⊎-elim}
 use native.Mathlib.Nat.{not-suc-le-zero}
 use native.Mathlib.Omega.{arith}
@@ -13,8 +13,8 @@ use lib.ListN.{length, getD}
 use lib.Dec.{leb, eqb}
 use lib.Bits.{bitAnd, and-comm}
 use borrow.Author.Tests.{le-leb, eq-eqb, eqb-true}
-use Rattle.lattice.specs.Table.{every, last, implies, found, isMeet, isJoin, meet, join}
-use Rattle.lattice.specs.Words.{word, related, sideBound, Words, holder, wordBound, allFound}
+use Rattle.lattice.specs.Table.{every, last, implies, found, isMeet, isJoin, meet, join, sideBound}
+use Rattle.lattice.specs.Words.{word, related, Words, holder, wordBound, allFound}
 use Rattle.lattice.proofs.Every.{and-left, and-right, and-both, implies-at, implies-from, every-at, every-all, same-test, last-same, last-passes, last-found, found-some, true-not-false, below-or-not, below-suc}
 use Rattle.lattice.proofs.WordLaws.{word-same, word-bits, word-and}
 use Rattle.lattice.proofs.OrderLaws.{Side, Ordered, side}

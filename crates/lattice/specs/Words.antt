@@ -8,7 +8,7 @@ use mathlib.Core.Option.{Option}
 use lib.ListN.{getD}
 use lib.Dec.{leb, eqb}
 use lib.Bits.{bitAnd, bitXor}
-use Rattle.lattice.specs.Table.{every, last, implies, below, found, sized, cell, meet, join, wanted}
+use Rattle.lattice.specs.Table.{every, last, implies, below, found, sized, cell, wanted}
 
 -- a bit as a number
 abbrev pub digit : Bool → ℕ
@@ -24,11 +24,6 @@ word (suc k) p = digit (p k) * 2 ^ k + word k p
 abbrev pub related : List ℕ → Bool → ℕ → ℕ → Bool
 related t true i j = below t i j
 related t false i j = below t j i
-
--- the bound of two types on one side: the join for true, the meet for false
-abbrev pub sideBound : ℕ → List ℕ → Bool → ℕ → ℕ → Option ℕ
-sideBound n t true = join n t
-sideBound n t false = meet n t
 
 -- the words of one side of the types below n
 abbrev pub Words : ℕ → List ℕ → Bool → List ℕ → Type 0

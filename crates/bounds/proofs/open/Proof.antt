@@ -3,7 +3,7 @@ use mathlib.Core.Path.{refl, sym, _∙_}
 use mathlib.Core.Bool.{true, false}
 use native.Mathlib.Omega.{arith}
 use borrow.Author.Needs.{needs}
-use Rattle.lattice.specs.Words.{sideBound}
+use Rattle.lattice.specs.Table.{sideBound}
 use Rattle.lattice.proofs.Acceptance.{table-size, up-words, lower-words, side-sided}
 use Rattle.bounds.proofs.Types.{holding-sets, holding-cells}
 use Rattle.bounds.proofs.Opening.{opening-refused, opening-found, cells-filled}
