@@ -10,7 +10,7 @@ use mathlib.Core.Logic.{_↔_}
 use mathlib.Core.Option.{Option, some, Option·map, map-id}
 use lib.Dec.{eqb}
 use Rattle.graphs.specs.Label.{Labels}
-use Rattle.graphs.specs.Graph.{Graph, Tells, Below, SameMeaning, AnySize, Reached, walk}
+use Rattle.graphs.specs.Graph.{Graph, TellsApart, Below, SameMeaning, AnySize, Reached, walk}
 use Rattle.graphs.specs.Map.{NodeMap, Exact}
 use Rattle.graphs.specs.Number.{canonical}
 use Rattle.graphs.specs.Generalize.{both, generalization}
@@ -168,7 +168,7 @@ module _ (n : ℕ) (t : List ℕ) (ok : accepted n t ≡ true) where
     lift-any-size size = any-size-lift (size .typed) .0 (size .any-size)
 
     -- written forms
-    pub canonical-lift : (same : A → A → Bool) → Tells same → Typed n g →
+    pub canonical-lift : (same : A → A → Bool) → TellsApart same → Typed n g →
         canonical same g ≡ relabelForm (λ x. x .0) (canonical same (lift g))
     canonical-lift same tells types =
         same-canonical raw same same tells tells g (lower (lift g)) (lower-lift-same g types) ∙
