@@ -8,7 +8,7 @@ use mathlib.Core.Option.{some}
 use Prim.Native.Nat.{ℕ, _-_, _≤_, _<_}
 use lib.Dec.{eqb}
 use lib.ListN.{length, take, drop, replicate}
-use Rattle.graphs.specs.Graph.{Graph, Tells, Below, SameMeaning}
+use Rattle.graphs.specs.Graph.{Graph, TellsApart, Below, SameMeaning}
 use Rattle.graphs.specs.Rows.{Row}
 use Rattle.graphs.specs.Number.{canonical, written}
 use Rattle.graphs.specs.Large.{ManyNodes, ManyLinks}
@@ -147,7 +147,7 @@ pub record Restores (n : ℕ) (t : List ℕ) (d g s : Graph Label ℕ) : Type 1 
   pub restores : GreatestOfAnySize n t d g s
   pub most-general : {E C : Type 0} (e : Graph Label E) → OfAnySize n t e → MoreGeneral n t e d → (u : Graph Label C) →
       GreatestOfAnySize n t e g u → MoreGeneral n t u s
-  pub combines : {E : Type 0} (same : E → E → Bool) → Tells same → (e : Graph Label E) → OfAnySize n t e → MoreGeneral n t e d →
+  pub combines : {E : Type 0} (same : E → E → Bool) → TellsApart same → (e : Graph Label E) → OfAnySize n t e → MoreGeneral n t e d →
       (u : Graph Label (E ⊎ ℕ)) × IsCombination n t e g u × GreatestOfAnySize n t e g u
 
 -- What stands in the output beside a length of the difference of the records a and b: a record that is read as such a graph. Combined

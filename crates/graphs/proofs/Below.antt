@@ -8,7 +8,7 @@ use mathlib.Core.Logic.{_↔_, ⊎-elim}
 use mathlib.Core.Option.{Option, none, some, Option·map, map-eq-some-iff}
 use Prim.Native.Nat.{ℕ}
 use Rattle.graphs.specs.Label.{Labels, Lattice}
-use Rattle.graphs.specs.Graph.{Graph, Below, SameMeaning, Tells, walk, follow, step, Reached, Corefer}
+use Rattle.graphs.specs.Graph.{Graph, Below, SameMeaning, TellsApart, walk, follow, step, Reached, Corefer}
 use Rattle.graphs.specs.Map.{NodeMap, Exact}
 use Rattle.graphs.proofs.Walk.{some-injective, some-unique, none-some, snoc-induction, follow-snoc, follow-last, walk-snoc}
 
@@ -105,7 +105,7 @@ below-map {s = s} {g} b decide =
     (to, carries-map b to c)
 
 -- Membership in a list is decided by a test that tells elements apart.
-pub member-decided : {A : Type 0} (same : A → A → Bool) → Tells same → (v : A) (l : List A) → Dec (List·Memᴰ v l)
+pub member-decided : {A : Type 0} (same : A → A → Bool) → TellsApart same → (v : A) (l : List A) → Dec (List·Memᴰ v l)
 member-decided same tells v [] = no List·Memᴰ·not-nil
 member-decided same tells v (w ∷ l) = go (same v w) refl (member-decided same tells v l)
   where

@@ -13,7 +13,7 @@ use borrow.Author.Tests.{ne-eqb, le-leb}
 use lib.Dec.{eqb}
 use lib.ListN.{length, getD, List·getD-append}
 use lib.Pow.{shr-shr}
-use Rattle.graphs.specs.Graph.{Graph, Reached, Tells}
+use Rattle.graphs.specs.Graph.{Graph, Reached, TellsApart}
 use Rattle.graphs.specs.Rows.{Row, from, target}
 use Rattle.graphs.specs.Number.{countSome, canonical, written}
 use Rattle.graphs.specs.Large.{Ascending, linksIn}
@@ -184,7 +184,7 @@ decode-encode rows some-row few typed proper =
     ∙ ap whole (rows-taken rows (2048 - linksIn rows) 2048 [] typed proper (omega arith))
 
 -- So what is written of a graph whose types have seven bits is read again.
-module _ {A : Type 0} (same : A → A → Bool) (tells : Tells same) (g : Graph Label A)
+module _ {A : Type 0} (same : A → A → Bool) (tells : TellsApart same) (g : Graph Label A)
     (narrow : (v w : A) (f : ℕ) → Reached g v → g .link v f ≡ some w → f < 64) (types : (v : A) → Reached g v → g .label v .type < 128)
     (form : List (Row Label)) (e : canonical same g ≡ written form) where
   pub form-types : SevenBits form

@@ -37,9 +37,9 @@ fn is_row_appropriate(table: &[u8], list: &[u8], graph: &[u16], v: usize) -> boo
     let label = layout::label_at(graph, v);
     let kind = label.kind as usize;
     let end = graph[v + 2] as usize;
-    let mut k = graph[v + 1] as usize + layout::HEADER;
+    let mut k = layout::links_from(graph, v);
     while k < end {
-        let f = (graph[k] / layout::SCALE) as usize;
+        let f = layout::feature(graph[k]) as usize;
         if !lattice::words::is_below(table, kind, list[f] as usize) {
             return false;
         }

@@ -27,9 +27,9 @@ fn count_row<'a>(graph: &'a [u16], v: usize, incoming: &mut [u16; 255]) -> bool
 {
     let nodes = graph[0] as usize;
     let end = graph[v + 2] as usize;
-    let mut k = graph[v + 1] as usize + layout::HEADER;
+    let mut k = layout::links_from(graph, v);
     while k < end {
-        let w = (graph[k] % layout::SCALE) as usize;
+        let w = layout::target(graph[k]);
         if nodes <= w {
             return false;
         }
@@ -106,9 +106,9 @@ fn take_links<'a>(
 {
     let mut count = queued;
     let end = graph[v + 2] as usize;
-    let mut k = graph[v + 1] as usize + layout::HEADER;
+    let mut k = layout::links_from(graph, v);
     while k < end {
-        let w = (graph[k] % layout::SCALE) as usize;
+        let w = layout::target(graph[k]);
         let left = incoming[w] - 1;
         incoming[w] = left;
         if left == 0 {

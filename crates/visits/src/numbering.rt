@@ -27,9 +27,9 @@ fn visit<'a>(
     visited[given] = v as u16;
     let mut count = given + 1;
     let end = graph[v + 2] as usize;
-    let mut k = graph[v + 1] as usize + layout::HEADER;
+    let mut k = layout::links_from(graph, v);
     while k < end {
-        let w = (graph[k] % layout::SCALE) as usize;
+        let w = layout::target(graph[k]);
         if numbers[w] == NONE {
             if 255 <= count {
                 return 256;

@@ -27,10 +27,10 @@ fn finish<'a>(
 {
     colour[v] = 1;
     let end = graph[v + 2] as usize;
-    let mut k = graph[v + 1] as usize + layout::HEADER;
+    let mut k = layout::links_from(graph, v);
     let mut count = done;
     while k < end {
-        let w = (graph[k] % layout::SCALE) as usize;
+        let w = layout::target(graph[k]);
         let c = colour[w];
         if c == 1 {
             return Leaving::Back;

@@ -9,7 +9,7 @@ use Prim.Native.Nat.{ℕ}
 use native.Mathlib.Omega.{arith}
 use lib.Dec.{eqb}
 use lib.ListN.{take}
-use Rattle.graphs.specs.Graph.{Graph, Tells}
+use Rattle.graphs.specs.Graph.{Graph, TellsApart}
 use Rattle.graphs.specs.Rows.{Row}
 use Rattle.graphs.specs.Number.{Canonical, canonical}
 use Rattle.graphs.specs.Unify.{Cycle, Unified, cycle, clash, unified, unification}
@@ -47,7 +47,7 @@ use Rattle.demands.specs.Demand.{Given, Writes, NoneBelow, Combination}
 use Rattle.demands.proofs.Results.{resultFor, result-writes, seven-bits}
 use Rattle.demands.proofs.Demanded.Order.{order-exact}
 
-pub tells-either : Tells sameEither
+pub tells-either : TellsApart sameEither
 tells-either = same-beside eqb eqb tells-eqb tells-eqb
 
 -- writing a graph refuses by 8 and 11 alone
@@ -159,7 +159,7 @@ module _ (n : ℕ) (t a b : List ℕ) (g h : List (Row Label)) (given : Given n 
         go (written u is best e) = (u, is, best)
 
     -- Whatever graph is the greatest of any size below both, it is what the call writes.
-    module _ {C : Type 0} (same : C → C → Bool) (tells : Tells same) (u : Graph Label C)
+    module _ {C : Type 0} (same : C → C → Bool) (tells : TellsApart same) (u : Graph Label C)
         (best : GreatestOfAnySize n t (graphOfRows g) (graphOfRows h) u) where
       pub greatest-result : unifying n t a b out ≡ resultFor same u out
       greatest-result =

@@ -9,7 +9,7 @@ use Prim.Native.Nat.{ℕ, _≤_, _<_}
 use native.Mathlib.Omega.{arith}
 use lib.Dec.{eqb}
 use lib.ListN.{length, take}
-use Rattle.graphs.specs.Graph.{Graph, Tells, Reached}
+use Rattle.graphs.specs.Graph.{Graph, TellsApart, Reached}
 use Rattle.graphs.specs.Rows.{Row}
 use Rattle.graphs.specs.Difference.{Link, StrictOrder, byNumber, byReading}
 use Rattle.graphs.proofs.Lists.{tells-eqb}
@@ -79,7 +79,7 @@ module _ (n : ℕ) (out : List ℕ) where
       none : (l : ℕ) → r ≡ replies.Length l → ⊥
       none l q = let z : _≡_ {A = ℕ} 0 1 = cc (e, ap refusal q) in omega arith
 
-  graph-leaves : (t : List ℕ) {C : Type 0} (same : C → C → Bool) → Tells same → (k : Graph Label C) → OfAnySize n t k →
+  graph-leaves : (t : List ℕ) {C : Type 0} (same : C → C → Bool) → TellsApart same → (k : Graph Label C) → OfAnySize n t k →
       ((v : C) → Reached k v → k .label v .type < 128) → Leaves n out (resultFor same k out)
   graph-leaves t same tells k size types =
       let writes = result-writes n t same tells k size types out in

@@ -10,7 +10,7 @@ use Prim.Native.Nat.{ℕ, _+_}
 use native.Mathlib.Omega.{arith}
 use lib.ListN.{length, length-append, length-map}
 use Rattle.graphs.specs.Label.{Labels, Lattice}
-use Rattle.graphs.specs.Graph.{Graph, Tells, Below, AnySize}
+use Rattle.graphs.specs.Graph.{Graph, TellsApart, Below, AnySize}
 use Rattle.graphs.specs.Unify.{
   Cycle,
   Clash,
@@ -80,7 +80,7 @@ module _ {𝓛 : Labels} (lattice : Lattice 𝓛) {A B : Type 0} {sameA : A → 
   abbrev nodes : List (A ⊎ B)
   nodes = nodesBeside gs hs
 
-  tells : Tells (sameBeside sameA sameB)
+  tells : TellsApart (sameBeside sameA sameB)
   tells = tells-beside given
 
   nodes-length : length nodes ≡ length gs + length hs
