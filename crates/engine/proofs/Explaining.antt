@@ -23,7 +23,8 @@ use Rattle.engine.specs.declared.PairVerdict.the-variants as pair
 use Rattle.replies.specs.declared.Reply.{Reply}
 use Rattle.replies.specs.declared.Reply.the-variants.{Table, Graph, ReadingOrder}
 use Rattle.replies.specs.Reply.{Result, resulting}
-use Rattle.engine.specs.Pair.{ReadsBoth, partingExplained, partingWith}
+use Rattle.engine.specs.Difference.{differing, differingBy}
+use Rattle.engine.specs.Pair.{ReadsBoth, parting, partingExplained, partingWith}
 use Rattle.engine.specs.Explained.{reasonsOf, explaining, explainingBy}
 use Rattle.engine.proofs.Readings.{Accepts, both-next}
 use Rattle.engine.proofs.Listed.{table-before-list, list-refused, differing-checked}
@@ -50,10 +51,23 @@ module _ (options : Options) (n : ℕ) (t a b out old : List ℕ) where
       sym (both-next n a b (λ r. []) (λ g s. reasonsRows (earlierBy (options .order)) n t g (numbered (canonical eqb (graphOfRows s)))) given))
 
 -- without the reasons, reply and output alone are told
-pub plain-part : {plain : Result} {old : List ℕ} {r : Reply} {new rest : List ℕ} →
+plain-part : {plain : Result} {old : List ℕ} {r : Reply} {new rest : List ℕ} →
     explainedResult r new rest ≡ explainedResult (plain .reply) (plain .output) old → resulting r new ≡ plain
 plain-part e = ap (λ (x : Explained). resulting (x .reply) (x .output)) e
 
+-- the plain calls
+module _ (n : ℕ) (t a b out : List ℕ) {earlier : Link ℕ → Link ℕ → Bool} (opens : table.opened n t ≡ opened.Accepted) where
+  pub differing-plain : earlier ≡ byNumber → {old : List ℕ} {r : Reply} {new rest : List ℕ} →
+      explainedResult r new rest ≡ explainedResult (parting earlier n t a b out .reply) (parting earlier n t a b out .output) old →
+      resulting r new ≡ differing n t a b out
+  differing-plain same e = differing-accepted n t a b out opens same (plain-part e)
+
+  pub differing-by-plain : (list : List ℕ) → isReadingOrder list ≡ true → earlier ≡ byReading list → {old : List ℕ} {r : Reply} {new rest : List ℕ} →
+      explainedResult r new rest ≡ explainedResult (parting earlier n t a b out .reply) (parting earlier n t a b out .output) old →
+      resulting r new ≡ differingBy n t list a b out
+  differing-by-plain list listed same e = differing-by-accepted n t a b out list opens listed same (plain-part e)
+
+-- the calls with reasons
 module _ (n : ℕ) (t a b out old : List ℕ) where
   pub explaining-refused : (fault : TableFault) → table.opened n t ≡ opened.Refused fault →
       explainedResult (Table fault) out old ≡ explaining n t a b out old

@@ -2,8 +2,8 @@
 use mathlib.Core.Path.{sym, _∙_}
 use borrow.Author.Needs.{needs}
 use Rattle.lattice.proofs.Residuals.{opened-accepted}
-use Rattle.engine.proofs.Differing.{differing-refused, differing-accepted}
-use Rattle.engine.proofs.Explaining.{plain-part}
+use Rattle.engine.proofs.Differing.{differing-refused}
+use Rattle.engine.proofs.Explaining.{differing-plain}
 use Rattle.engine.proofs.difference.Statement.{statement}
 use Rattle.engine.proofs.difference.Tie as tie
 
@@ -38,8 +38,8 @@ same-length c = search needs
 returns-2 : tie.Need-returns-2
 returns-2 c =
     let start = c .before .before .before .before .before .before .before .before .before .before .before .before .before .before in
-    differing-accepted (start .args .n) (start .args .table .now) (start .args .first .now) (start .args .second .now) (start .args .out .now) (sym (c .before .before .before .before .before .before .before .before .before .accept .ensures) ∙ c .before .before .before .before .before .before .before .enum-told .given .1) (c .before .before .before .before .before .before .by-number .ensures .1)
-    (plain-part (c .before .before .before .difference-over .ensures))
+    differing-plain (start .args .n) (start .args .table .now) (start .args .first .now) (start .args .second .now) (start .args .out .now) (sym (c .before .before .before .before .before .before .before .before .before .accept .ensures) ∙ c .before .before .before .before .before .before .before .enum-told .given .1) (c .before .before .before .before .before .before .by-number .ensures .1)
+    (c .before .before .before .difference-over .ensures)
 
 pub difference-spec : {M : Type 1} → statement M
 difference-spec =

@@ -4,8 +4,7 @@ use borrow.Author.Needs.{needs}
 use borrow.Author.Tests.{not-true, not-false}
 use Rattle.lattice.proofs.Residuals.{opened-accepted}
 use Rattle.engine.proofs.Listed.{table-before-list, list-refused, differing-checked}
-use Rattle.engine.proofs.Differing.{differing-by-accepted}
-use Rattle.engine.proofs.Explaining.{plain-part}
+use Rattle.engine.proofs.Explaining.{differing-by-plain}
 use Rattle.engine.proofs.difference_by.Statement.{statement}
 use Rattle.engine.proofs.difference_by.Tie as tie
 
@@ -52,10 +51,11 @@ same-length c = search needs
 returns-3 : tie.Need-returns-3
 returns-3 c =
     let a = c .before .before .before .before .before .before .before .before .before .before .before .before .before .before .before .before .before .args in
-    differing-by-accepted (a .n) (a .table .now) (a .first .now) (a .second .now) (a .out .now) (a .list .now)
+    differing-by-plain (a .n) (a .table .now) (a .first .now) (a .second .now) (a .out .now)
     (sym (c .before .before .before .before .before .before .before .before .before .before .before .accept .ensures) ∙ c .before .before .before .before .before .before .before .before .before .enum-told .given .1)
+    (a .list .now)
     (sym (c .before .before .before .before .before .before .before .before .is-reading-order .ensures) ∙ not-false (c .before .before .before .before .before .before .before .before .is-reading-order .result) (c .before .before .before .before .before .before .before .if1 .left))
-    (c .before .before .before .before .before .before .by-list .ensures .1) (plain-part (c .before .before .before .difference-over .ensures))
+    (c .before .before .before .before .before .before .by-list .ensures .1) (c .before .before .before .difference-over .ensures)
 
 pub difference-by-spec : {M : Type 1} → statement M
 difference-by-spec =
