@@ -48,7 +48,8 @@ use Rattle.difference.specs.Comparable.{Comparable}
 use Rattle.difference.specs.Wanted.{WantsAll}
 use Rattle.difference.specs.Promise.{allWantedAlong, differenceAlong}
 use Rattle.difference.specs.Difference.{allWanted, differenceRows, differed}
-use Rattle.difference.specs.Explained.{Explained, explainedResult, lengthWithReasons, withReasons, withReasonsIf, reasonsRows, differedWords, WritesRows, markedReply}
+use Rattle.difference.specs.Explained.{Explained, explainedResult, lengthWithReasons, withReasons, withReasonsIf, reasonsRows, differedWords, markedReply}
+use Rattle.difference.specs.Writing.{WritesRows}
 use Rattle.difference.proofs.Result.{answers-wanted, made-canonical, made-reasons}
 use Rattle.difference.proofs.Along.{all-along, difference-along, reasons-along}
 
@@ -60,10 +61,10 @@ comparable-recorded {n} {t} given =
     let few = accepted-size n t (given .accepts) .1 in
     (loaded-recorded few (given .specific), loaded-recorded few (given .general))
 
--- what the difference asks
-pub ready-below : (n : ℕ) (t g s : List ℕ) {answer : Order} {map : List ℕ} → Comparable n t g s →
+-- what the steps of the difference ask where s is below g
+pub asked-below : (n : ℕ) (t g s : List ℕ) {answer : Order} {map : List ℕ} → Comparable n t g s →
     Orders n t (rowsOf s) (rowsOf g) answer map → answer ≡ order.Below → Asked n t g s map
-ready-below n t g s given orders below =
+asked-below n t g s given orders below =
     let few = accepted-size n t (given .accepts) .1 in
     let one = given .general in
     let other = given .specific in
@@ -80,7 +81,7 @@ ready-below n t g s given orders below =
       lies = orders .yes-stands below;
     }
 
--- and what writing it asks
+-- and what making its rows asks
 pub prepared-below : (order : LinkOrder) (n : ℕ) (t g s : List ℕ) {map marks labels : List ℕ} {wanted : Bool} → Asked n t g s map →
     WantsAll n t s g map wanted labels → wanted ≡ true → MarkedBy (earlierBy order) s g map marks →
     Prepared (earlierBy order) n t g s map marks labels
@@ -220,7 +221,7 @@ module _ (options : Options) (n : ℕ) (t g s out old : List ℕ) (given : Compa
 
   module _ (below : answer ≡ order.Below) {wanted : Bool} {labels : List ℕ} (wants : WantsAll n t s g map wanted labels) where
     is-wanted : wanted ≡ allWantedAlong n t (rowsOf s) (rowsOf g) (λ y. getD map y 0)
-    is-wanted = answers-wanted (ready-below n t g s given orders below) wants
+    is-wanted = answers-wanted (asked-below n t g s given orders below) wants
 
     -- 13
     pub answers-unwanted : wanted ≡ false → explainedResult NoWantedType out old ≡ differedWords options n t g s out old
@@ -231,7 +232,7 @@ module _ (options : Options) (n : ℕ) (t g s out old : List ℕ) (given : Compa
     -- else the difference, with its reasons if they are asked for
     module _ (all : wanted ≡ true) {marks words : List ℕ} (by : MarkedBy earlier s g map marks) (made : Made n t s marks labels words) where
       prepared : Prepared earlier n t g s map marks labels
-      prepared = prepared-below (options .order) n t g s (ready-below n t g s given orders below) wants all by
+      prepared = prepared-below (options .order) n t g s (asked-below n t g s given orders below) wants all by
 
       plain-same : resultOf (writtenOut (canonical eqb (graphIn words)) out) ≡ differed earlier n t out (rowsOf g) (rowsOf s)
       plain-same =

@@ -1,27 +1,21 @@
 -- The difference of g and s with its reasons: what is replied, and left in the two outputs (document 02, Paper 13). Reply and record are
 -- those of the difference without them.
-use mathlib.Core.Path.{_≡_}
 use mathlib.Core.Bool.{Bool, true, false, cond}
 use mathlib.Core.List.{List, _++_}
 use mathlib.Core.Option.{Option, none, some}
 use Prim.Native.Nat.{ℕ}
-use lib.Dec.{eqb, leb}
+use lib.Dec.{leb}
 use lib.ListN.{length, drop}
 use Rattle.graphs.specs.Rows.{Row}
-use Rattle.graphs.specs.Number.{canonical}
 use Rattle.graphs.specs.Difference.{Link}
-use Rattle.graphs.specs.Reasons.{writtenOrder}
 use Rattle.lattice.specs.Label.{Label}
-use Rattle.layout.specs.Layout.{graphIn, rowsOf}
+use Rattle.layout.specs.Layout.{rowsOf}
 use Rattle.encode.specs.declared.Marked.{Marked}
 use Rattle.encode.specs.declared.Marked.the-variants as marked
-use Rattle.encode.specs.Encode.{writtenOut}
-use Rattle.encode.specs.Marks.{marksAlong}
 use Rattle.replies.specs.declared.Reply.{Reply}
 use Rattle.replies.specs.declared.Reply.the-variants.{NoReasonRoom}
-use Rattle.replies.specs.Reply.{Result, lengthOf, replyOf, resultOf}
+use Rattle.replies.specs.Reply.{Result, lengthOf, replyOf}
 use Rattle.groups.specs.LinkOrders.{earlierBy}
-use Rattle.keeping.specs.Explaining.{Explains}
 use Rattle.difference.specs.declared.Options.{Options}
 use Rattle.difference.specs.Promise.{reasonsAlong}
 use Rattle.difference.specs.Difference.{over, differed}
@@ -61,15 +55,6 @@ abbrev pub differedWords : Options → ℕ → List ℕ → List ℕ → List �
 differedWords options n t g s out old =
     withReasonsIf (options .explained) (differed (earlierBy (options .order)) n t out (rowsOf g) (rowsOf s))
     (reasonsRows (earlierBy (options .order)) n t (rowsOf g) (rowsOf s)) out old
-
--- What is written of the rows of a difference: their record and, if they are asked for, the reasons for its links. `held` has the reasons
--- at the places of the links.
-pub record WritesRows (explained : Bool) (s marks words out old : List ℕ) (result : Explained) : Type 0 where
-  pub held : List ℕ
-  pub explains : explained ≡ true → Explains s marks words held
-  pub is : result ≡
-      withReasonsIf explained (resultOf (writtenOut (canonical eqb (graphIn words)) out))
-      (marksAlong words held (writtenOrder eqb (graphIn words))) out old
 
 -- what writing with marks answers, as a reply
 abbrev pub markedReply : Marked → Reply

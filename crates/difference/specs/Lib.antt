@@ -5,3 +5,4 @@ pub mod Promise
 pub mod Comparable
 pub mod Difference
 pub mod Explained
+pub mod Writing

@@ -53,7 +53,7 @@ abbrev pub MetBy : ℕ → List ℕ → ℕ → List ℕ → List ℕ → List �
 MetBy n ws nodes g map over lowest highest =
     (t : List ℕ) → accepted n t ≡ true → Words n t false ws → Met n t ws nodes g map 0 (size g) over lowest highest
 
--- a label that tells a wanted one: its type is 64 where there is none
+-- `label` holds the wanted label; its type is 64 where there is none
 pub record LabelHeld (wanted : Option Label) (label : Label) : Type 0 where
   pub some-stands : label .type < 64 → wanted ≡ some label
   pub none-stands : 64 ≤ label .type → found wanted ≡ false

@@ -18,7 +18,8 @@ ghost use Rattle.keeping.specs.Keeping.{Markable};
 ghost use Rattle.keeping.specs.Explaining.{Copied, Made};
 ghost use Rattle.difference.specs.Asked.{Preparable};
 ghost use Rattle.difference.specs.Comparable.{Comparable};
-ghost use Rattle.difference.specs.Explained.{WritesRows, differedWords, explainedResult, markedReply};
+ghost use Rattle.difference.specs.Explained.{differedWords, explainedResult, markedReply};
+ghost use Rattle.difference.specs.Writing.{WritesRows};
 
 // What a call asks of a difference: the order of links, and whether the reasons are wanted beside the record.
 pub struct Options {

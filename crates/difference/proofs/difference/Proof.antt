@@ -5,7 +5,7 @@ use Prim.Native.Nat.{ℕ}
 use lib.ListN.{length-replicate}
 use Rattle.layout.specs.Layout.{longest}
 use Rattle.difference.proofs.Result.{lying-words, markable-words, made-copied}
-use Rattle.difference.proofs.Answering.{comparable-recorded, ready-below, prepared-below, answers-not-below, answers-unwanted, answers-written}
+use Rattle.difference.proofs.Answering.{comparable-recorded, asked-below, prepared-below, answers-not-below, answers-unwanted, answers-written}
 use Rattle.difference.proofs.difference.Statement.{statement}
 use Rattle.difference.proofs.difference.Tie as tie
 
@@ -26,7 +26,7 @@ returns c =
 wanted-labels-requires : tie.Need-wanted-labels-requires
 wanted-labels-requires c κs =
     let start = c .before .before .before .before .before .before .before .before .before .before .before in
-    let asked = ready-below (start .args .n) (start .args .table .now) (start .args .g .now) (start .args .s .now) (start .pre .0) (c .before .before .before .before .before .subsume .ensures (start .args .n)) (c .before .before .before .enum-told .given .1) in
+    let asked = asked-below (start .args .n) (start .args .table .now) (start .args .g .now) (start .args .s .now) (start .pre .0) (c .before .before .before .before .before .subsume .ensures (start .args .n)) (c .before .before .before .enum-told .given .1) in
     (asked, length-replicate {A = ℕ} 510 0)
 
 returns-2 : tie.Need-returns-2
@@ -37,20 +37,20 @@ returns-2 c =
 mark-links-requires : tie.Need-mark-links-requires
 mark-links-requires c κs =
     let start = c .before .before .before .before .before .before .before .before .before .before .before .before .before .before .before in
-    let asked = ready-below (start .args .n) (start .args .table .now) (start .args .g .now) (start .args .s .now) (start .pre .0) (c .before .before .before .before .before .before .before .before .before .subsume .ensures (start .args .n)) (c .before .before .before .before .before .before .before .enum-told .given .1) in
+    let asked = asked-below (start .args .n) (start .args .table .now) (start .args .g .now) (start .args .s .now) (start .pre .0) (c .before .before .before .before .before .before .before .before .before .subsume .ensures (start .args .n)) (c .before .before .before .before .before .before .before .enum-told .given .1) in
     (lying-words asked, start .pre .1, length-replicate {A = ℕ} longest 0)
 
 make-requires : tie.Need-make-requires
 make-requires c κs =
     let start = c .before .before .before .before .before .before .before .before .before .before .before .before .before .before .before .before .before .before .before in
-    let asked = ready-below (start .args .n) (start .args .table .now) (start .args .g .now) (start .args .s .now) (start .pre .0) (c .before .before .before .before .before .before .before .before .before .before .before .before .before .subsume .ensures (start .args .n)) (c .before .before .before .before .before .before .before .before .before .before .before .enum-told .given .1) in
+    let asked = asked-below (start .args .n) (start .args .table .now) (start .args .g .now) (start .args .s .now) (start .pre .0) (c .before .before .before .before .before .before .before .before .before .before .before .before .before .subsume .ensures (start .args .n)) (c .before .before .before .before .before .before .before .before .before .before .before .enum-told .given .1) in
     let given = prepared-below (start .args .options .order) (start .args .n) (start .args .table .now) (start .args .g .now) (start .args .s .now) asked (c .before .before .before .before .before .before .before .wanted-labels .ensures) (not-false _ (c .before .before .before .before .before .before .if1 .left)) (c .before .before .before .mark-links .ensures) in
     ((_, _, _, given), start .pre .2)
 
 write-rows-requires : tie.Need-write-rows-requires
 write-rows-requires c κs =
     let start = c .before .before .before .before .before .before .before .before .before .before .before .before .before .before .before .before .before .before .before .before .before .before .before .before .before in
-    let asked = ready-below (start .args .n) (start .args .table .now) (start .args .g .now) (start .args .s .now) (start .pre .0) (c .before .before .before .before .before .before .before .before .before .before .before .before .before .before .before .before .before .before .before .subsume .ensures (start .args .n)) (c .before .before .before .before .before .before .before .before .before .before .before .before .before .before .before .before .before .enum-told .given .1) in
+    let asked = asked-below (start .args .n) (start .args .table .now) (start .args .g .now) (start .args .s .now) (start .pre .0) (c .before .before .before .before .before .before .before .before .before .before .before .before .before .before .before .before .before .before .before .subsume .ensures (start .args .n)) (c .before .before .before .before .before .before .before .before .before .before .before .before .before .before .before .before .before .enum-told .given .1) in
     let given = prepared-below (start .args .options .order) (start .args .n) (start .args .table .now) (start .args .g .now) (start .args .s .now) asked (c .before .before .before .before .before .before .before .before .before .before .before .before .before .wanted-labels .ensures) (not-false _ (c .before .before .before .before .before .before .before .before .before .before .before .before .if1 .left)) (c .before .before .before .before .before .before .before .before .before .mark-links .ensures) in
     (λ meeting h. markable-words asked (given .marked .stands .long) h, made-copied given (c .before .before .before .before .before .make .ensures))
 
