@@ -12,7 +12,7 @@ use lib.ListN.{length, getD, set, drop, length-append, length-set, drop-of-lengt
 use lib.Seq.{sets, drop-cons}
 use Rattle.encode.proofs.Stores.{sets-append}
 use Rattle.request.specs.Text.{Puts, decimal, decimalWithin, digitOf, hexadecimal}
-use Rattle.request.specs.Line.{refusedText}
+use Rattle.request.specs.Line.{countsText, refusedText}
 
 -- one text behind another
 pub puts-then : {a b : List ℕ} {at middle next : ℕ} {old part new : List ℕ} →
@@ -145,6 +145,10 @@ pub puts-digit : (n at d : ℕ) (old : List ℕ) → n < 10 → d ≡ digitOf n 
 puts-digit n at d old h e =
     subst (λ (text : List ℕ). Puts text at old (at + 1) (set old at d))
     (ap (λ (x : ℕ). x ∷ []) e ∙ sym (decimal-one n h)) (puts-byte at old d)
+
+-- the text of counts has at most sixteen bytes
+pub counts-short : (nodes rows : ℕ) → length (countsText nodes rows) ≤ 16
+counts-short nodes rows = simp length-append (omega (arith, decimal-short (nodes % 10000) (omega arith), decimal-short (rows % 10000) (omega arith)))
 
 -- the text of a refusal has at most twelve bytes
 pub refused-short : (number : ℕ) → number < 10000 → length (refusedText number) ≤ 12
