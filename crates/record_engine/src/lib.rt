@@ -4,7 +4,7 @@
 
 use replies::Reply;
 use replies::Side;
-use replies::kinds::Kind;
+use replies::answers::Answer;
 ghost use mathlib.Core.Path.{_≡_};
 ghost use Prim.Native.Nat.{_<_};
 ghost use Rattle.encode.specs.Encode.{yielding};
@@ -13,7 +13,7 @@ ghost use Rattle.engine.specs.Unification.{unifying};
 ghost use Rattle.engine.specs.Difference.{differing, differingBy};
 ghost use Rattle.engine.specs.Appropriate.{rewritingAppropriate, generalizingAppropriate, unifyingAppropriate};
 ghost use Rattle.engine.specs.Explained.{explaining, explainingBy};
-ghost use Rattle.record_engine.specs.Code.{codeOf, refusalCode, sideNumber};
+ghost use Rattle.record_engine.specs.Code.{codeOf, countsCode, refusalCode, sideNumber};
 ghost use Rattle.record_engine.specs.Coded.{coded, codedBoth, yieldingBoth};
 ghost use Rattle.record_engine.specs.House.{tabling};
 
@@ -184,16 +184,25 @@ pub extern "C" fn record_house_table(out: &mut [u8]) -> u64
 fn code(reply: Reply) -> u64
     ensures { λ r. ⌜ r ≡ codeOf reply ⌝ }
 {
-    let kind = replies::kinds::kind_of(reply);
-    match kind {
-        Kind::Length(length) => length as u64,
-        Kind::Same => 8589934592,
-        Kind::Under => 8589934593,
-        Kind::Above => 8589934594,
-        Kind::Neither => 8589934595,
-        Kind::Refused(number) => refusal(number as u64, 0),
-        Kind::RefusedGraph(number, side) => refusal(number as u64, side_number(side)),
+    let answer = replies::answers::answer_of(reply);
+    match answer {
+        Answer::Length(length) => length as u64,
+        Answer::Same => 8589934592,
+        Answer::Under => 8589934593,
+        Answer::Above => 8589934594,
+        Answer::Neither => 8589934595,
+        Answer::Counts(nodes, rows) => counts(nodes as u64, rows as u64),
+        Answer::End => 8589934596,
+        Answer::Refused(number) => refusal(number as u64, 0),
+        Answer::RefusedGraph(number, side) => refusal(number as u64, side_number(side)),
     }
+}
+
+// The code of counts, of each the lowest 16 bits.
+fn counts(nodes: u64, rows: u64) -> u64
+    ensures { λ r. ⌜ r ≡ countsCode nodes rows ⌝ }
+{
+    17179869184 + 65536 * (nodes % 65536) + rows % 65536
 }
 
 // The code of a refusal: its number in document 01, and which graph it tells of.

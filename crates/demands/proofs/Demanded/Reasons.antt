@@ -35,9 +35,9 @@ use Rattle.groups.specs.LinkOrders.{isReadingOrder}
 use Rattle.difference.specs.Promise.{differenceAlong, reasonsAlong}
 use Rattle.replies.specs.declared.Reply.{Reply}
 use Rattle.replies.specs.declared.Reply.the-variants as replies
-use Rattle.replies.specs.declared.kinds.Kind.{Kind}
-use Rattle.replies.specs.declared.kinds.Kind.the-variants as kind
-use Rattle.replies.specs.Reply.{Result, kindOf, refusal, resultOf, refusing, lengthIn, lengthOf}
+use Rattle.replies.specs.declared.answers.Answer.{Answer}
+use Rattle.replies.specs.declared.answers.Answer.the-variants as answer
+use Rattle.replies.specs.Reply.{Result, answerOf, refusal, resultOf, refusing, lengthIn, lengthOf}
 use Rattle.subsume.specs.Promise.{rowsBelow}
 use Rattle.engine.specs.Reply.{checked, readBoth}
 use Rattle.difference.specs.Difference.{wantedAt, allWanted, numbered, differenceRows, differed, differedRows}
@@ -47,7 +47,7 @@ use Rattle.demands.specs.Demand.{Given, remainder}
 use Rattle.difference.specs.Explained.{Explained, explainedResult, lengthWithReasons, withReasons}
 use Rattle.engine.specs.Explained.{reasonsOf}
 use Rattle.demands.specs.Explained.{reasonFor, LinkReason}
-use Rattle.replies.proofs.Numbers.{kind-injective}
+use Rattle.replies.proofs.Numbers.{answer-injective}
 use Rattle.difference.proofs.Over.{over-map}
 use Rattle.demands.proofs.Demanded.Combination.{other-refusal}
 use Rattle.demands.proofs.Demanded.Difference.{general-rules, form, form-is, form-below, form-rules}
@@ -163,16 +163,18 @@ module _ (earlier : Link ℕ → Link ℕ → Bool) (n : ℕ) (t out : List ℕ)
 
 -- the reply that tells a length
 length-told : (r : Reply) (l : ℕ) → lengthOf r ≡ some l → r ≡ replies.Length l
-length-told r l e = kind-injective r (replies.Length l) (go (kindOf r) e)
+length-told r l e = answer-injective r (replies.Length l) (go (answerOf r) e)
   where
-    go : (k : Kind) → lengthIn k ≡ some l → k ≡ kind.Length l
-    go (kind.Length m) q = ap kind.Length (some-injective q)
-    go kind.Same q = none-some q
-    go kind.Under q = none-some q
-    go kind.Above q = none-some q
-    go kind.Neither q = none-some q
-    go (kind.Refused number) q = none-some q
-    go (kind.RefusedGraph number side) q = none-some q
+    go : (k : Answer) → lengthIn k ≡ some l → k ≡ answer.Length l
+    go (answer.Length m) q = ap answer.Length (some-injective q)
+    go answer.Same q = none-some q
+    go answer.Under q = none-some q
+    go answer.Above q = none-some q
+    go answer.Neither q = none-some q
+    go (answer.Counts nodes rows) q = none-some q
+    go answer.End q = none-some q
+    go (answer.Refused number) q = none-some q
+    go (answer.RefusedGraph number side) q = none-some q
 
 -- 22 exactly where the reasons do not fit beside a plain call that never gives it
 pub no-room-exact : (plain : Result) (reasons out old : List ℕ) → (plain .reply ≡ replies.NoReasonRoom → ⊥) →
