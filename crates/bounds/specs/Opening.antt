@@ -6,8 +6,7 @@ use mathlib.Core.List.{List}
 use mathlib.Core.Option.{Option}
 use lib.ListN.{length}
 use Rattle.lattice.specs.declared.Opened.{Opened}
-use Rattle.lattice.specs.Table.{accepted}
-use Rattle.lattice.specs.Words.{sideBound}
+use Rattle.lattice.specs.Table.{accepted, sideBound}
 use Rattle.lattice.specs.Reply.{opened}
 use Rattle.bounds.specs.Sets.{Holding}
 

@@ -25,9 +25,7 @@ use Rattle.record.specs.Read.{reading, accepted, graphOfRows}
 use Rattle.generalize.specs.Pairs.{samePair}
 use Rattle.replies.specs.declared.Reply.the-variants.{Length, Same, Cycle, Clash, TooLarge, NotBelow, NoWantedType}
 use Rattle.replies.specs.Reply.{Result, resultOf}
-use Rattle.engine.specs.Reply.{rewriting, ordering, generalizing}
-use Rattle.engine.specs.Unification.{unifying}
-use Rattle.engine.specs.Difference.{differing}
+use Rattle.calls.specs.Calls.{rewriting, ordering, generalizing, unifying, differing}
 use Rattle.demands.specs.Demand.{
   Given,
   AnswersBelow,

@@ -29,7 +29,7 @@ use Rattle.record.proofs.Theorems.{written-reads}
 use Rattle.replies.specs.declared.Reply.{Reply}
 use Rattle.replies.specs.declared.Reply.the-variants.{Length, NoRoom, TooLarge}
 use Rattle.replies.specs.Reply.{Result, refusing, resultOf}
-use Rattle.engine.specs.Reply.{rewriting}
+use Rattle.calls.specs.Calls.{rewriting}
 use Rattle.demands.specs.Demand.{Large, Wrote, Writes}
 
 -- the types of a graph of any size over an accepted table have seven bits

@@ -50,10 +50,13 @@ use Rattle.replies.specs.declared.Reply.{Reply}
 use Rattle.replies.specs.declared.Reply.the-variants.{Table, Graph as Refusal, Cycle, Clash, NotBelow, NoWantedType}
 use Rattle.replies.specs.Reply.{refusal, resultOf, refusing}
 use Rattle.subsume.specs.Promise.{rowsBelow}
-use Rattle.engine.specs.Reply.{checked, readBoth, rewritten, rewriting, compared, ordered, ordering, generalized, generalizing}
-use Rattle.engine.specs.Unification.{sameEither, combined, unifiedRows, unifying}
+use Rattle.calls.specs.Calls.{checked, rewriting, ordering, generalizing, unifying, differing}
+use Rattle.pairs.specs.Pair.{readBoth}
+use Rattle.engine.specs.Rewriting.{rewritten}
+use Rattle.engine.specs.Ordering.{compared, ordered}
+use Rattle.engine.specs.Generalizing.{generalized}
+use Rattle.engine.specs.Unifying.{sameEither, combined, unifiedRows}
 use Rattle.difference.specs.Difference.{over, wantedAt, allWanted, differenceRows, differed, numbered, differedRows}
-use Rattle.engine.specs.Difference.{differing}
 use Rattle.demands.specs.Demand.{Given, Wrote, common, remainder}
 use Rattle.demands.specs.Unranged.{
   typesIn,

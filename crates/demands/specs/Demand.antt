@@ -22,8 +22,7 @@ use Rattle.encode.specs.Encode.{encoded}
 use Rattle.record.specs.Read.{reading, accepted, graphOfRows}
 use Rattle.replies.specs.declared.Reply.the-variants.{Length, Same, Under, Above, Neither, NoRoom, TooLarge}
 use Rattle.replies.specs.Reply.{Result, refusal}
-use Rattle.engine.specs.Reply.{ordering, rewriting}
-use Rattle.engine.specs.Unification.{unifying}
+use Rattle.calls.specs.Calls.{ordering, rewriting, unifying}
 use Rattle.difference.specs.Difference.{numbered, differenceRows}
 
 -- An accepted table, and two accepted records with their rows.

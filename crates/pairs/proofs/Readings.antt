@@ -18,7 +18,7 @@ use Rattle.record.specs.declared.reading.Verdict.the-variants.{Accepted, Refuse
 use Rattle.record.specs.Read.{Reading, refused, accepted, reading}
 use Rattle.record.specs.Reads.{Holds, Loaded, ReadsAs, verdictOf}
 use Rattle.record.specs.Appropriate.{listAccepted, readingAppropriate}
-use Rattle.record.proofs.Accepted.{accepted-rules}
+use Rattle.record.proofs.Accepted.{Rules, accepted-rules}
 use Rattle.record.proofs.Rewritten.{rules-read}
 use Rattle.record.proofs.Allowed.{accepted-appropriate, list-long}
 use Rattle.replies.specs.declared.Side.{Side}
@@ -177,3 +177,14 @@ reads-plain n t list a b {v} {ws} {ws₂} none reads =
     let e = eq-eqb (length list) 0 none in
     subst (λ (o : Reading). ReadsBoth n o (reading n b) v ws ws₂) (reading-plain n t list a e)
     (subst (λ (p : Reading). ReadsBoth n (readingBeside n t list a) p v ws ws₂) (reading-plain n t list b e) reads)
+
+-- what a reading accepts keeps the rules
+abbrev pub Ruled : ℕ → Reading → Type 0
+Ruled n o = (rows : List (Row Label)) → o ≡ accepted rows → Rules n rows
+
+-- what comes next matters for accepted records only
+pub both-same : {n : ℕ} {o p : Reading} → Ruled n o → Ruled n p → {X : Type 0} (refuse : Reply → X) (next other : List (Row Label) → List (Row Label) → X) →
+    ((g h : List (Row Label)) → Rules n g → Rules n h → next g h ≡ other g h) → readBoth refuse o p next ≡ readBoth refuse o p other
+both-same {o = refused fault} one two refuse next other same = refl
+both-same {o = accepted rows} {p = refused fault} one two refuse next other same = refl
+both-same {o = accepted rows} {p = accepted others} one two refuse next other same = same rows others (one rows refl) (two others refl)

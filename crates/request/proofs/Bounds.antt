@@ -4,7 +4,7 @@ use mathlib.Core.Bool.{Bool, true, false, cond}
 use mathlib.Core.List.{List, _++_}
 use mathlib.Core.Logic.{_⊎_}
 use mathlib.Core.Option.{Option, none, some}
-use Prim.Native.Nat.{ℕ, _≤_, _<_}
+use Prim.Native.Nat.{ℕ, _%_, _≤_, _<_}
 use native.Mathlib.Omega.{arith}
 use borrow.Author.Tests.{leb-true}
 use lib.Dec.{eqb, leb}
@@ -33,10 +33,12 @@ use Rattle.replies.specs.declared.Reply.{Reply}
 use Rattle.replies.specs.declared.Reply.the-variants.{Length, Table, Graph, NoRoom, Cycle, Clash, TooLarge, NotBelow, NoWantedType}
 use Rattle.replies.specs.Reply.{Result, Bounded, answerOf, refusal, refusing, resultOf}
 use Rattle.subsume.specs.Promise.{rowsBelow}
-use Rattle.engine.specs.Reply.{checked, readBoth, generalizing, generalized, compared, ordering, ordered}
-use Rattle.engine.specs.Unification.{sameEither, combined, unifiedRows, unifying}
+use Rattle.calls.specs.Calls.{checked, generalizing, ordering, unifying, differing}
+use Rattle.pairs.specs.Pair.{readBoth}
+use Rattle.engine.specs.Generalizing.{generalized}
+use Rattle.engine.specs.Ordering.{compared, ordered}
+use Rattle.engine.specs.Unifying.{sameEither, combined, unifiedRows}
 use Rattle.difference.specs.Difference.{allWanted, differenceRows, differed, numbered, differedRows}
-use Rattle.engine.specs.Difference.{differing}
 use Rattle.replies.proofs.Numbers.{numberIn, number-small, answer-bounded}
 use Rattle.request.specs.declared.parse.Operation.{Operation}
 use Rattle.request.specs.declared.parse.Operation.the-variants.{Generalize, Unify, Difference, Order}

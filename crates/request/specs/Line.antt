@@ -9,9 +9,7 @@ use Rattle.replies.specs.declared.Reply.{Reply}
 use Rattle.replies.specs.declared.answers.Answer.{Answer}
 use Rattle.replies.specs.declared.answers.Answer.the-variants.{Length, Same, Under, Above, Neither, Counts, End, Refused, RefusedGraph}
 use Rattle.replies.specs.Reply.{Result, answerOf, refusing}
-use Rattle.engine.specs.Reply.{generalizing, ordering}
-use Rattle.engine.specs.Unification.{unifying}
-use Rattle.engine.specs.Difference.{differing}
+use Rattle.calls.specs.Calls.{generalizing, ordering, unifying, differing}
 use Rattle.request.specs.declared.Printed.{Printed}
 use Rattle.request.specs.declared.parse.Operation.{Operation}
 use Rattle.request.specs.declared.parse.Operation.the-variants.{Generalize, Unify, Difference, Order}

@@ -36,10 +36,10 @@ fn answer(
     ensures { λ r. ⌜ resulting r (now (output .exit)) ≡ answering operation n (now (table .entry)) (now (first .entry)) (now (second .entry)) (now (output .entry)) ⌝ }
 {
     match operation {
-        Operation::Generalize => engine::generalize(n, table, first, second, output),
-        Operation::Unify => engine::unify(n, table, first, second, output),
-        Operation::Difference => engine::difference(n, table, first, second, output),
-        Operation::Order => engine::order(n, table, first, second),
+        Operation::Generalize => calls::generalizing::generalize(n, table, first, second, output),
+        Operation::Unify => calls::unifying::unify(n, table, first, second, output),
+        Operation::Difference => calls::differing::difference(n, table, first, second, output),
+        Operation::Order => calls::ordering::order(n, table, first, second),
     }
 }
 

@@ -72,12 +72,14 @@ use Rattle.record.proofs.Theorems.{accepted-of-any-size}
 use Rattle.generalize.specs.Pairs.{samePair}
 use Rattle.groups.specs.LinkOrders.{isReadingOrder}
 use Rattle.difference.specs.Promise.{wantedAlong, allWantedAlong, differenceAlong, reasonsAlong}
-use Rattle.engine.specs.Reply.{rewriting, generalized, generalizing, ordered as comparing, ordering}
-use Rattle.engine.specs.Unification.{unifiedRows, unifying}
-use Rattle.engine.specs.Appropriate.{rewritingAppropriate, generalizingAppropriate}
+use Rattle.calls.specs.Calls.{rewriting, generalizing, ordering, unifying, differing, differingBy}
+use Rattle.engine.specs.Generalizing.{generalized}
+use Rattle.engine.specs.Ordering.{ordered as comparing}
+use Rattle.engine.specs.Unifying.{unifiedRows}
+use Rattle.calls.specs.Appropriate.{rewritingAppropriate, generalizingAppropriate}
 use Rattle.difference.specs.Difference.{firstAt, over, wantedAt, allWanted, differenceRows, differed, differedRows}
-use Rattle.engine.specs.Difference.{differing, differingBy}
-use Rattle.engine.specs.Explained.{reasonsOf, explaining, explainingBy}
+use Rattle.engine.specs.Differing.{reasonsOf}
+use Rattle.calls.specs.Explained.{explaining, explainingBy}
 use Rattle.replies.specs.declared.Reply.the-variants.{NoWantedType}
 use Rattle.demands.proofs.Demanded.Wanted.{meet-known, label-below, wanted-exact}
 use Rattle.demands.proofs.Requests.Paper06.{unwanted-exact, itself-lone-top}

@@ -14,12 +14,10 @@ use Rattle.record.specs.Read.{reading, accepted}
 use Rattle.replies.specs.declared.Reply.the-variants.{Length, Same, Under, Above, Neither, NoWantedType, ReadingOrder, NoReasonRoom}
 use Rattle.replies.specs.declared.Reply.{Reply}
 use Rattle.replies.specs.Reply.{Result, refusal, resulting, refusing, resultOf}
-use Rattle.engine.specs.Reply.{rewriting, generalizing, ordering}
-use Rattle.engine.specs.Unification.{unifying}
-use Rattle.engine.specs.Difference.{differing, differingBy}
-use Rattle.engine.specs.Appropriate.{rewritingAppropriate, generalizingAppropriate}
+use Rattle.calls.specs.Calls.{rewriting, generalizing, ordering, unifying, differing, differingBy}
+use Rattle.calls.specs.Appropriate.{rewritingAppropriate, generalizingAppropriate}
 use Rattle.difference.specs.Explained.{explainedResult}
-use Rattle.engine.specs.Explained.{explaining, explainingBy}
+use Rattle.calls.specs.Explained.{explaining, explainingBy}
 use Rattle.demands.specs.Demand.{loneTop}
 use Rattle.encode.specs.Encode.{fitted}
 

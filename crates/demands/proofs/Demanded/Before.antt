@@ -31,12 +31,12 @@ use Rattle.difference.specs.Promise.{wantedAlong, allWantedAlong, differenceAlo
 use Rattle.replies.specs.declared.Reply.{Reply}
 use Rattle.replies.specs.declared.Reply.the-variants.{NotBelow, NoWantedType}
 use Rattle.replies.specs.Reply.{Result, refusal, resultOf, refusing}
-use Rattle.engine.specs.Reply.{checked, readBoth}
+use Rattle.calls.specs.Calls.{checked, differing}
+use Rattle.pairs.specs.Pair.{readBoth}
 use Rattle.difference.specs.Difference.{over, wantedAt, allWanted, differenceRows, differed, numbered, differedRows}
-use Rattle.engine.specs.Difference.{differing}
 use Rattle.demands.specs.Before.{residualLabel, residualRows, differedBefore, differingBefore}
 use Rattle.record.proofs.Ordered.{order-test}
-use Rattle.engine.proofs.Readings.{both-same}
+use Rattle.pairs.proofs.Readings.{both-same}
 use Rattle.engine.proofs.Tables.{label-known}
 use Rattle.demands.proofs.Demanded.Combination.{other-refusal}
 use Rattle.demands.proofs.Demanded.Wanted.{meet-known, label-below}

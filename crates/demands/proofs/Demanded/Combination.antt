@@ -42,7 +42,8 @@ use Rattle.record.specs.Read.{reading, accepted, graphOfRows}
 use Rattle.record.proofs.Theorems.{accepted-of-any-size, accepted-nodes}
 use Rattle.replies.specs.declared.Reply.the-variants as replies
 use Rattle.replies.specs.Reply.{Result, refusal, refusing, replyOf, resultOf}
-use Rattle.engine.specs.Unification.{sameEither, combined, unifiedRows, unifying}
+use Rattle.engine.specs.Unifying.{sameEither, combined, unifiedRows}
+use Rattle.calls.specs.Calls.{unifying}
 use Rattle.demands.specs.Demand.{Given, Writes, NoneBelow, Combination}
 use Rattle.demands.proofs.Results.{resultFor, result-writes, seven-bits}
 use Rattle.demands.proofs.Demanded.Order.{order-exact}

@@ -32,9 +32,8 @@ use Rattle.record.proofs.Theorems.{accepted-of-any-size, accepted-fits, written
 use Rattle.groups.specs.LinkOrders.{isReadingOrder}
 use Rattle.replies.specs.declared.Reply.the-variants as replies
 use Rattle.replies.specs.Reply.{Result, refusal, refusing, resultOf}
-use Rattle.engine.specs.Unification.{unifying}
+use Rattle.calls.specs.Calls.{unifying, differing, differingBy}
 use Rattle.difference.specs.Difference.{allWanted, numbered, differenceRows, differed, differedRows}
-use Rattle.engine.specs.Difference.{differing, differingBy}
 use Rattle.demands.specs.Demand.{Given, Large, Writes, MoreGeneral, remainder, Restores, Difference}
 use Rattle.record.proofs.Ordered.{order-test}
 use Rattle.demands.proofs.Results.{resultFor, rewriting-is, result-writes, seven-bits}

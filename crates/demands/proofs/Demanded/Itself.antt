@@ -40,7 +40,7 @@ use Rattle.record.specs.Read.{reading, accepted, graphOfRows}
 use Rattle.record.proofs.Accepted.{accepted-rules}
 use Rattle.record.proofs.Theorems.{accepted-of-any-size, written-reads}
 use Rattle.replies.specs.Reply.{resultOf}
-use Rattle.engine.specs.Difference.{differing}
+use Rattle.calls.specs.Calls.{differing}
 use Rattle.demands.specs.Demand.{Given, loneTop, remainder, Restores}
 use Rattle.record.proofs.Ordered.{short}
 use Rattle.demands.proofs.Results.{seven-bits}

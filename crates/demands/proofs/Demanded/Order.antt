@@ -25,7 +25,9 @@ use Rattle.replies.specs.declared.Reply.{Reply}
 use Rattle.replies.specs.declared.Reply.the-variants.{Same, Under, Above, Neither, Table, Graph}
 use Rattle.replies.specs.Reply.{answerOf}
 use Rattle.subsume.specs.Promise.{rowsBelow}
-use Rattle.engine.specs.Reply.{checked, readBoth, compared, ordered, ordering}
+use Rattle.calls.specs.Calls.{checked, ordering}
+use Rattle.pairs.specs.Pair.{readBoth}
+use Rattle.engine.specs.Ordering.{compared, ordered}
 use Rattle.demands.specs.Demand.{Given, AnswersBelow, AnswersNotBelow}
 use Rattle.record.proofs.Ordered.{order-test}
 

@@ -39,10 +39,12 @@ use Rattle.replies.specs.declared.Side.the-variants.{First, Second}
 use Rattle.replies.specs.declared.Reply.{Reply}
 use Rattle.replies.specs.declared.Reply.the-variants as replies
 use Rattle.replies.specs.Reply.{Result, refusal, refusing}
-use Rattle.engine.specs.Reply.{checked, checkedList, readBoth, rewritten, rewriting, generalizing, generalized}
-use Rattle.engine.specs.Unification.{sameEither, unifiedRows, unifying}
+use Rattle.calls.specs.Calls.{checked, checkedList, rewriting, generalizing, unifying, differing, differingBy}
+use Rattle.pairs.specs.Pair.{readBoth}
+use Rattle.engine.specs.Rewriting.{rewritten}
+use Rattle.engine.specs.Generalizing.{generalized}
+use Rattle.engine.specs.Unifying.{sameEither, unifiedRows}
 use Rattle.difference.specs.Difference.{differedRows}
-use Rattle.engine.specs.Difference.{differing, differingBy}
 use Rattle.demands.specs.Demand.{Given, Leaves, Large, common, remainder}
 use Rattle.demands.proofs.Results.{resultFor, result-writes, seven-bits}
 use Rattle.demands.proofs.Demanded.CommonPart.{common-part-exists}

@@ -39,13 +39,12 @@ use Rattle.replies.specs.declared.answers.Answer.{Answer}
 use Rattle.replies.specs.declared.answers.Answer.the-variants as answer
 use Rattle.replies.specs.Reply.{Result, answerOf, refusal, resultOf, refusing, lengthIn, lengthOf}
 use Rattle.subsume.specs.Promise.{rowsBelow}
-use Rattle.engine.specs.Reply.{checked, readBoth}
+use Rattle.calls.specs.Calls.{checked, differing, differingBy}
+use Rattle.pairs.specs.Pair.{readBoth}
 use Rattle.difference.specs.Difference.{wantedAt, allWanted, numbered, differenceRows, differed, differedRows}
-use Rattle.engine.specs.Difference.{differing, differingBy}
-use Rattle.engine.specs.Pair.{parting}
+use Rattle.engine.specs.Differing.{parting, reasonsOf}
 use Rattle.demands.specs.Demand.{Given, remainder}
 use Rattle.difference.specs.Explained.{Explained, explainedResult, lengthWithReasons, withReasons}
-use Rattle.engine.specs.Explained.{reasonsOf}
 use Rattle.demands.specs.Explained.{reasonFor, LinkReason}
 use Rattle.replies.proofs.Numbers.{answer-injective}
 use Rattle.difference.proofs.Over.{over-map}

@@ -17,8 +17,7 @@ use Rattle.lattice.proofs.Acceptance.{opened-accepted}
 use Rattle.lattice.proofs.AnySize.{generalization-least, least-monotone, greatest-monotone, combines-broader, combines-not-refuted}
 use Rattle.record.specs.Read.{reading, accepted, graphOfRows}
 use Rattle.replies.specs.declared.Reply.the-variants.{Length, Cycle, Clash}
-use Rattle.engine.specs.Reply.{generalizing}
-use Rattle.engine.specs.Unification.{unifying}
+use Rattle.calls.specs.Calls.{generalizing, unifying}
 use Rattle.demands.specs.Demand.{Given, AnswersBelow}
 use Rattle.demands.proofs.Broader.{RecordBelow, answer-below, rows-below, below-answer, below-paths}
 use Rattle.demands.proofs.Broader as Broader

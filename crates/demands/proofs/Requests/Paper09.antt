@@ -21,10 +21,8 @@ use Rattle.record.proofs.Obeying as Obeying
 use Rattle.replies.specs.declared.Side.the-variants.{First, Second}
 use Rattle.replies.specs.declared.Reply.the-variants.{Length, Graph as Refusal, TypeList}
 use Rattle.replies.specs.Reply.{refusing}
-use Rattle.engine.specs.Reply.{rewriting, generalizing}
-use Rattle.engine.specs.Unification.{unifying}
-use Rattle.engine.specs.Difference.{differing}
-use Rattle.engine.specs.Appropriate.{rewritingAppropriate, generalizingAppropriate, unifyingAppropriate}
+use Rattle.calls.specs.Calls.{rewriting, generalizing, unifying, differing}
+use Rattle.calls.specs.Appropriate.{rewritingAppropriate, generalizingAppropriate, unifyingAppropriate}
 use Rattle.demands.specs.Appropriate.{Passes, Breaks, Fits, Obeys}
 use Rattle.demands.specs.Demand.{Given}
 use Rattle.demands.proofs.Demanded.Appropriate as Listing
