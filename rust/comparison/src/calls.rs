@@ -46,13 +46,13 @@ pub const ORDER: Call = Call {
 /// The common part.
 pub const GENERALIZE: Call = Call {
     engine: |table, records, output| pair(record_engine::generalize, table, records, output),
-    reference: |table, records, output| judged(calls::common_part, table, records, output),
+    reference: |table, records, output| judged(calls::generalize, table, records, output),
 };
 
 /// The combination.
 pub const UNIFY: Call = Call {
     engine: |table, records, output| pair(record_engine::unify, table, records, output),
-    reference: |table, records, output| judged(calls::combination, table, records, output),
+    reference: |table, records, output| judged(calls::unify, table, records, output),
 };
 
 /// The difference of the first, which is the general one, and the second.
@@ -87,7 +87,7 @@ pub const GENERALIZE_APPROPRIATE: Call = Call {
         )
     },
     reference: |table, records, output| {
-        judged_by_list(calls::common_part_appropriate, table, records, output)
+        judged_by_list(calls::generalize_appropriate, table, records, output)
     },
 };
 
@@ -97,7 +97,7 @@ pub const UNIFY_APPROPRIATE: Call = Call {
         pair_by_list(record_engine::unify_appropriate, table, records, output)
     },
     reference: |table, records, output| {
-        judged_by_list(calls::combination_appropriate, table, records, output)
+        judged_by_list(calls::unify_appropriate, table, records, output)
     },
 };
 
@@ -166,30 +166,31 @@ fn refused(refusal: Refusal) -> Reply {
         Refusal::Table(fault) => reply::Refusal::Table(match fault {
             TableFault::Size => table::TableFault::Size,
             TableFault::Order => table::TableFault::Order,
-            TableFault::Bounds => table::TableFault::Lattice,
+            TableFault::Bounds => table::TableFault::Bounds,
         }),
         Refusal::Graph(fault, side) => {
             let fault = match fault {
-                GraphFault::Malformed => record::GraphFault::Shape,
-                GraphFault::OutOfRange => record::GraphFault::Value,
-                GraphFault::Cyclic => record::GraphFault::Cycle,
+                GraphFault::Malformed => record::GraphFault::Malformed,
+                GraphFault::OutOfRange => record::GraphFault::OutOfRange,
+                GraphFault::Cyclic => record::GraphFault::Cyclic,
                 GraphFault::Unreached => record::GraphFault::Unreached,
                 GraphFault::Inappropriate => record::GraphFault::Inappropriate,
             };
             let which = match side {
-                Side::First => reply::Which::First,
-                Side::Second => reply::Which::Second,
+                Side::First => reply::Side::First,
+                Side::Second => reply::Side::Second,
             };
             reply::Refusal::Graph(fault, which)
         }
-        Refusal::NoRoom => reply::Refusal::ShortOutput,
-        Refusal::Cycle => reply::Refusal::Loop,
+        Refusal::NoRoom => reply::Refusal::NoRoom,
+        Refusal::Cycle => reply::Refusal::Cycle,
         Refusal::Clash => reply::Refusal::Clash,
         Refusal::TooLarge => reply::Refusal::TooLarge,
         Refusal::NotBelow => reply::Refusal::NotBelow,
         Refusal::NoWantedType => reply::Refusal::NoWantedType,
         Refusal::TypeList => reply::Refusal::TypeList,
-        Refusal::FeatureList => reply::Refusal::FeatureList,
-        Refusal::NoRoomForReasons => reply::Refusal::ShortReasons,
+        Refusal::ReadingOrder => reply::Refusal::ReadingOrder,
+        Refusal::NoReasonRoom => reply::Refusal::NoReasonRoom,
+        other => panic!("{other:?} is no reply of these calls"),
     })
 }

@@ -9,7 +9,7 @@ use record_engine::FEATURES;
 use reference::graph::Graph;
 use reference::random::{self, InputWithList, Ranges, Shape, TableBytes, Xorshift};
 use reference::record::{self, GraphFault, LONGEST_RECORD, MOST_LINKS, MOST_NODES};
-use reference::reply::{Refusal, Reply, Which};
+use reference::reply::{Refusal, Reply, Side};
 use reference::table::Table;
 
 /// The calls on two graphs, each with the plain one.
@@ -19,8 +19,8 @@ const PAIRS: [(Call, Call); 2] = [
 ];
 
 /// 18 of one of the graphs.
-const fn inappropriate(which: Which) -> Reply {
-    Reply::Refused(Refusal::Graph(GraphFault::Inappropriate, which))
+const fn inappropriate(side: Side) -> Reply {
+    Reply::Refused(Refusal::Graph(GraphFault::Inappropriate, side))
 }
 
 /// Random inputs, valid and damaged in any of their parts.
@@ -162,19 +162,19 @@ fn every_kind_of_list_for_two_graphs() {
             }
             if let Some(list) = random::broken_list(random, types, &[&p], &q) {
                 let reply = compared.check(&table, &[&list, &first, &second]);
-                assert_eq!(reply, inappropriate(Which::Second), "{table:?} {list:?}");
+                assert_eq!(reply, inappropriate(Side::Second), "{table:?} {list:?}");
                 let reply = compared.check(&table, &[&list, &second, &first]);
-                assert_eq!(reply, inappropriate(Which::First), "{table:?} {list:?}");
+                assert_eq!(reply, inappropriate(Side::First), "{table:?} {list:?}");
                 let reply = compared.check(&table, &[&list, &second, &damaged]);
-                assert_eq!(reply, inappropriate(Which::First), "{table:?} {list:?}");
+                assert_eq!(reply, inappropriate(Side::First), "{table:?} {list:?}");
                 let reply = compared.check(&table, &[&list, &second, &second]);
-                assert_eq!(reply, inappropriate(Which::First), "{table:?} {list:?}");
+                assert_eq!(reply, inappropriate(Side::First), "{table:?} {list:?}");
             }
             // An entry of 0 forbids a feature that some node has.
             if let Some(feature) = p.nodes.iter().find_map(|node| node.links.keys().last()) {
                 let list = with_entry(&obeyed, usize::from(*feature), 0);
                 let reply = compared.check(&table, &[&list, &first, &second]);
-                assert_eq!(reply, inappropriate(Which::First), "{table:?} {list:?}");
+                assert_eq!(reply, inappropriate(Side::First), "{table:?} {list:?}");
             }
             for list in refused_lists(random, table.n, &obeyed) {
                 for (left, right) in [(&first, &second), (&damaged, &second), (&first, &damaged)] {
@@ -213,7 +213,7 @@ fn every_kind_of_list_for_one_graph() {
         assert_eq!(compared.check(&table, &[&tops, &damaged]), expected);
         if let Some(list) = random::broken_list(random, types, &[], &graph) {
             let reply = compared.check(&table, &[&list, &record]);
-            assert_eq!(reply, inappropriate(Which::First), "{table:?} {list:?}");
+            assert_eq!(reply, inappropriate(Side::First), "{table:?} {list:?}");
         }
         for list in refused_lists(random, table.n, &obeyed) {
             for record in [&record, &damaged] {

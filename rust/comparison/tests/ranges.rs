@@ -7,7 +7,7 @@ use reference::graph::Graph;
 use reference::label::Range;
 use reference::random::{self, Ranges, Shape, TableBytes, Xorshift};
 use reference::record::{self, GraphFault, LONGEST_RECORD};
-use reference::reply::{Refusal, Reply, Which};
+use reference::reply::{Refusal, Reply, Side};
 use reference::table::CONTRADICTION;
 
 /// A table and two graphs, of which one may be above the other; in one of four cases
@@ -114,8 +114,8 @@ impl Damage {
 
     fn fault(self) -> GraphFault {
         match self {
-            Damage::Levels => GraphFault::Shape,
-            _ => GraphFault::Value,
+            Damage::Levels => GraphFault::Malformed,
+            _ => GraphFault::OutOfRange,
         }
     }
 
@@ -174,13 +174,13 @@ fn damaged_ranges_are_refused_by_every_call() {
             for damage in Damage::ALL {
                 let damaged = damage.record(random, table.n);
                 let other = random.choose(&Damage::ALL).record(random, table.n);
-                for (records, which) in [
-                    ([&damaged, &good[1]], Which::First),
-                    ([&good[0], &damaged], Which::Second),
-                    ([&damaged, &other], Which::First),
+                for (records, side) in [
+                    ([&damaged, &good[1]], Side::First),
+                    ([&good[0], &damaged], Side::Second),
+                    ([&damaged, &other], Side::First),
                 ] {
                     let reply = compared.check(&table, &records.map(Vec::as_slice));
-                    let refusal = Refusal::Graph(damage.fault(), which);
+                    let refusal = Refusal::Graph(damage.fault(), side);
                     assert_eq!(reply, Reply::Refused(refusal), "{records:?}");
                 }
             }
@@ -198,7 +198,7 @@ fn damaged_ranges_are_refused_by_rewriting() {
         for damage in Damage::ALL {
             let damaged = damage.record(random, table.n);
             let reply = compared.check(&table, &[&damaged]);
-            let refusal = Refusal::Graph(damage.fault(), Which::First);
+            let refusal = Refusal::Graph(damage.fault(), Side::First);
             assert_eq!(reply, Reply::Refused(refusal), "{damaged:?}");
         }
     }

@@ -96,7 +96,7 @@ fn differences_by_hand() {
         let found: Vec<Reason> = bytes.into_iter().map_while(Reason::of).collect();
         assert_eq!(found, reasons, "{first:?}");
     }
-    assert_eq!(Refusal::FeatureList.number(), 19);
+    assert_eq!(Refusal::ReadingOrder.number(), 19);
 }
 
 /// Random inputs, valid and damaged in any of their parts.
@@ -217,7 +217,7 @@ fn every_kind_of_list() {
                 let found = by_list.check(&table, &[&list, left, right]);
                 assert_eq!(
                     found,
-                    Reply::Refused(reply::Refusal::FeatureList),
+                    Reply::Refused(reply::Refusal::ReadingOrder),
                     "{list:?}"
                 );
             }

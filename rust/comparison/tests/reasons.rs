@@ -109,7 +109,7 @@ fn outputs_of_every_length() {
             );
             let expected = match (room < length, count < 2) {
                 (true, _) => Err(Refusal::NoRoom),
-                (false, true) => Err(Refusal::NoRoomForReasons),
+                (false, true) => Err(Refusal::NoReasonRoom),
                 (false, false) => Ok(length),
             };
             assert_eq!(answer, expected, "{room} and {count} bytes");
@@ -120,7 +120,7 @@ fn outputs_of_every_length() {
             assert!(beyond.all(|&byte| byte == 7), "unchanged");
         }
     }
-    assert_eq!(Refusal::NoRoomForReasons.number(), 22);
+    assert_eq!(Refusal::NoReasonRoom.number(), 22);
 }
 
 /// At least 10,000 pairs of mostly small graphs, some of any size and some damaged.
