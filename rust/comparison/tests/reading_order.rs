@@ -106,7 +106,7 @@ fn compare_inputs(call: Call, seed: u64, count: usize, ranges: Ranges) -> Compar
             table,
             list,
             records: [general, specific],
-        } = random::input_with_feature_list(random, ranges);
+        } = random::input_with_reading_order(random, ranges);
         compared.check(&table, &[&list, &general, &specific]);
     })
 }
@@ -189,7 +189,7 @@ fn every_kind_of_list() {
             _ => Shape::small(random, 9, 4),
         };
         let (table, [g, s]) = pair(random, shape);
-        let lists = [0, 1].map(|_| random::feature_list(random));
+        let lists = [0, 1].map(|_| random::reading_order(random));
         let (_, restored) = rewrite.answer(&table, &[&s]);
         let (_, without) = difference.answer(&table, &[&g, &s]);
         let rests = lists.each_ref().map(|list| {
@@ -242,7 +242,7 @@ fn every_bit_of_a_list_and_every_length() {
     for _ in 0..40 {
         let shape = Shape::small(random, 9, 4);
         let (table, [g, s]) = pair(random, shape);
-        let list = random::feature_list(random);
+        let list = random::reading_order(random);
         let mut check = |list: &[u8]| compared.check(&table, &[list, &g, &s]).number();
         for bit in 0..8 * FEATURES {
             let mut changed = list.clone();
@@ -274,7 +274,7 @@ fn the_reasons_of_shared_and_large_pairs() {
             _ => Shape::shared(random),
         };
         let (table, [g, s]) = pair(random, shape);
-        let list = random::feature_list(random);
+        let list = random::reading_order(random);
         compared.check(&table, &[&list, &g, &s]);
     }
     compared.assert_replies(&[0, 8, 22], 700);

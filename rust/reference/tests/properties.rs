@@ -366,7 +366,7 @@ fn difference_restores_and_nothing_more_general_does() {
     let mut random = Xorshift::stored(54);
     let mut differences = 0;
     for_pairs_over(13, 4000, random::brouwer_table, |table, g, s| {
-        let list = random::feature_list(&mut random);
+        let list = random::reading_order(&mut random);
         let order = match random.chance(1, 2) {
             true => LinkOrder::ByParent,
             false => LinkOrder::by_list(&list).expect("all features, each once"),

@@ -100,7 +100,7 @@ fn all_three_reasons_by_a_list() {
 fn which_lists_are_accepted() {
     let mut random = Xorshift::stored(51);
     for _ in 0..20 {
-        let list = random::feature_list(&mut random);
+        let list = random::reading_order(&mut random);
         let mut places = [0; FEATURES];
         for (place, &feature) in (0..).zip(&list) {
             places[usize::from(feature)] = place;
@@ -121,7 +121,7 @@ fn which_lists_are_accepted() {
             let resized: Vec<u8> = list.iter().copied().cycle().take(length).collect();
             assert_eq!(LinkOrder::by_list(&resized), None);
         }
-        let damaged = random::damaged_feature_list(&mut random, list);
+        let damaged = random::damaged_reading_order(&mut random, list);
         assert_eq!(LinkOrder::by_list(&damaged), None, "{damaged:?}");
     }
 }
@@ -137,7 +137,7 @@ fn what_a_list_keeps_is_true_of_the_paths_of_both_graphs() {
     for round in 0..8_000 {
         let (table, shape) = table_and_shape(&mut random, round);
         let (g, s) = random::low_pair(&mut random, &table, &shape);
-        let lists = [0, 1].map(|_| random::feature_list(&mut random));
+        let lists = [0, 1].map(|_| random::reading_order(&mut random));
         if paths(&s).len() > 60 {
             continue;
         }
@@ -187,7 +187,7 @@ fn checks_run_in_the_papers_order() {
             table,
             list,
             records: [g, s],
-        } = random::input_with_feature_list(&mut random, ranges);
+        } = random::input_with_reading_order(&mut random, ranges);
         let (n, bytes) = (table.n, &table.bytes);
         let rooms = [LONGEST_RECORD, MOST_LINKS].map(|most| {
             let any = random.pick(most);
