@@ -13,7 +13,7 @@ pub struct Combination {
 }
 
 /// Merges both roots, and what equal features of merged nodes lead to.
-pub fn combination(table: &Table, graphs: [&Graph; 2]) -> Combination {
+pub fn unify(table: &Table, graphs: [&Graph; 2]) -> Combination {
     let second = graphs[0].nodes.len();
     let all: Vec<(usize, usize)> = (0..2)
         .flat_map(|side| (0..graphs[side].nodes.len()).map(move |node| (side, node)))

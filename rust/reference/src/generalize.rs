@@ -12,7 +12,7 @@ use std::collections::BTreeMap;
 /// A path in both graphs leads to a pair of nodes, one of each. Two paths share
 /// in both exactly when they lead to the same pair, so the pairs are the classes
 /// of sharing paths; and what follows a path depends on its pair alone.
-pub fn generalization(table: &Table, first: &Graph, second: &Graph) -> Graph {
+pub fn generalize(table: &Table, first: &Graph, second: &Graph) -> Graph {
     let mut number = BTreeMap::from([((ROOT, ROOT), ROOT)]);
     let mut pairs = vec![(ROOT, ROOT)];
     let mut nodes = Vec::new();

@@ -10,7 +10,7 @@ use crate::graph::{FEATURES, Feature};
 
 /// All features, each once: mostly in any order, else from the first to the last or from
 /// the last to the first.
-pub fn feature_list(random: &mut Xorshift) -> Vec<Feature> {
+pub fn reading_order(random: &mut Xorshift) -> Vec<Feature> {
     let mut list: Vec<Feature> = (0..FEATURES as Feature).collect();
     match random.pick(8) {
         0 => {}
@@ -28,7 +28,7 @@ pub fn list_beginning(first: &[Feature]) -> Vec<Feature> {
 
 /// The list with a length that is not 64, with a feature twice, or with an entry that is
 /// no feature.
-pub fn damaged_feature_list(random: &mut Xorshift, mut list: Vec<Feature>) -> Vec<Feature> {
+pub fn damaged_reading_order(random: &mut Xorshift, mut list: Vec<Feature>) -> Vec<Feature> {
     let place = random.pick(FEATURES);
     match random.pick(6) {
         kind @ 0..3 => resize(random, kind, FEATURES, &mut list),
@@ -45,7 +45,7 @@ pub fn damaged_feature_list(random: &mut Xorshift, mut list: Vec<Feature>) -> Ve
 
 /// A whole input: mostly valid, sometimes damaged in any of its parts. In every other the
 /// second graph is well below the first.
-pub fn input_with_feature_list(random: &mut Xorshift, ranges: Ranges) -> InputWithList {
+pub fn input_with_reading_order(random: &mut Xorshift, ranges: Ranges) -> InputWithList {
     let table = match random.pick(8) {
         0 => damaged_table(random),
         1 => rival_table(random),
@@ -61,9 +61,9 @@ pub fn input_with_feature_list(random: &mut Xorshift, ranges: Ranges) -> InputWi
         false => pair,
     };
     let records = records_of_pair(random, &table, &shape, ranges, pair);
-    let list = feature_list(random);
+    let list = reading_order(random);
     let list = match random.chance(1, 8) {
-        true => damaged_feature_list(random, list),
+        true => damaged_reading_order(random, list),
         false => list,
     };
     InputWithList {

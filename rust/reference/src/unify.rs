@@ -11,10 +11,10 @@ use crate::table::Table;
 use std::collections::BTreeMap;
 
 /// The combination, of any size; a loop is refused before a clash.
-pub fn unification(table: &Table, first: &Graph, second: &Graph) -> Result<Graph, Refusal> {
+pub fn unify(table: &Table, first: &Graph, second: &Graph) -> Result<Graph, Refusal> {
     let combined = quotient(table, first, second);
     if combined.bottom_up().is_none() {
-        return Err(Refusal::Loop);
+        return Err(Refusal::Cycle);
     }
     if combined
         .nodes
