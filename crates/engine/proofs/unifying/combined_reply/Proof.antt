@@ -1,9 +1,9 @@
 -- `combined_reply` meets its contract: by what was written, and by the cases without a record.
 use mathlib.Core.Path.{sym, _∙_, ap}
-use Rattle.engine.specs.Pair.{combinedReply}
+use Rattle.engine.specs.Unifying.{combinedReply}
 use borrow.Author.Needs.{needs}
-use Rattle.engine.proofs.combined_reply.Statement.{statement}
-use Rattle.engine.proofs.combined_reply.Tie as tie
+use Rattle.engine.proofs.unifying.combined_reply.Statement.{statement}
+use Rattle.engine.proofs.unifying.combined_reply.Tie as tie
 
 enum-known-combined : tie.Need-enum-known-combined
 enum-known-combined c = search needs

@@ -1,9 +1,9 @@
 -- `marked_reply` meets its contract: by what was written, and by the cases without a record.
 use mathlib.Core.Path.{sym, _∙_, ap}
-use Rattle.engine.specs.Explained.{markedReply}
+use Rattle.difference.specs.Explained.{markedReply}
 use borrow.Author.Needs.{needs}
-use Rattle.engine.proofs.marked_reply.Statement.{statement}
-use Rattle.engine.proofs.marked_reply.Tie as tie
+use Rattle.difference.proofs.marked_reply.Statement.{statement}
+use Rattle.difference.proofs.marked_reply.Tie as tie
 
 enum-known-marked : tie.Need-enum-known-marked
 enum-known-marked c = search needs
