@@ -2,4 +2,4 @@
 pub mod Tables
 pub mod Listed
 pub mod Beside
-pub mod Differing
+pub mod Differences

@@ -4,4 +4,4 @@ pub mod Written
 pub mod Orders
 pub mod CommonParts
 pub mod Combinations
-pub mod Differing
+pub mod Differences
