@@ -1,7 +1,7 @@
 -- `reply::put_counts` meets its contract: four texts, one behind another.
 use Prim.Native.Nat.{_%_}
 use native.Mathlib.Omega.{arith}
-use Rattle.request.proofs.Texts.{puts-then, decimal-short}
+use Rattle.text.proofs.Texts.{puts-then, decimal-short}
 use borrow.Author.Needs.{needs}
 use Rattle.request.proofs.reply.put_counts.Statement.{statement}
 use Rattle.request.proofs.reply.put_counts.Tie as tie
