@@ -5,6 +5,7 @@ ghost use lib.ListN.{length};
 ghost use Rattle.lattice.specs.Table.{sideBound};
 ghost use Rattle.bounds.specs.Opening.{Opening};
 use lattice::Opened;
+use lattice::TableFault;
 
 mod cells;
 mod primes;
@@ -22,17 +23,19 @@ pub fn open(
     requires { ⌜ length (now sets) ≡ 128 ⌝ }
     ensures { λ r. ⌜ Opening up n (now (table .entry)) (sideBound n (now (table .entry)) up) r (now (sets .exit)) (now (cells .entry)) (now (cells .exit)) ⌝ }
 {
-    let tested = lattice::test_order(n, table);
-    let answer = tested.answer;
-    let Opened::Accepted = answer else {
-        return answer;
-    };
-    if sets::hold(n, &tested.down, up, sets) {
-        return lattice::bounded(lattice::covers::are_bounded(n, &tested.down));
+    if !lattice::order::is_sized(n, table) {
+        return Opened::Refused(TableFault::Size);
+    }
+    let down = lattice::words::read_words(n, table);
+    if !lattice::order::is_ordered(n, &down) {
+        return Opened::Refused(TableFault::Order);
+    }
+    if sets::hold(n, &down, up, sets) {
+        return lattice::bounded(lattice::covers::are_bounded(n, &down));
     }
     if up {
-        let above = lattice::words::turn_words(n, &tested.down);
+        let above = lattice::words::turn_words(n, &down);
         return lattice::bounded(cells::fill(n, &above, true, cells));
     }
-    lattice::bounded(cells::fill(n, &tested.down, false, cells))
+    lattice::bounded(cells::fill(n, &down, false, cells))
 }

@@ -12,7 +12,7 @@ use Rattle.lattice.specs.declared.TableFault.the-variants.{Size, Order, 
 use Rattle.lattice.specs.declared.Opened.{Opened}
 use Rattle.lattice.specs.declared.Opened.the-variants.{Accepted, Refused}
 use Rattle.lattice.specs.Table.{every, below, found, sized, ordered, bounded, accepted, meet, join, sideBound}
-use Rattle.lattice.specs.Reply.{opened, Tests}
+use Rattle.lattice.specs.Reply.{opened}
 use Rattle.lattice.specs.Words.{related, Words, bit, turned, wordBound, allFound, rowOrdered, OrderWords, Sided, Lower}
 use Rattle.lattice.proofs.Every.{and-left, and-right, and-both, every-at, every-all, same-test, true-not-false}
 use Rattle.lattice.proofs.OrderLaws.{Ordered, facts-ordered, rows-facts, rows-ordered, row-bit, side, sided, turned-words}
@@ -57,14 +57,9 @@ module _ (n : ℕ) (t : List ℕ) where
   unfolding opened
   answer-order down s words h = rw (s, unordered down s words h)
 
--- what the tests of size and order answer, from the one that refuses or from both that pass
-module _ (n : ℕ) (t : List ℕ) {down : List ℕ} where
-  pub tests-refused : (fault : TableFault) → Refused fault ≡ opened n t → Tests n t (record { answer = Refused fault; down = down })
-  tests-refused fault e =
-      record { refused = λ other q. sym q ∙ e; passed = λ q. let z : _≡_ {A = ℕ} 0 1 = cc in absurd (omega arith) }
-
-  pub tests-passed : OrderWords n t down → Tests n t (record { answer = Accepted; down = down })
-  tests-passed passed = record { refused = λ other q. let z : _≡_ {A = ℕ} 0 1 = cc in absurd (omega arith); passed = λ q. passed }
+-- both tests pass
+pub order-words : {n : ℕ} {t down : List ℕ} → sized n t ≡ true → Words n t false down → every n (rowOrdered n down) ≡ true → OrderWords n t down
+order-words size words order = record { size = size; words = words; order = order }
 
 -- an order: its words, and the answer by whether all bounds of one side were found
 module _ (n : ℕ) (t down : List ℕ) (passed : OrderWords n t down) where

@@ -1,14 +1,11 @@
 -- What opening a table returns, and the number that document 01 gives to each refusal ("Returned by a call").
 use Prim.Native.Nat.{ℕ}
-use mathlib.Core.Path.{_≡_}
 use mathlib.Core.Bool.{cond}
 use mathlib.Core.List.{List}
 use Rattle.lattice.specs.declared.TableFault.{TableFault}
 use Rattle.lattice.specs.declared.TableFault.the-variants.{Size, Order, Bounds}
 use Rattle.lattice.specs.declared.Opened.{Opened}
 use Rattle.lattice.specs.declared.Opened.the-variants.{Accepted, Refused}
-use Rattle.lattice.specs.declared.Tested.{Tested}
-use Rattle.lattice.specs.Words.{OrderWords}
 use Rattle.lattice.specs.Table.{sized, ordered, bounded}
 
 abbrev pub tableNumber : TableFault → ℕ
@@ -19,8 +16,3 @@ tableNumber Bounds = 3
 -- the checks in the order 1, 2, 3
 unfoldable pub opened : ℕ → List ℕ → Opened
 opened n t = cond (sized n t) (cond (ordered n t) (cond (bounded n t) Accepted (Refused Bounds)) (Refused Order)) (Refused Size)
-
--- what the tests of refusals 1 and 2 answer: the refusal, or that neither applies, and the words of the types below each type
-pub record Tests (n : ℕ) (t : List ℕ) (tested : Tested) : Type 0 where
-  pub refused : (fault : TableFault) → tested .answer ≡ Refused fault → Refused fault ≡ opened n t
-  pub passed : tested .answer ≡ Accepted → OrderWords n t (tested .down)

@@ -5,7 +5,7 @@ ghost use mathlib.Core.Path.{_≡_};
 ghost use mathlib.Core.Bool.{cond};
 ghost use Rattle.lattice.specs.declared.TableFault.the-variants.{Bounds};
 ghost use Rattle.lattice.specs.declared.Opened.the-variants.{Accepted, Refused};
-ghost use Rattle.lattice.specs.Reply.{opened, Tests};
+ghost use Rattle.lattice.specs.Reply.{opened};
 
 pub mod covers;
 pub mod order;
@@ -24,46 +24,19 @@ pub enum Opened {
     Refused(TableFault),
 }
 
-// What the tests of refusals 1 and 2 answer: the refusal, or `Accepted` and the words of the types below each type.
-pub struct Tested {
-    pub answer: Opened,
-    pub down: [u64; 64],
-}
-
-// Tests the size of a table and whether its rows are an order.
-pub fn test_order(n: usize, table: &[u8]) -> Tested
-    ensures { λ r. ⌜ Tests n (now (table .entry)) r ⌝ }
-{
-    if !order::is_sized(n, table) {
-        return Tested {
-            answer: Opened::Refused(TableFault::Size),
-            down: [0u64; 64],
-        };
-    }
-    let down = words::read_words(n, table);
-    if !order::is_ordered(n, &down) {
-        return Tested {
-            answer: Opened::Refused(TableFault::Order),
-            down,
-        };
-    }
-    Tested {
-        answer: Opened::Accepted,
-        down,
-    }
-}
-
 // What document 01 returns for a table. No join is sought: where every two types have a meet, every two have a join, the meet
 // of all types above both.
 pub fn accept(n: usize, table: &[u8]) -> Opened
     ensures { λ r. ⌜ r ≡ opened n (now (table .entry)) ⌝ }
 {
-    let tested = test_order(n, table);
-    let answer = tested.answer;
-    let Opened::Accepted = answer else {
-        return answer;
-    };
-    bounded(covers::are_bounded(n, &tested.down))
+    if !order::is_sized(n, table) {
+        return Opened::Refused(TableFault::Size);
+    }
+    let down = words::read_words(n, table);
+    if !order::is_ordered(n, &down) {
+        return Opened::Refused(TableFault::Order);
+    }
+    bounded(covers::are_bounded(n, &down))
 }
 
 // The answer by whether every two types of an order have a bound.
