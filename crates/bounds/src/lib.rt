@@ -1,5 +1,5 @@
-// Opening a table for meets or for joins (document 01, "Type table"; document 02, Paper 12): it is accepted, or refused by 1, 2 or
-// 3, and sets or cells that the caller lends hold the bounds of one side.
+// Opening a table for meets or for joins (document 01, "Type table"; document 02, Paper 12): it is accepted, or refused by 1, 2 or 3, and
+// sets or cells that the caller lends hold the bounds of one side. It knows tables, and nothing of records.
 ghost use mathlib.Core.Path.{_≡_};
 ghost use lib.ListN.{length};
 ghost use Rattle.lattice.specs.Table.{sideBound};

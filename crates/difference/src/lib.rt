@@ -1,6 +1,6 @@
 // The difference of g and s (document 01, "Difference"): the links of s that lead their group and enter a kept node, between nodes that
 // carry their wanted labels. Its record is written and, where a call asks for them, beside it the reasons for its links (document 02,
-// Paper 13).
+// Paper 13). It knows graphs in words, an accepted table and replies; it reads no record.
 
 pub mod wanted;
 

@@ -1,5 +1,5 @@
-// Generalization, document 01's common part: the pairs of nodes that one path leads to in both graphs, found by a queue, with a
-// mark for each pair.
+// Generalization, document 01's common part: the pairs of nodes that one path leads to in both graphs, found by a queue, with a mark for
+// each pair. It knows graphs in words and the joins that `bounds` holds; `encode` writes the result.
 
 use encode::Written;
 use layout::Label;

@@ -1,5 +1,5 @@
-// The groups of links of a difference (document 01, "Difference"): which links of s lead their group, for graphs s and g with
-// g's nodes mapped to those of s, by the order of links that is asked for.
+// The groups of links of a difference (document 01, "Difference"): which links of s lead their group, for graphs s and g with g's nodes
+// mapped to those of s, by the order of links that is asked for. It knows graphs in words and an order of links.
 
 pub mod cover;
 pub mod link_orders;

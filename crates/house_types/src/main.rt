@@ -1,4 +1,4 @@
-// Prints the meets of the house types, as a table of 64 lines with 64 numbers each.
+// Prints the meets of the house types, as a table of 64 lines with 64 numbers each. It knows the house types and text, and no record.
 
 use libc::STDOUT_FILENO;
 use text::put_decimal;

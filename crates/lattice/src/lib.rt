@@ -1,6 +1,6 @@
-// The type lattice of a table (document 01, "Type table"): the table is accepted, or refused by 1, 2 or 3. The order is kept as
-// words: bit j of word i is set where type j is on one side of type i, below it or above it. Crate `bounds` opens a table for
-// meets or joins.
+// The type lattice of a table (document 01, "Type table"): the table is accepted, or refused by 1, 2 or 3. The order is kept as words: bit
+// j of word i is set where type j is on one side of type i, below it or above it. Crate `bounds` opens a table for meets or joins. It
+// knows a table's bytes, and nothing of records.
 ghost use mathlib.Core.Path.{_≡_};
 ghost use mathlib.Core.Bool.{cond};
 ghost use Rattle.lattice.specs.declared.TableFault.the-variants.{Bounds};

@@ -1,5 +1,5 @@
-// The layout of a decoded graph, one slice of words: the number of nodes, where each row begins, and the rows, each a header and
-// one word for each link.
+// The layout of a decoded graph, one slice of words: the number of nodes, where each row begins, and the rows, each a header and one word
+// for each link. It knows labels and words, and nothing of a record's bytes.
 
 ghost use mathlib.Core.Path.{_≡_};
 ghost use Prim.Native.Nat.{_+_, _/_, _%_, _≤_, _<_, max, min};

@@ -1,5 +1,6 @@
-// Reading the records of a call over an accepted table, the first graph's refusal before the second's (document 01, "Returned by a
-// call"), with or without a list of types for features (document 02, Paper 9). An empty list stands for no list.
+// Reading the records of a call over an accepted table, the first graph's refusal before the second's (document 01, "Returned by a call"),
+// with or without a list of types for features (document 02, Paper 9). An empty list stands for no list. It knows records and an accepted
+// table, and no operation.
 
 use record::GraphFault;
 use record::reading::Verdict;

@@ -39,7 +39,8 @@ fn count_row<'a>(graph: &'a [u16], v: usize, incoming: &mut [u16; 255]) -> bool
     true
 }
 
-// Whether a label's type is among the n and not 0, and its lowest level not above the highest, as is known in a record without ranges.
+// Whether a label's type is among the n and not 0, and its lowest level not above the highest. Levels are compared only if the record has
+// ranges.
 fn is_label_in_range(n: usize, label: Label, ranged: bool) -> bool
     requires { ⌜ (ranged ≡ false → label .lowest ≤ label .highest) ⌝ }
     ensures { λ r. ⌜ r ≡ labelInRange n (stated label) ⌝ }

@@ -1,6 +1,6 @@
-// The engine's calls for programs in other languages: a static library whose functions take a number of types, a table, one or two
-// records and an output or two, each slice as a pointer and a length, and answer one number. One function gives the table of the house
-// types.
+// The engine's calls for programs in other languages: a static library whose functions take a number of types, a table, one or two records
+// and an output or two, each slice as a pointer and a length, and answer one number. One function gives the table of the house types. It
+// knows the calls, and gives each reply its code.
 
 use replies::Reply;
 use replies::Side;

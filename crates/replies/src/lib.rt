@@ -1,4 +1,4 @@
-// What a call answers.
+// The answers of all calls of documents 01 and 02, and the number of each refusal. It knows the faults of tables and graphs, and no call.
 
 use encode::Written;
 use lattice::TableFault;

@@ -1,4 +1,4 @@
-// The line that `mapcalc` prints, made from the bytes of its input.
+// The line that `mapcalc` prints, made from the bytes of its input. It knows the calls and their replies, and reads and writes no file.
 
 pub mod parse;
 pub mod reply;

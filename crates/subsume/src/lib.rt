@@ -1,5 +1,5 @@
-// The order: whether the graph s lies below the graph g (document 01, "Order and results"). A queue over g's nodes; each is
-// mapped to the node of s that the same path leads to.
+// The order: whether the graph s lies below the graph g (document 01, "Order and results"). A queue over g's nodes; each is mapped to the
+// node of s that the same path leads to. It knows graphs in words and the order of a table.
 
 use layout::Label;
 ghost use mathlib.Core.Path.{_≡_};

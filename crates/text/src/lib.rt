@@ -1,4 +1,4 @@
-// Numbers and words as text: bytes put into the output from a place on; each function answers the next place.
+// Numbers and words as text: bytes put into the output from a place on; each function answers the next place. It knows bytes alone.
 
 ghost use mathlib.Core.Path.{_≡_};
 ghost use Prim.Native.Nat.{_+_, _<_, _≤_};

@@ -1,5 +1,6 @@
-// Unification, document 01's combination: the nodes of both graphs are merged into classes, and the graph of the classes is written.
-// The nodes of the second graph are numbered after those of the first.
+// Unification, document 01's combination: the nodes of both graphs are merged into classes, and the graph of the classes is written. The
+// nodes of the second graph are numbered after those of the first. It knows graphs in words and the meets that `bounds` holds; `encode`
+// writes the result.
 
 pub mod labels;
 pub mod operands;
