@@ -2,6 +2,7 @@
 use mathlib.Core.Path.{_≡_, refl, sym, _∙_, ap, ap₂}
 use mathlib.Core.Bool.{Bool, true, false, cond}
 use mathlib.Core.List.{List}
+use mathlib.Core.Logic.{_⊎_, inl, inr}
 use Prim.Native.Nat.{ℕ}
 use borrow.Author.Tests.{eq-eqb}
 use lib.ListN.{length}
@@ -28,6 +29,15 @@ pub optional-passed : (n : ℕ) (listed : Bool) (list : List ℕ) → (listed �
     Optional n list
 optional-passed n true list none ok = λ _. ok
 optional-passed n false list none ok = optional-none n list (none refl)
+
+-- the test of a list passes where there is an accepted one, or none
+pub test-passed : (listed ok : Bool) → ((listed ≡ true) × (ok ≡ true)) ⊎ (listed ≡ false) → cond listed ok true ≡ true
+test-passed listed ok (inl (is, accepts)) = ap₂ (λ (b o : Bool). cond b o true) is accepts
+test-passed listed ok (inr none) = ap (λ (b : Bool). cond b ok true) none
+
+-- and fails where there is one that is not accepted
+pub test-failed : (listed ok : Bool) → listed ≡ true → ok ≡ false → cond listed ok true ≡ false
+test-failed listed ok is other = ap₂ (λ (b o : Bool). cond b o true) is other
 
 -- the table's 1 to 3, then 17 if there is a list
 pub beside-checked : (n : ℕ) (t : List ℕ) (listed : Bool) (list out : List ℕ) (next : Result) →

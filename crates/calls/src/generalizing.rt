@@ -51,7 +51,7 @@ fn generalize_beside(
     match opened {
         Opened::Refused(fault) => Reply::Table(fault),
         Opened::Accepted => {
-            if !crate::lists::is_accepted(n, listed, list) {
+            if listed && !record::appropriate::is_list_accepted(n, list) {
                 return Reply::TypeList;
             }
             engine::generalizing::of_records(n, table, list, &sets, &cells, first, second, out)

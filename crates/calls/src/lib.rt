@@ -4,7 +4,6 @@
 
 pub mod differing;
 pub mod generalizing;
-mod lists;
 pub mod ordering;
 pub mod rewriting;
 pub mod unifying;

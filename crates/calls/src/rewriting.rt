@@ -46,7 +46,7 @@ fn rewrite_beside(
     match opened {
         Opened::Refused(fault) => Reply::Table(fault),
         Opened::Accepted => {
-            if !crate::lists::is_accepted(n, listed, list) {
+            if listed && !record::appropriate::is_list_accepted(n, list) {
                 return Reply::TypeList;
             }
             engine::rewriting::of_record(n, table, list, bytes, out)
