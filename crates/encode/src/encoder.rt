@@ -37,7 +37,7 @@ pub fn extent_of<'a>(graph: &'a [u16], visited: &'a [u16; 255], count: usize) ->
     let mut i = 0;
     while i < count {
         let v = visited[i] as usize;
-        let start = layout::links_from(graph, v);
+        let start = graph[v + 1] as usize + layout::HEADER;
         let end = graph[v + 2] as usize;
         links += end - start;
         ranges += range_count(layout::label_at(graph, v));
@@ -76,15 +76,16 @@ pub fn encode_row<'a>(
     ensures { λ r. ⌜ r ≡ at + length (encodedRow (numberedRow (now (graph .entry)) (now (numbers .entry)) v)) ⌝ }
     ensures { λ r. ⌜ now (out .exit) ≡ sets (now (out .entry)) at (encodedRow (numberedRow (now (graph .entry)) (now (numbers .entry)) v)) ⌝ }
 {
+    let row = graph[v + 1] as usize;
     let end = graph[v + 2] as usize;
     let map_at = put_label(layout::label_at(graph, v), at, out);
     let mut map: u64 = 0;
     let mut next = map_at + 8;
-    let mut k = layout::links_from(graph, v);
+    let mut k = row + layout::HEADER;
     while k < end {
         let w = graph[k];
-        map = map | (1u64 << (layout::feature(w) as u32));
-        let target = layout::target(w);
+        map = map | (1u64 << ((w / layout::SCALE) as u32));
+        let target = (w % layout::SCALE) as usize;
         let number = numbers[target];
         out[next] = (number % 256) as u8;
         next += 1;

@@ -23,7 +23,7 @@ fn put_row<'a>(
     ensures { λ _. ⌜ now (beside .exit) ≡ sets (now (beside .entry)) at (slice (linksFrom (now (graph .entry)) v) (rowEnd (now (graph .entry)) v) (now (marks .entry))) ⌝ }
 {
     let end = graph[v + 2] as usize;
-    let mut k = layout::links_from(graph, v);
+    let mut k = graph[v + 1] as usize + layout::HEADER;
     let mut next = at;
     while k < end {
         beside[next] = marks[k];

@@ -24,15 +24,17 @@ fn copy_row<'a>(
     requires { ⌜ length (now new) ≡ longest ⌝ }
     ensures { λ r. ⌜ RowCopied (now (graph .entry)) (now (numbers .entry)) v (now (new .entry)) at (now (new .exit)) r ⌝ }
 {
+    let row = graph[v + 1] as usize;
     let end = graph[v + 2] as usize;
     let label = layout::label_at(graph, v);
     layout::put_label(new, at, label);
     let mut next = at + layout::HEADER;
-    let mut k = layout::links_from(graph, v);
+    let mut k = row + layout::HEADER;
     while k < end {
         let w = graph[k];
-        let number = numbers[layout::target(w)];
-        new[next] = layout::link(layout::feature(w), number);
+        let target = w % layout::SCALE;
+        let number = numbers[target as usize];
+        new[next] = layout::link(w / layout::SCALE, number);
         next += 1;
         k += 1;
     }

@@ -33,6 +33,7 @@ const LAST_COUNTS: u64 = FIRST_COUNTS + (1 << 32) - 1;
 /// The answer that a number stands for; stops the program where there is none.
 pub fn answer(code: u64) -> Answer {
     match code {
+        length @ 0..FIRST_REFUSAL => Answer::Length(length as usize),
         SAME => Answer::Order(Order::Same),
         UNDER => Answer::Order(Order::Under),
         ABOVE => Answer::Order(Order::Above),
@@ -42,7 +43,6 @@ pub fn answer(code: u64) -> Answer {
             nodes: (code >> 16 & 0xFFFF) as usize,
             rows: (code & 0xFFFF) as usize,
         },
-        length if length < FIRST_REFUSAL => Answer::Length(length as usize),
         _ => {
             let refusal = Refusal::ALL
                 .into_iter()

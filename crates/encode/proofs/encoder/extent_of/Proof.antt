@@ -29,8 +29,20 @@ element-copy-out-v c = omega (arith, c .before .loop .inv .visited .few, c .loop
 cast-v : tie.Need-cast-v Inv-loop μ-loop
 cast-v c = omega (arith, visited-small (c .before .before .loop .inv .visited) (c .before .before .loop .i) (c .before .loop-test .taken))
 
-links-from-requires : tie.Need-links-from-requires Inv-loop μ-loop
-links-from-requires c κs = omega (arith, visited-node (c .before .before .loop .inv .visited) (c .before .before .loop .i) (c .before .loop-test .taken) .listed)
+add-start : tie.Need-add-start Inv-loop μ-loop
+add-start c = omega (arith, visited-small (c .before .before .loop .inv .visited) (c .before .before .loop .i) (c .before .loop-test .taken))
+
+mul-start : tie.Need-mul-start Inv-loop μ-loop
+mul-start c = omega (arith, visited-small (c .before .before .loop .inv .visited) (c .before .before .loop .i) (c .before .loop-test .taken))
+
+shared-slice-read-start : tie.Need-shared-slice-read-start Inv-loop μ-loop
+shared-slice-read-start c = omega (arith, visited-node (c .before .before .before .loop .inv .visited) (c .before .before .before .loop .i) (c .before .before .loop-test .taken) .listed)
+
+cast-start : tie.Need-cast-start Inv-loop μ-loop
+cast-start c = omega (arith, c .shared-slice-known2 .given (getD (c .before .before .before .before .before .args .visited .now) (c .before .before .before .loop .i) 0 + 1))
+
+add-start-2 : tie.Need-add-start-2 Inv-loop μ-loop
+add-start-2 c = omega (arith, c .shared-slice-known2 .given (getD (c .before .before .before .before .before .args .visited .now) (c .before .before .before .loop .i) 0 + 1))
 
 add-end : tie.Need-add-end Inv-loop μ-loop
 add-end c = omega (arith, visited-small (c .before .before .before .loop .inv .visited) (c .before .before .before .loop .i) (c .before .before .loop-test .taken))
@@ -42,13 +54,13 @@ shared-slice-read-end : tie.Need-shared-slice-read-end Inv-loop μ-loop
 shared-slice-read-end c = visited-node (c .before .before .before .before .loop .inv .visited) (c .before .before .before .before .loop .i) (c .before .before .before .loop-test .taken) .listed
 
 cast-end : tie.Need-cast-end Inv-loop μ-loop
-cast-end c = omega (arith, c .shared-slice-known2 .given (getD (c .before .before .before .before .before .before .args .visited .now) (c .before .before .before .before .loop .i) 0 + 2))
+cast-end c = omega (arith, c .shared-slice-known3 .given (getD (c .before .before .before .before .before .before .args .visited .now) (c .before .before .before .before .loop .i) 0 + 2))
 
 sub-links : tie.Need-sub-links Inv-loop μ-loop
-sub-links c = omega (arith, c .before .links-from .ensures, visited-node (c .before .before .before .before .loop .inv .visited) (c .before .before .before .before .loop .i) (c .before .before .before .loop-test .taken) .begun)
+sub-links c = visited-node (c .before .before .before .before .loop .inv .visited) (c .before .before .before .before .loop .i) (c .before .before .before .loop-test .taken) .begun
 
 add-links : tie.Need-add-links Inv-loop μ-loop
-add-links c = omega (arith, c .before .links-from .ensures, c .before .before .before .before .loop .inv .visited .few, c .before .before .before .loop-test .taken, c .before .before .before .before .loop .inv .links-low, c .shared-slice-known2 .given (getD (c .before .before .before .before .before .before .args .visited .now) (c .before .before .before .before .loop .i) 0 + 2))
+add-links c = omega (arith, c .before .before .before .before .loop .inv .visited .few, c .before .before .before .loop-test .taken, c .before .before .before .before .loop .inv .links-low, c .shared-slice-known3 .given (getD (c .before .before .before .before .before .before .args .visited .now) (c .before .before .before .before .loop .i) 0 + 2))
 
 label-at-requires : tie.Need-label-at-requires Inv-loop μ-loop
 label-at-requires c κs = (c .before .before .before .before .loop .inv .visited .sound .shaped, c .before .before .before .before .loop .inv .visited .nodes (c .before .before .before .before .loop .i) (c .before .before .before .loop-test .taken))
@@ -66,7 +78,7 @@ loop-less : tie.Need-loop-less Inv-loop μ-loop
 loop-less c = omega (arith, c .before .before .before .before .before .loop-test .taken)
 
 loop-again : tie.Need-loop-again Inv-loop μ-loop
-loop-again c = rw (c .before .before .before .links-from .ensures) (summed-step (c .before .before .before .before .before .before .loop .inv) (c .before .before .before .before .before .loop-test .taken) (omega (arith, c .before .before .shared-slice-known2 .given (getD (c .before .before .before .before .before .before .before .before .args .visited .now) (c .before .before .before .before .before .before .loop .i) 0 + 2))) (c .range-count .ensures ∙ ap rangeCount (c .before .label-at .ensures)))
+loop-again c = summed-step (c .before .before .before .before .before .before .loop .inv) (c .before .before .before .before .before .loop-test .taken) (omega (arith, c .before .before .shared-slice-known3 .given (getD (c .before .before .before .before .before .before .before .before .args .visited .now) (c .before .before .before .before .before .before .loop .i) 0 + 2))) (c .range-count .ensures ∙ ap rangeCount (c .before .label-at .ensures))
 
 returns : tie.Need-returns Inv-loop μ-loop
 returns c = summed-done (c .before .loop .inv) (c .loop-test .left)
@@ -81,7 +93,11 @@ extent-of-spec =
     mul-v
     element-copy-out-v
     cast-v
-    links-from-requires
+    add-start
+    mul-start
+    shared-slice-read-start
+    cast-start
+    add-start-2
     add-end
     mul-end
     shared-slice-read-end

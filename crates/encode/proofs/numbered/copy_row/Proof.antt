@@ -1,5 +1,4 @@
 -- `copy_row` meets its contract. The loop's invariant: the links of the places before k are copied.
-use borrow.Author.Needs.{needs}
 use mathlib.Core.Path.{_∙_, ap}
 use Prim.Native.Nat.{_+_, _-_, _<_}
 use native.Mathlib.Omega.{arith}
@@ -9,37 +8,49 @@ use Rattle.encode.proofs.numbered.copy_row.Statement.{statement}
 use Rattle.encode.proofs.numbered.copy_row.Tie as tie
 
 abbrev Inv-loop : tie.InvT-loop
-Inv-loop graph numbers v at new₀ end next₀ k₀ new next k = (end < 65536) × Turn graph numbers v at new₀ new next k
+Inv-loop graph numbers v at new₀ row end next₀ k₀ new next k = (end < 65536) × Turn graph numbers v at new₀ new next k
 
 abbrev μ-loop : tie.MeasureT-loop
-μ-loop graph numbers v at new₀ end next₀ k₀ new next k = end - k
+μ-loop graph numbers v at new₀ row end next₀ k₀ new next k = end - k
+
+add-row : tie.Need-add-row Inv-loop μ-loop
+add-row c = omega (arith, c .before .pre .0 .inside, c .before .pre .0 .sound .shaped .few)
+
+mul-row : tie.Need-mul-row Inv-loop μ-loop
+mul-row c = omega (arith, c .before .pre .0 .inside, c .before .pre .0 .sound .shaped .few)
+
+shared-slice-read-row : tie.Need-shared-slice-read-row Inv-loop μ-loop
+shared-slice-read-row c = omega (arith, c .before .before .pre .0 .sound .shaped .node (c .before .before .args .v) (c .before .before .pre .0 .inside) .listed)
+
+cast-row : tie.Need-cast-row Inv-loop μ-loop
+cast-row c = omega (arith, c .shared-slice-known2 .given (c .before .before .args .v + 1))
 
 add-end : tie.Need-add-end Inv-loop μ-loop
-add-end c = omega (arith, c .before .pre .0 .inside, c .before .pre .0 .sound .shaped .few)
+add-end c = omega (arith, c .before .before .pre .0 .inside, c .before .before .pre .0 .sound .shaped .few)
 
 mul-end : tie.Need-mul-end Inv-loop μ-loop
-mul-end c = omega (arith, c .before .pre .0 .inside, c .before .pre .0 .sound .shaped .few)
+mul-end c = omega (arith, c .before .before .pre .0 .inside, c .before .before .pre .0 .sound .shaped .few)
 
 shared-slice-read-end : tie.Need-shared-slice-read-end Inv-loop μ-loop
-shared-slice-read-end c = c .before .before .pre .0 .sound .shaped .node (c .before .before .args .v) (c .before .before .pre .0 .inside) .listed
+shared-slice-read-end c = c .before .before .before .pre .0 .sound .shaped .node (c .before .before .before .args .v) (c .before .before .before .pre .0 .inside) .listed
 
 cast-end : tie.Need-cast-end Inv-loop μ-loop
-cast-end c = omega (arith, c .shared-slice-known2 .given (c .before .before .args .v + 2))
+cast-end c = omega (arith, c .shared-slice-known3 .given (c .before .before .before .args .v + 2))
 
 label-at-requires : tie.Need-label-at-requires Inv-loop μ-loop
-label-at-requires c κs = (c .before .before .pre .0 .sound .shaped, c .before .before .pre .0 .inside)
+label-at-requires c κs = (c .before .before .before .pre .0 .sound .shaped, c .before .before .before .pre .0 .inside)
 
 put-label-requires : tie.Need-put-label-requires Inv-loop μ-loop
-put-label-requires c κs = omega (arith, c .before .before .before .before .pre .1 .0, c .before .before .before .before .pre .1 .1)
+put-label-requires c κs = omega (arith, c .before .before .before .before .before .pre .1 .0, c .before .before .before .before .before .pre .1 .1)
 
 add-next : tie.Need-add-next Inv-loop μ-loop
-add-next c = omega (arith, c .before .before .before .before .before .pre .1 .0)
+add-next c = omega (arith, c .before .before .before .before .before .before .pre .1 .0)
 
-links-from-requires : tie.Need-links-from-requires Inv-loop μ-loop
-links-from-requires c κs = let start = c .before .before .before .before .before in omega (arith, start .pre .0 .sound .shaped .node (start .args .v) (start .pre .0 .inside) .listed)
+add-k : tie.Need-add-k Inv-loop μ-loop
+add-k c = omega (arith, c .before .before .before .before .shared-slice-known2 .given (c .before .before .before .before .before .before .args .v + 1))
 
 loop-holds : tie.Need-loop-holds Inv-loop μ-loop
-loop-holds c = (omega (arith, c .before .before .before .before .shared-slice-known2 .given (c .before .before .before .before .before .before .args .v + 2)), rw (c .links-from .ensures) (turn-start (c .before .before .before .before .before .before .args .new .now) (c .before .before .before .before .before .before .pre .0) (c .before .before .before .before .before .before .pre .1 .0) (c .before .before .before .before .before .before .pre .1 .1) (c .before .put-label .ensures ∙ ap (putLabel (c .before .before .before .before .before .before .args .new .now) (c .before .before .before .before .before .before .args .at)) (c .before .before .before .label-at .ensures))))
+loop-holds c = (omega (arith, c .before .before .before .shared-slice-known3 .given (c .before .before .before .before .before .before .args .v + 2)), turn-start (c .before .before .before .before .before .before .args .new .now) (c .before .before .before .before .before .before .pre .0) (c .before .before .before .before .before .before .pre .1 .0) (c .before .before .before .before .before .before .pre .1 .1) (c .put-label .ensures ∙ ap (putLabel (c .before .before .before .before .before .before .args .new .now) (c .before .before .before .before .before .before .args .at)) (c .before .before .label-at .ensures)))
 
 mul-w : tie.Need-mul-w Inv-loop μ-loop
 mul-w c = omega (arith, c .before .loop .inv .0, c .loop-test .taken)
@@ -47,41 +58,38 @@ mul-w c = omega (arith, c .before .loop .inv .0, c .loop-test .taken)
 shared-slice-read-w : tie.Need-shared-slice-read-w Inv-loop μ-loop
 shared-slice-read-w c = omega (arith, turn-ended (c .before .before .loop .inv .1), c .before .loop-test .taken)
 
-target-requires : tie.Need-target-requires Inv-loop μ-loop
-target-requires c κs = search needs
+cast-number : tie.Need-cast-number Inv-loop μ-loop
+cast-number c = omega (arith, turn-target (c .before .before .loop .inv .1) (c .before .loop-test .taken))
 
 mul-number : tie.Need-mul-number Inv-loop μ-loop
-mul-number c = omega (arith, c .target .ensures, turn-target (c .before .before .before .loop .inv .1) (c .before .before .loop-test .taken))
+mul-number c = omega (arith, turn-target (c .before .before .loop .inv .1) (c .before .loop-test .taken))
 
 element-copy-out-number : tie.Need-element-copy-out-number Inv-loop μ-loop
-element-copy-out-number c = omega (arith, c .target .ensures, turn-target (c .before .before .before .loop .inv .1) (c .before .before .loop-test .taken))
-
-feature-requires : tie.Need-feature-requires Inv-loop μ-loop
-feature-requires c κs = search needs
+element-copy-out-number c = turn-target (c .before .before .loop .inv .1) (c .before .loop-test .taken)
 
 link-requires : tie.Need-link-requires Inv-loop μ-loop
-link-requires c κs = (omega (arith, c .feature .ensures, turn-feature (c .before .before .before .before .before .loop .inv .1) (c .before .before .before .before .loop-test .taken)), rw (c .before .before .target .ensures) (omega (arith, turn-number (c .before .before .before .before .before .loop .inv .1) (c .before .before .before .before .loop-test .taken))))
+link-requires c κs = (turn-feature (c .before .before .before .loop .inv .1) (c .before .before .loop-test .taken), omega (arith, turn-number (c .before .before .before .loop .inv .1) (c .before .before .loop-test .taken)))
 
 mul-new : tie.Need-mul-new Inv-loop μ-loop
-mul-new c = omega (arith, turn-room (c .before .before .before .before .before .before .loop .inv .1) (c .before .before .before .before .before .loop-test .taken))
+mul-new c = omega (arith, turn-room (c .before .before .before .before .loop .inv .1) (c .before .before .before .loop-test .taken))
 
 element-write-new : tie.Need-element-write-new Inv-loop μ-loop
-element-write-new c = omega (arith, turn-room (c .before .before .before .before .before .before .loop .inv .1) (c .before .before .before .before .before .loop-test .taken), c .before .before .before .before .before .before .loop .inv .1 .long)
+element-write-new c = omega (arith, turn-room (c .before .before .before .before .loop .inv .1) (c .before .before .before .loop-test .taken), c .before .before .before .before .loop .inv .1 .long)
 
 add-next-2 : tie.Need-add-next-2 Inv-loop μ-loop
-add-next-2 c = omega (arith, turn-room (c .before .before .before .before .before .before .loop .inv .1) (c .before .before .before .before .before .loop-test .taken))
+add-next-2 c = omega (arith, turn-room (c .before .before .before .before .loop .inv .1) (c .before .before .before .loop-test .taken))
 
-add-k : tie.Need-add-k Inv-loop μ-loop
-add-k c = omega (arith, c .before .before .before .before .before .before .loop .inv .0, c .before .before .before .before .before .loop-test .taken)
+add-k-2 : tie.Need-add-k-2 Inv-loop μ-loop
+add-k-2 c = omega (arith, c .before .before .before .before .loop .inv .0, c .before .before .before .loop-test .taken)
 
 loop-less : tie.Need-loop-less Inv-loop μ-loop
-loop-less c = omega (arith, c .before .before .before .before .before .loop-test .taken)
+loop-less c = omega (arith, c .before .before .before .loop-test .taken)
 
 loop-again : tie.Need-loop-again Inv-loop μ-loop
-loop-again c = (c .before .before .before .before .before .before .loop .inv .0, turn-step (c .before .before .before .before .before .before .loop .inv .1) (c .before .before .before .before .before .loop-test .taken) (rw (c .before .feature .ensures, c .before .before .before .target .ensures) at (c .link .ensures)))
+loop-again c = (c .before .before .before .before .loop .inv .0, turn-step (c .before .before .before .before .loop .inv .1) (c .before .before .before .loop-test .taken) (c .link .ensures))
 
 returns : tie.Need-returns Inv-loop μ-loop
-returns c = turn-done (c .before .before .before .before .before .before .before .before .args .new .now) (c .before .before .before .put-label .ensures ∙ ap (putLabel (c .before .before .before .before .before .before .before .before .args .new .now) (c .before .before .before .before .before .before .before .before .args .at)) (c .before .before .before .before .before .label-at .ensures)) (c .before .loop .inv .1) (c .loop-test .left)
+returns c = turn-done (c .before .before .before .before .before .before .before .before .args .new .now) (c .before .before .put-label .ensures ∙ ap (putLabel (c .before .before .before .before .before .before .before .before .args .new .now) (c .before .before .before .before .before .before .before .before .args .at)) (c .before .before .before .before .label-at .ensures)) (c .before .loop .inv .1) (c .loop-test .left)
 
 pub copy-row-spec : {M : Type 1} → statement M
 copy-row-spec =
@@ -89,6 +97,10 @@ copy-row-spec =
     (tie.spec
     Inv-loop
     μ-loop
+    add-row
+    mul-row
+    shared-slice-read-row
+    cast-row
     add-end
     mul-end
     shared-slice-read-end
@@ -96,19 +108,18 @@ copy-row-spec =
     label-at-requires
     put-label-requires
     add-next
-    links-from-requires
+    add-k
     loop-holds
     mul-w
     shared-slice-read-w
-    target-requires
+    cast-number
     mul-number
     element-copy-out-number
-    feature-requires
     link-requires
     mul-new
     element-write-new
     add-next-2
-    add-k
+    add-k-2
     loop-less
     loop-again
     returns)
