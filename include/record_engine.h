@@ -111,6 +111,15 @@ extern "C" {
 #define RECORD_ABOVE (RECORD_SAME + 2)
 #define RECORD_NEITHER (RECORD_SAME + 3)
 
+/* The end of a listing: no record follows the one that was handed in. */
+#define RECORD_END (RECORD_SAME + 4)
+
+/* Whether an answer is the counts of nodes and rows that were filled; the count of nodes,
+ * 1 to 255; and the count of rows, at most RECORD_MOST_LINKS. */
+#define RECORD_IS_COUNTS(answer) ((answer) >> 34 == 1)
+#define RECORD_NODES(answer) ((int)((answer) >> 16 & 65535))
+#define RECORD_ROWS(answer) ((int)((answer) & 65535))
+
 /* Why a difference keeps a link, the first of these that holds: nothing of the general
  * graph lies over the link; the links that enter its node in the specific graph are in
  * two or more groups; the node has a type or a range that the general graph does not

@@ -95,10 +95,6 @@ module _ {parent : List ℕ} (forest : Forest parent) where
   pub root-twice : (x : ℕ) → x < 510 → rootOf parent (rootOf parent x) ≡ rootOf parent x
   root-twice x small = fixed-root (rootOf parent x) (root-fixed x small)
 
-  -- what represents a class is its own parent
-  pub own-parent : (x : ℕ) → x < 510 → rootOf parent x ≡ x → getD parent x 0 ≡ x
-  own-parent x small e = subst (λ (z : ℕ). getD parent z 0 ≡ z) e (root-fixed x small)
-
   pub root-up : (x : ℕ) → x < 510 → rootOf parent (getD parent x 0) ≡ rootOf parent x
   unfolding rootOf climb
   root-up x small =

@@ -1,5 +1,5 @@
-// Classes of nodes, for unification: nodes are merged into classes from two roots down, wherever equal features of one class lead
-// to two nodes. A class is represented by its lowest node, which has a row with the links of all its nodes.
+// Classes of nodes, for unification: nodes are merged into classes from two roots down, wherever equal features of one class lead to two
+// nodes. A class is represented by its lowest node, which has a row with the links of all its nodes. It knows graphs in words alone.
 
 pub mod forest;
 pub mod rows;

@@ -25,7 +25,7 @@ use Rattle.decode.specs.declared.rows.RowEnd.{RowEnd}
 use Rattle.decode.specs.declared.rows.RowEnd.the-variants.{At, Short}
 use Rattle.decode.specs.Answers.{Held, Parses}
 use Rattle.decode.specs.Decode.{Taken, changed, takeTarget, takeRow, takeRows, whole, decoded}
-use Rattle.decode.specs.Storing.{Fits, Stored, Took, TookLinks, TookRow, rowBetween}
+use Rattle.decode.specs.Storing.{RowsFit, Stored, Took, TookLinks, TookRow, rowBetween}
 use Rattle.decode.specs.Word.{takeWord}
 use Rattle.decode.proofs.Decoded.{are-bytes, decoded-says, decoded-orderly}
 use Rattle.decode.proofs.Labels.{label-known}
@@ -47,7 +47,7 @@ pub record Linking (read : Option (Taken (List (ℕ × ℕ)))) (bytes : List ℕ
   pub full : length ws₀ ≡ longest
   pub few : limit ≤ longest
 
-pub link-begin : (bytes : List ℕ) (word start at limit : ℕ) (ws : List ℕ) → word < 2 ^ 64 → Fits bytes start at limit ws →
+pub link-begin : (bytes : List ℕ) (word start at limit : ℕ) (ws : List ℕ) → word < 2 ^ 64 → RowsFit bytes start at limit ws →
     Linking (takeWord 64 0 word (limit - at) (drop start bytes)) bytes at limit ws ws word start at
 link-begin bytes word start at limit ws small f =
     record {

@@ -14,7 +14,7 @@ use Rattle.decode.specs.Decode.{Taken, takeRow}
 use Rattle.decode.specs.Word.{takeWord}
 
 -- The byte `start` is one of the bytes or the end, and links from the place `at` on have room below `limit`.
-pub record Fits (bytes : List ℕ) (start at limit : ℕ) (ws : List ℕ) : Type 0 where
+pub record RowsFit (bytes : List ℕ) (start at limit : ℕ) (ws : List ℕ) : Type 0 where
   pub inside : start ≤ length bytes
   pub room : at ≤ limit
   pub few : limit ≤ longest

@@ -11,7 +11,7 @@ ghost use lib.ListN.{length};
 ghost use Rattle.layout.specs.Layout.{header, longest};
 ghost use Rattle.decode.specs.Answers.{Parses};
 ghost use Rattle.decode.specs.Reader.{labelStep};
-ghost use Rattle.decode.specs.Storing.{Fits, TookLinks, TookRow};
+ghost use Rattle.decode.specs.Storing.{RowsFit, TookLinks, TookRow};
 
 // The most links of a record.
 pub const LINKS: usize = 2048;
@@ -69,7 +69,7 @@ pub fn take_links(
     at: usize,
     limit: usize,
 ) -> RowEnd
-    requires { ⌜ Fits (now bytes) start at limit (now graph) ⌝ }
+    requires { ⌜ RowsFit (now bytes) start at limit (now graph) ⌝ }
     ensures { λ r. ⌜ TookLinks map (now (bytes .entry)) start at limit (now (graph .entry)) r (now (graph .exit)) ⌝ }
 {
     let mut left = map;
@@ -99,7 +99,7 @@ pub fn take_row(
     at: usize,
     limit: usize,
 ) -> RowEnd
-    requires { ⌜ Fits (now bytes) start (at + header) limit (now graph) ⌝ }
+    requires { ⌜ RowsFit (now bytes) start (at + header) limit (now graph) ⌝ }
     ensures { λ r. ⌜ TookRow (now (bytes .entry)) start at limit (now (graph .entry)) r (now (graph .exit)) ⌝ }
 {
     let label_step = take_label(bytes, start);

@@ -15,8 +15,7 @@ use Rattle.lattice.proofs.AnySize.{below-broader, greatest-monotone, least-mono
 use Rattle.record.specs.Read.{reading, accepted, graphOfRows}
 use Rattle.record.proofs.Theorems.{accepted-of-any-size}
 use Rattle.replies.specs.declared.Reply.the-variants.{Length, Cycle, Clash}
-use Rattle.engine.specs.Reply.{generalizing}
-use Rattle.engine.specs.Unification.{unifying}
+use Rattle.calls.specs.Calls.{generalizing, unifying}
 use Rattle.demands.specs.Demand.{Given, AnswersBelow}
 use Rattle.demands.proofs.Demanded.Order.{order-exact, below-given}
 use Rattle.demands.proofs.Demanded.CommonPart.{accepts, common-part}

@@ -8,7 +8,7 @@ use mathlib.Core.Logic.{_↔_, _⊎_}
 use Prim.Native.Nat.{ℕ, _≤_}
 use lib.Dec.{eqb}
 use lib.ListN.{take}
-use Rattle.graphs.specs.Graph.{Graph, Tells, Below, SameMeaning}
+use Rattle.graphs.specs.Graph.{Graph, TellsApart, Below, SameMeaning}
 use Rattle.graphs.specs.Rows.{Row}
 use Rattle.graphs.specs.Generalize.{IsGeneralization}
 use Rattle.graphs.specs.Unify as unify
@@ -18,16 +18,14 @@ use Rattle.lattice.specs.Label.{Label}
 use Rattle.lattice.specs.declared.Opened.the-variants.{Accepted}
 use Rattle.lattice.specs.Reply.{opened}
 use Rattle.lattice.specs.Labels.{tableLabels, OfAnySize, LeastOfAnySize, GreatestOfAnySize, IsCombination, LabelClash, SomeUnwanted}
-use Rattle.lattice.proofs.Residuals.{opened-accepted}
+use Rattle.lattice.proofs.Acceptance.{opened-accepted}
 use Rattle.lattice.proofs.AnySize.{combination-greatest}
 use Rattle.encode.specs.Encode.{fitted}
 use Rattle.record.specs.Read.{reading, accepted, graphOfRows}
 use Rattle.generalize.specs.Pairs.{samePair}
 use Rattle.replies.specs.declared.Reply.the-variants.{Length, Same, Cycle, Clash, TooLarge, NotBelow, NoWantedType}
 use Rattle.replies.specs.Reply.{Result, resultOf}
-use Rattle.engine.specs.Reply.{rewriting, ordering, generalizing}
-use Rattle.engine.specs.Unification.{unifying}
-use Rattle.engine.specs.Difference.{differing}
+use Rattle.calls.specs.Calls.{rewriting, ordering, generalizing, unifying, differing}
 use Rattle.demands.specs.Demand.{
   Given,
   AnswersBelow,
@@ -174,7 +172,7 @@ module _ (n : ℕ) (t a b : List ℕ) (g h : List (Row Label)) (given : Given n 
   combination-exists = Combined.exists n t a b g h given out
 
   -- Of whatever such graph, the call refuses by 11 and 8 exactly where they are due; else it writes it.
-  pub combination-written : {C : Type 0} (same : C → C → Bool) → Tells same → (u : Graph Label C) →
+  pub combination-written : {C : Type 0} (same : C → C → Bool) → TellsApart same → (u : Graph Label C) →
       GreatestOfAnySize n t (graphOfRows g) (graphOfRows h) u → Writes n t same u out (unifying n t a b out)
   combination-written same tells u best = Combined.greatest-writes n t a b g h given out same tells u best
 

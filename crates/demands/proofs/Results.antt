@@ -11,7 +11,7 @@ use borrow.Author.Tests.{leb-true, leb-false}
 use lib.Dec.{leb, eqb}
 use lib.ListN.{length, take, drop}
 use lib.Seq.{take-append-seam, drop-append-seam}
-use Rattle.graphs.specs.Graph.{Graph, Tells, Reached}
+use Rattle.graphs.specs.Graph.{Graph, TellsApart, Reached}
 use Rattle.graphs.specs.Rows.{Row}
 use Rattle.graphs.specs.Number.{Canonical, canonical, manyNodes, manyLinks, written}
 use Rattle.graphs.proofs.Form.Large.{canonical-many-nodes, canonical-many-links, canonical-fits}
@@ -29,7 +29,7 @@ use Rattle.record.proofs.Theorems.{written-reads}
 use Rattle.replies.specs.declared.Reply.{Reply}
 use Rattle.replies.specs.declared.Reply.the-variants.{Length, NoRoom, TooLarge}
 use Rattle.replies.specs.Reply.{Result, refusing, resultOf}
-use Rattle.engine.specs.Reply.{rewriting}
+use Rattle.calls.specs.Calls.{rewriting}
 use Rattle.demands.specs.Demand.{Large, Wrote, Writes}
 
 -- the types of a graph of any size over an accepted table have seven bits
@@ -61,7 +61,7 @@ module _ {C : Type 0} (same : C → C → Bool) (k : Graph Label C) (out : List 
     short : (form : List (Row Label)) → canonical same k ≡ written form → length out < length (encoded form) → Told (refusing NoRoom out)
     held : (form : List (Row Label)) → canonical same k ≡ written form → length (encoded form) ≤ length out → Told (holding (encoded form) out)
 
-module _ (n : ℕ) (t : List ℕ) {C : Type 0} (same : C → C → Bool) (tells : Tells same) (k : Graph Label C) (size : OfAnySize n t k)
+module _ (n : ℕ) (t : List ℕ) {C : Type 0} (same : C → C → Bool) (tells : TellsApart same) (k : Graph Label C) (size : OfAnySize n t k)
     (types : (v : C) → Reached k v → k .label v .type < 128) (out : List ℕ) where
   told : Told same k out (resultFor same k out)
   unfolding writtenOut fitted

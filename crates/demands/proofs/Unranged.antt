@@ -8,7 +8,7 @@ use Prim.Native.Nat.{ℕ, _<_}
 use native.Mathlib.Omega.{arith}
 use lib.Dec.{eqb}
 use lib.ListN.{length, length-map, take}
-use Rattle.graphs.specs.Graph.{Graph, Tells, Reached}
+use Rattle.graphs.specs.Graph.{Graph, TellsApart, Reached}
 use Rattle.graphs.specs.Rows.{Row, from}
 use Rattle.graphs.specs.Number.{Canonical, manyNodes, manyLinks, written, canonical}
 use Rattle.graphs.specs.Order.{subsumes}
@@ -49,9 +49,14 @@ use Rattle.replies.specs.declared.Side.{Side}
 use Rattle.replies.specs.declared.Reply.{Reply}
 use Rattle.replies.specs.declared.Reply.the-variants.{Table, Graph as Refusal, Cycle, Clash, NotBelow, NoWantedType}
 use Rattle.replies.specs.Reply.{refusal, resultOf, refusing}
-use Rattle.engine.specs.Reply.{checked, readBoth, rewritten, rewriting, rowsBelow, compared, ordered, ordering, generalized, generalizing}
-use Rattle.engine.specs.Unification.{sameEither, combined, unifiedRows, unifying}
-use Rattle.engine.specs.Difference.{over, wantedAt, allWanted, differenceRows, differed, numbered, differedRows, differing}
+use Rattle.subsume.specs.Promise.{rowsBelow}
+use Rattle.calls.specs.Calls.{checked, rewriting, ordering, generalizing, unifying, differing}
+use Rattle.pairs.specs.Pair.{readBoth}
+use Rattle.engine.specs.Rewriting.{rewritten}
+use Rattle.engine.specs.Ordering.{compared, ordered}
+use Rattle.engine.specs.Generalizing.{generalized}
+use Rattle.engine.specs.Unifying.{sameEither, combined, unifiedRows}
+use Rattle.difference.specs.Difference.{over, wantedAt, allWanted, differenceRows, differed, numbered, differedRows}
 use Rattle.demands.specs.Demand.{Given, Wrote, common, remainder}
 use Rattle.demands.specs.Unranged.{
   typesIn,
@@ -276,7 +281,7 @@ read-plain n a plain-a rows e = reading-plain n a rows (sym (reading-unranged n 
 
 module _ (n : ℕ) (t out : List ℕ) where
   -- a graph without ranges is written without ranges
-  plain-written : {C : Type 0} (same : C → C → Bool) → Tells same → (k : Graph Label C) → OfAnySize n t k →
+  plain-written : {C : Type 0} (same : C → C → Bool) → TellsApart same → (k : Graph Label C) → OfAnySize n t k →
       ((v : C) → Reached k v → k .label v .type < 128) → (u : Graph ℕ C) → k ≡ relabel plain u → WritesUnranged (resultFor same k out)
   plain-written same tells k size types u is l q = go (canonical same u) (sym (wrote .fits) ∙ ap (canonical same) is ∙ form-plain same u)
     where
@@ -310,7 +315,7 @@ module _ (n : ℕ) (t out : List ℕ) where
 
   module _ (a b : List ℕ) (first : unranged a ≡ true) (second : unranged b ≡ true) where
     -- over an accepted table its types have seven bits
-    graph-written : {g h : List (Row Label)} → Given n t a b g h → {C : Type 0} (same : C → C → Bool) → Tells same → (k : Graph Label C) →
+    graph-written : {g h : List (Row Label)} → Given n t a b g h → {C : Type 0} (same : C → C → Bool) → TellsApart same → (k : Graph Label C) →
         OfAnySize n t k → (u : Graph ℕ C) → k ≡ relabel plain u → WritesUnranged (resultFor same k out)
     graph-written {g} {h} given same tells k size = plain-written same tells k size (seven-bits n t (accepts n t a b g h given) k size)
 

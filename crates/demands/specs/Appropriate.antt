@@ -9,7 +9,7 @@ use Rattle.encode.specs.Encode.{fitted}
 use Rattle.record.specs.Read.{reading, accepted, graphOfRows}
 use Rattle.record.specs.Appropriate.{Appropriate}
 use Rattle.replies.specs.Reply.{Result, refusal, resultOf}
-use Rattle.engine.specs.Appropriate.{rewritingAppropriate}
+use Rattle.calls.specs.Appropriate.{rewritingAppropriate}
 
 -- a result that is neither 17 nor 18
 abbrev pub Passes : Result → Type 0

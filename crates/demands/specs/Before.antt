@@ -18,8 +18,10 @@ use Rattle.encode.specs.Encode.{writtenOut}
 use Rattle.record.specs.Read.{graphOfRows, reading}
 use Rattle.replies.specs.declared.Reply.the-variants.{NotBelow, NoWantedType}
 use Rattle.replies.specs.Reply.{Result, resultOf, refusing}
-use Rattle.engine.specs.Reply.{checked, readBoth, rowsBelow}
-use Rattle.engine.specs.Difference.{over, numbered}
+use Rattle.subsume.specs.Promise.{rowsBelow}
+use Rattle.calls.specs.Calls.{checked}
+use Rattle.pairs.specs.Pair.{readBoth}
+use Rattle.difference.specs.Difference.{over, numbered}
 
 -- the residual of the types, "a greatest type c whose meet with q is below or equal to p", with the wanted range: ranges have none
 abbrev pub residualLabel : ℕ → List ℕ → Label → Label → Option Label

@@ -8,7 +8,7 @@ use mathlib.Core.Option.{some}
 use Prim.Native.Nat.{ℕ, _-_, _≤_, _<_}
 use lib.Dec.{eqb}
 use lib.ListN.{length, take, drop, replicate}
-use Rattle.graphs.specs.Graph.{Graph, Tells, Below, SameMeaning}
+use Rattle.graphs.specs.Graph.{Graph, TellsApart, Below, SameMeaning}
 use Rattle.graphs.specs.Rows.{Row}
 use Rattle.graphs.specs.Number.{canonical, written}
 use Rattle.graphs.specs.Large.{ManyNodes, ManyLinks}
@@ -22,9 +22,8 @@ use Rattle.encode.specs.Encode.{encoded}
 use Rattle.record.specs.Read.{reading, accepted, graphOfRows}
 use Rattle.replies.specs.declared.Reply.the-variants.{Length, Same, Under, Above, Neither, NoRoom, TooLarge}
 use Rattle.replies.specs.Reply.{Result, refusal}
-use Rattle.engine.specs.Reply.{ordering, rewriting}
-use Rattle.engine.specs.Unification.{unifying}
-use Rattle.engine.specs.Difference.{numbered, differenceRows}
+use Rattle.calls.specs.Calls.{ordering, rewriting, unifying}
+use Rattle.difference.specs.Difference.{numbered, differenceRows}
 
 -- An accepted table, and two accepted records with their rows.
 pub record Given (n : ℕ) (t a b : List ℕ) (s g : List (Row Label)) : Type 0 where
@@ -147,7 +146,7 @@ pub record Restores (n : ℕ) (t : List ℕ) (d g s : Graph Label ℕ) : Type 1 
   pub restores : GreatestOfAnySize n t d g s
   pub most-general : {E C : Type 0} (e : Graph Label E) → OfAnySize n t e → MoreGeneral n t e d → (u : Graph Label C) →
       GreatestOfAnySize n t e g u → MoreGeneral n t u s
-  pub combines : {E : Type 0} (same : E → E → Bool) → Tells same → (e : Graph Label E) → OfAnySize n t e → MoreGeneral n t e d →
+  pub combines : {E : Type 0} (same : E → E → Bool) → TellsApart same → (e : Graph Label E) → OfAnySize n t e → MoreGeneral n t e d →
       (u : Graph Label (E ⊎ ℕ)) × IsCombination n t e g u × GreatestOfAnySize n t e g u
 
 -- What stands in the output beside a length of the difference of the records a and b: a record that is read as such a graph. Combined

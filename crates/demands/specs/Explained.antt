@@ -11,7 +11,7 @@ use Rattle.graphs.specs.Reasons.{reasonAt, IsReason}
 use Rattle.lattice.specs.Label.{Label, noLabel}
 use Rattle.lattice.specs.Labels.{tableLabels}
 use Rattle.record.specs.Read.{graphOfRows}
-use Rattle.engine.specs.Difference.{over, wantedAt}
+use Rattle.difference.specs.Difference.{over, wantedAt}
 
 -- the reason for a link of the difference of g and s that enters v
 abbrev pub reasonFor : (Link ℕ → Link ℕ → Bool) → ℕ → List ℕ → List (Row Label) → List (Row Label) → Link ℕ → ℕ → ℕ

@@ -27,9 +27,11 @@ use Rattle.replies.specs.declared.Side.the-variants.{First}
 use Rattle.replies.specs.declared.Reply.{Reply}
 use Rattle.replies.specs.declared.Reply.the-variants as reply
 use Rattle.replies.specs.Reply.{Result, resultOf, refusing}
-use Rattle.engine.specs.Reply.{checked, readBoth, compared}
-use Rattle.engine.specs.Unification.{sameEither}
-use Rattle.engine.specs.Difference.{over}
+use Rattle.calls.specs.Calls.{checked}
+use Rattle.pairs.specs.Pair.{readBoth}
+use Rattle.engine.specs.Ordering.{compared}
+use Rattle.engine.specs.Unifying.{sameEither}
+use Rattle.difference.specs.Difference.{over}
 
 -- the types of rows
 abbrev pub typesIn : List (Row Label) → List (Row ℕ)

@@ -1,2 +1,2 @@
-// What is demanded of the calls: the three demands and the change requests, about the definitions that the calls of `engine` are proved
-// equal to. There is no code here.
+// What is demanded of the calls: the three demands and the change requests, about the definitions that the calls are proved equal to. There
+// is no code here, and nothing that code needs rests on it.

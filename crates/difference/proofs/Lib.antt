@@ -1,6 +1,6 @@
 -- Laws of the difference.
 pub mod Wanting
-pub mod Keeping
-pub mod Thinning
-pub mod Explaining
 pub mod Result
+pub mod Over
+pub mod Along
+pub mod Answering

@@ -46,13 +46,13 @@ use Rattle.groups.specs.Marks.{At, Marked}
 use Rattle.groups.proofs.Leading.{at-one, one-at, at-link, link-stands, Says, follows-it, leads-covered, leads-bare, mark-says}
 use Rattle.difference.specs.Promise.{wantedAlong, differenceAlong, reasonsAlong, allWantedAlong}
 use Rattle.difference.specs.Wanted.{LabelsOver, wantedAt, Wants, WantsAll, metFrom}
-use Rattle.difference.specs.Keeping.{Cause, Leads, several, alone, Stays, Why, isRoot, caused, untop, onward, Keeps, Ready}
-use Rattle.difference.specs.Thinning.{Kept}
-use Rattle.difference.specs.Explaining.{Made, Copied, Explains, reasonBy}
+use Rattle.keeping.specs.Keeping.{Cause, Leads, several, alone, Stays, Why, isRoot, caused, untop, onward, Keeps, Markable}
+use Rattle.keeping.specs.Thinning.{Kept}
+use Rattle.keeping.specs.Explaining.{Made, Copied, Explains, reasonBy}
 use Rattle.difference.specs.Asked.{Asked, Prepared}
 use Rattle.difference.proofs.Wanting.{wants-known, meetWhere-same}
-use Rattle.difference.proofs.Thinning.{rows-sound, copied-feature, copied-target}
-use Rattle.difference.proofs.Explaining.{reason-one, reason-two, reason-three}
+use Rattle.keeping.proofs.Thinning.{rows-sound, copied-feature, copied-target}
+use Rattle.keeping.proofs.Explaining.{reason-one, reason-two, reason-three}
 
 -- Links lead along a path.
 module _ {ws : List ℕ} (sound : Sound ws) where
@@ -150,8 +150,8 @@ module _ {n : ℕ} {t gw sw map : List ℕ} (asked : Asked n t gw sw map) where
           (link-at g-sound y i (p .inside) (p .low) (p .high))) in
           (j, record { inside = over-inside y (p .inside); low = a; high = b }, e)
 
-  pub ready-words : {marks keep : List ℕ} → length marks ≡ longest → length keep ≡ 255 → Ready sw marks keep
-  ready-words a b =
+  pub markable-words : {marks keep : List ℕ} → length marks ≡ longest → length keep ≡ 255 → Markable sw marks keep
+  markable-words a b =
       record { sound = s-sound; small = asked .lower .small; short = asked .short; marks-long = a; keep-long = b }
 
   -- the wanted label, by the numbers of nodes
@@ -347,7 +347,7 @@ module _ {n : ℕ} {t gw sw map : List ℕ} (asked : Asked n t gw sw map) where
 
     -- Kept links.
 
-    module _ {ws : List ℕ} (ready : Ready sw marks keeps) (few : n ≤ 64) (rows : Kept sw marks keeps labels ws) where
+    module _ {ws : List ℕ} (ready : Markable sw marks keeps) (few : n ≤ 64) (rows : Kept sw marks keeps labels ws) where
       sound′ : Sound ws
       sound′ = rows-sound ready (λ v h. known-more (omega arith) (wants-known asked wants .known v h)) rows
 
@@ -556,16 +556,16 @@ module _ {earlier : Link ℕ → Link ℕ → Bool} {n : ℕ} {t gw sw map marks
   few-types : n ≤ 64
   few-types = accepted-size n t (given .asked .ok) .1
 
-  made-ready : Ready sw marks (made .keep)
-  made-ready = ready-words (given .asked) (given .marked .stands .long) (made .kept .long)
+  made-markable : Markable sw marks (made .keep)
+  made-markable = markable-words (given .asked) (given .marked .stands .long) (made .kept .long)
 
   pub made-sound : Sound words
   made-sound =
-      rows-sound made-ready (λ v h. known-more (omega (arith, few-types)) (wants-known (given .asked) (given .wants) .known v h)) (made .rows)
+      rows-sound made-markable (λ v h. known-more (omega (arith, few-types)) (wants-known (given .asked) (given .wants) .known v h)) (made .rows)
 
   pub made-canonical : canonical eqb (differenceAlong earlier n t (rowsOf sw) (rowsOf gw) (λ y. getD map y 0)) ≡ canonical eqb (graphIn words)
   made-canonical =
-      result-canonical (given .asked) (given .strict) (given .marked) (given .wants) (made .kept) made-ready few-types (made .rows)
+      result-canonical (given .asked) (given .strict) (given .marked) (given .wants) (made .kept) made-markable few-types (made .rows)
 
   pub made-copied : Copied sw words
   made-copied =
@@ -582,4 +582,4 @@ module _ {earlier : Link ℕ → Link ℕ → Bool} {n : ℕ} {t gw sw map marks
   pub made-reasons : {reasons : List ℕ} → Explains sw marks words reasons →
       reasonsAlong earlier n t (rowsOf sw) (rowsOf gw) (λ y. getD map y 0) ≡ marksAlong words reasons (writtenOrder eqb (graphIn words))
   made-reasons explained =
-      result-reasons (given .asked) (given .strict) (given .marked) (given .wants) (made .kept) made-ready few-types (made .rows) explained
+      result-reasons (given .asked) (given .strict) (given .marked) (given .wants) (made .kept) made-markable few-types (made .rows) explained

@@ -25,8 +25,9 @@ use Rattle.lattice.proofs.Restoring.{meet-word}
 use Rattle.layout.specs.Layout.{header, labelFrom, size, labelAt, Shaped}
 use Rattle.layout.specs.Builder.{putLabel}
 use Rattle.layout.proofs.Builder.{label-same, length-put, put-before, label-put}
+use Rattle.keeping.specs.Keeping.{NodeLabels}
 use Rattle.difference.specs.Asked.{Asked}
-use Rattle.difference.specs.Wanted.{LabelsOver, NodeLabels, MetLong, MetPart, wordOf, Met, MetBy, Tells, WantedLabelOver, wantedAt, Wants, WantsAll, metFrom}
+use Rattle.difference.specs.Wanted.{LabelsOver, MetLong, MetPart, wordOf, Met, MetBy, LabelHeld, WantedLabelOver, wantedAt, Wants, WantsAll, metFrom}
 
 -- The loop that fills with one value.
 pub record Filling (value k : ℕ) (types : List ℕ) : Type 0 where
@@ -213,11 +214,11 @@ wantedOf p q c =
 -- what the search for a wanted type answers, with the wanted levels, tells the wanted label
 pub wanted-tells : (n : ℕ) (t : List ℕ) (p q label : Label) → n ≤ 64 → label .type ≡ cell (wanted n t (p .type) (q .type)) →
     label .lowest ≡ wantedLevel 0 (p .lowest) (q .lowest) → label .highest ≡ wantedLevel 255 (p .highest) (q .highest) →
-    Tells (wantedLabel n t p q) label
+    LabelHeld (wantedLabel n t p q) label
 unfolding wantedLabel
 wanted-tells n t p q label few e low high = go (wanted n t (p .type) (q .type)) refl
   where
-    go : (o : Option ℕ) → wanted n t (p .type) (q .type) ≡ o → Tells (Option·map (wantedOf p q) o) label
+    go : (o : Option ℕ) → wanted n t (p .type) (q .type) ≡ o → LabelHeld (Option·map (wantedOf p q) o) label
     go none d = let z : label .type ≡ 64 = e ∙ ap cell d in record { some-stands = λ h. absurd (omega arith); none-stands = λ h. refl }
     go (some c) d =
         let z : label .type ≡ c = e ∙ ap cell d in
@@ -278,7 +279,7 @@ module _ {n : ℕ} {t ws s g map over lowest highest : List ℕ} where
 
   module _ {k : ℕ} {p label : Label} {labels : List ℕ} (w : Wanting n t ws s g map over lowest highest k labels) (h : k < size s)
       (own : p ≡ labelAt s k) (answer : WantedLabelOver n ws p (getD over k 0) (getD lowest k 0) (getD highest k 0) label) where
-    told : Tells (wantedAt n t s g map k) label
+    told : LabelHeld (wantedAt n t s g map k) label
     told =
         subst (λ (l : Label). WantedLabelOver n ws l (getD over k 0) (getD lowest k 0) (getD highest k 0) label) own answer t (w .ok)
         (w .words) (metFrom n t g map 0 (size g) k)

@@ -33,7 +33,7 @@ pub record Prepared (earlier : Link ℕ → Link ℕ → Bool) (n : ℕ) (t g s 
   pub strict : StrictOrder earlier
   pub marked : Marked earlier s g map marks
 
--- so they are, by some order of links, for some g and map
+-- There exist a link order, a g and a map for which `Prepared` holds.
 abbrev pub Preparable : ℕ → List ℕ → List ℕ → List ℕ → List ℕ → Type 0
 Preparable n t s marks labels =
     (earlier : Link ℕ → Link ℕ → Bool) × (g : List ℕ) × (map : List ℕ) × Prepared earlier n t g s map marks labels

@@ -2,6 +2,7 @@
 pub mod Wanted
 pub mod Asked
 pub mod Promise
-pub mod Keeping
-pub mod Thinning
-pub mod Explaining
+pub mod Comparable
+pub mod Difference
+pub mod Explained
+pub mod Writing

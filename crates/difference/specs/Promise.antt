@@ -1,26 +1,19 @@
 -- The difference of g and s as a call writes it: s and g are given by their rows, t is the table of n types, and `over` gives the node of
 -- s that each node of g leads to (document 01, "Difference": "Each path of g leads to one node of s").
-use mathlib.Core.Path.{_≡_}
 use mathlib.Core.Bool.{Bool}
 use mathlib.Core.List.{List}
 use mathlib.Core.Option.{Option, Option·getD}
 use Prim.Native.Nat.{ℕ}
 use lib.Dec.{eqb}
-use lib.ListN.{length, getD}
+use lib.ListN.{length}
 use Rattle.graphs.specs.Graph.{Graph}
 use Rattle.graphs.specs.Rows.{Row, from}
-use Rattle.graphs.specs.Number.{Canonical, canonical}
 use Rattle.graphs.specs.Difference.{Link, difference, meetOver}
 use Rattle.graphs.specs.Reasons.{reasonAt, alongLinks, writtenOrder}
 use Rattle.lattice.specs.Table.{every, found}
 use Rattle.lattice.specs.Label.{Label, noLabel}
 use Rattle.lattice.specs.Labels.{tableLabels, wantedLabel}
-use Rattle.encode.specs.declared.Written.{Written}
-use Rattle.encode.specs.Encode.{yielding, writtenOut}
-use Rattle.encode.specs.declared.Marked.{Marked}
-use Rattle.encode.specs.Marks.{noting, markedOut}
-use Rattle.layout.specs.Layout.{graphOfRows, rowsOf}
-use Rattle.difference.specs.Asked.{Prepared}
+use Rattle.layout.specs.Layout.{graphOfRows}
 
 module _ (n : ℕ) (t : List ℕ) (s g : List (Row Label)) (over : ℕ → ℕ) where
   -- "The wanted type is the greatest type whose meet with the meet of all g types over this node (top if none) equals the type in s", and
@@ -48,24 +41,3 @@ module _ (earlier : Link ℕ → Link ℕ → Bool) (n : ℕ) (t : List ℕ) (s 
       alongLinks differenceAlong
       (reasonAt eqb eqb (graphOfRows s) (from 0 (length s)) (graphOfRows g) (from 0 (length g)) over earlier)
       (writtenOrder eqb differenceAlong)
-
--- the canonical form of the difference, of graphs in words
-abbrev pub differenceForm : (Link ℕ → Link ℕ → Bool) → ℕ → List ℕ → List ℕ → List ℕ → List ℕ → Canonical Label
-differenceForm earlier n t s g map = canonical eqb (differenceAlong earlier n t (rowsOf s) (rowsOf g) λ y. getD map y 0)
-
--- and its reasons
-abbrev pub reasonsIn : (Link ℕ → Link ℕ → Bool) → ℕ → List ℕ → List ℕ → List ℕ → List ℕ → List ℕ
-reasonsIn earlier n t s g map = reasonsAlong earlier n t (rowsOf s) (rowsOf g) λ y. getD map y 0
-
--- What is promised of the marks of the links of s and the wanted labels of its nodes, whichever order of links, graph g and map they are
--- prepared by: what is written is the difference,
-abbrev pub Differs : ℕ → List ℕ → List ℕ → List ℕ → List ℕ → List ℕ → Written → List ℕ → Type 0
-Differs n t s marks labels out answer new =
-    (earlier : Link ℕ → Link ℕ → Bool) (g map : List ℕ) → Prepared earlier n t g s map marks labels →
-    yielding answer new ≡ writtenOut (differenceForm earlier n t s g map) out
-
--- and what is written beside it are its reasons.
-abbrev pub Reasoned : ℕ → List ℕ → List ℕ → List ℕ → List ℕ → List ℕ → List ℕ → Marked → List ℕ → List ℕ → Type 0
-Reasoned n t s marks labels out old answer new reasons =
-    (earlier : Link ℕ → Link ℕ → Bool) (g map : List ℕ) → Prepared earlier n t g s map marks labels →
-    noting answer new reasons ≡ markedOut (differenceForm earlier n t s g map) (reasonsIn earlier n t s g map) out old

@@ -1,4 +1,4 @@
--- Wanted labels, in arrays beside the graphs. An array of labels has a header for each node, that of node v at 2 * v.
+-- Wanted labels, in arrays beside the graphs. An array of labels has a header for each node, that of node v at header * v.
 use mathlib.Core.Path.{_≡_}
 use mathlib.Core.Bool.{Bool, true, false}
 use mathlib.Core.List.{List}
@@ -12,7 +12,7 @@ use Rattle.lattice.specs.Label.{Label}
 use Rattle.lattice.specs.Table.{every, found, accepted}
 use Rattle.lattice.specs.Words.{Words}
 use Rattle.lattice.specs.Labels.{tableLabels, Known, wantedLabel}
-use Rattle.layout.specs.Layout.{labelFrom, size, labelAt, Sound}
+use Rattle.layout.specs.Layout.{header, labelFrom, size, labelAt, Sound}
 
 -- the meet of the labels of `count` nodes of g from y on, those that lie over v
 unfoldable pub metFrom : ℕ → List ℕ → List ℕ → List ℕ → ℕ → ℕ → ℕ → Label
@@ -27,11 +27,6 @@ pub record LabelsOver (n nodes : ℕ) (g map : List ℕ) : Type 0 where
   pub upper-small : size g ≤ 255
   pub mapped : (y : ℕ) → y < size g → getD map y 0 < nodes
   pub known : (y : ℕ) → y < size g → Known n (labelAt g y)
-
--- labels of a table with n types, for `nodes` nodes
-pub record NodeLabels (n nodes : ℕ) (labels : List ℕ) : Type 0 where
-  pub long : length labels ≡ 510
-  pub known : (v : ℕ) → v < nodes → Known n (labelFrom labels (2 * v))
 
 -- Arrays for what is met over each node of s: the word of the types below the type, the lowest and the highest level.
 pub record MetLong (over lowest highest : List ℕ) : Type 0 where
@@ -58,8 +53,8 @@ abbrev pub MetBy : ℕ → List ℕ → ℕ → List ℕ → List ℕ → List �
 MetBy n ws nodes g map over lowest highest =
     (t : List ℕ) → accepted n t ≡ true → Words n t false ws → Met n t ws nodes g map 0 (size g) over lowest highest
 
--- a label that tells a wanted one: its type is 64 where there is none
-pub record Tells (wanted : Option Label) (label : Label) : Type 0 where
+-- `label` holds the wanted label; its type is 64 where there is none
+pub record LabelHeld (wanted : Option Label) (label : Label) : Type 0 where
   pub some-stands : label .type < 64 → wanted ≡ some label
   pub none-stands : 64 ≤ label .type → found wanted ≡ false
 
@@ -68,7 +63,7 @@ pub record Tells (wanted : Option Label) (label : Label) : Type 0 where
 abbrev pub WantedLabelOver : ℕ → List ℕ → Label → ℕ → ℕ → ℕ → Label → Type 0
 WantedLabelOver n ws p over lowest highest label =
     (t : List ℕ) → accepted n t ≡ true → Words n t false ws → (q : Label) → Known n q → over ≡ wordOf ws q → lowest ≡ q .lowest →
-    highest ≡ q .highest → Tells (wantedLabel n t p q) label
+    highest ≡ q .highest → LabelHeld (wantedLabel n t p q) label
 
 -- the wanted label of the node v of s
 abbrev pub wantedAt : ℕ → List ℕ → List ℕ → List ℕ → List ℕ → ℕ → Option Label
@@ -77,7 +72,7 @@ wantedAt n t s g map v = wantedLabel n t (labelAt s v) (metFrom n t g map 0 (siz
 -- the wanted labels of the first k nodes of s
 pub record Wants (n : ℕ) (t s g map : List ℕ) (k : ℕ) (labels : List ℕ) : Type 0 where
   pub long : length labels ≡ 510
-  pub each : (v : ℕ) → v < k → wantedAt n t s g map v ≡ some (labelFrom labels (2 * v))
+  pub each : (v : ℕ) → v < k → wantedAt n t s g map v ≡ some (labelFrom labels (header * v))
 
 -- whether every node of s has a wanted label, and where so, their wanted labels
 pub record WantsAll (n : ℕ) (t s g map : List ℕ) (answer : Bool) (labels : List ℕ) : Type 0 where

@@ -1,19 +1,63 @@
-// The difference of g and s, for s below g (document 01, "Difference"): the links of s that lead their group and enter a kept
-// node, between nodes that carry their wanted labels. Which links lead their group is marked before, by `groups`.
+// The difference of g and s (document 01, "Difference"): the links of s that lead their group and enter a kept node, between nodes that
+// carry their wanted labels. Its record is written and, where a call asks for them, beside it the reasons for its links (document 02,
+// Paper 13). It knows graphs in words, an accepted table and replies; it reads no record.
 
-pub mod keep;
-pub mod reasons;
-pub mod rows;
 pub mod wanted;
 
 use encode::Marked;
-use encode::Written;
+use groups::link_orders::LinkOrder;
+use replies::Reply;
+use subsume::Order;
 ghost use mathlib.Core.Path.{_≡_};
+ghost use mathlib.Core.List.{List};
+ghost use Prim.Native.Nat.{ℕ};
 ghost use lib.ListN.{length};
 ghost use Rattle.layout.specs.Layout.{longest};
+ghost use Rattle.groups.specs.LinkOrders.{Fitting};
+ghost use Rattle.keeping.specs.Keeping.{Markable};
+ghost use Rattle.keeping.specs.Explaining.{Copied, Made};
 ghost use Rattle.difference.specs.Asked.{Preparable};
-ghost use Rattle.difference.specs.Explaining.{Made};
-ghost use Rattle.difference.specs.Promise.{Differs, Reasoned};
+ghost use Rattle.difference.specs.Comparable.{Comparable};
+ghost use Rattle.difference.specs.Explained.{differedWords, explainedResult, markedReply};
+ghost use Rattle.difference.specs.Writing.{WritesRows};
+
+// What a call asks of a difference: the order of links, and whether the reasons are wanted beside the record.
+pub struct Options {
+    pub order: LinkOrder,
+    pub explained: bool,
+}
+
+// The difference of g and s, where s is below g and each of its nodes has a wanted type. Its rows are made in `words`. Unless the options
+// ask for the reasons, these are left as they were.
+pub fn difference<'a>(
+    n: usize,
+    table: &'a [u8],
+    options: Options,
+    g: &'a [u16],
+    s: &'a [u16],
+    words: &mut [u16; layout::LONGEST],
+    out: &mut [u8],
+    reasons: &mut [u8],
+) -> Reply
+    requires { ⌜ Comparable n (now table) (now g) (now s) × Fitting (options .order) × (length (now words) ≡ longest) ⌝ }
+    ensures { λ r. ⌜ explainedResult r (now (out .exit)) (now (reasons .exit)) ≡
+        differedWords options n (now (table .entry)) (now (g .entry)) (now (s .entry)) (now (out .entry)) (now (reasons .entry)) ⌝ }
+{
+    let ordered = subsume::subsume(table, s, g);
+    let below = ordered.order;
+    let Order::Below = below else {
+        return Reply::NotBelow;
+    };
+    let map = ordered.map;
+    let mut labels = [0u16; 510];
+    if !wanted::wanted_labels(n, table, g, s, &map, &mut labels) {
+        return Reply::NoWantedType;
+    }
+    let mut marks = [0u8; layout::LONGEST];
+    groups::mark_links(s, g, &map, options.order, &mut marks);
+    make(n, table, s, &marks, &labels, words);
+    write_rows(options.explained, s, &marks, words, out, reasons)
+}
 
 // Fills words with the rows of the difference: `marks` has the marks of the links of s, and `labels` the wanted label of each node of s.
 fn make<'a>(
@@ -28,43 +72,37 @@ fn make<'a>(
     ensures { λ _. ⌜ Made n (now (table .entry)) (now (s .entry)) (now (marks .entry)) (now (labels .entry)) (now (words .exit)) ⌝ }
 {
     let mut keep = [0u8; 255];
-    keep::kept_nodes(n, table, s, marks, labels, &mut keep);
-    rows::kept_links(s, marks, &keep, labels, words)
+    keeping::keep::kept_nodes(n, table, s, marks, labels, &mut keep);
+    keeping::rows::kept_links(s, marks, &keep, labels, words)
 }
 
-// Writes the difference. Its rows are made in `words`.
-pub fn difference<'a>(
-    n: usize,
-    table: &'a [u8],
+// Writes the rows of the difference and, where `explained`, the reasons for its links.
+fn write_rows<'a>(
+    explained: bool,
     s: &'a [u16],
     marks: &'a [u8; layout::LONGEST],
-    labels: &'a [u16; 510],
-    words: &mut [u16; layout::LONGEST],
+    words: &'a [u16],
     out: &mut [u8],
-) -> Written
-    requires { ⌜ Preparable n (now table) (now s) (now marks) (now labels) × (length (now words) ≡ longest) ⌝ }
-    ensures { λ r. ⌜ Differs n (now (table .entry)) (now (s .entry)) (now (marks .entry)) (now (labels .entry)) (now (out .entry)) r (now (out .exit)) ⌝ }
+    reasons: &mut [u8],
+) -> Reply
+    requires { ⌜ ((meeting : List ℕ) → length meeting ≡ 255 → Markable (now s) (now marks) meeting) × Copied (now s) (now words) ⌝ }
+    ensures { λ r. ⌜ WritesRows explained (now (s .entry)) (now (marks .entry)) (now (words .entry)) (now (out .entry)) (now (reasons .entry))
+        (explainedResult r (now (out .exit)) (now (reasons .exit))) ⌝ }
 {
-    make(n, table, s, marks, labels, words);
-    encode::canonical::write(words, out)
+    if !explained {
+        return replies::reply_of(encode::canonical::write(words, out));
+    }
+    let mut held = [0u8; layout::LONGEST];
+    keeping::reasons::explain_links(s, marks, words, &mut held);
+    marked_reply(encode::canonical::write_marked(words, &held, out, reasons))
 }
 
-// Writes the difference, and beside it the reason for each of its links.
-pub fn explain<'a>(
-    n: usize,
-    table: &'a [u8],
-    s: &'a [u16],
-    marks: &'a [u8; layout::LONGEST],
-    labels: &'a [u16; 510],
-    out: &mut [u8],
-    beside: &mut [u8],
-) -> Marked
-    requires { ⌜ Preparable n (now table) (now s) (now marks) (now labels) ⌝ }
-    ensures { λ r. ⌜ Reasoned n (now (table .entry)) (now (s .entry)) (now (marks .entry)) (now (labels .entry)) (now (out .entry)) (now (beside .entry)) r (now (out .exit)) (now (beside .exit)) ⌝ }
+// What writing the rows with reasons answers, as a reply.
+fn marked_reply(marked: Marked) -> Reply
+    ensures { λ r. ⌜ r ≡ markedReply marked ⌝ }
 {
-    let mut words = [layout::BLANK; layout::LONGEST];
-    make(n, table, s, marks, labels, &mut words);
-    let mut reasons = [0u8; layout::LONGEST];
-    reasons::explain_links(s, marks, &words, &mut reasons);
-    encode::canonical::write_marked(&words, &reasons, out, beside)
+    match marked {
+        Marked::Written(written) => replies::reply_of(written),
+        Marked::NoMarkRoom => Reply::NoReasonRoom,
+    }
 }

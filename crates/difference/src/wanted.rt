@@ -105,7 +105,7 @@ pub fn wanted_labels<'a>(
         if 64 <= label.kind {
             return false;
         }
-        layout::put_label(labels, 2 * v, label);
+        layout::put_label(labels, layout::HEADER * v, label);
         v += 1;
     }
     true

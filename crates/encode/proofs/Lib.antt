@@ -1,5 +1,4 @@
 -- Laws of encoding.
-pub mod Stores
 pub mod FeatureMap
 pub mod Links
 pub mod LabelBytes

@@ -10,7 +10,7 @@ use Rattle.layout.specs.Layout.{Sound, size, linksFrom, rowEnd, longest}
 use Rattle.layout.proofs.Spans.{slice-more}
 use Rattle.encode.specs.NumberedRows.{Visited, degree, degrees, sumAlong}
 use Rattle.encode.specs.Marks.{marksAlong}
-use Rattle.encode.proofs.Stores.{sets-append, sets-more}
+use Rattle.graphs.proofs.Stores.{sets-append, sets-more}
 use Rattle.encode.proofs.WrittenRows.{sum-more, sum-upto}
 
 -- How far the marks of a row are written: those of the places before k.

@@ -28,10 +28,6 @@ getD-member [] i h = absurd (omega arith)
 getD-member (v ∷ vs) zero h = List·Memᴰ·head refl
 getD-member (v ∷ vs) (suc i) h = List·Memᴰ·tail (getD-member vs i (omega arith))
 
-pub member-length : {v : ℕ} {vs : List ℕ} → List·Memᴰ v vs → 0 < length vs
-member-length (List·Memᴰ·head e) = omega arith
-member-length (List·Memᴰ·tail m) = omega arith
-
 -- of an output that is equal to the one that is yielded
 pub yields-by : {A : Type 0} {y : Yield A} {a : A} {l last : List ℕ} → last ≡ l → y ≡ yielding a l → yielding a last ≡ y
 yields-by {a = a} q e = ap (yielding a) q ∙ sym e

@@ -10,7 +10,7 @@ use Rattle.graphs.specs.Rows.{Row}
 use Rattle.lattice.specs.Label.{Label}
 use Rattle.encode.specs.Encode.{encodedRow, encodedRows}
 use Rattle.encode.specs.NumberedRows.{lowBytes}
-use Rattle.encode.proofs.Stores.{sets-append, sets-comm}
+use Rattle.graphs.proofs.Stores.{sets-append, sets-comm}
 
 -- The bytes of a number.
 

@@ -34,7 +34,7 @@ use Rattle.encode.proofs.Links.{linksOf-links, target-member}
 use Rattle.encode.proofs.Outcomes.{map-listed, getD-member, fitted-short, fitted-room, both-short, both-narrow, both-room}
 use Rattle.encode.proofs.WrittenRows.{ranges-upto, sum-reverse, row-ascending, row-degree, row-within, rows-length}
 use Rattle.encode.specs.declared.Marked.the-variants as marked
-use Rattle.encode.specs.Marks.{Fits, Noted, noting, fittedBoth, marksAlong, markedOut}
+use Rattle.encode.specs.Marks.{MarksFit, Noted, noting, fittedBoth, marksAlong, markedOut}
 use Rattle.encode.proofs.MarkedRows.{marks-length}
 
 module _ {ws : List ℕ} (sound : Sound ws) where
@@ -280,7 +280,7 @@ module _ {ws : List ℕ} (sound : Sound ws) where
         length-is : length (encoded rows) ≡ size-written
         length-is = omega (arith, bytes-length, sums .0, sums .1)
 
-        pub measured-fits : links ≤ 2048 → Fits ws numbers visited count links size-written
+        pub measured-fits : links ≤ 2048 → MarksFit ws numbers visited count links size-written
         measured-fits fits =
             record {
               nodes = visited-nodes;
@@ -291,7 +291,7 @@ module _ {ws : List ℕ} (sound : Sound ws) where
             }
 
 -- What writing a graph that fits yields.
-module _ {ws numbers visited : List ℕ} {count links len : ℕ} (fits : Fits ws numbers visited count links len) (old : List ℕ) where
+module _ {ws numbers visited : List ℕ} {count links len : ℕ} (fits : MarksFit ws numbers visited count links len) (old : List ℕ) where
   abbrev rows-written : List (Row Label)
   rows-written = numberedRows ws numbers (take count visited)
 

@@ -16,7 +16,7 @@ use Rattle.layout.specs.Layout.{Node, Sound, size, linksFrom, rowEnd, labelAt, 
 use Rattle.layout.proofs.Spans.{linkAt, links-none, links-more, length-links, links-ascending, links-member}
 use Rattle.encode.specs.Encode.{bitsFrom, encodedLabel, encodedRow, encodedRows, encoded}
 use Rattle.encode.specs.NumberedRows.{Visited, degree, degrees, lowBytes, numberByte, numberedRow, numberedRows, rangeCount, ranges, sumAlong}
-use Rattle.encode.proofs.Stores.{sets-append, sets-more}
+use Rattle.graphs.proofs.Stores.{sets-append, sets-more}
 use Rattle.encode.proofs.RowBytes.{length-lowBytes, map-snoc, map-alike, row-stored, rows-more}
 use Rattle.encode.proofs.LabelBytes.{label-length}
 use Rattle.encode.proofs.Lengths.{row-length}

@@ -48,7 +48,7 @@ markedOut manyLinks marks old beside = noting (marked.Written outcome.TooLarge) 
 markedOut (written rows) marks old beside = fittedBoth (encoded rows) marks old beside
 
 -- The numbering of a graph that can be written, with the number of its links and the length of its record.
-pub record Fits (ws numbers visited : List ℕ) (count links len : ℕ) : Type 0 where
+pub record MarksFit (ws numbers visited : List ℕ) (count links len : ℕ) : Type 0 where
   pub nodes : Visited ws visited count
   pub form : canonical eqb (graphIn ws) ≡ written (numberedRows ws numbers (take count visited))
   pub order : writtenOrder eqb (graphIn ws) ≡ take count visited
@@ -58,4 +58,4 @@ pub record Fits (ws numbers visited : List ℕ) (count links len : ℕ) : Type 0
 -- whether a graph can be written, and where so, its numbering
 pub record Measured (ws numbers visited : List ℕ) (large : Bool) (count links len : ℕ) : Type 0 where
   pub refused : large ≡ true → (canonical eqb (graphIn ws) ≡ manyNodes) ⊎ (canonical eqb (graphIn ws) ≡ manyLinks)
-  pub fits : large ≡ false → Fits ws numbers visited count links len
+  pub fits : large ≡ false → MarksFit ws numbers visited count links len

@@ -1,4 +1,5 @@
-// Writing: a graph in words as its record in canonical form, and a graph numbered so. There is one encoder for every result.
+// Writing: a graph in words as its record in canonical form, and a graph numbered so. There is one encoder for every result. It knows
+// graphs in words and a record's bytes; it knows no table.
 
 pub mod canonical;
 pub mod encoder;

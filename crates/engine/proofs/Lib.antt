@@ -1,12 +1,7 @@
--- Laws of the calls.
-pub mod Readings
-pub mod Replies
-pub mod Listed
-pub mod LinkOrders
+-- Laws of the operations over an accepted table.
 pub mod Tables
+pub mod Written
 pub mod Orders
-pub mod Over
 pub mod CommonParts
 pub mod Combinations
-pub mod Differing
-pub mod Explaining
+pub mod Differences

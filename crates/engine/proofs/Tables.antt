@@ -7,7 +7,7 @@ use Prim.Native.Nat.{ℕ, _≤_, _<_}
 use native.Mathlib.Decide.{decLe}
 use native.Mathlib.Omega.{arith}
 use lib.ListN.{length, getD, List·getD-eq-default}
-use Rattle.graphs.specs.Graph.{Graph, Tells}
+use Rattle.graphs.specs.Graph.{Graph, TellsApart}
 use Rattle.graphs.specs.Rows.{Row}
 use Rattle.graphs.specs.Number.{canonical}
 use Rattle.graphs.proofs.Form.Bisimilar.{Alike, absent, present}
@@ -20,7 +20,7 @@ use Rattle.lattice.specs.declared.Opened.the-variants.{Accepted}
 use Rattle.lattice.specs.Reply.{opened}
 use Rattle.lattice.proofs.Lawful.{plain-known}
 use Rattle.lattice.proofs.Laws.{accepted-size}
-use Rattle.lattice.proofs.Residuals.{opened-accepted}
+use Rattle.lattice.proofs.Acceptance.{opened-accepted}
 use Rattle.record.proofs.Nodes.{node-row}
 use Rattle.record.proofs.Accepted.{Rules}
 
@@ -42,7 +42,7 @@ alike-self none = absent
 alike-self (some v) = present refl
 
 -- graphs with the same root, labels and links have one written form
-pub canonical-same : {L A : Type 0} {same : A → A → Bool} → Tells same → (g h : Graph L A) → g .root ≡ h .root →
+pub canonical-same : {L A : Type 0} {same : A → A → Bool} → TellsApart same → (g h : Graph L A) → g .root ≡ h .root →
     ((v : A) → g .label v ≡ h .label v) → ((v : A) (f : ℕ) → g .link v f ≡ h .link v f) → canonical same g ≡ canonical same h
 canonical-same {same = same} tells g h root labels links =
     bisimilar-canonical same same tells tells (λ v w. v ≡ w) g h

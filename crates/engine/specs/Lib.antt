@@ -1,8 +1,6 @@
--- What the public calls answer, and what their parts promise.
-pub mod Reply
-pub mod Unification
-pub mod Pair
-pub mod Difference
-pub mod Explained
-pub mod Renumbering
-pub mod Appropriate
+-- What the operations answer over an accepted table.
+pub mod Rewriting
+pub mod Ordering
+pub mod Generalizing
+pub mod Unifying
+pub mod Differing

@@ -6,7 +6,7 @@ use mathlib.Core.Option.{some}
 use Prim.Native.Nat.{ℕ, _/_, _%_, _<_}
 use borrow.Author.Tests.{eq-eqb, eqb-true}
 use lib.Dec.{eqb}
-use Rattle.graphs.specs.Graph.{Tells}
+use Rattle.graphs.specs.Graph.{TellsApart}
 use Rattle.graphs.specs.Generalize.{generalization}
 use Rattle.graphs.proofs.Product.{both-some}
 use Rattle.graphs.proofs.Search.{both-true}
@@ -40,7 +40,7 @@ common-known {a} {b} left right x y f e =
     let (s, t) = link-inside (left .sound) (x .0) f (y .0) p in
     (s, t, link-inside (right .sound) (x .1) f (y .1) q .1)
 
-pub tells-pair : Tells samePair
+pub tells-pair : TellsApart samePair
 unfolding samePair
 tells-pair v w = (there, back)
   where

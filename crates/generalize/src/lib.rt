@@ -1,5 +1,5 @@
-// Generalization, document 01's common part: the pairs of nodes that one path leads to in both graphs, found by a queue, with a
-// mark for each pair.
+// Generalization, document 01's common part: the pairs of nodes that one path leads to in both graphs, found by a queue, with a mark for
+// each pair. It knows graphs in words and the joins that `bounds` holds; `encode` writes the result.
 
 use encode::Written;
 use layout::Label;
@@ -7,7 +7,7 @@ ghost use mathlib.Core.Path.{_≡_};
 ghost use mathlib.Core.Bool.{true};
 ghost use Prim.Native.Nat.{_≤_, _<_};
 ghost use lib.ListN.{length};
-ghost use Rattle.lattice.specs.Sets.{Ready, joinIn};
+ghost use Rattle.bounds.specs.Sets.{Seekable, joinIn};
 ghost use Rattle.layout.specs.Builder.{stated};
 ghost use Rattle.layout.specs.Layout.{Recorded, longest, size};
 ghost use Rattle.encode.specs.Encode.{yielding};
@@ -106,17 +106,17 @@ pub fn pair_links<'a>(
 // The join of two labels over n types: the join of their types, and the smallest range that holds both of theirs.
 fn join<'a>(
     n: usize,
-    sets: &'a [u64; lattice::sets::WORDS],
+    sets: &'a [u64; bounds::sets::WORDS],
     cells: &'a [[u8; 64]; 64],
     a: Label,
     b: Label,
 ) -> Label
     requires { ⌜ (a .kind < n) × (b .kind < n) × (n ≤ 64) ⌝ }
-    requires { ⌜ Ready true n (now sets) ⌝ }
+    requires { ⌜ Seekable true n (now sets) ⌝ }
     ensures { λ r. ⌜ stated r ≡ joinsOf (joinIn n (now (sets .entry)) (now (cells .entry))) .join (stated a) (stated b) ⌝ }
 {
     Label {
-        kind: lattice::sets::join(n, sets, cells, a.kind as usize, b.kind as usize),
+        kind: bounds::sets::join(n, sets, cells, a.kind as usize, b.kind as usize),
         lowest: layout::lesser(a.lowest, b.lowest),
         highest: layout::greater(a.highest, b.highest),
     }
@@ -125,7 +125,7 @@ fn join<'a>(
 // Writes the generalization of two graphs over n types, with the joins of types as they are held.
 pub fn generalize<'a>(
     n: usize,
-    sets: &'a [u64; lattice::sets::WORDS],
+    sets: &'a [u64; bounds::sets::WORDS],
     cells: &'a [[u8; 64]; 64],
     a: &'a [u16],
     b: &'a [u16],
@@ -134,7 +134,7 @@ pub fn generalize<'a>(
     requires { ⌜ Recorded (now a) ⌝ }
     requires { ⌜ Recorded (now b) ⌝ }
     requires { ⌜ Joinable n (joinIn n (now sets) (now cells)) (now a) (now b) ⌝ }
-    requires { ⌜ Ready true n (now sets) ⌝ }
+    requires { ⌜ Seekable true n (now sets) ⌝ }
     ensures { λ r. ⌜ yielding r (now (out .exit)) ≡ productOut (joinIn n (now (sets .entry)) (now (cells .entry))) (now (a .entry)) (now (b .entry)) (now (out .entry)) ⌝ }
 {
     let mut marks = [CLEAR; 65025];

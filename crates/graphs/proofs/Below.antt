@@ -4,11 +4,11 @@
 use mathlib.Core.Path.{_≡_, refl, sym, _∙_, ap}
 use mathlib.Core.Bool.{Bool, true, false, true≢false}
 use mathlib.Core.List.{List, [], _∷_, _++_, List·Memᴰ, List·Memᴰ·head, List·Memᴰ·tail, List·Memᴰ·not-nil, List·Memᴰ·cases-cons}
-use mathlib.Core.Logic.{_↔_, ⊎-elim, Dec·of-iff}
+use mathlib.Core.Logic.{_↔_, ⊎-elim}
 use mathlib.Core.Option.{Option, none, some, Option·map, map-eq-some-iff}
 use Prim.Native.Nat.{ℕ}
 use Rattle.graphs.specs.Label.{Labels, Lattice}
-use Rattle.graphs.specs.Graph.{Graph, Below, SameMeaning, AnySize, Tells, walk, follow, step, Reached, Corefer}
+use Rattle.graphs.specs.Graph.{Graph, Below, SameMeaning, TellsApart, walk, follow, step, Reached, Corefer}
 use Rattle.graphs.specs.Map.{NodeMap, Exact}
 use Rattle.graphs.proofs.Walk.{some-injective, some-unique, none-some, snoc-induction, follow-snoc, follow-last, walk-snoc}
 
@@ -105,7 +105,7 @@ below-map {s = s} {g} b decide =
     (to, carries-map b to c)
 
 -- Membership in a list is decided by a test that tells elements apart.
-pub member-decided : {A : Type 0} (same : A → A → Bool) → Tells same → (v : A) (l : List A) → Dec (List·Memᴰ v l)
+pub member-decided : {A : Type 0} (same : A → A → Bool) → TellsApart same → (v : A) (l : List A) → Dec (List·Memᴰ v l)
 member-decided same tells v [] = no List·Memᴰ·not-nil
 member-decided same tells v (w ∷ l) = go (same v w) refl (member-decided same tells v l)
   where
@@ -114,12 +114,6 @@ member-decided same tells v (w ∷ l) = go (same v w) refl (member-decided same 
     go false e (yes m) = yes (List·Memᴰ·tail m)
     go false e (no n) =
         no λ m. ⊎-elim (λ (p : v ≡ w). absurd (true≢false (sym (tells v w .1 p) ∙ e))) n (List·Memᴰ·cases-cons m)
-
--- The list of a finite graph's nodes decides which are reached.
-pub reached-decided : {𝓛 : Labels} {A : Type 0} {g : Graph (𝓛 .L) A} (same : A → A → Bool) → Tells same → AnySize 𝓛 g →
-    (v : A) → Dec (Reached g v)
-reached-decided same tells sound v =
-    Dec·of-iff (sound .listed v .1, sound .listed v .0) (member-decided same tells v (sound .nodes))
 
 -- Equal meaning.
 

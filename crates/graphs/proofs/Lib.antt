@@ -1,6 +1,7 @@
 -- Theorems about typed feature graphs.
 pub mod Walk
 pub mod Lists
+pub mod Stores
 pub mod Rows
 pub mod Below
 pub mod Finite

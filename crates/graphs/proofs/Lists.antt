@@ -30,7 +30,7 @@ use native.Mathlib.Omega.{arith}
 use borrow.Author.Tests.{eqb-true, eq-eqb}
 use lib.Dec.{eqb}
 use lib.ListN.{length, getD}
-use Rattle.graphs.specs.Graph.{Tells}
+use Rattle.graphs.specs.Graph.{TellsApart}
 use Rattle.graphs.specs.Rows.{from, features}
 use Rattle.graphs.specs.Number.{member, indexOf}
 use Rattle.graphs.specs.Large.{Distinct}
@@ -144,10 +144,10 @@ distinct-flatMap make (x ∷ l) d each apart =
 
 -- Membership as a test, and the place of an element.
 
-pub tells-eqb : Tells eqb
+pub tells-eqb : TellsApart eqb
 tells-eqb v w = (eqb-true v w, eq-eqb v w)
 
-module _ {A : Type 0} (same : A → A → Bool) (tells : Tells same) where
+module _ {A : Type 0} (same : A → A → Bool) (tells : TellsApart same) where
   pub member-true : (v : A) (vs : List A) → member same v vs ≡ true → List·Memᴰ v vs
   unfolding member
   member-true v [] e = let z : _≡_ {A = ℕ} 0 1 = cc in absurd (omega arith)

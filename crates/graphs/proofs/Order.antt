@@ -9,7 +9,7 @@ use Prim.Native.Nat.{ℕ, _<_}
 use native.Mathlib.Omega.{arith}
 use lib.ListN.{length}
 use Rattle.graphs.specs.Label.{Labels}
-use Rattle.graphs.specs.Graph.{Graph, Tells, follow, walk, Reached, Below}
+use Rattle.graphs.specs.Graph.{Graph, TellsApart, follow, walk, Reached, Below}
 use Rattle.graphs.specs.Rows.{features}
 use Rattle.graphs.specs.Generalize.{both, generalization}
 use Rattle.graphs.specs.Order.{allOf, meetings, there, fitsAt, sharesAt, subsumes}
@@ -48,7 +48,7 @@ some-there none i h = refl
 some-there (some x) none h = none-some (h x refl .1)
 some-there (some x) (some y) h = refl
 
-module _ (𝓛 : Labels) {A B : Type 0} (sameA : A → A → Bool) (sameB : B → B → Bool) (tellsA : Tells sameA) (tellsB : Tells sameB)
+module _ (𝓛 : Labels) {A B : Type 0} (sameA : A → A → Bool) (sameB : B → B → Bool) (tellsA : TellsApart sameA) (tellsB : TellsApart sameB)
     (s : Graph (𝓛 .L) A) (g : Graph (𝓛 .L) B) (narrow : (v w : B) (f : ℕ) → Reached g v → g .link v f ≡ some w → f < 64) (k : ℕ)
     (short : (p : List ℕ) (v : B) → walk g p ≡ some v → length p < k) where
   -- both walks along one path

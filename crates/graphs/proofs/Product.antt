@@ -138,16 +138,6 @@ module _ {𝓛 : Labels} (lattice : Lattice 𝓛) {A B : Type 0} {g : Graph (�
   greatest-unique {k = k} {m} a b =
       below-antisym lattice (b .greatest k (a .left) (a .right)) (a .greatest m (b .left) (b .right))
 
-  pub generalization-unique : {C D : Type 0} {k : Graph (𝓛 .L) C} {m : Graph (𝓛 .L) D} → IsGeneralization 𝓛 g h k →
-      IsGeneralization 𝓛 g h m → SameMeaning 𝓛 k m
-  generalization-unique i j = least-unique (generalization-least i) (generalization-least j)
-
-  -- The least graph above both is a generalization.
-  pub least-generalization : {C : Type 0} {k : Graph (𝓛 .L) C} → LeastAbove 𝓛 g h k → IsGeneralization 𝓛 g h k
-  least-generalization a =
-      same-generalization (product-is-generalization 𝓛 g h)
-      (least-unique (generalization-least (product-is-generalization 𝓛 g h)) a)
-
   -- A generalization is of any size where one of the two graphs is.
   pub generalization-any-size : {C : Type 0} {k : Graph (𝓛 .L) C} → IsGeneralization 𝓛 g h k → AnySize 𝓛 g → AnySize 𝓛 k
   generalization-any-size i = above-any-size lattice (generalization-least i .left)

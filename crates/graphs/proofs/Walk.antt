@@ -45,10 +45,6 @@ module _ {A : Type 0} (link : A → ℕ → Option A) where
   unfolding follow
   follow-nil o = refl
 
-  pub follow-cons : (o : Option A) (f : ℕ) (p : List ℕ) → follow link o (f ∷ p) ≡ follow link (step link o f) p
-  unfolding follow
-  follow-cons o f p = refl
-
   pub follow-snoc : (o : Option A) (p : List ℕ) (f : ℕ) → follow link o (p ++ (f ∷ [])) ≡ step link (follow link o p) f
   unfolding follow
   follow-snoc o p f = follow-append o p (f ∷ [])

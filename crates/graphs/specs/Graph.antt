@@ -9,8 +9,8 @@ use Prim.Native.Nat.{ℕ, _<_}
 use Rattle.graphs.specs.Label.{Labels}
 
 -- a test that tells the elements of a type apart
-abbrev pub Tells : {A : Type 0} → (A → A → Bool) → Type 0
-Tells {A} same = (v w : A) → (same v w ≡ true) ↔ (v ≡ w)
+abbrev pub TellsApart : {A : Type 0} → (A → A → Bool) → Type 0
+TellsApart {A} same = (v w : A) → (same v w ≡ true) ↔ (v ≡ w)
 
 -- A root, a label for each node, and for each node and feature at most one target.
 pub record Graph (L A : Type 0) : Type 0 where

@@ -2,5 +2,6 @@
 pub mod Covering
 pub mod Marking
 pub mod ReadingOrder
+pub mod LinkOrders
 pub mod Ordering
 pub mod Leading

@@ -1,4 +1,4 @@
 -- Links of g over links of s, and the marks of the links that lead their groups.
 pub mod Cover
 pub mod Marks
-pub mod Reading
+pub mod LinkOrders

@@ -1,18 +1,18 @@
-// The groups of links of a difference (document 01, "Difference"): which links of s lead their group, for graphs s and g with
-// g's nodes mapped to those of s, by the order of links that is asked for.
+// The groups of links of a difference (document 01, "Difference"): which links of s lead their group, for graphs s and g with g's nodes
+// mapped to those of s, by the order of links that is asked for. It knows graphs in words and an order of links.
 
 pub mod cover;
-pub mod reading;
+pub mod link_orders;
 
 use classes::forest;
-use reading::LinkOrder;
+use link_orders::LinkOrder;
 ghost use mathlib.Core.Path.{_≡_};
 ghost use Prim.Native.Nat.{ℕ, _+_, _<_};
 ghost use lib.ListN.{length};
 ghost use Rattle.layout.specs.Layout.{Place, longest};
 ghost use Rattle.groups.specs.Cover.{Lying};
 ghost use Rattle.groups.specs.Marks.{Marked, Marking, Marks, Owned, Sooner};
-ghost use Rattle.groups.specs.Reading.{Fitting, earlierBy};
+ghost use Rattle.groups.specs.LinkOrders.{Fitting, earlierBy};
 
 // The mark of a link that another of its group comes before, of one that leads a group with links of g over it, and of one with
 // nothing of g over it, which is a group alone.
@@ -27,7 +27,7 @@ fn mark_place<'a>(
     s: &'a [u16],
     owner: &'a [u16; layout::LONGEST],
     parent: &'a [u16; 510],
-    rank: &'a [u8; reading::FEATURES],
+    rank: &'a [u8; link_orders::FEATURES],
     k: usize,
     lead: &mut [u16; 255],
     marks: &mut [u8; layout::LONGEST],
@@ -64,7 +64,7 @@ pub fn mark<'a>(
     s: &'a [u16],
     owner: &'a [u16; layout::LONGEST],
     parent: &'a [u16; 510],
-    rank: &'a [u8; reading::FEATURES],
+    rank: &'a [u8; link_orders::FEATURES],
     marks: &mut [u8; layout::LONGEST],
 )
     requires { ⌜ Owned (now s) (now owner) (now parent) × (length (now marks) ≡ longest) ⌝ }
@@ -105,6 +105,6 @@ pub fn mark_links<'a>(
         y += 1;
     }
     forest::flatten(&mut parent);
-    let rank = reading::ranks(order);
+    let rank = link_orders::ranks(order);
     mark(s, &owner, &parent, &rank, marks)
 }

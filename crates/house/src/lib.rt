@@ -1,6 +1,6 @@
-// The house types: 64 types of three grades, each 0 to 3, where 3 tells nothing. A type is numbered 16 times its first grade, 4
-// times its second and its third together, and is below another when each of its grades is at most the other's. `meets` has
-// the meets of all pairs as a constant; the type table that states the order is filled here.
+// The house types: 64 types of three grades, each 0 to 3, where 3 tells nothing. A type is numbered 16 times its first grade, 4 times its
+// second and its third together, and is below another when each of its grades is at most the other's. `meets` has the meets of all pairs
+// as a constant; the type table that states the order is filled here. It knows what a type table is, and nothing of records.
 ghost use mathlib.Core.Path.{_≡_};
 ghost use Prim.Native.Nat.{_<_};
 ghost use Rattle.house.specs.House.{under, byteOf, answerWith, filling};

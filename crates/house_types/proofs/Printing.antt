@@ -9,8 +9,8 @@ use lib.ListN.{length, getD, set, length-set}
 use lib.Seq.{length-sets}
 use Rattle.house.specs.House.{meets}
 use Rattle.house.proofs.Theorems.{meets-types}
-use Rattle.request.specs.Text.{Puts, decimal}
-use Rattle.request.proofs.Texts.{puts-then, puts-byte, decimal-one, decimal-length}
+use Rattle.text.specs.Text.{Puts, decimal}
+use Rattle.text.proofs.Texts.{puts-then, puts-byte, decimal-one, decimal-length}
 use Rattle.house_types.specs.Text.{after, textTo, textOf}
 
 -- the first k entries are put, and `at` is the next place

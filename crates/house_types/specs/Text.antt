@@ -3,8 +3,8 @@ use mathlib.Core.Bool.{cond}
 use mathlib.Core.List.{List, [], _∷_, _++_}
 use Prim.Native.Nat.{ℕ, zero, suc, _%_}
 use lib.Dec.{eqb}
-use lib.ListN.{length, getD}
-use Rattle.request.specs.Text.{decimal}
+use lib.ListN.{getD}
+use Rattle.text.specs.Text.{decimal}
 
 -- what stands behind entry k: the line end behind the last of a row, else a space
 abbrev pub after : ℕ → ℕ

@@ -1,12 +1,12 @@
-// Prints the meets of the house types, as a table of 64 lines with 64 numbers each.
+// Prints the meets of the house types, as a table of 64 lines with 64 numbers each. It knows the house types and text, and no record.
 
 use libc::STDOUT_FILENO;
-use request::text::put_decimal;
+use text::put_decimal;
 ghost use mathlib.Core.Path.{_≡_};
 ghost use Prim.Native.Nat.{_<_, _≤_};
 ghost use lib.ListN.{length};
 ghost use Rattle.house.specs.House.{meets};
-ghost use Rattle.request.specs.Text.{Puts};
+ghost use Rattle.text.specs.Text.{Puts};
 ghost use Rattle.house_types.specs.Text.{after as afterOf, textOf};
 
 // What stands behind entry k: the end of the line behind the last of a row, else a space.

@@ -10,7 +10,7 @@ use mathlib.Core.Option.{some}
 use native.Mathlib.Omega.{arith}
 use lib.Dec.{eqb}
 use Rattle.graphs.specs.Label.{Labels}
-use Rattle.graphs.specs.Graph.{Graph, Tells, Reached, Below, SameMeaning}
+use Rattle.graphs.specs.Graph.{Graph, TellsApart, Reached, Below, SameMeaning}
 use Rattle.graphs.specs.Generalize.{generalization}
 use Rattle.graphs.specs.Unify.{UnderClass, ClassMeet, IsUnification, Cycle, Clash, Unified, cycle, clash, unified, classGraph, unification}
 use Rattle.graphs.specs.Difference.{Link, difference}
@@ -211,7 +211,7 @@ module _ (n : ℕ) (t : List ℕ) (ok : accepted n t ≡ true) where
         }
 
   -- "Combination", of two graphs of any size.
-  module _ {A B : Type 0} (sameA : A → A → Bool) (sameB : B → B → Bool) (tellsA : Tells sameA) (tellsB : Tells sameB) (g : Graph Label A)
+  module _ {A B : Type 0} (sameA : A → A → Bool) (sameB : B → B → Bool) (tellsA : TellsApart sameA) (tellsB : TellsApart sameB) (g : Graph Label A)
       (h : Graph Label B) (a : OfAnySize n t g) (b : OfAnySize n t h) where
     -- what unification answers, over labels and over labels of the table
     abbrev pub answer : Unified Label (A ⊎ B)
@@ -367,7 +367,7 @@ module _ (n : ℕ) (t : List ℕ) (ok : accepted n t ≡ true) where
         other .greatest u (best .of-any-size) left right
 
     -- where g and h combine, so do k and m, if their nodes are told apart;
-    pub combines-broader : (sameB : B → B → Bool) (sameD : D → D → Bool) → Tells sameB → Tells sameD → {U : Type 0} (u : Graph Label U) →
+    pub combines-broader : (sameB : B → B → Bool) (sameD : D → D → Bool) → TellsApart sameB → TellsApart sameD → {U : Type 0} (u : Graph Label U) →
         GreatestOfAnySize n t g h u → (w : Graph Label (B ⊎ D)) × IsCombination n t k m w × GreatestOfAnySize n t k m w × Below raw u w
     combines-broader sameB sameD tellsB tellsD u best =
         let (left, right) = below-broader u (best .of-any-size) (best .left) (best .right) in

@@ -5,7 +5,7 @@ use Prim.Native.Nat.{ℕ, zero, suc, _*_, _-_, _<_, _≤_}
 use mathlib.Core.Path.{_≡_, refl, sym, ap, subst, _∙_}
 use mathlib.Core.Bool.{Bool, true, false, _&&_}
 use mathlib.Core.List.{List}
-use mathlib.Core.Option.{Option, some}
+use mathlib.Core.Option.{some}
 use mathlib.Core.Logic.{⊎-elim}
 use native.Mathlib.Nat.{not-suc-le-zero}
 use native.Mathlib.Omega.{arith}
@@ -13,7 +13,7 @@ use lib.ListN.{length, getD}
 use lib.Dec.{leb, eqb}
 use lib.Bits.{bitAnd, and-comm}
 use borrow.Author.Tests.{le-leb, eq-eqb, eqb-true}
-use Rattle.lattice.specs.Table.{every, last, implies, found, isMeet, isJoin, meet, join}
+use Rattle.lattice.specs.Table.{every, last, implies, found, isMeet, isJoin, meet, join, sideBound}
 use Rattle.lattice.specs.Words.{word, related, Words, holder, wordBound, allFound}
 use Rattle.lattice.proofs.Every.{and-left, and-right, and-both, implies-at, implies-from, every-at, every-all, same-test, last-same, last-passes, last-found, found-some, true-not-false, below-or-not, below-suc}
 use Rattle.lattice.proofs.WordLaws.{word-same, word-bits, word-and}
@@ -140,11 +140,6 @@ module _ (n : ℕ) (rel : ℕ → ℕ → Bool) (laws : Side n rel) (end : ℕ) 
       (and-both (rel c a && rel c b) _ (and-both (rel c a) (rel c b) ca cb)
       (every-all _ n λ d l.
       implies-from (rel d a && rel d b) (rel d c) λ e. under d l (and-left (rel d a) (rel d b) e) (and-right (rel d a) (rel d b) e)))
-
--- the bound of one side: the join above, the meet below
-abbrev pub sideBound : ℕ → List ℕ → Bool → ℕ → ℕ → Option ℕ
-sideBound n t true = join n t
-sideBound n t false = meet n t
 
 module _ (n : ℕ) (t : List ℕ) (full : length t ≡ 8 * n) (o : Ordered n t) where
   pub bound-same : (up : Bool) (ws : List ℕ) → n ≤ 64 → Words n t up ws → (a b : ℕ) → a < n → b < n

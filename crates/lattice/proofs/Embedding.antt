@@ -8,7 +8,6 @@ use mathlib.Core.Logic.{_↔_, _⊎_, inl, inr, ⊎-elim}
 use Prim.Native.Nat.{ℕ}
 use Rattle.graphs.specs.Label.{Labels}
 use Rattle.graphs.specs.Graph.{Graph, Below, SameMeaning, AnySize}
-use Rattle.graphs.specs.Map.{NodeMap}
 use Rattle.graphs.specs.Rows.{features}
 use Rattle.graphs.specs.Order.{allOf, there, meetings, fitsAt, sharesAt, subsumes}
 use Rattle.graphs.specs.Generalize.{generalization}
@@ -153,22 +152,6 @@ module _ {𝓚 𝓛 : Labels} {f : 𝓚 .L → 𝓛 .L} (embeds : Embedding 𝓚
           record {
             paths = λ p v e. let (w, d, l) = b .paths p v e in (w, d, sym (embeds .le (s .label w) (g .label v)) ∙ l);
             corefers = b .corefers;
-          },
-    )
-
-    pub map-embedded : {to : B → A} → NodeMap 𝓚 s g to ↔ NodeMap 𝓛 (relabel f s) (relabel f g) to
-    map-embedded {to} = (
-      λ m.
-          record {
-            root = m .root;
-            links = m .links;
-            labels = λ v r. embeds .le (s .label (to v)) (g .label v) ∙ m .labels v r;
-          },
-      λ m.
-          record {
-            root = m .root;
-            links = m .links;
-            labels = λ v r. sym (embeds .le (s .label (to v)) (g .label v)) ∙ m .labels v r;
           },
     )
 

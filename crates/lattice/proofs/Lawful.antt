@@ -136,9 +136,6 @@ module _ (n : ℕ) (t : List ℕ) (ok : accepted n t ≡ true) where
       go (inl s) = refl
       go (inr s) = absurd (s k)
 
-  pub known-known : (x : KnownLabel n) → known (x .0) ≡ x
-  known-known x = label-path (known-label (x .0) (x .1))
-
   -- the labels of an accepted table
   abbrev pub lawful : Labels
   lawful =

@@ -23,7 +23,6 @@ use Rattle.lattice.proofs.Lawful.{plain-known}
 use Rattle.lattice.proofs.Relabel.{relabel, relabelRow, relabelForm, relabelUnified, canonical-relabel}
 use Rattle.lattice.proofs.Embedding.{
   Embedding,
-  labelled,
   below-embedded,
   subsumes-embedded,
   meaning-embedded,
@@ -33,14 +32,6 @@ use Rattle.lattice.proofs.Embedding.{
   meetOver-embedded,
   difference-embedded,
 }
-
--- a graph's types alone
-abbrev pub types : {T A : Type 0} → Graph (Ranged T) A → Graph T A
-types g = relabel (λ x. x .type) g
-
--- a graph whose labels are without ranges is that of its types
-pub types-plain : {T A : Type 0} (g : Graph (Ranged T) A) → ((v : A) → g .label v ≡ plain (g .label v .type)) → g ≡ relabel plain (types g)
-types-plain g are = ap (labelled g) (fun-ext are)
 
 -- the full range lies inside the full range, and is not empty
 and-true : (b : Bool) → b && true && true ≡ b

@@ -11,7 +11,7 @@ use lib.Dec.{eqb}
 use lib.Bits.{bitAnd, bitOr, and-comm, and-self}
 use borrow.Author.Tests.{eq-eqb, ne-eqb, eqb-true, not-true}
 use Rattle.lattice.specs.Table.{every, implies, below, accepted, restores, isWanted, wanted, cell, meet}
-use Rattle.lattice.specs.Words.{word, related, Words, bit, without, partOf, wordRestores, Restoring, WantedOver, holder, Sided, Inside}
+use Rattle.lattice.specs.Words.{related, Words, bit, without, partOf, wordRestores, Restoring, WantedOver, holder, Sided, Inside}
 use Rattle.lattice.proofs.Every.{
   and-left,
   and-right,

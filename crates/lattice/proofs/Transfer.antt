@@ -1,6 +1,6 @@
 -- Graphs with any labels, and graphs whose labels are those of an accepted table. The first are what records state, the second what
 -- the theory of graphs speaks of. `lift` and `lower` only change labels, so the two graphs have one root, the same links and the
--- same paths; where every label is one of the table, order, equal meaning, written forms, generalization, unification and
+-- same paths; where every label is one of the table, order, equal meaning, generalization, unification and
 -- difference of the one are those of the other.
 use Prim.Native.Nat.{ℕ, _-_, _<_}
 use mathlib.Core.Path.{_≡_, refl, sym, ap, ap₂, subst, _∙_}
@@ -10,25 +10,22 @@ use mathlib.Core.Logic.{_↔_}
 use mathlib.Core.Option.{Option, some, Option·map, map-id}
 use lib.Dec.{eqb}
 use Rattle.graphs.specs.Label.{Labels}
-use Rattle.graphs.specs.Graph.{Graph, Tells, Below, SameMeaning, AnySize, Reached, walk}
+use Rattle.graphs.specs.Graph.{Graph, Below, SameMeaning, AnySize, Reached, walk}
 use Rattle.graphs.specs.Map.{NodeMap, Exact}
-use Rattle.graphs.specs.Number.{canonical}
 use Rattle.graphs.specs.Generalize.{both, generalization}
 use Rattle.graphs.specs.Unify.{unification}
 use Rattle.graphs.specs.Difference.{Link, difference, meetOver}
 use Rattle.graphs.proofs.Below.{exact-same, same-sym, same-trans, walk-map}
 use Rattle.graphs.proofs.Finite.{same-any-size}
-use Rattle.graphs.proofs.Form.Invariant.{same-canonical}
 use Rattle.graphs.proofs.Product as Product
 use Rattle.lattice.specs.Label.{Label}
 use Rattle.lattice.specs.Table.{accepted, meet, cell}
 use Rattle.lattice.specs.Labels.{withRanges, tableLabels, Known, Typed, OfAnySize}
-use Rattle.lattice.proofs.Relabel.{relabel, relabelForm, relabelUnified, canonical-relabel, same-below-left, same-below-right}
+use Rattle.lattice.proofs.Relabel.{relabel, relabelUnified, same-below-left, same-below-right}
 use Rattle.lattice.proofs.Embedding.{
   MeetEmbedding,
   Embedding,
   below-embedded,
-  map-embedded,
   meaning-embedded,
   any-size-embedded,
   unification-embedded,
@@ -90,9 +87,6 @@ module _ (n : ℕ) (t : List ℕ) (ok : accepted n t ≡ true) where
   module _ {A B : Type 0} {s : Graph (KnownLabel n) A} {g : Graph (KnownLabel n) B} where
     pub below-lower : Below law s g ↔ Below raw (lower s) (lower g)
     below-lower = below-embedded known-embedding
-
-    pub map-lower : {to : B → A} → NodeMap law s g to ↔ NodeMap raw (lower s) (lower g) to
-    map-lower = map-embedded known-embedding
 
     pub meaning-lower : SameMeaning law s g ↔ SameMeaning raw (lower s) (lower g)
     meaning-lower = meaning-embedded known-embedding
@@ -166,13 +160,6 @@ module _ (n : ℕ) (t : List ℕ) (ok : accepted n t ≡ true) where
 
     unfoldable pub lift-any-size : OfAnySize n t g → AnySize law (lift g)
     lift-any-size size = any-size-lift (size .typed) .0 (size .any-size)
-
-    -- written forms
-    pub canonical-lift : (same : A → A → Bool) → Tells same → Typed n g →
-        canonical same g ≡ relabelForm (λ x. x .0) (canonical same (lift g))
-    canonical-lift same tells types =
-        same-canonical raw same same tells tells g (lower (lift g)) (lower-lift-same g types) ∙
-        canonical-relabel (λ (x : KnownLabel n). x .0) same (lift g)
 
   -- what means the same as a graph of any size is one
   pub same-of-any-size : {A B : Type 0} (g : Graph Label A) (h : Graph Label B) → SameMeaning raw g h → OfAnySize n t g → OfAnySize n t h

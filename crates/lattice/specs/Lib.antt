@@ -1,7 +1,6 @@
--- Definitions of the type table, and of the words that it is opened by.
+-- Definitions of the type table, of its words, and of labels.
 pub mod Table
 pub mod Words
-pub mod Sets
 pub mod Reply
 pub mod Label
 pub mod Labels

@@ -125,6 +125,11 @@ module _ (n : ℕ) (t : List ℕ) where
   unfoldable pub admits : Bool
   admits = every n λ p. every n λ q. found (residual p q)
 
+-- the bound of two types on one side: the join for true, the meet for false
+abbrev pub sideBound : ℕ → List ℕ → Bool → ℕ → ℕ → Option ℕ
+sideBound n t true = join n t
+sideBound n t false = meet n t
+
 -- the number in a cell of the two tables: a type, or 64, which is none, where there is no bound
 abbrev pub cell : Option ℕ → ℕ
 cell none = 64

@@ -3,12 +3,12 @@
 use Prim.Native.Nat.{ℕ, zero, suc, _+_, _*_, _-_, _/_, _%_, _^_, _<_, _≤_}
 use mathlib.Core.Path.{_≡_}
 use mathlib.Core.Bool.{Bool, true, false, _&&_}
-use mathlib.Core.List.{List, []}
+use mathlib.Core.List.{List}
 use mathlib.Core.Option.{Option}
-use lib.ListN.{length, getD}
+use lib.ListN.{getD}
 use lib.Dec.{leb, eqb}
 use lib.Bits.{bitAnd, bitXor}
-use Rattle.lattice.specs.Table.{every, last, implies, below, found, cell, wanted}
+use Rattle.lattice.specs.Table.{every, last, implies, below, found, sized, cell, wanted}
 
 -- a bit as a number
 abbrev pub digit : Bool → ℕ
@@ -58,6 +58,12 @@ unfoldable pub rowOrdered : ℕ → List ℕ → ℕ → Bool
 rowOrdered n ws i = leb (getD ws i 0 / 2 ^ (n - 1)) 1 && bit (getD ws i 0) i && bit (getD ws i 0) 0 && bit (getD ws (n - 1) 0) i
     && every 64 λ j. implies (bit (getD ws i 0) j) (pairOrdered ws i j)
 
+-- the words of the types below each type, in a table that passes the tests of refusals 1 and 2
+pub record OrderWords (n : ℕ) (t ws : List ℕ) : Type 0 where
+  pub size : sized n t ≡ true
+  pub words : Words n t false ws
+  pub order : every n (rowOrdered n ws) ≡ true
+
 -- words of one side of an order: each has its own bit and none at n or above, and two types with each other's bit are one
 pub record Sided (n : ℕ) (ws : List ℕ) : Type 0 where
   pub own : (i : ℕ) → i < n → bit (getD ws i 0) i ≡ true
@@ -88,26 +94,6 @@ module _ (n : ℕ) (ws : List ℕ) where
   -- the type whose word is the common part of two words
   abbrev pub wordBound : ℕ → ℕ → Option ℕ
   wordBound a b = holder (bitAnd (getD ws a 0) (getD ws b 0))
-
-  -- the types strictly below j are those below one type
-  unfoldable pub wordIrreducible : ℕ → Bool
-  wordIrreducible j = found (holder (without (getD ws j 0) (2 ^ j)))
-
-  -- the types not in a word, among all, are those below one type
-  unfoldable pub wordSplits : ℕ → Bool
-  wordSplits above = found (holder (without (getD ws (n - 1) 0) above))
-
-  -- where the types strictly below j are those below one type, the types not above j are those below one type
-  unfoldable pub wordPrime : ℕ → Bool
-  wordPrime j = implies (wordIrreducible j) (wordSplits (turned n ws j))
-
--- 64 rows of 64 cells: the rows of the types from a on hold the bounds with the types before a, and the row of every type 0
--- from cell n on
-pub record Columns (n : ℕ) (ws : List ℕ) (rows : List (List ℕ)) (a : ℕ) : Type 0 where
-  pub tall : length rows ≡ 64
-  pub wide : (i : ℕ) → i < 64 → length (getD rows i []) ≡ 64
-  pub before : (i j : ℕ) → a ≤ i → i < n → j < a → getD (getD rows i []) j 0 ≡ cell (wordBound n ws i j)
-  pub rest : (i j : ℕ) → i < n → n ≤ j → j < 64 → getD (getD rows i []) j 0 ≡ 0
 
 -- every two types have a bound
 unfoldable pub allFound : ℕ → (ℕ → ℕ → Option ℕ) → Bool

@@ -27,7 +27,7 @@ fn is_bounded_with(n: usize, down: &[u64; 64], a: usize, word: u64) -> bool
     let mut left = word;
     while left != 0 {
         let b = super::words::end_bit(left, true);
-        if 64 <= super::bounds::find_word(down, down[a] & down[b], false) {
+        if 64 <= super::search::find_word(down, down[a] & down[b], false) {
             return false;
         }
         left = super::words::without_lowest(left);

@@ -37,5 +37,5 @@ pub fn wanted(n: usize, down: &[u64; 64], p: usize, over: u64) -> u8
         return p as u8;
     }
     let all = unite_restoring(n, down, lower, over);
-    super::bounds::find_word(down, all, false)
+    super::search::find_word(down, all, false)
 }

@@ -1,19 +1,19 @@
 -- The builder's laws: to begin, to open a row with its label, to put a link behind others, to close a row that has its header and its
 -- links; the graph that stands once the number of nodes is stated; and what a store elsewhere keeps.
-use mathlib.Core.Path.{_≡_, refl, sym, _∙_, ap, ap₂, subst}
-use mathlib.Core.List.{List, [], _∷_, _++_, map, List·Memᴰ, List·Memᴰ·head, List·Memᴰ·tail}
-use Prim.Native.Nat.{ℕ, zero, suc, _+_, _-_, _*_, _/_, _%_, _≤_, _<_}
+use mathlib.Core.Path.{_≡_, sym, _∙_, ap, ap₂, subst}
+use mathlib.Core.List.{List, [], _∷_, _++_, map, List·Memᴰ}
+use Prim.Native.Nat.{ℕ, _+_, _-_, _*_, _/_, _%_, _≤_, _<_}
 use mathlib.Core.Logic.{⊎-elim, inl, inr, _⊎_}
 use native.Mathlib.Decide.{ℕ-discrete}
 use native.Mathlib.Numerals.{add-one}
 use native.Mathlib.Omega.{arith}
 use lib.ListN.{length, getD, set, length-set}
-use lib.Seq.{slice, getD-set-same, getD-set-other}
+use lib.Seq.{getD-set-same, getD-set-other}
 use Rattle.graphs.specs.Rows.{Row}
 use Rattle.graphs.specs.Large.{Ascending}
 use Rattle.lattice.specs.Label.{Label}
 use Rattle.lattice.specs.Labels.{Known}
-use Rattle.layout.specs.Layout.{header, levels, scale, labelFrom, linkOf, linkWord, size, rowFrom, linksFrom, rowEnd, labelAt, featureAt, targetAt, linksBetween, linksAt, rowsFrom, rowsOf, Node, Shaped, Sound}
+use Rattle.layout.specs.Layout.{header, levels, scale, labelFrom, linkOf, linkWord, size, rowFrom, linksFrom, rowEnd, labelAt, targetAt, linksBetween, linksAt, rowsFrom, rowsOf, Node, Shaped, Sound}
 use Rattle.layout.specs.Builder.{Built, Open, Same, putLabel}
 use Rattle.layout.proofs.Spans.{linkAt, slice-same, links-more, links-at, places-ascending}
 use Rattle.layout.proofs.Rows.{rows-member, rows-more, rows-alike}
@@ -127,23 +127,6 @@ built-begin ws base low high =
       begun = λ v h. absurd (omega arith);
       ended = λ v h. absurd (omega arith);
     }
-
--- To open the row: a label is put where it begins. The row has no links yet, and the rows before it are kept.
-module _ {ws : List ℕ} {base i at : ℕ} (b : Built ws base i at) (l : Label) (room : at + header ≤ length ws) where
-  pub row-opens : Open (putLabel ws at l) base i at (at + header)
-  row-opens =
-      record {
-        built =
-            built-kept b (putLabel ws at l) (length-put ws at l)
-            (put-before ws at l 1 (i + 2) (omega (arith, b .listed, b .low)));
-        headed = omega arith;
-        inside = omega (arith, length-put ws at l);
-      }
-
-  pub opened-rows : rowsFrom (putLabel ws at l) 0 i ≡ rowsFrom ws 0 i
-  opened-rows =
-      rows-kept b (putLabel ws at l) (length-put ws at l) (put-before ws at l 1 (i + 2) (omega (arith, b .listed, b .low)))
-      (put-before ws at l base at (omega arith))
 
 -- To close the row: the next one begins where it ends.
 module _ {ws : List ℕ} {base i at end : ℕ} (o : Open ws base i at end) (room : i + 2 < base) where

@@ -4,7 +4,7 @@
 --   a row                its header, which holds the label, and one word for each link, features ascending
 --   a header             the type, and lowest * levels + highest
 --   a link's word        feature * scale + target
--- Rows need not begin right behind the places where they begin.
+-- There may be a gap between the offset table and the first row.
 use mathlib.Core.List.{List, [], _∷_, map}
 use Prim.Native.Nat.{ℕ, zero, suc, _+_, _*_, _/_, _%_, _≤_, _<_}
 use lib.ListN.{length, getD}

@@ -1,12 +1,12 @@
-// The layout of a decoded graph, one slice of words: the number of nodes, where each row begins, and the rows, each a header and
-// one word for each link.
+// The layout of a decoded graph, one slice of words: the number of nodes, where each row begins, and the rows, each a header and one word
+// for each link. It knows labels and words, and nothing of a record's bytes.
 
 ghost use mathlib.Core.Path.{_≡_};
-ghost use Prim.Native.Nat.{_+_, _≤_, _<_, max, min};
+ghost use Prim.Native.Nat.{_+_, _/_, _%_, _≤_, _<_, max, min};
 ghost use lib.ListN.{length};
 ghost use Rattle.lattice.specs.Label.{isFull};
 ghost use Rattle.lattice.specs.Labels.{Known};
-ghost use Rattle.layout.specs.Layout.{Shaped, header, labelAt, labelFrom, linkWord, size};
+ghost use Rattle.layout.specs.Layout.{Shaped, header, labelAt, labelFrom, linkWord, linksFrom, scale, size};
 ghost use Rattle.layout.specs.Builder.{putLabel, stated};
 
 // The length of a row's header, which holds the node's label: its type, and its range of levels.
@@ -97,4 +97,26 @@ pub fn link(feature: u16, target: u16) -> u16
     ensures { λ r. ⌜ r ≡ linkWord (feature, target) ⌝ }
 {
     feature * SCALE + target
+}
+
+// The feature of a link's word.
+pub fn feature(word: u16) -> u16
+    ensures { λ r. ⌜ r ≡ word / scale ⌝ }
+{
+    word / SCALE
+}
+
+// The target of a link's word.
+pub fn target(word: u16) -> usize
+    ensures { λ r. ⌜ r ≡ word % scale ⌝ }
+{
+    (word % SCALE) as usize
+}
+
+// Where the links of a node begin.
+pub fn links_from(graph: &[u16], v: usize) -> usize
+    requires { ⌜ v + 1 < length (now graph) ⌝ }
+    ensures { λ r. ⌜ r ≡ linksFrom (now (graph .entry)) v ⌝ }
+{
+    graph[v + 1] as usize + HEADER
 }

@@ -1,4 +1,4 @@
-// Reads what is asked for from standard input, and prints the one line that answers it.
+// Reads what is asked for from standard input, and prints the one line that answers it. It knows `request` alone.
 
 use libc::STDIN_FILENO;
 use libc::STDOUT_FILENO;

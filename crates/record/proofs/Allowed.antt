@@ -23,7 +23,7 @@ use Rattle.record.specs.declared.GraphFault.the-variants.{Inappropriate}
 use Rattle.record.specs.declared.reading.Verdict.{Verdict}
 use Rattle.record.specs.declared.reading.Verdict.the-variants.{Accepted, Refused}
 use Rattle.record.specs.Read.{Reading, refused, accepted, reading}
-use Rattle.record.specs.Reads.{Holds, Reads, Tells, verdictOf}
+use Rattle.record.specs.Reads.{Holds, Reads, ReadsAs, verdictOf}
 use Rattle.record.specs.Appropriate.{listAccepted, allowed, rowAppropriate, appropriate, judgedAppropriate, readingAppropriate, Listed, Typed}
 
 -- The list.
@@ -220,7 +220,7 @@ module _ (n : ℕ) (t list bytes : List ℕ) where
 
   module _ {ws : List ℕ} {v : Verdict} (reads : Reads n bytes v ws) where
     tells-refused : (fault : GraphFault) → readingAppropriate n t list bytes ≡ refused fault →
-        Tells n (readingAppropriate n t list bytes) (Refused fault) ws
+        ReadsAs n (readingAppropriate n t list bytes) (Refused fault) ws
     tells-refused fault e =
         record {
           verdict = ap verdictOf (sym e);
@@ -230,7 +230,7 @@ module _ (n : ℕ) (t list bytes : List ℕ) where
         }
 
     -- 4 to 7
-    pub reads-refused : (fault : GraphFault) → v ≡ Refused fault → Tells n (readingAppropriate n t list bytes) (Refused fault) ws
+    pub reads-refused : (fault : GraphFault) → v ≡ Refused fault → ReadsAs n (readingAppropriate n t list bytes) (Refused fault) ws
     reads-refused fault e = tells-refused fault (refused-appropriate fault (go (reading n bytes) refl))
       where
         go : (o : Reading) → reading n bytes ≡ o → reading n bytes ≡ refused fault
@@ -262,12 +262,12 @@ module _ (n : ℕ) (t list bytes : List ℕ) where
       reads-typed few = record { sound = held .holds .sound; typed = λ u h. known-more few (held .holds .typed u h) }
 
       -- 18
-      pub reads-inappropriate : appropriate t list (rowsOf ws) ≡ false → Tells n (readingAppropriate n t list bytes) (Refused Inappropriate) ws
+      pub reads-inappropriate : appropriate t list (rowsOf ws) ≡ false → ReadsAs n (readingAppropriate n t list bytes) (Refused Inappropriate) ws
       reads-inappropriate never =
           tells-refused Inappropriate
           (judged-appropriate (rowsOf ws) (held .is) ∙ ap (λ (b : Bool). cond b (accepted (rowsOf ws)) (refused Inappropriate)) never)
 
-      pub reads-appropriate : appropriate t list (rowsOf ws) ≡ true → Tells n (readingAppropriate n t list bytes) Accepted ws
+      pub reads-appropriate : appropriate t list (rowsOf ws) ≡ true → ReadsAs n (readingAppropriate n t list bytes) Accepted ws
       reads-appropriate obeys =
           let is : readingAppropriate n t list bytes ≡ accepted (rowsOf ws) =
           judged-appropriate (rowsOf ws) (held .is) ∙ ap (λ (b : Bool). cond b (accepted (rowsOf ws)) (refused Inappropriate)) obeys in

@@ -6,12 +6,15 @@ pub mod Unranged
 pub mod Nodes
 pub mod Reaching
 pub mod Accepted
+pub mod Ordered
 pub mod Rewritten
+pub mod Loaded
 pub mod Theorems
 pub mod Examples
 pub mod Counting
 pub mod Passes
 pub mod Words
-pub mod Judging
+pub mod Judged
+pub mod Parsed
 pub mod Allowed
 pub mod Obeying

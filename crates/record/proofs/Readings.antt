@@ -3,8 +3,8 @@
 -- both directions are proved once.
 use mathlib.Core.Path.{_≡_, refl, sym, subst, ap}
 use mathlib.Core.Bool.{Bool, true, false, cond, not, _&&_}
-use mathlib.Core.List.{List, [], _∷_, List·Memᴰ, List·Memᴰ·head, List·Memᴰ·tail, List·Memᴰ·not-nil, List·Memᴰ·cases-cons}
-use mathlib.Core.Logic.{_↔_, ⊎-elim}
+use mathlib.Core.List.{List, List·Memᴰ}
+use mathlib.Core.Logic.{_↔_}
 use mathlib.Core.Option.{Option, none, some}
 use Prim.Native.Nat.{ℕ, suc, _≤_, _<_}
 use native.Mathlib.Omega.{arith}
@@ -15,6 +15,7 @@ use Rattle.graphs.specs.Rows.{Row}
 use Rattle.record.specs.declared.GraphFault.the-variants.{Malformed, OutOfRange, Cyclic, Unreached, Inappropriate}
 use Rattle.decode.specs.Decode.{decoded}
 use Rattle.graphs.specs.Order.{allOf}
+use Rattle.graphs.proofs.Order.{allOf-true, true-allOf}
 use Rattle.graphs.proofs.Search.{both-true, true-both}
 use Rattle.lattice.specs.Label.{Label}
 use Rattle.lattice.specs.Labels.{Known}
@@ -77,20 +78,6 @@ module _ (n : ℕ) (bytes : List ℕ) where
   pub reading-says : (r : Reading) → (reading n bytes ≡ r) ↔ Stands n bytes r
   reading-says r = (λ e. subst (Stands n bytes) e reading-stands, stands-reading r)
 
-module _ {X : Type 0} (test : X → Bool) where
-  allOf-true : (xs : List X) → allOf xs test ≡ true → (x : X) → List·Memᴰ x xs → test x ≡ true
-  unfolding allOf
-  allOf-true [] e x m = absurd (List·Memᴰ·not-nil m)
-  allOf-true (z ∷ xs) e x m =
-      let (here, later) = both-true (test z) (allOf xs test) e in
-      ⊎-elim (λ q. rw q here) (allOf-true xs later x) (List·Memᴰ·cases-cons m)
-
-  allOf-finds : (xs : List X) → ((x : X) → List·Memᴰ x xs → test x ≡ true) → allOf xs test ≡ true
-  unfolding allOf
-  allOf-finds [] all = refl
-  allOf-finds (x ∷ xs) all =
-      true-both (test x) (allOf xs test) (all x (List·Memᴰ·head refl)) (allOf-finds xs (λ z m. all z (List·Memᴰ·tail m)))
-
 -- not "a type that is 0 or at least n", levels "0 to 255", not "a lowest level above the highest"
 abbrev pub LabelInRange : ℕ → Label → Type 0
 LabelInRange n l = (0 < l .type) × Known n l × (l .lowest ≤ l .highest)
@@ -149,13 +136,13 @@ pub in-range : (n : ℕ) (rows : List (Row Label)) → (inRange n rows ≡ true)
 unfolding inRange
 in-range n rows = (
   λ e r m.
-      let (label, targets) = both-true (labelInRange n (r .0)) (allOf (r .1) targeted) (allOf-true tested rows e r m) in
-      (label-in-range n (r .0) .0 label, λ l i. leb-true (suc (l .1)) (length rows) (allOf-true targeted (r .1) targets l i)),
+      let (label, targets) = both-true (labelInRange n (r .0)) (allOf (r .1) targeted) (allOf-true rows tested e r m) in
+      (label-in-range n (r .0) .0 label, λ l i. leb-true (suc (l .1)) (length rows) (allOf-true (r .1) targeted targets l i)),
   λ all.
-      allOf-finds tested rows λ r m.
+      true-allOf rows tested λ r m.
       let (label, targets) = all r m in
       true-both (labelInRange n (r .0)) (allOf (r .1) targeted) (label-in-range n (r .0) .1 label)
-      (allOf-finds targeted (r .1) (λ l i. le-leb (suc (l .1)) (length rows) (targets l i))),
+      (true-allOf (r .1) targeted (λ l i. le-leb (suc (l .1)) (length rows) (targets l i))),
 )
   where
     targeted : ℕ × ℕ → Bool

@@ -9,7 +9,7 @@ use mathlib.Core.Option.{some}
 use Prim.Native.Nat.{ℕ, _<_}
 use lib.Dec.{eqb}
 use lib.ListN.{length}
-use Rattle.graphs.specs.Graph.{Graph, Tells, Reached, SameMeaning}
+use Rattle.graphs.specs.Graph.{Graph, TellsApart, Reached, SameMeaning}
 use Rattle.graphs.specs.Rows.{Row}
 use Rattle.graphs.specs.Number.{Canonical, canonical, written}
 use Rattle.graphs.proofs.Walk.{some-injective, walk-append}
@@ -54,7 +54,7 @@ rules-read n rows rules =
       reaches-exact rows (rules-linked rules) .1 (rules .short, rules .reached),
     )
 
-module _ (n : ℕ) (t : List ℕ) {A : Type 0} (same : A → A → Bool) (tells : Tells same) (g : Graph Label A) (size : OfAnySize n t g)
+module _ (n : ℕ) (t : List ℕ) {A : Type 0} (same : A → A → Bool) (tells : TellsApart same) (g : Graph Label A) (size : OfAnySize n t g)
     (form : List (Row Label)) (e : canonical same g ≡ written form) where
   small : (v w : A) (f : ℕ) → Reached g v → g .link v f ≡ some w → f < 64
   small = size .any-size .features

@@ -13,11 +13,11 @@ use borrow.Author.Tests.{ne-eqb, le-leb}
 use lib.Dec.{eqb}
 use lib.ListN.{length, getD, List·getD-append}
 use lib.Pow.{shr-shr}
-use Rattle.graphs.specs.Graph.{Graph, Reached, Tells}
+use Rattle.graphs.specs.Graph.{Graph, Reached, TellsApart}
 use Rattle.graphs.specs.Rows.{Row, from, target}
 use Rattle.graphs.specs.Number.{countSome, canonical, written}
 use Rattle.graphs.specs.Large.{Ascending, linksIn}
-use Rattle.graphs.proofs.Form.Rules.{form-nonempty, form-links, form-labels, form-ascending, form-features}
+use Rattle.graphs.proofs.Form.Rules.{form-labels}
 use Rattle.lattice.specs.Label.{Label}
 use Rattle.decode.specs.Decode.{Taken, changed, takeTarget, takeLinks, takeRow, takeRows, bitOf, whole, decoded}
 use Rattle.decode.proofs.Decoded.{Proper}
@@ -184,15 +184,10 @@ decode-encode rows some-row few typed proper =
     ∙ ap whole (rows-taken rows (2048 - linksIn rows) 2048 [] typed proper (omega arith))
 
 -- So what is written of a graph whose types have seven bits is read again.
-module _ {A : Type 0} (same : A → A → Bool) (tells : Tells same) (g : Graph Label A)
+module _ {A : Type 0} (same : A → A → Bool) (tells : TellsApart same) (g : Graph Label A)
     (narrow : (v w : A) (f : ℕ) → Reached g v → g .link v f ≡ some w → f < 64) (types : (v : A) → Reached g v → g .label v .type < 128)
     (form : List (Row Label)) (e : canonical same g ≡ written form) where
   pub form-types : SevenBits form
   form-types r m =
       let (v, reached, label) = form-labels same tells g narrow form e r m in
       subst (λ (l : Label). l .type < 128) (sym label) (types v reached)
-
-  pub written-decodes : decoded (encoded form) ≡ some form
-  written-decodes =
-      decode-encode form (form-nonempty same tells g narrow form e) (form-links same tells g narrow form e) form-types
-      (λ r m. (form-ascending same tells g narrow form e r m, form-features same tells g narrow form e r m))

@@ -10,7 +10,7 @@ use mathlib.Core.Option.{none, some}
 use Prim.Native.Nat.{ℕ, _+_, _≤_, _<_}
 use lib.Dec.{eqb}
 use lib.ListN.{length, getD}
-use Rattle.graphs.specs.Graph.{Graph, Tells, follow, Reached, SameMeaning}
+use Rattle.graphs.specs.Graph.{Graph, TellsApart, follow, Reached, SameMeaning}
 use Rattle.graphs.specs.Rows.{Row, from}
 use Rattle.graphs.specs.Number.{canonical, written}
 use Rattle.graphs.specs.Large.{linksIn, Ascending}
@@ -127,7 +127,7 @@ meaning-exact n t bytes bytes′ rows rows′ ok ok′ form form′ e e′ =
 
 -- 7. What is written of a graph of any size, whose types have seven bits, is accepted, and means what was written.
 
-pub written-reads : (n : ℕ) (t : List ℕ) {A : Type 0} (same : A → A → Bool) → Tells same → (g : Graph Label A) → OfAnySize n t g →
+pub written-reads : (n : ℕ) (t : List ℕ) {A : Type 0} (same : A → A → Bool) → TellsApart same → (g : Graph Label A) → OfAnySize n t g →
     (form : List (Row Label)) → canonical same g ≡ written form → ((v : A) → Reached g v → g .label v .type < 128) →
     (reading n (encoded form) ≡ accepted form) × SameMeaning (tableLabels n t) g (graphOfRows form)
 written-reads n t same tells g size form e types = Rewritten.written-reads n t same tells g size form e types

@@ -63,6 +63,22 @@ module _ {ws : List ℕ} (shaped : Shaped ws) where
       listed : (v : ℕ) → v < size ws → List·Memᴰ {A = Row Label} (labelAt ws v, linksAt ws v) (rowsOf ws)
       listed v h = rows-member ws (size ws) 0 v v (omega arith) h
 
+  -- and rows in range are rows of a graph
+  pub ranged-linked : (n : ℕ) → Ranged n ws → rows.Linked (rowsOf ws)
+  ranged-linked n ranged =
+      record {
+        nonempty = omega (arith, held-length ws, shaped .nonempty);
+        features = λ r m l i.
+            let (v, below, e) = rows-source ws (size ws) 0 r m in
+            let h : v < size ws = omega arith in
+            let (k, low, high, f, _) =
+            links-member ws (rowEnd ws v) (shaped .node v h .ended) (rowEnd ws v - linksFrom ws v) (linksFrom ws v)
+            (omega (arith, shaped .node v h .begun)) l
+            (subst (λ (ls : List (ℕ × ℕ)). List·Memᴰ l ls) (ap (λ (x : Row Label). x .1) e) i) in
+            omega (arith, shaped .known v k h low high, f);
+        targets = λ r m. ranged-rows n ranged r m .1;
+      }
+
 -- 6: a link of the words is a link of the rows.
 
 module _ {ws : List ℕ} (sound : Sound ws) where

@@ -6,6 +6,7 @@ use Rattle.graphs.specs.Rows.{Row}
 use Rattle.lattice.specs.Label.{Label}
 use Rattle.lattice.specs.Labels.{Known}
 use Rattle.layout.specs.Layout.{size, labelAt, rowsOf, Sound}
+use Rattle.encode.specs.Encode.{encoded}
 use Rattle.record.specs.declared.reading.Verdict.{Verdict}
 use Rattle.record.specs.declared.reading.Verdict.the-variants.{Accepted, Refused}
 use Rattle.record.specs.Read.{Reading, refused, accepted, reading}
@@ -22,9 +23,20 @@ pub record Holds (n : ℕ) (rows : List (Row Label)) (ws : List ℕ) : Type 0 wh
   pub typed : (v : ℕ) → v < size ws → Known n (labelAt ws v)
 
 -- the verdict of a reading, and beside an acceptance the graph
-pub record Tells (n : ℕ) (o : Reading) (v : Verdict) (ws : List ℕ) : Type 0 where
+pub record ReadsAs (n : ℕ) (o : Reading) (v : Verdict) (ws : List ℕ) : Type 0 where
   pub verdict : v ≡ verdictOf o
   pub graph : (rows : List (Row Label)) → o ≡ accepted rows → Holds n rows ws
 
 abbrev pub Reads : ℕ → List ℕ → Verdict → List ℕ → Type 0
-Reads n bytes v ws = Tells n (reading n bytes) v ws
+Reads n bytes v ws = ReadsAs n (reading n bytes) v ws
+
+-- rows whose record is accepted over a table with n types
+abbrev pub Acceptable : ℕ → List (Row Label) → Type 0
+Acceptable n rows = reading n (encoded rows) ≡ accepted rows
+
+-- words that hold such rows
+pub record Loaded (n : ℕ) (ws : List ℕ) : Type 0 where
+  pub acceptable : Acceptable n (rowsOf ws)
+  pub sound : Sound ws
+  pub small : size ws ≤ 255
+  pub typed : (v : ℕ) → v < size ws → Known n (labelAt ws v)

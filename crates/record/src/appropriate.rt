@@ -9,7 +9,7 @@ ghost use Prim.Native.Nat.{_≤_, _<_};
 ghost use lib.ListN.{length};
 ghost use Rattle.layout.specs.Layout.{longest, labelAt, linksAt, rowsOf, size};
 ghost use Rattle.record.specs.Appropriate.{listAccepted, rowAppropriate, appropriate, readingAppropriate, Listed, Typed};
-ghost use Rattle.record.specs.Reads.{Tells};
+ghost use Rattle.record.specs.Reads.{ReadsAs};
 
 // Whether a list has 64 entries, each one of n types.
 pub fn is_list_accepted(n: usize, list: &[u8]) -> bool
@@ -37,9 +37,9 @@ fn is_row_appropriate(table: &[u8], list: &[u8], graph: &[u16], v: usize) -> boo
     let label = layout::label_at(graph, v);
     let kind = label.kind as usize;
     let end = graph[v + 2] as usize;
-    let mut k = graph[v + 1] as usize + layout::HEADER;
+    let mut k = layout::links_from(graph, v);
     while k < end {
-        let f = (graph[k] / layout::SCALE) as usize;
+        let f = layout::feature(graph[k]) as usize;
         if !lattice::words::is_below(table, kind, list[f] as usize) {
             return false;
         }
@@ -75,7 +75,7 @@ pub fn read(
 ) -> Verdict
     requires { ⌜ (n ≤ 64) × (listAccepted n (now list) ≡ true) ⌝ }
     requires { ⌜ length (now graph) ≡ longest ⌝ }
-    ensures { λ r. ⌜ Tells n (readingAppropriate n (now (table .entry)) (now (list .entry)) (now (bytes .entry))) r (now (graph .exit)) ⌝ }
+    ensures { λ r. ⌜ ReadsAs n (readingAppropriate n (now (table .entry)) (now (list .entry)) (now (bytes .entry))) r (now (graph .exit)) ⌝ }
     ensures { λ r. ⌜ length (now (graph .exit)) ≡ longest ⌝ }
 {
     let verdict = crate::reading::read(n, bytes, graph);

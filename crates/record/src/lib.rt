@@ -1,6 +1,8 @@
-// Reading records: a record's graph, or the first of refusals 4 to 7 that applies, each over the whole record before the next.
+// Reading records: a record's graph, or the first of refusals 4 to 7 that applies, each over the whole record before the next. It knows
+// one record at a time, and of the table no more than the number of types, but for the order where a list is given.
 
 pub mod appropriate;
+pub mod judging;
 pub mod peeling;
 pub mod reading;
 

@@ -27,9 +27,9 @@ fn count_row<'a>(graph: &'a [u16], v: usize, incoming: &mut [u16; 255]) -> bool
 {
     let nodes = graph[0] as usize;
     let end = graph[v + 2] as usize;
-    let mut k = graph[v + 1] as usize + layout::HEADER;
+    let mut k = layout::links_from(graph, v);
     while k < end {
-        let w = (graph[k] % layout::SCALE) as usize;
+        let w = layout::target(graph[k]);
         if nodes <= w {
             return false;
         }
@@ -39,7 +39,8 @@ fn count_row<'a>(graph: &'a [u16], v: usize, incoming: &mut [u16; 255]) -> bool
     true
 }
 
-// Whether a label's type is among the n and not 0, and its lowest level not above the highest, as is known in a record without ranges.
+// Whether a label's type is among the n and not 0, and its lowest level not above the highest. Levels are compared only if the record has
+// ranges.
 fn is_label_in_range(n: usize, label: Label, ranged: bool) -> bool
     requires { ⌜ (ranged ≡ false → label .lowest ≤ label .highest) ⌝ }
     ensures { λ r. ⌜ r ≡ labelInRange n (stated label) ⌝ }
@@ -106,9 +107,9 @@ fn take_links<'a>(
 {
     let mut count = queued;
     let end = graph[v + 2] as usize;
-    let mut k = graph[v + 1] as usize + layout::HEADER;
+    let mut k = layout::links_from(graph, v);
     while k < end {
-        let w = (graph[k] % layout::SCALE) as usize;
+        let w = layout::target(graph[k]);
         let left = incoming[w] - 1;
         incoming[w] = left;
         if left == 0 {

@@ -1,7 +1,6 @@
-// Reading records: a record's graph, or the first of refusals 4 to 7 that applies, each over the whole record before the next.
+// Reading records: a record is parsed (refusal 4), and its graph judged (5 to 7).
 
 use crate::GraphFault;
-use crate::peeling::Shape;
 ghost use mathlib.Core.Bool.{not};
 ghost use mathlib.Core.Path.{_≡_};
 ghost use lib.Dec.{eqb};
@@ -37,13 +36,5 @@ pub fn read(n: usize, bytes: &[u8], graph: &mut [u16; layout::LONGEST]) -> Verdi
         return Verdict::Refused(GraphFault::Malformed);
     }
     let ranged = has_ranges(bytes.len(), graph);
-    let mut incoming = [0u16; 255];
-    if !crate::peeling::count_incoming(n, graph, ranged, &mut incoming) {
-        return Verdict::Refused(GraphFault::OutOfRange);
-    }
-    match crate::peeling::sources_first(graph, &mut incoming) {
-        Shape::Cyclic => Verdict::Refused(GraphFault::Cyclic),
-        Shape::Apart => Verdict::Refused(GraphFault::Unreached),
-        Shape::Rooted => Verdict::Accepted,
-    }
+    crate::judging::judge(n, graph, ranged)
 }

@@ -5,7 +5,7 @@ use Prim.Native.Nat.{ℕ}
 use Rattle.encode.specs.Encode.{yielding}
 use Rattle.replies.specs.declared.Reply.{Reply}
 use Rattle.replies.specs.Reply.{Result, resulting}
-use Rattle.engine.specs.Explained.{Explained, explainedResult}
+use Rattle.difference.specs.Explained.{Explained, explainedResult}
 use Rattle.record_engine.specs.Code.{codeOf}
 use Rattle.record_engine.specs.Coded.{coded, codedBoth, yieldingBoth}
 

@@ -3,7 +3,7 @@ use mathlib.Core.List.{List}
 use Prim.Native.Nat.{ℕ}
 use Rattle.encode.specs.Encode.{Yield, yielding}
 use Rattle.replies.specs.Reply.{Result}
-use Rattle.engine.specs.Explained.{Explained}
+use Rattle.difference.specs.Explained.{Explained}
 use Rattle.record_engine.specs.Code.{codeOf}
 
 abbrev pub coded : Result → Yield ℕ

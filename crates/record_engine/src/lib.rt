@@ -1,19 +1,17 @@
-// The engine's calls for programs in other languages: a static library whose functions take a number of types, a table, one or two
-// records and an output or two, each slice as a pointer and a length, and answer one number. One function gives the table of the house
-// types.
+// The engine's calls for programs in other languages: a static library whose functions take a number of types, a table, one or two records
+// and an output or two, each slice as a pointer and a length, and answer one number. One function gives the table of the house types. It
+// knows the calls, and gives each reply its code.
 
 use replies::Reply;
 use replies::Side;
-use replies::kinds::Kind;
+use replies::answers::Answer;
 ghost use mathlib.Core.Path.{_≡_};
 ghost use Prim.Native.Nat.{_<_};
 ghost use Rattle.encode.specs.Encode.{yielding};
-ghost use Rattle.engine.specs.Reply.{rewriting, ordering, generalizing};
-ghost use Rattle.engine.specs.Unification.{unifying};
-ghost use Rattle.engine.specs.Difference.{differing, differingBy};
-ghost use Rattle.engine.specs.Appropriate.{rewritingAppropriate, generalizingAppropriate, unifyingAppropriate};
-ghost use Rattle.engine.specs.Explained.{explaining, explainingBy};
-ghost use Rattle.record_engine.specs.Code.{codeOf, refusalCode, sideNumber};
+ghost use Rattle.calls.specs.Calls.{rewriting, ordering, generalizing, unifying, differing, differingBy};
+ghost use Rattle.calls.specs.Appropriate.{rewritingAppropriate, generalizingAppropriate, unifyingAppropriate};
+ghost use Rattle.calls.specs.Explained.{explaining, explainingBy};
+ghost use Rattle.record_engine.specs.Code.{codeOf, countsCode, refusalCode, sideNumber};
 ghost use Rattle.record_engine.specs.Coded.{coded, codedBoth, yieldingBoth};
 ghost use Rattle.record_engine.specs.House.{tabling};
 
@@ -22,7 +20,7 @@ ghost use Rattle.record_engine.specs.House.{tabling};
 pub extern "C" fn record_rewrite(n: usize, table: &[u8], bytes: &[u8], out: &mut [u8]) -> u64
     ensures { λ r. ⌜ yielding r (now (out .exit)) ≡ coded (rewriting n (now (table .entry)) (now (bytes .entry)) (now (out .entry))) ⌝ }
 {
-    code(engine::rewrite(n, table, bytes, out))
+    code(calls::rewriting::rewrite(n, table, bytes, out))
 }
 
 // The same beside a list that gives for each feature the broadest type that may have it.
@@ -36,7 +34,7 @@ pub extern "C" fn record_rewrite_appropriate(
 ) -> u64
     ensures { λ r. ⌜ yielding r (now (out .exit)) ≡ coded (rewritingAppropriate n (now (table .entry)) (now (list .entry)) (now (bytes .entry)) (now (out .entry))) ⌝ }
 {
-    code(engine::rewrite_appropriate(n, table, list, bytes, out))
+    code(calls::rewriting::rewrite_appropriate(n, table, list, bytes, out))
 }
 
 // The order, is the first below the second: the code of the reply.
@@ -44,7 +42,7 @@ pub extern "C" fn record_rewrite_appropriate(
 pub extern "C" fn record_order(n: usize, table: &[u8], first: &[u8], second: &[u8]) -> u64
     ensures { λ r. ⌜ r ≡ codeOf (ordering n (now (table .entry)) (now (first .entry)) (now (second .entry))) ⌝ }
 {
-    code(engine::order(n, table, first, second))
+    code(calls::ordering::order(n, table, first, second))
 }
 
 // The common part in written form: the code of the reply, and the output that the engine leaves.
@@ -58,7 +56,7 @@ pub extern "C" fn record_generalize(
 ) -> u64
     ensures { λ r. ⌜ yielding r (now (out .exit)) ≡ coded (generalizing n (now (table .entry)) (now (first .entry)) (now (second .entry)) (now (out .entry))) ⌝ }
 {
-    code(engine::generalize(n, table, first, second, out))
+    code(calls::generalizing::generalize(n, table, first, second, out))
 }
 
 // The same beside a list that gives for each feature the broadest type that may have it.
@@ -73,7 +71,7 @@ pub extern "C" fn record_generalize_appropriate(
 ) -> u64
     ensures { λ r. ⌜ yielding r (now (out .exit)) ≡ coded (generalizingAppropriate n (now (table .entry)) (now (list .entry)) (now (first .entry)) (now (second .entry)) (now (out .entry))) ⌝ }
 {
-    code(engine::generalize_appropriate(n, table, list, first, second, out))
+    code(calls::generalizing::generalize_appropriate(n, table, list, first, second, out))
 }
 
 // The combination in written form: the code of the reply, and the output that the engine leaves.
@@ -87,7 +85,7 @@ pub extern "C" fn record_unify(
 ) -> u64
     ensures { λ r. ⌜ yielding r (now (out .exit)) ≡ coded (unifying n (now (table .entry)) (now (first .entry)) (now (second .entry)) (now (out .entry))) ⌝ }
 {
-    code(engine::unify(n, table, first, second, out))
+    code(calls::unifying::unify(n, table, first, second, out))
 }
 
 // The same beside a list that gives for each feature the broadest type that may have it.
@@ -102,7 +100,7 @@ pub extern "C" fn record_unify_appropriate(
 ) -> u64
     ensures { λ r. ⌜ yielding r (now (out .exit)) ≡ coded (unifyingAppropriate n (now (table .entry)) (now (list .entry)) (now (first .entry)) (now (second .entry)) (now (out .entry))) ⌝ }
 {
-    code(engine::unify_appropriate(n, table, list, first, second, out))
+    code(calls::unifying::unify_appropriate(n, table, list, first, second, out))
 }
 
 // The difference of the first graph, g, and the second, s, in written form: the code of the reply, and the output that the engine leaves.
@@ -116,7 +114,7 @@ pub extern "C" fn record_difference(
 ) -> u64
     ensures { λ r. ⌜ yielding r (now (out .exit)) ≡ coded (differing n (now (table .entry)) (now (first .entry)) (now (second .entry)) (now (out .entry))) ⌝ }
 {
-    code(engine::difference(n, table, first, second, out))
+    code(calls::differing::difference(n, table, first, second, out))
 }
 
 // The same with links ordered by the features of a list, which has all 64, each once.
@@ -131,7 +129,7 @@ pub extern "C" fn record_difference_by(
 ) -> u64
     ensures { λ r. ⌜ yielding r (now (out .exit)) ≡ coded (differingBy n (now (table .entry)) (now (list .entry)) (now (first .entry)) (now (second .entry)) (now (out .entry))) ⌝ }
 {
-    code(engine::difference_by(n, table, list, first, second, out))
+    code(calls::differing::difference_by(n, table, list, first, second, out))
 }
 
 // The difference, and in a second output the reason for each link of its record: the code of the reply, and the outputs that the engine
@@ -148,7 +146,7 @@ pub extern "C" fn record_difference_explained(
     ensures { λ r. ⌜ yieldingBoth r (now (out .exit)) (now (reasons .exit)) ≡
         codedBoth (explaining n (now (table .entry)) (now (first .entry)) (now (second .entry)) (now (out .entry)) (now (reasons .entry))) ⌝ }
 {
-    code(engine::difference_explained(n, table, first, second, out, reasons))
+    code(calls::differing::difference_explained(n, table, first, second, out, reasons))
 }
 
 // The same with links ordered by the features of a list.
@@ -165,7 +163,7 @@ pub extern "C" fn record_difference_explained_by(
     ensures { λ r. ⌜ yieldingBoth r (now (out .exit)) (now (reasons .exit)) ≡
         codedBoth (explainingBy n (now (table .entry)) (now (list .entry)) (now (first .entry)) (now (second .entry)) (now (out .entry)) (now (reasons .entry))) ⌝ }
 {
-    code(engine::difference_explained_by(n, table, list, first, second, out, reasons))
+    code(calls::differing::difference_explained_by(n, table, list, first, second, out, reasons))
 }
 
 // The type table of the house types, for n = 64: the code of the reply, and the output that the engine leaves.
@@ -184,16 +182,25 @@ pub extern "C" fn record_house_table(out: &mut [u8]) -> u64
 fn code(reply: Reply) -> u64
     ensures { λ r. ⌜ r ≡ codeOf reply ⌝ }
 {
-    let kind = replies::kinds::kind_of(reply);
-    match kind {
-        Kind::Length(length) => length as u64,
-        Kind::Same => 8589934592,
-        Kind::Under => 8589934593,
-        Kind::Above => 8589934594,
-        Kind::Neither => 8589934595,
-        Kind::Refused(number) => refusal(number as u64, 0),
-        Kind::RefusedGraph(number, side) => refusal(number as u64, side_number(side)),
+    let answer = replies::answers::answer_of(reply);
+    match answer {
+        Answer::Length(length) => length as u64,
+        Answer::Same => 8589934592,
+        Answer::Under => 8589934593,
+        Answer::Above => 8589934594,
+        Answer::Neither => 8589934595,
+        Answer::Counts(nodes, rows) => counts(nodes as u64, rows as u64),
+        Answer::End => 8589934596,
+        Answer::Refused(number) => refusal(number as u64, 0),
+        Answer::RefusedGraph(number, side) => refusal(number as u64, side_number(side)),
     }
+}
+
+// The code of counts, of each the lowest 16 bits.
+fn counts(nodes: u64, rows: u64) -> u64
+    ensures { λ r. ⌜ r ≡ countsCode nodes rows ⌝ }
+{
+    17179869184 + 65536 * (nodes % 65536) + rows % 65536
 }
 
 // The code of a refusal: its number in document 01, and which graph it tells of.

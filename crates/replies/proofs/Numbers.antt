@@ -9,17 +9,17 @@ use lib.ListN.{getD}
 use Rattle.lattice.specs.declared.TableFault.the-variants.{Size, Order, Bounds}
 use Rattle.record.specs.declared.GraphFault.{GraphFault}
 use Rattle.record.specs.declared.GraphFault.the-variants.{Malformed, OutOfRange, Cyclic, Unreached, Inappropriate}
-use Rattle.replies.specs.declared.kinds.Kind.{Kind}
-use Rattle.replies.specs.declared.kinds.Kind.the-variants as kind
+use Rattle.replies.specs.declared.answers.Answer.{Answer}
+use Rattle.replies.specs.declared.answers.Answer.the-variants as answer
 use Rattle.replies.specs.declared.Reply.{Reply}
-use Rattle.replies.specs.declared.Reply.the-variants.{Length, Same, Under, Above, Neither, Table, Graph, NoRoom, Cycle, Clash, TooLarge, NotBelow, NoWantedType, TypeList, ReadingOrder, NoReasonRoom}
-use Rattle.replies.specs.Reply.{kindOf, Bounded}
+use Rattle.replies.specs.declared.Reply.the-variants.{Length, Same, Under, Above, Neither, Counts, End, Table, Graph, NoRoom, Cycle, Clash, TooLarge, NotBelow, NoWantedType, RowOutOfRange, RowTwice, NothingGathered, TypeList, ReadingOrder, WrongVersion, NoStoreRoom, NoReasonRoom, FeatureCount, NotListed}
+use Rattle.replies.specs.Reply.{answerOf, Bounded, Counted}
 
--- refusals by their numbers, of which 0, 4 to 7, 14 to 16, 18, 20 and 21 are not among these
+-- refusals by their numbers, of which 0, 4 to 7 and 18 are not among these
 refusals : List Reply
 refusals =
     Neither ∷ Table Size ∷ Table Order ∷ Table Bounds ∷ Neither ∷ Neither ∷ Neither ∷ Neither ∷ NoRoom ∷ Cycle ∷ Clash ∷ TooLarge ∷ NotBelow ∷ NoWantedType ∷
-    Neither ∷ Neither ∷ Neither ∷ TypeList ∷ Neither ∷ ReadingOrder ∷ Neither ∷ Neither ∷ NoReasonRoom ∷ []
+    RowOutOfRange ∷ RowTwice ∷ NothingGathered ∷ TypeList ∷ Neither ∷ ReadingOrder ∷ WrongVersion ∷ NoStoreRoom ∷ NoReasonRoom ∷ FeatureCount ∷ NotListed ∷ []
 
 -- 4 to 7
 faults : List GraphFault
@@ -30,32 +30,38 @@ faultIn : ℕ → GraphFault
 faultIn number = cond (eqb number 18) Inappropriate (getD faults (number - 4) Malformed)
 
 -- the reply that tells this
-replyIn : Kind → Reply
-replyIn (kind.Length l) = Length l
-replyIn kind.Same = Same
-replyIn kind.Under = Under
-replyIn kind.Above = Above
-replyIn kind.Neither = Neither
-replyIn (kind.Refused number) = getD refusals number Neither
-replyIn (kind.RefusedGraph number side) = Graph (faultIn number) side
+replyIn : Answer → Reply
+replyIn (answer.Length l) = Length l
+replyIn answer.Same = Same
+replyIn answer.Under = Under
+replyIn answer.Above = Above
+replyIn answer.Neither = Neither
+replyIn (answer.Counts nodes rows) = Counts nodes rows
+replyIn answer.End = End
+replyIn (answer.Refused number) = getD refusals number Neither
+replyIn (answer.RefusedGraph number side) = Graph (faultIn number) side
 
 -- the number of a refusal, or 0
-abbrev pub numberIn : Kind → ℕ
-numberIn (kind.Length l) = 0
-numberIn kind.Same = 0
-numberIn kind.Under = 0
-numberIn kind.Above = 0
-numberIn kind.Neither = 0
-numberIn (kind.Refused number) = number
-numberIn (kind.RefusedGraph number side) = number
+abbrev pub numberIn : Answer → ℕ
+numberIn (answer.Length l) = 0
+numberIn answer.Same = 0
+numberIn answer.Under = 0
+numberIn answer.Above = 0
+numberIn answer.Neither = 0
+numberIn (answer.Counts nodes rows) = 0
+numberIn answer.End = 0
+numberIn (answer.Refused number) = number
+numberIn (answer.RefusedGraph number side) = number
 
-tells : (r : Reply) → (replyIn (kindOf r) ≡ r) × (ltb (numberIn (kindOf r)) 256 ≡ true)
+tells : (r : Reply) → (replyIn (answerOf r) ≡ r) × (ltb (numberIn (answerOf r)) 256 ≡ true)
 unfolding replyIn refusals faults faultIn
 tells (Length l) = (refl, refl)
 tells Same = (refl, refl)
 tells Under = (refl, refl)
 tells Above = (refl, refl)
 tells Neither = (refl, refl)
+tells (Counts nodes rows) = (refl, refl)
+tells End = (refl, refl)
 tells (Table Size) = (refl, refl)
 tells (Table Order) = (refl, refl)
 tells (Table Bounds) = (refl, refl)
@@ -70,17 +76,29 @@ tells Clash = (refl, refl)
 tells TooLarge = (refl, refl)
 tells NotBelow = (refl, refl)
 tells NoWantedType = (refl, refl)
+tells RowOutOfRange = (refl, refl)
+tells RowTwice = (refl, refl)
+tells NothingGathered = (refl, refl)
 tells TypeList = (refl, refl)
 tells ReadingOrder = (refl, refl)
+tells WrongVersion = (refl, refl)
+tells NoStoreRoom = (refl, refl)
 tells NoReasonRoom = (refl, refl)
+tells FeatureCount = (refl, refl)
+tells NotListed = (refl, refl)
 
 -- different replies tell different things
-pub kind-injective : (r q : Reply) → kindOf r ≡ kindOf q → r ≡ q
-kind-injective r q e = sym (tells r .0) ∙ ap replyIn e ∙ tells q .0
+pub answer-injective : (r q : Reply) → answerOf r ≡ answerOf q → r ≡ q
+answer-injective r q e = sym (tells r .0) ∙ ap replyIn e ∙ tells q .0
 
-pub number-small : (r : Reply) {k : Kind} → kindOf r ≡ k → numberIn k < 256
-number-small r e = subst (λ (k : Kind). numberIn k < 256) e (ltb-true (numberIn (kindOf r)) 256 (tells r .1))
+pub number-small : (r : Reply) {k : Answer} → answerOf r ≡ k → numberIn k < 256
+number-small r e = subst (λ (k : Answer). numberIn k < 256) e (ltb-true (numberIn (answerOf r)) 256 (tells r .1))
 
 -- the length that a reply tells
-pub kind-bounded : (r : Reply) {most : ℕ} → Bounded r most → (l : ℕ) → kindOf r ≡ kind.Length l → l ≤ most
-kind-bounded r bounded l e = bounded l (kind-injective r (Length l) e)
+pub answer-bounded : (r : Reply) {most : ℕ} → Bounded r most → (l : ℕ) → answerOf r ≡ answer.Length l → l ≤ most
+answer-bounded r bounded l e = bounded l (answer-injective r (Length l) e)
+
+-- the counts that a reply tells
+pub answer-counted : (r : Reply) {most many : ℕ} → Counted r most many → (nodes rows : ℕ) → answerOf r ≡ answer.Counts nodes rows →
+    (nodes ≤ most) × (rows ≤ many)
+answer-counted r counted nodes rows e = counted nodes rows (answer-injective r (Counts nodes rows) e)

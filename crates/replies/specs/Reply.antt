@@ -8,59 +8,76 @@ use Rattle.encode.specs.declared.Written.{Written}
 use Rattle.encode.specs.declared.Written.the-variants as written
 use Rattle.encode.specs.Encode.{Outcome}
 use Rattle.record.specs.Read.{graphNumber}
-use Rattle.replies.specs.declared.kinds.Kind.{Kind}
-use Rattle.replies.specs.declared.kinds.Kind.the-variants as kind
+use Rattle.replies.specs.declared.answers.Answer.{Answer}
+use Rattle.replies.specs.declared.answers.Answer.the-variants as answer
 use Rattle.replies.specs.declared.Reply.{Reply}
-use Rattle.replies.specs.declared.Reply.the-variants.{Length, Same, Under, Above, Neither, Table, Graph, NoRoom, Cycle, Clash, TooLarge, NotBelow, NoWantedType, TypeList, ReadingOrder, NoReasonRoom}
+use Rattle.replies.specs.declared.Reply.the-variants.{Length, Same, Under, Above, Neither, Counts, End, Table, Graph, NoRoom, Cycle, Clash, TooLarge, NotBelow, NoWantedType, RowOutOfRange, RowTwice, NothingGathered, TypeList, ReadingOrder, WrongVersion, NoStoreRoom, NoReasonRoom, FeatureCount, NotListed}
 
 -- what a reply tells: a refusal has a number, and one of a graph tells which of the two it is
-abbrev pub kindOf : Reply → Kind
-kindOf (Length l) = kind.Length l
-kindOf Same = kind.Same
-kindOf Under = kind.Under
-kindOf Above = kind.Above
-kindOf Neither = kind.Neither
-kindOf (Table fault) = kind.Refused (tableNumber fault)
-kindOf (Graph fault side) = kind.RefusedGraph (graphNumber fault) side
-kindOf NoRoom = kind.Refused 8
-kindOf Cycle = kind.Refused 9
-kindOf Clash = kind.Refused 10
-kindOf TooLarge = kind.Refused 11
-kindOf NotBelow = kind.Refused 12
-kindOf NoWantedType = kind.Refused 13
-kindOf TypeList = kind.Refused 17
-kindOf ReadingOrder = kind.Refused 19
-kindOf NoReasonRoom = kind.Refused 22
+abbrev pub answerOf : Reply → Answer
+answerOf (Length l) = answer.Length l
+answerOf Same = answer.Same
+answerOf Under = answer.Under
+answerOf Above = answer.Above
+answerOf Neither = answer.Neither
+answerOf (Counts nodes rows) = answer.Counts nodes rows
+answerOf End = answer.End
+answerOf (Table fault) = answer.Refused (tableNumber fault)
+answerOf (Graph fault side) = answer.RefusedGraph (graphNumber fault) side
+answerOf NoRoom = answer.Refused 8
+answerOf Cycle = answer.Refused 9
+answerOf Clash = answer.Refused 10
+answerOf TooLarge = answer.Refused 11
+answerOf NotBelow = answer.Refused 12
+answerOf NoWantedType = answer.Refused 13
+answerOf RowOutOfRange = answer.Refused 14
+answerOf RowTwice = answer.Refused 15
+answerOf NothingGathered = answer.Refused 16
+answerOf TypeList = answer.Refused 17
+answerOf ReadingOrder = answer.Refused 19
+answerOf WrongVersion = answer.Refused 20
+answerOf NoStoreRoom = answer.Refused 21
+answerOf NoReasonRoom = answer.Refused 22
+answerOf FeatureCount = answer.Refused 23
+answerOf NotListed = answer.Refused 24
 
-abbrev pub refusalIn : Kind → Option ℕ
-refusalIn (kind.Length l) = none
-refusalIn kind.Same = none
-refusalIn kind.Under = none
-refusalIn kind.Above = none
-refusalIn kind.Neither = none
-refusalIn (kind.Refused number) = some number
-refusalIn (kind.RefusedGraph number side) = some number
+abbrev pub refusalIn : Answer → Option ℕ
+refusalIn (answer.Length l) = none
+refusalIn answer.Same = none
+refusalIn answer.Under = none
+refusalIn answer.Above = none
+refusalIn answer.Neither = none
+refusalIn (answer.Counts nodes rows) = none
+refusalIn answer.End = none
+refusalIn (answer.Refused number) = some number
+refusalIn (answer.RefusedGraph number side) = some number
 
 -- the number of a refusal
 abbrev pub refusal : Reply → Option ℕ
-refusal reply = refusalIn (kindOf reply)
+refusal reply = refusalIn (answerOf reply)
 
-abbrev pub lengthIn : Kind → Option ℕ
-lengthIn (kind.Length l) = some l
-lengthIn kind.Same = none
-lengthIn kind.Under = none
-lengthIn kind.Above = none
-lengthIn kind.Neither = none
-lengthIn (kind.Refused number) = none
-lengthIn (kind.RefusedGraph number side) = none
+abbrev pub lengthIn : Answer → Option ℕ
+lengthIn (answer.Length l) = some l
+lengthIn answer.Same = none
+lengthIn answer.Under = none
+lengthIn answer.Above = none
+lengthIn answer.Neither = none
+lengthIn (answer.Counts nodes rows) = none
+lengthIn answer.End = none
+lengthIn (answer.Refused number) = none
+lengthIn (answer.RefusedGraph number side) = none
 
 -- the record's length, where a reply tells of one
 abbrev pub lengthOf : Reply → Option ℕ
-lengthOf reply = lengthIn (kindOf reply)
+lengthOf reply = lengthIn (answerOf reply)
 
 -- a record that a reply tells of has at most so many bytes
 abbrev pub Bounded : Reply → ℕ → Type 0
 Bounded reply most = (l : ℕ) → reply ≡ Length l → l ≤ most
+
+-- counts that a reply tells are at most so many nodes and so many rows
+abbrev pub Counted : Reply → ℕ → ℕ → Type 0
+Counted reply most many = (nodes rows : ℕ) → reply ≡ Counts nodes rows → (nodes ≤ most) × (rows ≤ many)
 
 -- a reply and the output beside it
 pub record Result : Type 0 where

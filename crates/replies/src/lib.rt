@@ -1,4 +1,4 @@
-// What a call answers.
+// The answers of all calls of documents 01 and 02, and the number of each refusal. It knows the faults of tables and graphs, and no call.
 
 use encode::Written;
 use lattice::TableFault;
@@ -6,7 +6,7 @@ use record::GraphFault;
 ghost use mathlib.Core.Path.{_≡_};
 ghost use Rattle.replies.specs.Reply.{replyOf};
 
-pub mod kinds;
+pub mod answers;
 
 // Which of two graphs is refused; a lone graph counts as the first.
 pub enum Side {
@@ -14,13 +14,16 @@ pub enum Side {
     Second,
 }
 
-// What a call answers: the record's length, one of the order's four answers, seen from the first graph, or a refusal.
+// What a call answers: the record's length, one of the order's four answers, seen from the first graph, the counts of nodes and rows, the
+// end of a listing, or a refusal.
 pub enum Reply {
     Length(usize),
     Same,
     Under,
     Above,
     Neither,
+    Counts(usize, usize),
+    End,
     Table(TableFault),
     Graph(GraphFault, Side),
     NoRoom,
@@ -29,9 +32,16 @@ pub enum Reply {
     TooLarge,
     NotBelow,
     NoWantedType,
+    RowOutOfRange,
+    RowTwice,
+    NothingGathered,
     TypeList,
     ReadingOrder,
+    WrongVersion,
+    NoStoreRoom,
     NoReasonRoom,
+    FeatureCount,
+    NotListed,
 }
 
 // What writing a result answers, as a reply.

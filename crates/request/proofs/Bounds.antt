@@ -4,7 +4,7 @@ use mathlib.Core.Bool.{Bool, true, false, cond}
 use mathlib.Core.List.{List, _++_}
 use mathlib.Core.Logic.{_⊎_}
 use mathlib.Core.Option.{Option, none, some}
-use Prim.Native.Nat.{ℕ, _≤_, _<_}
+use Prim.Native.Nat.{ℕ, _%_, _≤_, _<_}
 use native.Mathlib.Omega.{arith}
 use borrow.Author.Tests.{leb-true}
 use lib.Dec.{eqb, leb}
@@ -27,21 +27,25 @@ use Rattle.encode.specs.declared.Written.the-variants as outcome
 use Rattle.generalize.specs.Pairs.{samePair}
 use Rattle.replies.specs.declared.Side.{Side}
 use Rattle.replies.specs.declared.Side.the-variants.{First, Second}
-use Rattle.replies.specs.declared.kinds.Kind.{Kind}
-use Rattle.replies.specs.declared.kinds.Kind.the-variants as kind
+use Rattle.replies.specs.declared.answers.Answer.{Answer}
+use Rattle.replies.specs.declared.answers.Answer.the-variants as answer
 use Rattle.replies.specs.declared.Reply.{Reply}
 use Rattle.replies.specs.declared.Reply.the-variants.{Length, Table, Graph, NoRoom, Cycle, Clash, TooLarge, NotBelow, NoWantedType}
-use Rattle.replies.specs.Reply.{Result, Bounded, kindOf, refusal, refusing, resultOf}
-use Rattle.engine.specs.Reply.{checked, readBoth, generalizing, generalized, rowsBelow, compared, ordering, ordered}
-use Rattle.engine.specs.Unification.{sameEither, combined, unifiedRows, unifying}
-use Rattle.engine.specs.Difference.{allWanted, differenceRows, differed, numbered, differedRows, differing}
-use Rattle.replies.proofs.Numbers.{numberIn, number-small, kind-bounded}
+use Rattle.replies.specs.Reply.{Result, Bounded, answerOf, refusal, refusing, resultOf}
+use Rattle.subsume.specs.Promise.{rowsBelow}
+use Rattle.calls.specs.Calls.{checked, generalizing, ordering, unifying, differing}
+use Rattle.pairs.specs.Pair.{readBoth}
+use Rattle.engine.specs.Generalizing.{generalized}
+use Rattle.engine.specs.Ordering.{compared, ordered}
+use Rattle.engine.specs.Unifying.{sameEither, combined, unifiedRows}
+use Rattle.difference.specs.Difference.{allWanted, differenceRows, differed, numbered, differedRows}
+use Rattle.replies.proofs.Numbers.{numberIn, number-small, answer-bounded}
 use Rattle.request.specs.declared.parse.Operation.{Operation}
 use Rattle.request.specs.declared.parse.Operation.the-variants.{Generalize, Unify, Difference, Order}
 use Rattle.request.specs.Request.{Request}
-use Rattle.request.specs.Line.{answered, answering, kindText, refusedText, replyText, sideText}
+use Rattle.request.specs.Line.{answered, answering, answerText, countsText, refusedText, replyText, sideText}
 use Rattle.request.specs.Words.{wordsFor}
-use Rattle.request.proofs.Texts.{decimal-short, refused-short, length-hexadecimal}
+use Rattle.text.proofs.Texts.{decimal-short, length-hexadecimal}
 
 -- A reply's length fits in the output.
 
@@ -151,15 +155,25 @@ side-short : (which : Side) → length (sideText which) ≤ 7
 side-short First = omega arith
 side-short Second = omega arith
 
-kind-short : (k : Kind) (out : List ℕ) → ((l : ℕ) → k ≡ kind.Length l → l ≤ 4854) → numberIn k < 256 → length (kindText k out) ≤ 9716
-kind-short (kind.Length l) out h small =
+-- the text of counts has at most sixteen bytes
+counts-short : (nodes rows : ℕ) → length (countsText nodes rows) ≤ 16
+counts-short nodes rows = simp length-append (omega (arith, decimal-short (nodes % 10000) (omega arith), decimal-short (rows % 10000) (omega arith)))
+
+-- the text of a refusal has at most twelve bytes
+pub refused-short : (number : ℕ) → number < 10000 → length (refusedText number) ≤ 12
+refused-short number h = omega (arith, decimal-short number h)
+
+answer-short : (k : Answer) (out : List ℕ) → ((l : ℕ) → k ≡ answer.Length l → l ≤ 4854) → numberIn k < 256 → length (answerText k out) ≤ 9716
+answer-short (answer.Length l) out h small =
     simp (length-append, length-hexadecimal, length-take) (omega (arith, h l refl, decimal-short l (omega (arith, h l refl))))
-kind-short kind.Same out h small = omega arith
-kind-short kind.Under out h small = omega arith
-kind-short kind.Above out h small = omega arith
-kind-short kind.Neither out h small = omega arith
-kind-short (kind.Refused number) out h small = omega (arith, refused-short number (omega arith))
-kind-short (kind.RefusedGraph number which) out h small =
+answer-short answer.Same out h small = omega arith
+answer-short answer.Under out h small = omega arith
+answer-short answer.Above out h small = omega arith
+answer-short answer.Neither out h small = omega arith
+answer-short (answer.Counts nodes rows) out h small = omega (arith, counts-short nodes rows)
+answer-short answer.End out h small = omega arith
+answer-short (answer.Refused number) out h small = omega (arith, refused-short number (omega arith))
+answer-short (answer.RefusedGraph number which) out h small =
     omega (
       arith,
       length-append (refusedText number) (sideText which),
@@ -168,7 +182,7 @@ kind-short (kind.RefusedGraph number which) out h small =
     )
 
 reply-short : (reply : Reply) (out : List ℕ) → Bounded reply 4854 → length (replyText reply out) ≤ 9716
-reply-short reply out h = kind-short (kindOf reply) out (kind-bounded reply h) (number-small reply refl)
+reply-short reply out h = answer-short (answerOf reply) out (answer-bounded reply h) (number-small reply refl)
 
 pub words-short : (request : Option Request) → length (wordsFor request) ≤ 9716
 words-short none = omega arith

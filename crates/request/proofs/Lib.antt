@@ -1,5 +1,4 @@
--- Laws of parsing, of texts, of replies and of the line.
-pub mod Texts
+-- Laws of parsing, of replies and of the line.
 pub mod Parsing
 pub mod Bounds
 pub mod Replies

@@ -18,7 +18,7 @@ use Rattle.request.specs.declared.parse.Located.{Located}
 use Rattle.request.specs.declared.parse.Located.the-variants as located
 use Rattle.request.specs.Request.{Request, operationOf, takeBytes, takeRecord, atEnd, askedOf, requested}
 use Rattle.request.specs.Parse.{AllInside, Inside, Parses, Takes, between, recordAt}
-use Rattle.request.proofs.Texts.{word-more}
+use Rattle.text.proofs.Texts.{word-more}
 
 -- Runs of bytes.
 

@@ -8,7 +8,7 @@ use native.Mathlib.Omega.{arith}
 use lib.ListN.{length, drop, set, replicate, length-append, length-replicate}
 use lib.Seq.{sets-eq}
 use Rattle.replies.specs.declared.Side.{Side}
-use Rattle.replies.specs.declared.kinds.Kind.{Kind}
+use Rattle.replies.specs.declared.answers.Answer.{Answer}
 use Rattle.replies.specs.declared.Reply.{Reply}
 use Rattle.replies.specs.Reply.{Result, resulting}
 use Rattle.request.specs.declared.Printed.{Printed}
@@ -16,16 +16,16 @@ use Rattle.request.specs.declared.parse.Operation.{Operation}
 use Rattle.request.specs.declared.parse.Parts.{Parts}
 use Rattle.request.specs.Request.{Request, requested}
 use Rattle.request.specs.Parse.{between, requestAt}
-use Rattle.request.specs.Text.{Puts}
-use Rattle.request.specs.Line.{answered, answering, ended, kindText, lineFor, lineOf, printed, replyText, sideText, textOf}
+use Rattle.text.specs.Text.{Puts}
+use Rattle.request.specs.Line.{answered, answering, ended, answerText, lineFor, lineOf, printed, replyText, sideText, textOf}
 use Rattle.request.specs.Words.{wordsFor}
-use Rattle.request.proofs.Texts.{puts-then, puts-byte}
+use Rattle.text.proofs.Texts.{puts-then, puts-byte}
 use Rattle.request.proofs.Bounds.{words-short}
 
 -- the text of what an equal reply tells
-pub puts-kind : {k other : Kind} (output : List ℕ) {at next : ℕ} {old new : List ℕ} → k ≡ other →
-    Puts (kindText other output) at old next new → Puts (kindText k output) at old next new
-puts-kind output {at} {next} {old} {new} e p = subst (λ (k : Kind). Puts (kindText k output) at old next new) (sym e) p
+pub puts-answer : {k other : Answer} (output : List ℕ) {at next : ℕ} {old new : List ℕ} → k ≡ other →
+    Puts (answerText other output) at old next new → Puts (answerText k output) at old next new
+puts-answer output {at} {next} {old} {new} e p = subst (λ (k : Answer). Puts (answerText k output) at old next new) (sym e) p
 
 -- the text of an equal side
 pub puts-side : {which s : Side} {at next : ℕ} {old new : List ℕ} → which ≡ s →

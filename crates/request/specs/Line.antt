@@ -1,22 +1,20 @@
 -- The line that answers an input (document 01, "Fittings to check"), in ASCII: "its parts separated by one space".
 use mathlib.Core.List.{List, [], _∷_, _++_}
 use mathlib.Core.Option.{Option, none, some}
-use Prim.Native.Nat.{ℕ}
+use Prim.Native.Nat.{ℕ, _%_}
 use lib.ListN.{length, take, drop, replicate}
 use Rattle.replies.specs.declared.Side.{Side}
 use Rattle.replies.specs.declared.Side.the-variants.{First, Second}
 use Rattle.replies.specs.declared.Reply.{Reply}
-use Rattle.replies.specs.declared.kinds.Kind.{Kind}
-use Rattle.replies.specs.declared.kinds.Kind.the-variants.{Length, Same, Under, Above, Neither, Refused, RefusedGraph}
-use Rattle.replies.specs.Reply.{Result, kindOf, refusing}
-use Rattle.engine.specs.Reply.{generalizing, ordering}
-use Rattle.engine.specs.Unification.{unifying}
-use Rattle.engine.specs.Difference.{differing}
+use Rattle.replies.specs.declared.answers.Answer.{Answer}
+use Rattle.replies.specs.declared.answers.Answer.the-variants.{Length, Same, Under, Above, Neither, Counts, End, Refused, RefusedGraph}
+use Rattle.replies.specs.Reply.{Result, answerOf, refusing}
+use Rattle.calls.specs.Calls.{generalizing, ordering, unifying, differing}
 use Rattle.request.specs.declared.Printed.{Printed}
 use Rattle.request.specs.declared.parse.Operation.{Operation}
 use Rattle.request.specs.declared.parse.Operation.the-variants.{Generalize, Unify, Difference, Order}
 use Rattle.request.specs.Request.{Request, requested}
-use Rattle.request.specs.Text.{decimal, hexadecimal}
+use Rattle.text.specs.Text.{decimal, hexadecimal}
 
 -- `bad input`
 abbrev pub badInput : List ℕ
@@ -25,6 +23,10 @@ badInput = 98 ∷ 97 ∷ 100 ∷ 32 ∷ 105 ∷ 110 ∷ 112 ∷ 117 ∷ 116 ∷ 
 -- "`ok`, the length and the record in lower-case hexadecimal"
 abbrev pub okText : ℕ → List ℕ → List ℕ
 okText l bytes = (111 ∷ 107 ∷ 32 ∷ []) ++ decimal l ++ (32 ∷ []) ++ hexadecimal bytes
+
+-- `counts`, the nodes and the rows, of each count the last four digits: there are at most 255 and 2,048
+abbrev pub countsText : ℕ → ℕ → List ℕ
+countsText nodes rows = (99 ∷ 111 ∷ 117 ∷ 110 ∷ 116 ∷ 115 ∷ 32 ∷ []) ++ decimal (nodes % 10000) ++ (32 ∷ []) ++ decimal (rows % 10000)
 
 -- "`refused` with the number"
 abbrev pub refusedText : ℕ → List ℕ
@@ -36,18 +38,20 @@ sideText First = 32 ∷ 102 ∷ 105 ∷ 114 ∷ 115 ∷ 116 ∷ []
 sideText Second = 32 ∷ 115 ∷ 101 ∷ 99 ∷ 111 ∷ 110 ∷ 100 ∷ []
 
 -- the words of what a reply tells: the record is the output's first bytes, and a refused graph is named, "for 4 to 7 `first` or `second`"
-abbrev pub kindText : Kind → List ℕ → List ℕ
-kindText (Length l) out = okText l (take l out)
-kindText Same out = 115 ∷ 97 ∷ 109 ∷ 101 ∷ []
-kindText Under out = 117 ∷ 110 ∷ 100 ∷ 101 ∷ 114 ∷ []
-kindText Above out = 97 ∷ 98 ∷ 111 ∷ 118 ∷ 101 ∷ []
-kindText Neither out = 110 ∷ 101 ∷ 105 ∷ 116 ∷ 104 ∷ 101 ∷ 114 ∷ []
-kindText (Refused number) out = refusedText number
-kindText (RefusedGraph number which) out = refusedText number ++ sideText which
+abbrev pub answerText : Answer → List ℕ → List ℕ
+answerText (Length l) out = okText l (take l out)
+answerText Same out = 115 ∷ 97 ∷ 109 ∷ 101 ∷ []
+answerText Under out = 117 ∷ 110 ∷ 100 ∷ 101 ∷ 114 ∷ []
+answerText Above out = 97 ∷ 98 ∷ 111 ∷ 118 ∷ 101 ∷ []
+answerText Neither out = 110 ∷ 101 ∷ 105 ∷ 116 ∷ 104 ∷ 101 ∷ 114 ∷ []
+answerText (Counts nodes rows) out = countsText nodes rows
+answerText End out = 101 ∷ 110 ∷ 100 ∷ []
+answerText (Refused number) out = refusedText number
+answerText (RefusedGraph number which) out = refusedText number ++ sideText which
 
 -- the words of a reply
 abbrev pub replyText : Reply → List ℕ → List ℕ
-replyText reply out = kindText (kindOf reply) out
+replyText reply out = answerText (answerOf reply) out
 
 -- "prints one line": the words and a line end
 abbrev pub ended : List ℕ → List ℕ

@@ -1,8 +1,7 @@
-// The line that `mapcalc` prints, made from the bytes of its input.
+// The line that `mapcalc` prints, made from the bytes of its input. It knows the calls and their replies, and reads and writes no file.
 
 pub mod parse;
 pub mod reply;
-pub mod text;
 
 use parse::Operation;
 use parse::Parsed;
@@ -15,7 +14,7 @@ ghost use lib.ListN.{length};
 ghost use Rattle.replies.specs.Reply.{resulting};
 ghost use Rattle.request.specs.Request.{requested};
 ghost use Rattle.request.specs.Parse.{AllInside, requestAt};
-ghost use Rattle.request.specs.Text.{Puts};
+ghost use Rattle.text.specs.Text.{Puts};
 ghost use Rattle.request.specs.Line.{answering, lineOf, printed};
 ghost use Rattle.request.specs.Words.{wordsFor};
 
@@ -37,10 +36,10 @@ fn answer(
     ensures { λ r. ⌜ resulting r (now (output .exit)) ≡ answering operation n (now (table .entry)) (now (first .entry)) (now (second .entry)) (now (output .entry)) ⌝ }
 {
     match operation {
-        Operation::Generalize => engine::generalize(n, table, first, second, output),
-        Operation::Unify => engine::unify(n, table, first, second, output),
-        Operation::Difference => engine::difference(n, table, first, second, output),
-        Operation::Order => engine::order(n, table, first, second),
+        Operation::Generalize => calls::generalizing::generalize(n, table, first, second, output),
+        Operation::Unify => calls::unifying::unify(n, table, first, second, output),
+        Operation::Difference => calls::differing::difference(n, table, first, second, output),
+        Operation::Order => calls::ordering::order(n, table, first, second),
     }
 }
 

@@ -1,19 +1,19 @@
 // A reply as the words of a line.
 
-use crate::text::put_decimal;
-use crate::text::put_hexadecimal;
-use crate::text::put_word;
 use replies::Reply;
 use replies::Side;
-use replies::kinds::Kind;
-use replies::kinds::kind_of;
+use replies::answers::Answer;
+use replies::answers::answer_of;
+use text::put_decimal;
+use text::put_hexadecimal;
+use text::put_word;
 ghost use mathlib.Core.Path.{_≡_};
 ghost use mathlib.Core.List.{_++_};
 ghost use Prim.Native.Nat.{_+_, _<_, _≤_};
 ghost use lib.ListN.{length};
 ghost use Rattle.replies.specs.Reply.{Bounded};
-ghost use Rattle.request.specs.Text.{Puts};
-ghost use Rattle.request.specs.Line.{okText, refusedText, replyText, sideText};
+ghost use Rattle.text.specs.Text.{Puts};
+ghost use Rattle.request.specs.Line.{countsText, okText, refusedText, replyText, sideText};
 
 // A record and its length.
 fn put_record(count: usize, bytes: &[u8], out: &mut [u8]) -> usize
@@ -26,6 +26,17 @@ fn put_record(count: usize, bytes: &[u8], out: &mut [u8]) -> usize
     let number = put_decimal(count, ok, out);
     let space = put_word(b" ", number, out);
     put_hexadecimal(bytes, space, out)
+}
+
+// The counts of nodes and rows, of each the last four digits.
+fn put_counts(nodes: usize, rows: usize, out: &mut [u8]) -> usize
+    requires { ⌜ 9716 ≤ length (now out) ⌝ }
+    ensures { λ r. ⌜ Puts (countsText nodes rows) 0 (now (out .entry)) r (now (out .exit)) ⌝ }
+{
+    let counts = put_word(b"counts ", 0, out);
+    let number = put_decimal(nodes % 10000, counts, out);
+    let space = put_word(b" ", number, out);
+    put_decimal(rows % 10000, space, out)
 }
 
 // A refusal's number.
@@ -66,14 +77,16 @@ pub fn put_reply(reply: Reply, output: &[u8], out: &mut [u8]) -> usize
     requires { ⌜ 9716 ≤ length (now out) ⌝ }
     ensures { λ r. ⌜ Puts (replyText reply (now (output .entry))) 0 (now (out .entry)) r (now (out .exit)) ⌝ }
 {
-    let kind = kind_of(reply);
-    match kind {
-        Kind::Length(count) => put_record(count, &output[..count], out),
-        Kind::Same => put_word(b"same", 0, out),
-        Kind::Under => put_word(b"under", 0, out),
-        Kind::Above => put_word(b"above", 0, out),
-        Kind::Neither => put_word(b"neither", 0, out),
-        Kind::Refused(number) => put_refused(number, out),
-        Kind::RefusedGraph(number, side) => put_refused_graph(number, side, out),
+    let answer = answer_of(reply);
+    match answer {
+        Answer::Length(count) => put_record(count, &output[..count], out),
+        Answer::Same => put_word(b"same", 0, out),
+        Answer::Under => put_word(b"under", 0, out),
+        Answer::Above => put_word(b"above", 0, out),
+        Answer::Neither => put_word(b"neither", 0, out),
+        Answer::Counts(nodes, rows) => put_counts(nodes, rows, out),
+        Answer::End => put_word(b"end", 0, out),
+        Answer::Refused(number) => put_refused(number, out),
+        Answer::RefusedGraph(number, side) => put_refused_graph(number, side, out),
     }
 }

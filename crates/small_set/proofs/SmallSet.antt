@@ -56,11 +56,11 @@ use Rattle.lattice.specs.declared.TableFault.the-variants.{Bounds}
 use Rattle.lattice.specs.declared.Opened.the-variants.{Accepted, Refused}
 use Rattle.lattice.specs.Table.{every, last, below, sized, confined, reflexive, antisymmetric, transitive, least, greatest, ordered, isMeet, isJoin, meet, join, bounded, restores, isWanted, wanted, implies, found, upto}
 use Rattle.lattice.specs.Words.{word}
-use Rattle.lattice.specs.Sets.{distributive, irreducible, setOf}
+use Rattle.bounds.specs.Sets.{distributive, irreducible, setOf}
 use Rattle.lattice.specs.Reply.{opened}
 use Rattle.lattice.specs.Labels.{tableLabels, wantedLabel}
 use Rattle.lattice.proofs.Every.{and-both, implies-at, every-at, found-some}
-use Rattle.lattice.proofs.Residuals.{opened-accepted}
+use Rattle.lattice.proofs.Acceptance.{opened-accepted}
 use Rattle.lattice.proofs.Lawful.{inside}
 use Rattle.lattice.proofs.WantedLabels.{wanted-label-found}
 use Rattle.decode.specs.Decode.{bitOf, labelLength, labelOf, takeLinks, takeRow, takeRows, decoded}
@@ -70,13 +70,16 @@ use Rattle.record.specs.Appropriate.{listAccepted, readingAppropriate, appropri
 use Rattle.record.proofs.Accepted.{accepted-rules}
 use Rattle.record.proofs.Theorems.{accepted-of-any-size}
 use Rattle.generalize.specs.Pairs.{samePair}
-use Rattle.groups.specs.Reading.{isReadingOrder}
+use Rattle.groups.specs.LinkOrders.{isReadingOrder}
 use Rattle.difference.specs.Promise.{wantedAlong, allWantedAlong, differenceAlong, reasonsAlong}
-use Rattle.engine.specs.Reply.{rewriting, generalized, generalizing, ordered as comparing, ordering}
-use Rattle.engine.specs.Unification.{unifiedRows, unifying}
-use Rattle.engine.specs.Appropriate.{rewritingAppropriate, generalizingAppropriate}
-use Rattle.engine.specs.Difference.{firstAt, over, wantedAt, allWanted, differenceRows, differed, differedRows, differing, differingBy}
-use Rattle.engine.specs.Explained.{reasonsOf, explaining, explainingBy}
+use Rattle.calls.specs.Calls.{rewriting, generalizing, ordering, unifying, differing, differingBy}
+use Rattle.engine.specs.Generalizing.{generalized}
+use Rattle.engine.specs.Ordering.{ordered as comparing}
+use Rattle.engine.specs.Unifying.{unifiedRows}
+use Rattle.calls.specs.Appropriate.{rewritingAppropriate, generalizingAppropriate}
+use Rattle.difference.specs.Difference.{firstAt, over, wantedAt, allWanted, differenceRows, differed, differedRows}
+use Rattle.engine.specs.Differing.{reasonsOf}
+use Rattle.calls.specs.Explained.{explaining, explainingBy}
 use Rattle.replies.specs.declared.Reply.the-variants.{NoWantedType}
 use Rattle.demands.proofs.Demanded.Wanted.{meet-known, label-below, wanted-exact}
 use Rattle.demands.proofs.Requests.Paper06.{unwanted-exact, itself-lone-top}

@@ -9,16 +9,15 @@ use lib.ListN.{length, drop, replicate}
 use Rattle.graphs.specs.Rows.{Row, from}
 use Rattle.lattice.specs.Label.{Label}
 use Rattle.lattice.specs.Table.{upto}
-use Rattle.lattice.specs.Sets.{distributive, setOf}
+use Rattle.bounds.specs.Sets.{distributive, setOf}
 use Rattle.record.specs.Read.{reading, accepted}
 use Rattle.replies.specs.declared.Reply.the-variants.{Length, Same, Under, Above, Neither, NoWantedType, ReadingOrder, NoReasonRoom}
 use Rattle.replies.specs.declared.Reply.{Reply}
 use Rattle.replies.specs.Reply.{Result, refusal, resulting, refusing, resultOf}
-use Rattle.engine.specs.Reply.{rewriting, generalizing, ordering}
-use Rattle.engine.specs.Unification.{unifying}
-use Rattle.engine.specs.Difference.{differing, differingBy}
-use Rattle.engine.specs.Appropriate.{rewritingAppropriate, generalizingAppropriate}
-use Rattle.engine.specs.Explained.{explaining, explainingBy, explainedResult}
+use Rattle.calls.specs.Calls.{rewriting, generalizing, ordering, unifying, differing, differingBy}
+use Rattle.calls.specs.Appropriate.{rewritingAppropriate, generalizingAppropriate}
+use Rattle.difference.specs.Explained.{explainedResult}
+use Rattle.calls.specs.Explained.{explaining, explainingBy}
 use Rattle.demands.specs.Demand.{loneTop}
 use Rattle.encode.specs.Encode.{fitted}
 

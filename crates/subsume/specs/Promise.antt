@@ -1,10 +1,13 @@
 -- The order's promise: below exactly where the graphs are, and then the map of g's nodes to those of s.
 use mathlib.Core.Path.{_≡_}
+use mathlib.Core.Bool.{Bool, true, false}
 use mathlib.Core.List.{List}
 use Prim.Native.Nat.{ℕ}
-use lib.ListN.{getD}
+use lib.Dec.{eqb}
+use lib.ListN.{length, getD}
 use Rattle.graphs.specs.Graph.{Below}
 use Rattle.graphs.specs.Map.{NodeMap}
+use Rattle.graphs.specs.Order.{subsumes}
 use Rattle.graphs.specs.Rows.{Row}
 use Rattle.lattice.specs.Label.{Label}
 use Rattle.lattice.specs.Labels.{tableLabels}
@@ -16,3 +19,12 @@ use Rattle.subsume.specs.declared.Order.the-variants as order
 pub record Orders (n : ℕ) (t : List ℕ) (s g : List (Row Label)) (answer : Order) (map : List ℕ) : Type 0 where
   pub yes-stands : answer ≡ order.Below → NodeMap (tableLabels n t) (graphOfRows s) (graphOfRows g) (λ v. getD map v 0)
   pub no-stands : answer ≡ order.NotBelow → Below (tableLabels n t) (graphOfRows s) (graphOfRows g) → ⊥
+
+-- whether the first of two graphs is below the second
+abbrev pub rowsBelow : ℕ → List ℕ → List (Row Label) → List (Row Label) → Bool
+rowsBelow n t s g = subsumes (tableLabels n t) eqb eqb (graphOfRows s) (graphOfRows g) (length g)
+
+-- the same, as a walk answers it
+abbrev pub isBelow : Order → Bool
+isBelow order.Below = true
+isBelow order.NotBelow = false

@@ -1,5 +1,5 @@
-// The order: whether the graph s lies below the graph g (document 01, "Order and results"). A queue over g's nodes; each is
-// mapped to the node of s that the same path leads to.
+// The order: whether the graph s lies below the graph g (document 01, "Order and results"). A queue over g's nodes; each is mapped to the
+// node of s that the same path leads to. It knows graphs in words and the order of a table.
 
 use layout::Label;
 ghost use mathlib.Core.Path.{_≡_};
@@ -57,24 +57,24 @@ pub fn follow<'a>(
     requires { ⌜ Queued (now map) (now queue) count ⌝ }
     ensures { λ r. ⌜ Follows (now (s .entry)) (now (g .entry)) u v (now (map .entry)) (now (queue .entry)) count (now (map .exit)) (now (queue .exit)) r ⌝ }
 {
-    let mut k = g[v + 1] as usize + layout::HEADER;
+    let mut k = layout::links_from(g, v);
     let g_end = g[v + 2] as usize;
-    let mut j = s[u + 1] as usize + layout::HEADER;
+    let mut j = layout::links_from(s, u);
     let s_end = s[u + 2] as usize;
     let mut end = count;
     while k < g_end {
         let link = g[k];
-        let f = link / layout::SCALE;
+        let f = layout::feature(link);
         j = seek(s, j, s_end, f);
         if s_end <= j {
             return 256;
         }
         let found = s[j];
-        if found / layout::SCALE != f {
+        if layout::feature(found) != f {
             return 256;
         }
-        let w = (link % layout::SCALE) as usize;
-        let x = found % layout::SCALE;
+        let w = layout::target(link);
+        let x = layout::target(found) as u16;
         let image = map[w];
         if image == NONE {
             map[w] = x;

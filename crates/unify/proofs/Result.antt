@@ -10,7 +10,7 @@ use native.Mathlib.Omega.{arith}
 use borrow.Author.Tests.{eq-eqb, eqb-true}
 use lib.Dec.{eqb}
 use lib.ListN.{length, getD}
-use Rattle.graphs.specs.Graph.{Graph, Tells, follow, walk}
+use Rattle.graphs.specs.Graph.{Graph, TellsApart, follow, walk}
 use Rattle.graphs.specs.Rows.{from, features}
 use Rattle.graphs.specs.Number.{Canonical, canonical}
 use Rattle.graphs.specs.Unify.{
@@ -129,7 +129,7 @@ module _ (n : ℕ) (meets : ℕ → ℕ → ℕ) {a b graph : List ℕ} (left : 
   abbrev cls : ℕ ⊎ ℕ → ℕ
   cls = classOf left right m
 
-  tells : Tells sameEither
+  tells : TellsApart sameEither
   tells = tells-beside given
 
   listed : (x : ℕ ⊎ ℕ) → Inside left right x → List·Memᴰ x (nodesBeside (from 0 (size a)) (from 0 (size b)))

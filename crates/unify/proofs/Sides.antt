@@ -10,26 +10,16 @@ use native.Mathlib.Omega.{arith}
 use lib.Dec.{eqb}
 use lib.ListN.{getD}
 use Rattle.graphs.specs.Rows.{from}
-use Rattle.graphs.proofs.Lists.{from-member, from-range, tells-eqb}
-use Rattle.graphs.proofs.Unification.Beside.{linkBeside, ReachedBeside, Lists, Operands}
+use Rattle.graphs.proofs.Lists.{tells-eqb}
+use Rattle.graphs.proofs.Unification.Beside.{linkBeside, ReachedBeside, Operands}
 use Rattle.layout.specs.Layout.{size, linksFrom, featureAt, targetAt, graphIn}
 use Rattle.layout.proofs.Places.{link-at, link-place, link-known}
-use Rattle.layout.proofs.Reaching.{reached-inside}
+use Rattle.layout.proofs.Reaching.{nodes-listed, reached-inside}
 use Rattle.classes.specs.Classes.{At}
 use Rattle.unify.specs.Rows.{Operand, Placed}
 use Rattle.unify.proofs.Laying.{origin-in, origin-feature, origin-target, placed-link}
 
 module _ {n : ℕ} {g : List ℕ} (h : Operand n g) where
-  operand-lists : Lists (graphIn g) (from 0 (size g))
-  operand-lists =
-      record {
-        listed = λ v. (
-          λ r. from-member 0 (size g) v (omega arith) (omega (arith, reached-inside (h .recorded .sound) v r)),
-          λ m. h .reached v (omega (arith, from-range 0 (size g) v m)),
-        );
-        features = λ v w f r e. link-known (h .recorded .sound) v f w (reached-inside (h .recorded .sound) v r) e .0;
-      }
-
   -- a link of the graph stands at a place of the pool, and a place of the pool is a link of the graph
   module _ {shift : ℕ} (few : shift ≤ 255) {start end pool : List ℕ} (p : Placed g shift start end pool) where
     side-in : (v w f : ℕ) → v < size g → graphIn g .link v f ≡ some w →
@@ -56,8 +46,8 @@ operands left right =
     record {
       tells-left = tells-eqb;
       tells-right = tells-eqb;
-      lists-left = operand-lists left;
-      lists-right = operand-lists right;
+      lists-left = nodes-listed (left .recorded .sound) (left .reached);
+      lists-right = nodes-listed (right .recorded .sound) (right .reached);
     }
 
 -- the number of a node

@@ -8,7 +8,7 @@ use lib.ListN.{getD}
 use Rattle.graphs.specs.Rows.{from}
 use Rattle.lattice.specs.Label.{Label, plain}
 use Rattle.lattice.specs.Labels.{Known}
-use Rattle.lattice.specs.Sets.{Ready, meetIn}
+use Rattle.bounds.specs.Sets.{Seekable, meetIn}
 use Rattle.layout.specs.Layout.{size, header, labelAt, labelFrom}
 use Rattle.unify.specs.Outcome.{meetsOf}
 
@@ -35,7 +35,7 @@ MeetsBelow n meets = (i j : ℕ) → i < n → j < n → meets i j < n
 -- the meets of n types as they are held
 pub record Meeting (n : ℕ) (sets : List ℕ) (cells : List (List ℕ)) : Type 0 where
   pub below : MeetsBelow n (meetIn n sets cells)
-  pub ready : Ready false n sets
+  pub ready : Seekable false n sets
 
 -- the label of the class c, in words that hold headers alone
 abbrev pub labelOfClass : List ℕ → ℕ → Label

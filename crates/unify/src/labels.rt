@@ -12,7 +12,7 @@ ghost use lib.ListN.{length, getD};
 ghost use mathlib.Core.Path.{_≡_};
 ghost use mathlib.Core.Bool.{false};
 ghost use Rattle.lattice.specs.Label.{plain};
-ghost use Rattle.lattice.specs.Sets.{Ready, meetIn};
+ghost use Rattle.bounds.specs.Sets.{Seekable, meetIn};
 ghost use Rattle.layout.specs.Builder.{stated};
 ghost use Rattle.graphs.specs.Rows.{from};
 ghost use Rattle.graphs.specs.Unify.{anyOf};
@@ -24,17 +24,17 @@ ghost use Rattle.unify.specs.Rows.{Operand};
 // The meet of two labels over n types: the meet of their types, and the overlap of their ranges.
 fn meet<'a>(
     n: usize,
-    sets: &'a [u64; lattice::sets::WORDS],
+    sets: &'a [u64; bounds::sets::WORDS],
     cells: &'a [[u8; 64]; 64],
     a: Label,
     b: Label,
 ) -> Label
     requires { ⌜ (a .kind < n) × (b .kind < n) × (n ≤ 64) ⌝ }
-    requires { ⌜ Ready false n (now sets) ⌝ }
+    requires { ⌜ Seekable false n (now sets) ⌝ }
     ensures { λ r. ⌜ stated r ≡ meetLabels (meetIn n (now (sets .entry)) (now (cells .entry))) (stated a) (stated b) ⌝ }
 {
     Label {
-        kind: lattice::sets::meet(n, sets, cells, a.kind as usize, b.kind as usize),
+        kind: bounds::sets::meet(n, sets, cells, a.kind as usize, b.kind as usize),
         lowest: layout::greater(a.lowest, b.lowest),
         highest: layout::lesser(a.highest, b.highest),
     }
@@ -43,7 +43,7 @@ fn meet<'a>(
 // Meets the label of each node's class with the node's label, the last node first. Node v of the graph is node shift + v of both.
 fn lower<'a>(
     n: usize,
-    sets: &'a [u64; lattice::sets::WORDS],
+    sets: &'a [u64; bounds::sets::WORDS],
     cells: &'a [[u8; 64]; 64],
     graph: &'a [u16],
     class: &'a [u16; 510],
@@ -52,7 +52,7 @@ fn lower<'a>(
 )
     requires { ⌜ Recorded (now graph) ⌝ }
     requires { ⌜ (shift ≤ 255) × (length (now labels) ≡ labelWords) ⌝ }
-    requires { ⌜ Lowerable n (meetIn n (now sets) (now cells)) (now graph) (now labels) × Ready false n (now sets) ⌝ }
+    requires { ⌜ Lowerable n (meetIn n (now sets) (now cells)) (now graph) (now labels) × Seekable false n (now sets) ⌝ }
     requires { ⌜ ((v : ℕ) → v < size (now graph) → getD (now class) (shift + v) 0 < 510) ⌝ }
     ensures { λ _. ⌜ length (now (labels .exit)) ≡ labelWords ⌝ }
     ensures { λ _. ⌜ Below n (now (labels .exit)) ⌝ }
@@ -94,7 +94,7 @@ fn clear(n: usize, nodes: usize, labels: &mut [u16; LABELS])
 // The labels of the classes of two graphs' nodes over n types: top, met with the labels of the nodes.
 pub fn class_labels<'a>(
     n: usize,
-    sets: &'a [u64; lattice::sets::WORDS],
+    sets: &'a [u64; bounds::sets::WORDS],
     cells: &'a [[u8; 64]; 64],
     a: &'a [u16],
     b: &'a [u16],

@@ -9,7 +9,7 @@ use native.Mathlib.Decide.{ℕ-discrete}
 use borrow.Author.Count.{below-none, below-more}
 use lib.ListN.{length, getD, set, replicate, length-set, length-replicate}
 use lib.Seq.{getD-set-same, getD-set-other}
-use Rattle.visits.specs.declared.cycle.Leaving.the-variants.{Count, Back}
+use Rattle.visits.specs.declared.sorting.Leaving.the-variants.{Count, Back}
 use Rattle.visits.specs.Colouring.{whites, Placed, Advanced, Entered, Leaves}
 use Rattle.layout.specs.Layout.{size, linksFrom, rowEnd, targetAt, Sound}
 use Rattle.visits.specs.Walks.{Leads, Reaches, Sorts}

@@ -17,7 +17,7 @@ use Rattle.graphs.proofs.Lists.{reverse-snoc}
 use Rattle.layout.specs.Layout.{scale, size, linksFrom, rowEnd, targetAt, Sound}
 use Rattle.layout.proofs.Numbering.{number-next}
 use Rattle.visits.specs.Walks.{eachTarget, targetsAt, visitTargets, Numbers}
-use Rattle.visits.specs.Visiting.{seenOf, numberAmong, Marks, Ready, below, Finds}
+use Rattle.visits.specs.Visiting.{seenOf, numberAmong, Marks, Visitable, below, Finds}
 
 -- The nodes seen.
 
@@ -117,7 +117,7 @@ pub record Follows (ws : List ℕ) (v depth : ℕ) (found : Option (List ℕ)) (
   pub marks : Marks ws numbers visited count
   pub whole : found ≡ eachTarget (visitTargets (targetsAt ws) depth) (targetsFrom ws k (rowEnd ws v)) (seenOf visited count)
 
-pub follow : {ws numbers visited : List ℕ} {v given : ℕ} (depth : ℕ) → Ready ws numbers visited v given →
+pub follow : {ws numbers visited : List ℕ} {v given : ℕ} (depth : ℕ) → Visitable ws numbers visited v given →
     Follows ws v depth (below ws depth v (seenOf (set visited given v) given)) (set numbers v given) (set visited given v) (given + 1)
     (linksFrom ws v)
 unfolding targetsAt
@@ -134,7 +134,7 @@ follow {ws} {numbers} {visited} {v} {given} depth r =
     }
 
 -- the places that say where the row of a node lies
-pub listed : {ws numbers visited : List ℕ} {v given : ℕ} → Ready ws numbers visited v given → v + 2 < length ws
+pub listed : {ws numbers visited : List ℕ} {v given : ℕ} → Visitable ws numbers visited v given → v + 2 < length ws
 listed {v = v} r = r .sound .shaped .node v (r .inside) .listed
 
 -- the same, of arrays that are equal
@@ -145,7 +145,7 @@ pub follows-as : {ws numbers visited : List ℕ} {v depth count k : ℕ} {found 
 follows-as p q e f = rw (p, q, e) f
 
 -- what was found, in the terms of the entry
-pub entered : {ws numbers visited : List ℕ} {v given : ℕ} → Ready ws numbers visited v given →
+pub entered : {ws numbers visited : List ℕ} {v given : ℕ} → Visitable ws numbers visited v given →
     (depth r : ℕ) (numbers′ visited′ : List ℕ) →
     Finds ws (below ws depth v (seenOf (set visited given v) given)) r numbers′ visited′ →
     Finds ws (below ws depth v (seenOf visited given)) r numbers′ visited′
@@ -239,7 +239,7 @@ module _ {ws numbers visited : List ℕ} {v depth count k : ℕ} {found : Option
           (fails (ap (λ (d : ℕ). visitTargets (targetsAt ws) d (targetAt ws k) (seenOf visited count)) e ∙
           visit-bottom (targetsAt ws) (targetAt ws k) (seenOf visited count) missed))
 
-      pub ready : count < 255 → Ready ws numbers visited (targetAt ws k) count
+      pub ready : count < 255 → Visitable ws numbers visited (targetAt ws k) count
       ready h = record { sound = f .sound; marks = f .marks; inside = target-in; fresh = fresh; room = h }
 
       -- and is visited

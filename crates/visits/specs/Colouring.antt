@@ -4,8 +4,8 @@ use mathlib.Core.Path.{_≡_}
 use mathlib.Core.List.{List, [], _∷_}
 use Prim.Native.Nat.{ℕ, zero, suc, _+_, _-_, _≤_, _<_}
 use lib.ListN.{length, getD}
-use Rattle.visits.specs.declared.cycle.Leaving.{Leaving}
-use Rattle.visits.specs.declared.cycle.Leaving.the-variants.{Count, Back}
+use Rattle.visits.specs.declared.sorting.Leaving.{Leaving}
+use Rattle.visits.specs.declared.sorting.Leaving.the-variants.{Count, Back}
 use Rattle.layout.specs.Layout.{size, Sound}
 use Rattle.visits.specs.Walks.{Leads, Reaches}
 

@@ -27,7 +27,7 @@ pub record Marks (ws numbers visited : List ℕ) (count : ℕ) : Type 0 where
   pub placed : (i : ℕ) → i < count → getD numbers (getD visited i 0) 0 ≡ i
 
 -- v is a node without a number, and there is room for one more
-pub record Ready (ws numbers visited : List ℕ) (v given : ℕ) : Type 0 where
+pub record Visitable (ws numbers visited : List ℕ) (v given : ℕ) : Type 0 where
   pub sound : Sound ws
   pub marks : Marks ws numbers visited given
   pub inside : v < size ws

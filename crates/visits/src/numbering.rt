@@ -4,7 +4,7 @@ ghost use mathlib.Core.Path.{_≡_};
 ghost use Prim.Native.Nat.{ℕ, _≤_, _<_};
 ghost use lib.ListN.{length, getD};
 ghost use Rattle.layout.specs.Layout.{Sound};
-ghost use Rattle.visits.specs.Visiting.{Finds, Ready, below, seenOf};
+ghost use Rattle.visits.specs.Visiting.{Finds, Visitable, below, seenOf};
 ghost use Rattle.visits.specs.Walks.{Numbers};
 
 // The number of a node that has none yet.
@@ -20,16 +20,16 @@ fn visit<'a>(
     depth: usize,
     given: usize,
 ) -> usize
-    requires { ⌜ Ready (now graph) (now numbers) (now visited) v given ⌝ }
+    requires { ⌜ Visitable (now graph) (now numbers) (now visited) v given ⌝ }
     ensures { λ r. ⌜ Finds (now (graph .entry)) (below (now (graph .entry)) depth v (seenOf (now (visited .entry)) given)) r (now (numbers .exit)) (now (visited .exit)) ⌝ }
 {
     numbers[v] = given as u16;
     visited[given] = v as u16;
     let mut count = given + 1;
     let end = graph[v + 2] as usize;
-    let mut k = graph[v + 1] as usize + layout::HEADER;
+    let mut k = layout::links_from(graph, v);
     while k < end {
-        let w = (graph[k] % layout::SCALE) as usize;
+        let w = layout::target(graph[k]);
         if numbers[w] == NONE {
             if 255 <= count {
                 return 256;

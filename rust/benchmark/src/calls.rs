@@ -66,13 +66,13 @@ pub const CALLS: [Call; 5] = [
         name: "common part",
         engine: |x, out| record_engine::generalize(x.n, &x.table, &x.general, &x.other, out).ok(),
         peer: |x, out| peer::generalize(x.n, &x.table, &x.general, &x.other, out).ok(),
-        reference: |x, out| length(calls::common_part(x.n, &x.table, &x.general, &x.other, out)),
+        reference: |x, out| length(calls::generalize(x.n, &x.table, &x.general, &x.other, out)),
     },
     Call {
         name: "combination",
         engine: |x, out| record_engine::unify(x.n, &x.table, &x.general, &x.other, out).ok(),
         peer: |x, out| peer::unify(x.n, &x.table, &x.general, &x.other, out).ok(),
-        reference: |x, out| length(calls::combination(x.n, &x.table, &x.general, &x.other, out)),
+        reference: |x, out| length(calls::unify(x.n, &x.table, &x.general, &x.other, out)),
     },
     Call {
         name: "difference",

@@ -1,195 +1,105 @@
-//! The calls of both engines in one form, with the replies of the reference.
+//! The calls of both engines in one form. They have the same names and parameters there.
 
-use record_engine::{GraphFault, Refusal, Side, TableFault};
+use crate::told::Told;
 use reference::calls;
-use reference::order::Order;
 use reference::random::TableBytes;
-use reference::record;
-use reference::reply::{self, Reply};
-use reference::table;
+use reference::record::{LONGEST_RECORD, MOST_LINKS};
+use reference::reply::Reply;
 
-/// A table, one or two records, an output. Where a call takes a list it stands before
-/// the records.
-type Engine = fn(&TableBytes, &[&[u8]], &mut [u8]) -> Reply;
+/// A table, the records, a list before them where the call takes one, and the outputs.
+/// A call leaves out records that it does not take.
+type Engine<T> = fn(&TableBytes, &[&[u8]], &mut [&mut [u8]]) -> T;
+
+/// One output of a call.
+#[derive(Clone, Copy)]
+pub struct Output {
+    /// So many bytes are never too few.
+    pub longest: usize,
+    /// The number of the refusal where it has too few.
+    pub short: u8,
+}
+
+const RECORD: Output = Output {
+    longest: LONGEST_RECORD,
+    short: 8,
+};
+
+const REASONS: Output = Output {
+    longest: MOST_LINKS,
+    short: 22,
+};
 
 /// One call, by the proved engine and by the reference.
 #[derive(Clone, Copy)]
 pub struct Call {
     /// The proved engine's.
-    pub engine: Engine,
+    pub engine: Engine<Told>,
     /// The reference's.
-    pub reference: Engine,
+    pub reference: Engine<Reply>,
+    /// The outputs that it takes; the first is for a record.
+    pub outputs: &'static [Output],
+    /// The call that writes the same record and nothing beside it.
+    pub plain: Option<&'static Call>,
+}
+
+/// The call of a name, by what it takes after the table and by its outputs.
+macro_rules! call {
+    ($name:ident($($input:ident),*; $($output:ident: $kind:expr),*)) => {
+        Call {
+            engine: |table, inputs, outputs| {
+                let ([$($input,)* ..], [$($output),*]) = (inputs, outputs) else {
+                    panic!("other inputs or outputs than {} takes", stringify!($name));
+                };
+                record_engine::$name(table.n, &table.bytes, $($input,)* $($output),*).into()
+            },
+            reference: |table, inputs, outputs| {
+                let ([$($input,)* ..], [$($output),*]) = (inputs, outputs) else {
+                    panic!("other inputs or outputs than {} takes", stringify!($name));
+                };
+                calls::$name(table.n, &table.bytes, $($input,)* $($output),*)
+            },
+            outputs: &[$($kind),*],
+            plain: None,
+        }
+    };
 }
 
 /// A record in written form.
-pub const REWRITE: Call = Call {
-    engine: |table, records, output| {
-        written(record_engine::rewrite(
-            table.n,
-            &table.bytes,
-            records[0],
-            output,
-        ))
-    },
-    reference: |table, records, output| calls::rewrite(table.n, &table.bytes, records[0], output),
-};
+pub const REWRITE: Call = call!(rewrite(graph; output: RECORD));
 
 /// Which is the broader, seen from the first; nothing is written.
-pub const ORDER: Call = Call {
-    engine: |table, records, _| {
-        record_engine::order(table.n, &table.bytes, records[0], records[1])
-            .map_or_else(refused, |order| Reply::Order(ordered(order)))
-    },
-    reference: |table, records, _| calls::order(table.n, &table.bytes, records[0], records[1]),
-};
+pub const ORDER: Call = call!(order(first, second;));
 
 /// The common part.
-pub const GENERALIZE: Call = Call {
-    engine: |table, records, output| pair(record_engine::generalize, table, records, output),
-    reference: |table, records, output| judged(calls::common_part, table, records, output),
-};
+pub const GENERALIZE: Call = call!(generalize(first, second; output: RECORD));
 
 /// The combination.
-pub const UNIFY: Call = Call {
-    engine: |table, records, output| pair(record_engine::unify, table, records, output),
-    reference: |table, records, output| judged(calls::combination, table, records, output),
-};
+pub const UNIFY: Call = call!(unify(first, second; output: RECORD));
 
 /// The difference of the first, which is the general one, and the second.
-pub const DIFFERENCE: Call = Call {
-    engine: |table, records, output| pair(record_engine::difference, table, records, output),
-    reference: |table, records, output| judged(calls::difference, table, records, output),
-};
+pub const DIFFERENCE: Call = call!(difference(general, specific; output: RECORD));
 
 /// A record that obeys a list in written form.
-pub const REWRITE_APPROPRIATE: Call = Call {
-    engine: |table, records, output| {
-        let [list, record] = [0, 1].map(|place| records[place]);
-        let (n, table) = (table.n, &table.bytes);
-        written(record_engine::rewrite_appropriate(
-            n, table, list, record, output,
-        ))
-    },
-    reference: |table, records, output| {
-        let [list, record] = [0, 1].map(|place| records[place]);
-        calls::rewrite_appropriate(table.n, &table.bytes, list, record, output)
-    },
-};
+pub const REWRITE_APPROPRIATE: Call = call!(rewrite_appropriate(list, graph; output: RECORD));
 
 /// The common part of two records that obey a list.
-pub const GENERALIZE_APPROPRIATE: Call = Call {
-    engine: |table, records, output| {
-        pair_by_list(
-            record_engine::generalize_appropriate,
-            table,
-            records,
-            output,
-        )
-    },
-    reference: |table, records, output| {
-        judged_by_list(calls::common_part_appropriate, table, records, output)
-    },
-};
+pub const GENERALIZE_APPROPRIATE: Call =
+    call!(generalize_appropriate(list, first, second; output: RECORD));
 
 /// The combination of two records that obey a list.
-pub const UNIFY_APPROPRIATE: Call = Call {
-    engine: |table, records, output| {
-        pair_by_list(record_engine::unify_appropriate, table, records, output)
-    },
-    reference: |table, records, output| {
-        judged_by_list(calls::combination_appropriate, table, records, output)
-    },
+pub const UNIFY_APPROPRIATE: Call = call!(unify_appropriate(list, first, second; output: RECORD));
+
+/// The difference by a list of all features.
+pub const DIFFERENCE_BY: Call = call!(difference_by(list, general, specific; output: RECORD));
+
+/// The difference with its reasons.
+pub const DIFFERENCE_EXPLAINED: Call = Call {
+    plain: Some(&DIFFERENCE),
+    ..call!(difference_explained(general, specific; output: RECORD, reasons: REASONS))
 };
 
-/// The difference of the first and the second by a list of all features.
-pub const DIFFERENCE_BY: Call = Call {
-    engine: |table, records, output| {
-        pair_by_list(record_engine::difference_by, table, records, output)
-    },
-    reference: |table, records, output| {
-        judged_by_list(calls::difference_by, table, records, output)
-    },
+/// The difference by a list of all features with its reasons.
+pub const DIFFERENCE_EXPLAINED_BY: Call = Call {
+    plain: Some(&DIFFERENCE_BY),
+    ..call!(difference_explained_by(list, general, specific; output: RECORD, reasons: REASONS))
 };
-
-/// A call of the proved engine on two records.
-type Pair = fn(usize, &[u8], &[u8], &[u8], &mut [u8]) -> Result<usize, Refusal>;
-
-fn pair(call: Pair, table: &TableBytes, records: &[&[u8]], output: &mut [u8]) -> Reply {
-    written(call(table.n, &table.bytes, records[0], records[1], output))
-}
-
-/// The same call of the reference.
-fn judged(call: calls::Call, table: &TableBytes, records: &[&[u8]], output: &mut [u8]) -> Reply {
-    call(table.n, &table.bytes, records[0], records[1], output)
-}
-
-/// A call of the proved engine on two records with a list.
-type PairByList = fn(usize, &[u8], &[u8], &[u8], &[u8], &mut [u8]) -> Result<usize, Refusal>;
-
-fn pair_by_list(
-    call: PairByList,
-    table: &TableBytes,
-    records: &[&[u8]],
-    output: &mut [u8],
-) -> Reply {
-    let [list, first, second] = [0, 1, 2].map(|place| records[place]);
-    written(call(table.n, &table.bytes, list, first, second, output))
-}
-
-/// The same call of the reference.
-fn judged_by_list(
-    call: calls::CallWithList,
-    table: &TableBytes,
-    records: &[&[u8]],
-    output: &mut [u8],
-) -> Reply {
-    let [list, first, second] = [0, 1, 2].map(|place| records[place]);
-    call(table.n, &table.bytes, list, first, second, output)
-}
-
-/// The reply of a call of the proved engine that writes a record.
-pub fn written(result: Result<usize, Refusal>) -> Reply {
-    result.map_or_else(refused, Reply::Length)
-}
-
-fn ordered(order: record_engine::Order) -> Order {
-    match order {
-        record_engine::Order::Same => Order::Same,
-        record_engine::Order::Under => Order::Under,
-        record_engine::Order::Above => Order::Above,
-        record_engine::Order::Neither => Order::Neither,
-    }
-}
-
-fn refused(refusal: Refusal) -> Reply {
-    Reply::Refused(match refusal {
-        Refusal::Table(fault) => reply::Refusal::Table(match fault {
-            TableFault::Size => table::TableFault::Size,
-            TableFault::Order => table::TableFault::Order,
-            TableFault::Bounds => table::TableFault::Lattice,
-        }),
-        Refusal::Graph(fault, side) => {
-            let fault = match fault {
-                GraphFault::Malformed => record::GraphFault::Shape,
-                GraphFault::OutOfRange => record::GraphFault::Value,
-                GraphFault::Cyclic => record::GraphFault::Cycle,
-                GraphFault::Unreached => record::GraphFault::Unreached,
-                GraphFault::Inappropriate => record::GraphFault::Inappropriate,
-            };
-            let which = match side {
-                Side::First => reply::Which::First,
-                Side::Second => reply::Which::Second,
-            };
-            reply::Refusal::Graph(fault, which)
-        }
-        Refusal::NoRoom => reply::Refusal::ShortOutput,
-        Refusal::Cycle => reply::Refusal::Loop,
-        Refusal::Clash => reply::Refusal::Clash,
-        Refusal::TooLarge => reply::Refusal::TooLarge,
-        Refusal::NotBelow => reply::Refusal::NotBelow,
-        Refusal::NoWantedType => reply::Refusal::NoWantedType,
-        Refusal::TypeList => reply::Refusal::TypeList,
-        Refusal::FeatureList => reply::Refusal::FeatureList,
-        Refusal::NoRoomForReasons => reply::Refusal::ShortReasons,
-    })
-}

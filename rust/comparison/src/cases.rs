@@ -43,7 +43,7 @@ fn over_diamond(operation: Operation, first: &str, second: &str) -> Vec<u8> {
 
 /// An input over the diamond with records that are no graphs.
 fn with_records(first: &[u8], second: &[u8]) -> Vec<u8> {
-    asked(Operation::Common, &random::diamond(), first, second)
+    asked(Operation::Generalize, &random::diamond(), first, second)
 }
 
 /// An input with a table as it is and two lone tops of the diamond.
@@ -98,16 +98,13 @@ pub fn cases() -> Vec<Case> {
 }
 
 fn fittings(add: &mut impl FnMut(&'static str, Vec<u8>)) {
-    use Operation::{Combine, Common, Difference, Order};
-    add("case 1", over_diamond(Common, "a[0: b]", "b"));
-    add("case 2", over_diamond(Combine, "a", "b"));
-    add("case 3", over_diamond(Combine, P, "top[0: a, 1: top]"));
-    add("case 4", over_diamond(Combine, P, "top[0: a, 1: b]"));
-    add(
-        "case 5",
-        over_diamond(Combine, P, "top[0: Z a, 1: b[0: Z]]"),
-    );
-    add("case 6", over_diamond(Common, P, Q));
+    use Operation::{Difference, Generalize, Order, Unify};
+    add("case 1", over_diamond(Generalize, "a[0: b]", "b"));
+    add("case 2", over_diamond(Unify, "a", "b"));
+    add("case 3", over_diamond(Unify, P, "top[0: a, 1: top]"));
+    add("case 4", over_diamond(Unify, P, "top[0: a, 1: b]"));
+    add("case 5", over_diamond(Unify, P, "top[0: Z a, 1: b[0: Z]]"));
+    add("case 6", over_diamond(Generalize, P, Q));
     add("case 7", over_diamond(Difference, P, R));
     add("case 8", over_diamond(Difference, Q, R));
     add("case 9", over_diamond(Difference, R, R));
@@ -140,13 +137,13 @@ fn fittings(add: &mut impl FnMut(&'static str, Vec<u8>)) {
     ] {
         let first = record::write(&random::chain_graph(nodes, 0, 3));
         let second = record::write(&random::chain_graph(128, 1, 3));
-        add(name, asked(Combine, &random::diamond(), &first, &second));
+        add(name, asked(Unify, &random::diamond(), &first, &second));
     }
     // Case 15 is about an output one byte short, and the program lends the longest.
     let longest = record::write(&longest());
     add(
         "the longest record",
-        asked(Combine, &random::diamond(), &longest, &longest),
+        asked(Unify, &random::diamond(), &longest, &longest),
     );
     add("order: itself", over_diamond(Order, P, P));
     add("order: shared", over_diamond(Order, P, Q));
@@ -229,12 +226,12 @@ fn graphs(add: &mut impl FnMut(&'static str, Vec<u8>)) {
     let [first, second] = [&full(33), &random::chain_graph(2, 63, 3)].map(record::write);
     add(
         "a combination of 2,048 links",
-        asked(Operation::Combine, &random::diamond(), &first, &second),
+        asked(Operation::Unify, &random::diamond(), &first, &second),
     );
     let [first, second] = disjoint_links();
     add(
         "11: more than 2,048 links",
-        asked(Operation::Combine, &random::diamond(), &first, &second),
+        asked(Operation::Unify, &random::diamond(), &first, &second),
     );
 }
 
@@ -311,34 +308,34 @@ fn bad_inputs(add: &mut impl FnMut(&'static str, Vec<u8>)) {
 }
 
 fn ranges(add: &mut impl FnMut(&'static str, Vec<u8>)) {
-    use Operation::{Combine, Common, Difference, Order};
+    use Operation::{Difference, Generalize, Order, Unify};
     add(
         "ranges: two that overlap",
-        over_diamond(Combine, "a{10..100}", "top{50..200}"),
+        over_diamond(Unify, "a{10..100}", "top{50..200}"),
     );
     add(
         "ranges: two that overlap in one level",
-        over_diamond(Combine, "a{0..50}", "a{50..255}"),
+        over_diamond(Unify, "a{0..50}", "a{50..255}"),
     );
     add(
         "ranges: two that do not overlap",
-        over_diamond(Combine, "a{0..50}", "a{51..255}"),
+        over_diamond(Unify, "a{0..50}", "a{51..255}"),
     );
     add(
         "ranges: two that do not overlap where paths share",
-        over_diamond(Combine, P, "top[0: top{0..50}, 1: top{51..255}]"),
+        over_diamond(Unify, P, "top[0: top{0..50}, 1: top{51..255}]"),
     );
     add(
         "ranges: a loop before two that do not overlap",
-        over_diamond(Combine, P, "top[0: Z top{0..50}, 1: top{51..255}[0: Z]]"),
+        over_diamond(Unify, P, "top[0: Z top{0..50}, 1: top{51..255}[0: Z]]"),
     );
     add(
         "ranges: a common part that widens",
-        over_diamond(Common, "a{10..20}[0: b]", "a{90..100}[0: b{7..7}]"),
+        over_diamond(Generalize, "a{10..20}[0: b]", "a{90..100}[0: b{7..7}]"),
     );
     add(
         "ranges: a common part that widens to the full range",
-        over_diamond(Common, "a{0..20}", "b{90..255}"),
+        over_diamond(Generalize, "a{0..20}", "b{90..255}"),
     );
     let general = "a[0: b{10..200}, 1: b]";
     let specific = "a[0: b{10..100}, 1: b]";
@@ -369,7 +366,7 @@ fn ranges(add: &mut impl FnMut(&'static str, Vec<u8>)) {
     let spelled = record::write_spelling(&notation::graph(3, "a[0: b{1..2}, 1: top]"), |_| true);
     add(
         "ranges: full ones spelled out and rewritten",
-        asked(Combine, &random::diamond(), &spelled, &spelled),
+        asked(Unify, &random::diamond(), &spelled, &spelled),
     );
     add(
         "ranges: a full one spelled out is the same",
@@ -387,7 +384,7 @@ fn ranges(add: &mut impl FnMut(&'static str, Vec<u8>)) {
     let longest = record::write(&longest);
     add(
         "ranges: the longest record",
-        asked(Combine, &random::diamond(), &longest, &longest),
+        asked(Unify, &random::diamond(), &longest, &longest),
     );
     let lone = record_of("top");
     let mut both = |names: [&'static str; 2], record: &[u8]| {

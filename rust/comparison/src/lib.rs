@@ -5,24 +5,24 @@
 
 mod calls;
 pub mod cases;
-mod explained;
+mod lent;
 pub mod program;
+mod told;
 
-pub use calls::{Call, DIFFERENCE, DIFFERENCE_BY, GENERALIZE, ORDER, REWRITE, UNIFY};
+pub use calls::{Call, DIFFERENCE, GENERALIZE, ORDER, REWRITE, UNIFY};
+pub use calls::{DIFFERENCE_BY, DIFFERENCE_EXPLAINED, DIFFERENCE_EXPLAINED_BY};
 pub use calls::{GENERALIZE_APPROPRIATE, REWRITE_APPROPRIATE, UNIFY_APPROPRIATE};
-pub use explained::Explanations;
 
+use lent::{Lent, outputs};
 use reference::order::Order;
-use reference::random::{self, TableBytes, Xorshift};
-use reference::record::LONGEST_RECORD;
-use reference::reply::{Refusal, Reply};
+use reference::random::{self, Ranges, Shape, TableBytes, Xorshift};
+use reference::record;
+use reference::reply::Reply;
 use std::thread;
-
-/// Bytes on each side of an output, which no call may change.
-const MARGIN: usize = 16;
+use told::Told;
 
 /// One more than the greatest number of a refusal.
-const NUMBERS: usize = 23;
+const NUMBERS: usize = 25;
 
 /// The stack that the header, the wrapper and the README state for a call.
 const STACK: usize = 256 << 10;
@@ -37,65 +37,19 @@ pub fn on_stated_stack<T: Send>(calls: impl FnOnce() -> T + Send) -> T {
     })
 }
 
-/// An output in the midst of bytes that tell a stray write.
-#[derive(Clone, PartialEq, Eq)]
-struct Lent {
-    bytes: Vec<u8>,
-}
-
-impl Lent {
-    /// An output of a given length that holds any bytes.
-    fn new(random: &mut Xorshift, room: usize) -> Lent {
-        let start = random.pick(256);
-        let bytes = (0..MARGIN + room + MARGIN).map(|place| (start + 167 * place) as u8);
-        Lent {
-            bytes: bytes.collect(),
-        }
-    }
-
-    fn output(&mut self) -> &mut [u8] {
-        let end = self.bytes.len() - MARGIN;
-        &mut self.bytes[MARGIN..end]
-    }
-
-    /// The first bytes of the output, so many.
-    fn first(&self, count: usize) -> Vec<u8> {
-        self.bytes[MARGIN..MARGIN + count].to_vec()
-    }
-}
-
-/// How often each length and each refusal came, by the papers' numbers; lengths at 0.
-#[derive(Debug, Default)]
-struct Replies([usize; NUMBERS]);
-
-impl Replies {
-    fn count(&mut self, reply: Reply) {
-        self.0[usize::from(reply.number().unwrap_or(0))] += 1;
-    }
-
-    /// From the stored seeds, each of these came at least so often, and no other at all.
-    fn assert(&self, numbers: &[usize], least: usize) {
-        for (number, &count) in self.0.iter().enumerate() {
-            let enough = match numbers.contains(&number) {
-                true => count >= least,
-                false => count == 0,
-            };
-            let enough = enough || !random::is_stored();
-            assert!(enough, "reply {number}: {self:?}");
-        }
-    }
-}
-
 /// Both engines at one call, and how often each reply came.
 pub struct Comparison {
     call: Call,
     random: Xorshift,
     inputs: usize,
-    replies: Replies,
+    /// The number of lengths, at 0, and of refusals, by the papers' number.
+    replies: [usize; NUMBERS],
     /// The number of refusals of the first graph and of the second, by the papers' number.
     sides: [[usize; 2]; NUMBERS],
     /// The number of the order's answers, by their places in `Order::ALL`.
     answers: [usize; 4],
+    /// The number of reasons, by their bytes.
+    reasons: [usize; 4],
 }
 
 impl Comparison {
@@ -105,75 +59,150 @@ impl Comparison {
             call,
             random: Xorshift::stored(seed),
             inputs: 0,
-            replies: Replies::default(),
+            replies: [0; NUMBERS],
             sides: [[0; 2]; NUMBERS],
             answers: [0; 4],
+            reasons: [0; 4],
         }
     }
 
-    /// How many inputs were compared.
-    pub fn inputs(&self) -> usize {
-        self.inputs
-    }
-
-    /// The reply to an input where there is room for any record. The same input is
-    /// also called with an output of the result's length, one byte less, and another.
+    /// The reply to an input where each output has room enough. The same input is also
+    /// called with outputs of no bytes and of any length, and where it has a result, with
+    /// outputs as long as what is written, shorter by one byte, each by itself and
+    /// together, and longer.
     pub fn check(&mut self, table: &TableBytes, records: &[&[u8]]) -> Reply {
         self.inputs += 1;
-        let (reply, _) = self.call(table, records, LONGEST_RECORD);
-        let any = self.random.pick(LONGEST_RECORD);
-        match reply {
-            Reply::Length(length) => {
-                let other = *self.random.choose(&[0, length + 1, any]);
-                for room in [length, length - 1, other] {
-                    let expected = (room < length).then_some(8);
-                    assert_eq!(self.call(table, records, room).0.number(), expected);
-                }
-            }
-            Reply::Order(_) => {}
+        let outputs = self.call.outputs;
+        let longest = self.longest();
+        let (reply, lent) = self.make(table, records, &longest);
+        self.check_plain(table, records, reply, &lent);
+        let none = vec![0; outputs.len()];
+        let any: Vec<usize> = longest.iter().map(|&most| self.random.pick(most)).collect();
+        let length = match reply {
+            Reply::Length(length) => length,
+            Reply::Order(_) => return reply,
             Reply::Refused(_) => {
-                for room in [0, any] {
-                    assert_eq!(self.call(table, records, room).0, reply);
+                for rooms in [none, any] {
+                    assert_eq!(self.make(table, records, &rooms).0, reply);
                 }
+                return reply;
             }
+        };
+        let filled = self.filled(table, &lent, length);
+        let more = self.random.between(1, 9);
+        let mut lengths = exact_and_short(&filled);
+        lengths.push(filled.iter().map(|count| count + more).collect());
+        lengths.extend([any, none]);
+        for rooms in lengths {
+            let short = (0..outputs.len()).find(|&place| rooms[place] < filled[place]);
+            let expected = short.map(|place| outputs[place].short);
+            let (reply, _) = self.make(table, records, &rooms);
+            assert_eq!(reply.number(), expected, "{rooms:?}");
         }
         reply
     }
 
-    /// One call of each engine with an output of a given length: the reply, and the
-    /// record that was written.
-    pub fn call(&mut self, table: &TableBytes, records: &[&[u8]], room: usize) -> (Reply, Vec<u8>) {
-        let mut by_engine = Lent::new(&mut self.random, room);
-        let mut by_reference = by_engine.clone();
-        let engine = (self.call.engine)(table, records, by_engine.output());
-        let reference = (self.call.reference)(table, records, by_reference.output());
+    /// The reply to an input where each output has room enough, and the record that is
+    /// written.
+    pub fn answer(&mut self, table: &TableBytes, records: &[&[u8]]) -> (Reply, Vec<u8>) {
+        let longest = self.longest();
+        self.answer_within(table, records, &longest)
+    }
+
+    /// The same with outputs of given lengths.
+    pub fn answer_within(
+        &mut self,
+        table: &TableBytes,
+        records: &[&[u8]],
+        rooms: &[usize],
+    ) -> (Reply, Vec<u8>) {
+        let (reply, lent) = self.make(table, records, rooms);
+        let record = match reply {
+            Reply::Length(length) => lent[0].first(length),
+            _ => Vec::new(),
+        };
+        (reply, record)
+    }
+
+    fn longest(&self) -> Vec<usize> {
+        let outputs = self.call.outputs.iter();
+        outputs.map(|output| output.longest).collect()
+    }
+
+    /// One call of each engine with outputs of given lengths: the reply, and what the
+    /// outputs hold. A refusal changes none of them.
+    fn make(
+        &mut self,
+        table: &TableBytes,
+        records: &[&[u8]],
+        rooms: &[usize],
+    ) -> (Reply, Vec<Lent>) {
+        let lent = rooms.iter().map(|&room| Lent::new(&mut self.random, room));
+        let before: Vec<Lent> = lent.collect();
+        let (mut by_engine, mut by_reference) = (before.clone(), before.clone());
+        let engine = (self.call.engine)(table, records, &mut outputs(&mut by_engine));
+        let reply = (self.call.reference)(table, records, &mut outputs(&mut by_reference));
         assert_eq!(
-            engine, reference,
-            "an output of {room} bytes, {table:?}, the records {records:?}"
+            engine,
+            reply.into(),
+            "outputs of {rooms:?} bytes, {table:?}, the records {records:?}"
         );
         assert!(
             by_engine == by_reference,
-            "outputs of {room} bytes differ: {table:?}, the records {records:?}"
+            "outputs of {rooms:?} bytes differ: {table:?}, the records {records:?}"
         );
-        let number = usize::from(reference.number().unwrap_or(0));
-        match reference {
-            Reply::Order(order) => self.answers[order as usize] += 1,
-            _ => self.replies.count(reference),
+        let refused = matches!(reply, Reply::Refused(_));
+        assert!(!refused || by_engine == before, "{table:?} {records:?}");
+        match engine {
+            Told::Length(_) => self.replies[0] += 1,
+            Told::Order(place) => self.answers[place] += 1,
+            Told::Refused(number, side) => {
+                let number = usize::from(number);
+                self.replies[number] += 1;
+                if let Some(side) = side {
+                    self.sides[number][side] += 1;
+                }
+            }
         }
-        if let Reply::Refused(Refusal::Graph(_, which)) = reference {
-            self.sides[number][which as usize] += 1;
+        (reply, by_engine)
+    }
+
+    /// The call that writes the record alone gives the same reply and the same record.
+    fn check_plain(&self, table: &TableBytes, records: &[&[u8]], reply: Reply, lent: &[Lent]) {
+        let Some(plain) = self.call.plain else { return };
+        let mut output = vec![0; plain.outputs[0].longest];
+        let told = (plain.engine)(table, records, &mut [&mut output]);
+        assert_eq!(told, reply.into(), "{table:?} {records:?}");
+        if let Reply::Length(length) = reply {
+            assert_eq!(output[..length], lent[0].first(length));
         }
-        let length = match reference {
-            Reply::Length(length) => length,
-            _ => 0,
+    }
+
+    /// How many bytes of each output are written where a record has this length: the
+    /// second output has a reason for each of its links, which are counted.
+    fn filled(&mut self, table: &TableBytes, lent: &[Lent], length: usize) -> Vec<usize> {
+        let [output, reasons] = lent else {
+            return vec![length];
         };
-        (reference, by_engine.first(length))
+        let graph = record::read(&table.accepted(), &output.first(length)).expect("a record");
+        let count = graph.link_count();
+        for byte in reasons.first(count) {
+            self.reasons[usize::from(byte)] += 1;
+        }
+        vec![length, count]
     }
 
     /// From the stored seeds, each of these replies came at least so often, and no other
     /// at all; 0 is a length.
     pub fn assert_replies(&self, numbers: &[usize], least: usize) {
-        self.replies.assert(numbers, least);
+        for (number, &count) in self.replies.iter().enumerate() {
+            let enough = match numbers.contains(&number) {
+                true => count >= least,
+                false => count == 0,
+            };
+            let enough = enough || !random::is_stored();
+            assert!(enough, "reply {number}: {:?}", self.replies);
+        }
     }
 
     /// From the stored seeds, each of these refusals came at least so often of the first
@@ -193,4 +222,57 @@ impl Comparison {
             assert!(enough, "{order:?}: {:?}", self.answers);
         }
     }
+
+    /// From the stored seeds, each of the three reasons came at least so often.
+    pub fn assert_reasons(&self, least: usize) {
+        let enough = self.reasons[1..].iter().all(|&count| count >= least);
+        assert!(enough || !random::is_stored(), "{:?}", self.reasons);
+    }
+}
+
+/// The lengths given, and every choice of some of them shorter by one.
+fn exact_and_short(filled: &[usize]) -> Vec<Vec<usize>> {
+    filled.iter().fold(vec![Vec::new()], |chosen, &count| {
+        let longer = chosen.iter().flat_map(|rooms| {
+            let rooms_with = |room: usize| [&rooms[..], &[room]].concat();
+            [count, count.saturating_sub(1)].map(rooms_with)
+        });
+        longer.collect()
+    })
+}
+
+/// A comparison of one call on at least so many inputs, which are drawn and checked a few
+/// at a time. The seed decides the outputs lent, and the next one the inputs.
+pub fn compare(
+    call: Call,
+    seed: u64,
+    count: usize,
+    mut draw: impl FnMut(&mut Comparison, &mut Xorshift),
+) -> Comparison {
+    let mut compared = Comparison::new(call, seed);
+    let mut random = Xorshift::stored(seed + 1);
+    while compared.inputs < count {
+        draw(&mut compared, &mut random);
+    }
+    compared
+}
+
+/// The same on pairs of mostly small records, some of any size and some damaged, over
+/// tables of which some are damaged.
+pub fn compare_pairs(call: Call, seed: u64, count: usize, ranges: Ranges) -> Comparison {
+    compare(call, seed, count, |compared, random| {
+        let table = match random.chance(1, 8) {
+            true => random::damaged_table(random),
+            false => random::valid_table(random),
+        };
+        for _ in 0..8 {
+            let shape = match random.chance(1, 10) {
+                true => Shape::any(random),
+                false => Shape::small(random, 9, 4),
+            };
+            let shape = shape.ranged(random, ranges);
+            let [first, second] = random::pair_of_records(random, &table, &shape, ranges);
+            compared.check(&table, &[&first, &second]);
+        }
+    })
 }

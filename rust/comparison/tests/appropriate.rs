@@ -3,13 +3,13 @@
 //! and n, of 63 and 65 bytes, over random, large and damaged records and tables; and
 //! that nothing but 17 and 18 differs from the plain calls.
 
-use comparison::{Call, Comparison, GENERALIZE, REWRITE, UNIFY, on_stated_stack};
+use comparison::{Call, Comparison, GENERALIZE, REWRITE, UNIFY, compare, on_stated_stack};
 use comparison::{GENERALIZE_APPROPRIATE, REWRITE_APPROPRIATE, UNIFY_APPROPRIATE};
 use record_engine::FEATURES;
 use reference::graph::Graph;
 use reference::random::{self, InputWithList, Ranges, Shape, TableBytes, Xorshift};
 use reference::record::{self, GraphFault, LONGEST_RECORD, MOST_LINKS, MOST_NODES};
-use reference::reply::{Refusal, Reply, Which};
+use reference::reply::{Refusal, Reply, Side};
 use reference::table::Table;
 
 /// The calls on two graphs, each with the plain one.
@@ -19,29 +19,24 @@ const PAIRS: [(Call, Call); 2] = [
 ];
 
 /// 18 of one of the graphs.
-const fn inappropriate(which: Which) -> Reply {
-    Reply::Refused(Refusal::Graph(GraphFault::Inappropriate, which))
+const fn inappropriate(side: Side) -> Reply {
+    Reply::Refused(Refusal::Graph(GraphFault::Inappropriate, side))
 }
 
 /// Random inputs, valid and damaged in any of their parts.
 fn compare_pairs(call: Call, seed: u64, ranges: Ranges) -> Comparison {
-    let mut compared = Comparison::new(call, seed);
-    let random = &mut Xorshift::stored(seed + 1);
-    while compared.inputs() < 20_000 {
+    compare(call, seed, 20_000, |compared, random| {
         let InputWithList {
             table,
             list,
             records: [first, second],
         } = random::input_with_list(random, ranges);
         compared.check(&table, &[&list, &first, &second]);
-    }
-    compared
+    })
 }
 
 fn compare_records(seed: u64, ranges: Ranges) -> Comparison {
-    let mut compared = Comparison::new(REWRITE_APPROPRIATE, seed);
-    let random = &mut Xorshift::stored(seed + 1);
-    while compared.inputs() < 20_000 {
+    compare(REWRITE_APPROPRIATE, seed, 20_000, |compared, random| {
         let InputWithList {
             table,
             list,
@@ -50,8 +45,7 @@ fn compare_records(seed: u64, ranges: Ranges) -> Comparison {
         for record in &records {
             compared.check(&table, &[&list, record]);
         }
-    }
-    compared
+    })
 }
 
 #[test]
@@ -147,14 +141,14 @@ fn every_kind_of_list_for_two_graphs() {
             let damaged = random::damaged_record(random, table.n, Ranges::Present);
             let tops = vec![types.top(); FEATURES];
             let obeyed = random::obeyed_list(random, types, &[&p, &q]);
-            let (expected, record) = plain.call(&table, &[&first, &second], LONGEST_RECORD);
+            let (expected, record) = plain.answer(&table, &[&first, &second]);
             for list in [&tops, &obeyed] {
-                let same = compared.call(&table, &[list, &first, &second], LONGEST_RECORD);
+                let same = compared.answer(&table, &[list, &first, &second]);
                 assert_eq!(same, (expected, record.clone()), "{table:?} {list:?}");
                 assert_eq!(compared.check(&table, &[list, &first, &second]), expected);
                 // A list that the other graph obeys leaves the faults of a record as they are.
                 for (left, right) in [(&first, &damaged), (&damaged, &second)] {
-                    let (expected, _) = plain.call(&table, &[left, right], LONGEST_RECORD);
+                    let (expected, _) = plain.answer(&table, &[left, right]);
                     if let Reply::Refused(Refusal::Graph(..)) = expected {
                         assert_eq!(compared.check(&table, &[list, left, right]), expected);
                     }
@@ -162,19 +156,19 @@ fn every_kind_of_list_for_two_graphs() {
             }
             if let Some(list) = random::broken_list(random, types, &[&p], &q) {
                 let reply = compared.check(&table, &[&list, &first, &second]);
-                assert_eq!(reply, inappropriate(Which::Second), "{table:?} {list:?}");
+                assert_eq!(reply, inappropriate(Side::Second), "{table:?} {list:?}");
                 let reply = compared.check(&table, &[&list, &second, &first]);
-                assert_eq!(reply, inappropriate(Which::First), "{table:?} {list:?}");
+                assert_eq!(reply, inappropriate(Side::First), "{table:?} {list:?}");
                 let reply = compared.check(&table, &[&list, &second, &damaged]);
-                assert_eq!(reply, inappropriate(Which::First), "{table:?} {list:?}");
+                assert_eq!(reply, inappropriate(Side::First), "{table:?} {list:?}");
                 let reply = compared.check(&table, &[&list, &second, &second]);
-                assert_eq!(reply, inappropriate(Which::First), "{table:?} {list:?}");
+                assert_eq!(reply, inappropriate(Side::First), "{table:?} {list:?}");
             }
             // An entry of 0 forbids a feature that some node has.
             if let Some(feature) = p.nodes.iter().find_map(|node| node.links.keys().last()) {
                 let list = with_entry(&obeyed, usize::from(*feature), 0);
                 let reply = compared.check(&table, &[&list, &first, &second]);
-                assert_eq!(reply, inappropriate(Which::First), "{table:?} {list:?}");
+                assert_eq!(reply, inappropriate(Side::First), "{table:?} {list:?}");
             }
             for list in refused_lists(random, table.n, &obeyed) {
                 for (left, right) in [(&first, &second), (&damaged, &second), (&first, &damaged)] {
@@ -200,20 +194,20 @@ fn every_kind_of_list_for_one_graph() {
         let tops = vec![types.top(); FEATURES];
         let obeyed = random::obeyed_list(random, types, &[&graph]);
         for list in [&tops, &obeyed] {
-            let expected = plain.call(&table, &[&record], LONGEST_RECORD);
-            let same = compared.call(&table, &[list, &record], LONGEST_RECORD);
+            let expected = plain.answer(&table, &[&record]);
+            let same = compared.answer(&table, &[list, &record]);
             assert_eq!(same, expected, "{table:?} {list:?}");
             assert_eq!(compared.check(&table, &[list, &record]), expected.0);
             // What is written obeys the list and is in written form.
-            let again = compared.call(&table, &[list, &expected.1], LONGEST_RECORD);
+            let again = compared.answer(&table, &[list, &expected.1]);
             assert_eq!(again, expected, "{table:?} {list:?}");
         }
         // Every type has every feature: what is damaged is refused as ever.
-        let (expected, _) = plain.call(&table, &[&damaged], LONGEST_RECORD);
+        let (expected, _) = plain.answer(&table, &[&damaged]);
         assert_eq!(compared.check(&table, &[&tops, &damaged]), expected);
         if let Some(list) = random::broken_list(random, types, &[], &graph) {
             let reply = compared.check(&table, &[&list, &record]);
-            assert_eq!(reply, inappropriate(Which::First), "{table:?} {list:?}");
+            assert_eq!(reply, inappropriate(Side::First), "{table:?} {list:?}");
         }
         for list in refused_lists(random, table.n, &obeyed) {
             for record in [&record, &damaged] {
@@ -326,9 +320,9 @@ fn what_is_written_obeys_the_list() {
         for _ in 0..4_000 {
             let (table, [p, q], [first, second]) = pair(random);
             let list = random::obeyed_list(random, &table.accepted(), &[&p, &q]);
-            let (reply, record) = compared.call(&table, &[&list, &first, &second], LONGEST_RECORD);
+            let (reply, record) = compared.answer(&table, &[&list, &first, &second]);
             if let Reply::Length(_) = reply {
-                let again = rewriting.call(&table, &[&list, &record], LONGEST_RECORD);
+                let again = rewriting.answer(&table, &[&list, &record]);
                 assert_eq!(again, (reply, record), "{table:?} {list:?}");
             }
         }

@@ -55,7 +55,7 @@ impl Broader {
         }
         let [(under, lower), (over, upper)] = [narrow, broad].map(|[first, second]| {
             let room = self.room();
-            self.call.call(table, &[first, second], room)
+            self.call.answer_within(table, &[first, second], &[room])
         });
         let numbers = [under, over].map(|reply| reply.number().unwrap_or(0));
         let [combines, still_combines] = numbers.map(|number| !matches!(number, 9 | 10));
@@ -78,7 +78,7 @@ impl Broader {
     }
 
     fn assert_below(&mut self, table: &TableBytes, lower: &[u8], upper: &[u8]) {
-        let (answer, _) = self.order.call(table, &[lower, upper], 0);
+        let (answer, _) = self.order.answer(table, &[lower, upper]);
         let below = matches!(answer, Reply::Order(order) if order.is_below());
         assert!(below, "{answer:?} {table:?} {lower:?} {upper:?}");
     }

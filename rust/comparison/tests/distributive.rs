@@ -2,7 +2,7 @@
 //! types as sets, numbered along, against and across their order, and over other tables
 //! numbered so, which have meets and joins looked up.
 
-use comparison::{Call, Comparison, DIFFERENCE, GENERALIZE, ORDER, REWRITE, UNIFY};
+use comparison::{Call, Comparison, DIFFERENCE, GENERALIZE, ORDER, REWRITE, UNIFY, compare};
 use reference::house;
 use reference::random::{self, Numbering, Ranges, Shape, TableBytes, Xorshift};
 use reference::table::{MOST_TYPES, Table};
@@ -45,15 +45,13 @@ fn other(random: &mut Xorshift) -> TableBytes {
 
 /// So many pairs of records over tables of one kind, by a call on as many records as it
 /// takes; each numbering comes as often as the others.
-fn compare(
+fn compare_over(
     call: Call,
     seed: u64,
     count: usize,
     kind: fn(&mut Xorshift) -> TableBytes,
 ) -> Comparison {
-    let mut compared = Comparison::new(call, seed);
-    let random = &mut Xorshift::stored(seed + 1);
-    while compared.inputs() < count {
+    compare(call, seed, count, |compared, random| {
         let table = kind(random);
         for numbering in Numbering::ALL {
             let table = random::numbered(random, &table, numbering);
@@ -68,8 +66,7 @@ fn compare(
                 compared.check(&table, &[&first, &second]);
             }
         }
-    }
-    compared
+    })
 }
 
 #[test]
@@ -91,37 +88,37 @@ fn the_kinds_are_what_they_are_called() {
 
 #[test]
 fn common_parts_over_distributive_tables() {
-    let compared = compare(GENERALIZE, 223, 6_000, distributive);
+    let compared = compare_over(GENERALIZE, 223, 6_000, distributive);
     compared.assert_replies(&[0, 4, 5, 6, 7, 8, 11], 5);
 }
 
 #[test]
 fn common_parts_over_other_tables() {
-    let compared = compare(GENERALIZE, 225, 3_000, other);
+    let compared = compare_over(GENERALIZE, 225, 3_000, other);
     compared.assert_replies(&[0, 4, 5, 6, 7, 8, 11], 3);
 }
 
 #[test]
 fn combinations_over_distributive_tables() {
-    let compared = compare(UNIFY, 227, 6_000, distributive);
+    let compared = compare_over(UNIFY, 227, 6_000, distributive);
     compared.assert_replies(&[0, 4, 5, 6, 7, 8, 9, 10, 11], 3);
 }
 
 #[test]
 fn combinations_over_other_tables() {
-    let compared = compare(UNIFY, 229, 3_000, other);
+    let compared = compare_over(UNIFY, 229, 3_000, other);
     compared.assert_replies(&[0, 4, 5, 6, 7, 8, 9, 10, 11], 1);
 }
 
 #[test]
 fn differences_over_distributive_tables() {
-    let compared = compare(DIFFERENCE, 231, 6_000, distributive);
+    let compared = compare_over(DIFFERENCE, 231, 6_000, distributive);
     compared.assert_replies(&[0, 4, 5, 6, 7, 8, 12], 20);
 }
 
 #[test]
 fn differences_over_other_tables() {
-    let compared = compare(DIFFERENCE, 233, 3_000, other);
+    let compared = compare_over(DIFFERENCE, 233, 3_000, other);
     compared.assert_replies(&[0, 4, 5, 6, 7, 8, 12, 13], 5);
 }
 
@@ -132,9 +129,9 @@ fn orders_and_rewritings_over_both_kinds() {
         (235, distributive as fn(&mut Xorshift) -> TableBytes),
         (237, other),
     ] {
-        let compared = compare(ORDER, seed, 1_500, kind);
+        let compared = compare_over(ORDER, seed, 1_500, kind);
         compared.assert_replies(&[4, 5, 6, 7], 5);
-        let compared = compare(REWRITE, seed + 4, 4_000, kind);
+        let compared = compare_over(REWRITE, seed + 4, 4_000, kind);
         compared.assert_replies(&[0, 4, 5, 6, 7, 8], 1);
     }
 }

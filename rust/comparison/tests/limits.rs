@@ -2,7 +2,7 @@
 //! more: random pairs of graphs, made to measure by what is hung below both roots.
 
 use comparison::{Comparison, GENERALIZE};
-use reference::common::generalization;
+use reference::generalize::generalize;
 use reference::graph::{Feature, Graph, Node, ROOT};
 use reference::random::{self, Shape, TableBytes, Xorshift};
 use reference::record::{self, MOST_LINKS, MOST_NODES};
@@ -72,7 +72,7 @@ fn unrelated(
         ranges: 0,
     };
     let (first, second) = random::unrelated(random, table.n, &shape);
-    let common = generalization(&table.accepted(), &first, &second);
+    let common = generalize(&table.accepted(), &first, &second);
     ([first, second], common, other)
 }
 
@@ -83,7 +83,7 @@ fn compare(
     [first, second]: &[Graph; 2],
     [nodes, links]: [usize; 2],
 ) {
-    let common = generalization(&table.accepted(), first, second);
+    let common = generalize(&table.accepted(), first, second);
     assert_eq!([common.nodes.len(), common.link_count()], [nodes, links]);
     let records = [first, second].map(record::write);
     let reply = compared.check(table, &[&records[0], &records[1]]);

@@ -3,58 +3,33 @@
 //! ranges and parting shared nodes; small, large, and damaged, without ranges and with
 //! them, over random and damaged tables.
 
-use comparison::{Call, Comparison, DIFFERENCE, GENERALIZE, ORDER, UNIFY};
+use comparison::{Call, Comparison, DIFFERENCE, GENERALIZE, ORDER, UNIFY, compare, compare_pairs};
 use reference::graph::{Graph, Node};
-use reference::random::{self, Ranges, Shape, Xorshift};
+use reference::random::{self, Ranges, Shape};
 use reference::record::{self, MOST_NODES};
 use reference::reply::Reply;
 
-/// At least 20,000 pairs of mostly small graphs, and some of any size.
-fn compare_pairs(call: Call, seed: u64, ranges: Ranges) -> Comparison {
-    let mut compared = Comparison::new(call, seed);
-    let random = &mut Xorshift::stored(seed + 1);
-    while compared.inputs() < 20_000 {
-        let table = match random.chance(1, 8) {
-            true => random::damaged_table(random),
-            false => random::valid_table(random),
-        };
-        for _ in 0..8 {
-            let shape = match random.chance(1, 10) {
-                true => Shape::any(random),
-                false => Shape::small(random, 9, 4),
-            };
-            let shape = shape.ranged(random, ranges);
-            let [first, second] = random::pair_of_records(random, &table, &shape, ranges);
-            compared.check(&table, &[&first, &second]);
-        }
-    }
-    compared
-}
-
 /// Pairs of graphs with up to 255 nodes and 2,048 links.
 fn compare_large(call: Call, seed: u64, ranges: Ranges) -> Comparison {
-    let mut compared = Comparison::new(call, seed);
-    let random = &mut Xorshift::stored(seed + 1);
-    for _ in 0..400 {
+    compare(call, seed, 400, |compared, random| {
         let table = random::valid_table(random);
         let shape = Shape::large(random).ranged(random, ranges);
         let (first, second) = random::pair(random, &table.accepted(), &shape);
         let records = [first, second].map(|graph| random::record_of(random, &graph, ranges));
         compared.check(&table, &[&records[0], &records[1]]);
-    }
-    compared
+    })
 }
 
 #[test]
 fn the_order_of_random_pairs() {
-    let compared = compare_pairs(ORDER, 21, Ranges::Absent);
+    let compared = compare_pairs(ORDER, 21, 20_000, Ranges::Absent);
     compared.assert_replies(&[1, 2, 3, 4, 5, 6, 7], 50);
     compared.assert_answers(3_000);
 }
 
 #[test]
 fn the_order_of_random_pairs_with_ranges() {
-    let compared = compare_pairs(ORDER, 81, Ranges::Present);
+    let compared = compare_pairs(ORDER, 81, 20_000, Ranges::Present);
     compared.assert_replies(&[1, 2, 3, 4, 5, 6, 7], 50);
     compared.assert_answers(2_000);
 }
@@ -75,13 +50,13 @@ fn the_order_of_large_pairs_with_ranges() {
 
 #[test]
 fn the_common_part_of_random_pairs() {
-    let compared = compare_pairs(GENERALIZE, 25, Ranges::Absent);
+    let compared = compare_pairs(GENERALIZE, 25, 20_000, Ranges::Absent);
     compared.assert_replies(&[0, 1, 2, 3, 4, 5, 6, 7, 8, 11], 30);
 }
 
 #[test]
 fn the_common_part_of_random_pairs_with_ranges() {
-    let compared = compare_pairs(GENERALIZE, 185, Ranges::Present);
+    let compared = compare_pairs(GENERALIZE, 185, 20_000, Ranges::Present);
     compared.assert_replies(&[0, 1, 2, 3, 4, 5, 6, 7, 8, 11], 30);
 }
 
@@ -99,13 +74,13 @@ fn the_common_part_of_large_pairs_with_ranges() {
 
 #[test]
 fn the_combination_of_random_pairs() {
-    let compared = compare_pairs(UNIFY, 31, Ranges::Absent);
+    let compared = compare_pairs(UNIFY, 31, 20_000, Ranges::Absent);
     compared.assert_replies(&[0, 1, 2, 3, 4, 5, 6, 7, 8, 9, 10, 11], 10);
 }
 
 #[test]
 fn the_combination_of_random_pairs_with_ranges() {
-    let compared = compare_pairs(UNIFY, 91, Ranges::Present);
+    let compared = compare_pairs(UNIFY, 91, 20_000, Ranges::Present);
     compared.assert_replies(&[0, 1, 2, 3, 4, 5, 6, 7, 8, 9, 10, 11], 10);
 }
 
@@ -125,10 +100,8 @@ fn the_combination_of_large_pairs_with_ranges() {
 /// nothing clashes: many combinations have more than 255 nodes.
 #[test]
 fn combinations_of_trees_around_255_nodes() {
-    let mut compared = Comparison::new(UNIFY, 35);
-    let random = &mut Xorshift::stored(36);
     let table = random::diamond();
-    for _ in 0..600 {
+    let compared = compare(UNIFY, 35, 600, |compared, random| {
         let shape = Shape {
             nodes: random.between(100, MOST_NODES),
             extra_links: random.pick(4),
@@ -140,19 +113,19 @@ fn combinations_of_trees_around_255_nodes() {
         let (first, second) = random::unrelated(random, table.n, &shape);
         let records = [first, second].map(|graph| record::write(&graph));
         compared.check(&table, &[&records[0], &records[1]]);
-    }
+    });
     compared.assert_replies(&[0, 8, 11], 200);
 }
 
 #[test]
 fn the_difference_of_random_pairs() {
-    let compared = compare_pairs(DIFFERENCE, 37, Ranges::Absent);
+    let compared = compare_pairs(DIFFERENCE, 37, 20_000, Ranges::Absent);
     compared.assert_replies(&[0, 1, 2, 3, 4, 5, 6, 7, 8, 12, 13], 30);
 }
 
 #[test]
 fn the_difference_of_random_pairs_with_ranges() {
-    let compared = compare_pairs(DIFFERENCE, 97, Ranges::Present);
+    let compared = compare_pairs(DIFFERENCE, 97, 20_000, Ranges::Present);
     compared.assert_replies(&[0, 1, 2, 3, 4, 5, 6, 7, 8, 12, 13], 30);
 }
 
@@ -170,9 +143,7 @@ fn the_difference_of_large_pairs_with_ranges() {
 
 /// Over tables that admit no differences: 13 and lengths both come up often.
 fn compare_over_rivals(seed: u64, count: usize, ranges: Ranges) -> Comparison {
-    let mut compared = Comparison::new(DIFFERENCE, seed);
-    let random = &mut Xorshift::stored(seed + 1);
-    while compared.inputs() < count {
+    compare(DIFFERENCE, seed, count, |compared, random| {
         let table = random::rival_table(random);
         let accepted = table.accepted();
         for _ in 0..8 {
@@ -181,8 +152,7 @@ fn compare_over_rivals(seed: u64, count: usize, ranges: Ranges) -> Comparison {
             let [g, s] = [g, s].map(|graph| random::record_of(random, &graph, ranges));
             compared.check(&table, &[&g, &s]);
         }
-    }
-    compared
+    })
 }
 
 #[test]
@@ -200,9 +170,7 @@ fn the_difference_over_rival_types_with_ranges() {
 /// The same over tables of 64 types that are not numbered along their order.
 #[test]
 fn the_difference_over_64_rival_types() {
-    let mut compared = Comparison::new(DIFFERENCE, 43);
-    let random = &mut Xorshift::stored(44);
-    while compared.inputs() < 4_000 {
+    let compared = compare(DIFFERENCE, 43, 4_000, |compared, random| {
         let table = random::large_rival_table(random);
         let accepted = table.accepted();
         for _ in 0..40 {
@@ -213,7 +181,7 @@ fn the_difference_over_64_rival_types() {
             let (g, s) = random::low_pair(random, &accepted, &shape);
             compared.check(&table, &[&record::write(&g), &record::write(&s)]);
         }
-    }
+    });
     compared.assert_replies(&[0, 8, 13], 300);
 }
 

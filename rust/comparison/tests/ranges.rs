@@ -2,12 +2,12 @@
 //! out change no reply and no byte of a result, and records whose ranges are damaged
 //! are refused, by 4 or by 5 and as the first or the second, by every call.
 
-use comparison::{Call, Comparison, DIFFERENCE, GENERALIZE, ORDER, REWRITE, UNIFY};
+use comparison::{Call, Comparison, DIFFERENCE, GENERALIZE, ORDER, REWRITE, UNIFY, compare};
 use reference::graph::Graph;
 use reference::label::Range;
 use reference::random::{self, Ranges, Shape, TableBytes, Xorshift};
-use reference::record::{self, GraphFault, LONGEST_RECORD};
-use reference::reply::{Refusal, Reply, Which};
+use reference::record::{self, GraphFault};
+use reference::reply::{Refusal, Reply, Side};
 use reference::table::CONTRADICTION;
 
 /// A table and two graphs, of which one may be above the other; in one of four cases
@@ -27,42 +27,37 @@ fn pair(random: &mut Xorshift) -> (TableBytes, [Graph; 2]) {
 /// Pairs of records with full ranges spelled out here and there: what is answered and
 /// written is what the same pair without them gives.
 fn compare_spelled(call: Call, seed: u64) -> Comparison {
-    let mut compared = Comparison::new(call, seed);
-    let random = &mut Xorshift::stored(seed + 1);
-    while compared.inputs() < 4_000 {
+    compare(call, seed, 4_000, |compared, random| {
         let (table, graphs) = pair(random);
         let plain = graphs.each_ref().map(record::write);
         let some = random.between(1, 4);
         let spelled = graphs
             .each_ref()
             .map(|graph| record::write_spelling(graph, |_| random.chance(some, 4)));
-        let expected = compared.call(&table, &[&plain[0], &plain[1]], LONGEST_RECORD);
+        let expected = compared.answer(&table, &[&plain[0], &plain[1]]);
         for [first, second] in [[&spelled[0], &plain[1]], [&plain[0], &spelled[1]]] {
-            let same = compared.call(&table, &[first, second], LONGEST_RECORD);
+            let same = compared.answer(&table, &[first, second]);
             assert_eq!(same, expected, "{table:?} {first:?} {second:?}");
         }
         let reply = compared.check(&table, &[&spelled[0], &spelled[1]]);
         assert_eq!(reply, expected.0, "{table:?} {spelled:?}");
-    }
-    compared
+    })
 }
 
 #[test]
 fn full_ranges_spelled_out_change_no_rewriting() {
-    let mut compared = Comparison::new(REWRITE, 121);
-    let random = &mut Xorshift::stored(122);
-    while compared.inputs() < 4_000 {
+    let compared = compare(REWRITE, 121, 4_000, |compared, random| {
         let table = random::valid_table(random);
         let shape = Shape::any(random).ranged(random, Ranges::Present);
         let graph = random::graph(random, table.n, &shape);
         let plain = record::write(&graph);
         let spelled = record::write_spelling(&graph, |_| random.chance(3, 4));
-        let expected = compared.call(&table, &[&plain], LONGEST_RECORD);
-        let same = compared.call(&table, &[&spelled], LONGEST_RECORD);
+        let expected = compared.answer(&table, &[&plain]);
+        let same = compared.answer(&table, &[&spelled]);
         assert_eq!(same, expected, "{table:?} {plain:?}");
         let reply = compared.check(&table, &[&spelled]);
         assert_eq!(reply, Reply::Length(plain.len()));
-    }
+    });
     compared.assert_replies(&[0, 8], 4_000);
 }
 
@@ -114,8 +109,8 @@ impl Damage {
 
     fn fault(self) -> GraphFault {
         match self {
-            Damage::Levels => GraphFault::Shape,
-            _ => GraphFault::Value,
+            Damage::Levels => GraphFault::Malformed,
+            _ => GraphFault::OutOfRange,
         }
     }
 
@@ -174,13 +169,13 @@ fn damaged_ranges_are_refused_by_every_call() {
             for damage in Damage::ALL {
                 let damaged = damage.record(random, table.n);
                 let other = random.choose(&Damage::ALL).record(random, table.n);
-                for (records, which) in [
-                    ([&damaged, &good[1]], Which::First),
-                    ([&good[0], &damaged], Which::Second),
-                    ([&damaged, &other], Which::First),
+                for (records, side) in [
+                    ([&damaged, &good[1]], Side::First),
+                    ([&good[0], &damaged], Side::Second),
+                    ([&damaged, &other], Side::First),
                 ] {
                     let reply = compared.check(&table, &records.map(Vec::as_slice));
-                    let refusal = Refusal::Graph(damage.fault(), which);
+                    let refusal = Refusal::Graph(damage.fault(), side);
                     assert_eq!(reply, Reply::Refused(refusal), "{records:?}");
                 }
             }
@@ -198,7 +193,7 @@ fn damaged_ranges_are_refused_by_rewriting() {
         for damage in Damage::ALL {
             let damaged = damage.record(random, table.n);
             let reply = compared.check(&table, &[&damaged]);
-            let refusal = Refusal::Graph(damage.fault(), Which::First);
+            let refusal = Refusal::Graph(damage.fault(), Side::First);
             assert_eq!(reply, Reply::Refused(refusal), "{damaged:?}");
         }
     }

@@ -4,8 +4,8 @@
 //! tables. Whichever list is given, the difference restores.
 
 use comparison::cases::record_of;
-use comparison::{Call, on_stated_stack};
-use comparison::{Comparison, DIFFERENCE, DIFFERENCE_BY, Explanations, ORDER, REWRITE, UNIFY};
+use comparison::{Call, Comparison, DIFFERENCE, ORDER, REWRITE, UNIFY, compare};
+use comparison::{DIFFERENCE_BY, DIFFERENCE_EXPLAINED_BY, on_stated_stack};
 use record_engine::{FEATURES, MOST_LINKS, Reason, Refusal};
 use record_engine::{difference_by, difference_explained_by};
 use reference::order::Order;
@@ -96,41 +96,39 @@ fn differences_by_hand() {
         let found: Vec<Reason> = bytes.into_iter().map_while(Reason::of).collect();
         assert_eq!(found, reasons, "{first:?}");
     }
-    assert_eq!(Refusal::FeatureList.number(), 19);
+    assert_eq!(Refusal::ReadingOrder.number(), 19);
 }
 
 /// Random inputs, valid and damaged in any of their parts.
-fn inputs(seed: u64, count: usize, ranges: Ranges) -> impl Iterator<Item = InputWithList> {
-    let mut random = Xorshift::stored(seed);
-    (0..count).map(move |_| random::input_with_feature_list(&mut random, ranges))
+fn compare_inputs(call: Call, seed: u64, count: usize, ranges: Ranges) -> Comparison {
+    compare(call, seed, count, |compared, random| {
+        let InputWithList {
+            table,
+            list,
+            records: [general, specific],
+        } = random::input_with_reading_order(random, ranges);
+        compared.check(&table, &[&list, &general, &specific]);
+    })
 }
 
-fn compare_pairs(seed: u64, ranges: Ranges) {
-    let mut compared = Comparison::new(DIFFERENCE_BY, seed);
-    for input in inputs(seed + 1, 12_000, ranges) {
-        let [general, specific] = &input.records;
-        compared.check(&input.table, &[&input.list, general, specific]);
-    }
+fn compare_differences(seed: u64, ranges: Ranges) {
+    let compared = compare_inputs(DIFFERENCE_BY, seed, 12_000, ranges);
     compared.assert_replies(&[0, 1, 2, 3, 4, 5, 6, 7, 8, 12, 13, 19], 30);
     compared.assert_sides(&[4, 5, 6, 7], 20);
 }
 
 #[test]
 fn the_difference_of_random_pairs() {
-    compare_pairs(301, Ranges::Absent);
+    compare_differences(301, Ranges::Absent);
 }
 
 #[test]
 fn the_difference_of_random_pairs_with_ranges() {
-    compare_pairs(303, Ranges::Present);
+    compare_differences(303, Ranges::Present);
 }
 
 fn compare_reasons(seed: u64, ranges: Ranges) {
-    let mut compared = Explanations::new(seed);
-    for input in inputs(seed + 1, 6_000, ranges) {
-        let [general, specific] = &input.records;
-        compared.check(&input.table, &[&input.list, general, specific]);
-    }
+    let compared = compare_inputs(DIFFERENCE_EXPLAINED_BY, seed, 6_000, ranges);
     compared.assert_replies(&[0, 1, 2, 3, 4, 5, 6, 7, 8, 12, 13, 19, 22], 20);
     compared.assert_reasons(2_000);
 }
@@ -191,13 +189,13 @@ fn every_kind_of_list() {
             _ => Shape::small(random, 9, 4),
         };
         let (table, [g, s]) = pair(random, shape);
-        let lists = [0, 1].map(|_| random::feature_list(random));
-        let (_, restored) = rewrite.call(&table, &[&s], LONGEST_RECORD);
-        let (_, without) = difference.call(&table, &[&g, &s], LONGEST_RECORD);
+        let lists = [0, 1].map(|_| random::reading_order(random));
+        let (_, restored) = rewrite.answer(&table, &[&s]);
+        let (_, without) = difference.answer(&table, &[&g, &s]);
         let rests = lists.each_ref().map(|list| {
             by_list.check(&table, &[list, &g, &s]);
-            let (_, rest) = by_list.call(&table, &[list, &g, &s], LONGEST_RECORD);
-            let (_, combined) = unify.call(&table, &[&g, &rest], LONGEST_RECORD);
+            let (_, rest) = by_list.answer(&table, &[list, &g, &s]);
+            let (_, combined) = unify.answer(&table, &[&g, &rest]);
             assert_eq!(combined, restored, "{table:?} {list:?}");
             rest
         });
@@ -206,7 +204,7 @@ fn every_kind_of_list() {
             true => Order::Same,
             false => Order::Neither,
         };
-        let (found, _) = order.call(&table, &[one, two], 0);
+        let (found, _) = order.answer(&table, &[one, two]);
         assert_eq!(found, Reply::Order(expected), "{table:?} {lists:?}");
         differing += usize::from(one != two);
         other_than_plain += usize::from(*one != without);
@@ -217,11 +215,11 @@ fn every_kind_of_list() {
                 let found = by_list.check(&table, &[&list, left, right]);
                 assert_eq!(
                     found,
-                    Reply::Refused(reply::Refusal::FeatureList),
+                    Reply::Refused(reply::Refusal::ReadingOrder),
                     "{list:?}"
                 );
             }
-            let (expected, _) = difference.call(&refused_table, &[&g, &s], 0);
+            let (expected, _) = difference.answer(&refused_table, &[&g, &s]);
             if let Some(1..=3) = expected.number() {
                 assert_eq!(by_list.check(&refused_table, &[&list, &g, &s]), expected);
             }
@@ -244,7 +242,7 @@ fn every_bit_of_a_list_and_every_length() {
     for _ in 0..40 {
         let shape = Shape::small(random, 9, 4);
         let (table, [g, s]) = pair(random, shape);
-        let list = random::feature_list(random);
+        let list = random::reading_order(random);
         let mut check = |list: &[u8]| compared.check(&table, &[list, &g, &s]).number();
         for bit in 0..8 * FEATURES {
             let mut changed = list.clone();
@@ -268,7 +266,7 @@ fn every_bit_of_a_list_and_every_length() {
 /// a random list.
 #[test]
 fn the_reasons_of_shared_and_large_pairs() {
-    let mut compared = Explanations::new(331);
+    let mut compared = Comparison::new(DIFFERENCE_EXPLAINED_BY, 331);
     let random = &mut Xorshift::stored(332);
     for round in 0..1_200 {
         let shape = match round % 6 {
@@ -276,7 +274,7 @@ fn the_reasons_of_shared_and_large_pairs() {
             _ => Shape::shared(random),
         };
         let (table, [g, s]) = pair(random, shape);
-        let list = random::feature_list(random);
+        let list = random::reading_order(random);
         compared.check(&table, &[&list, &g, &s]);
     }
     compared.assert_replies(&[0, 8, 22], 700);

@@ -3,7 +3,7 @@
 //! shared nodes, and damaged, by the engine and by the reference.
 
 use comparison::cases::record_of;
-use comparison::{Explanations, on_stated_stack};
+use comparison::{Comparison, DIFFERENCE_EXPLAINED, compare, compare_pairs, on_stated_stack};
 use record_engine::{LONGEST_RECORD, MOST_LINKS, Reason, Refusal, difference_explained};
 use reference::random::{self, Ranges, Shape, Xorshift};
 use reference::record;
@@ -109,7 +109,7 @@ fn outputs_of_every_length() {
             );
             let expected = match (room < length, count < 2) {
                 (true, _) => Err(Refusal::NoRoom),
-                (false, true) => Err(Refusal::NoRoomForReasons),
+                (false, true) => Err(Refusal::NoReasonRoom),
                 (false, false) => Ok(length),
             };
             assert_eq!(answer, expected, "{room} and {count} bytes");
@@ -120,41 +120,19 @@ fn outputs_of_every_length() {
             assert!(beyond.all(|&byte| byte == 7), "unchanged");
         }
     }
-    assert_eq!(Refusal::NoRoomForReasons.number(), 22);
-}
-
-/// At least 10,000 pairs of mostly small graphs, some of any size and some damaged.
-fn compare_pairs(seed: u64, ranges: Ranges) -> Explanations {
-    let mut compared = Explanations::new(seed);
-    let random = &mut Xorshift::stored(seed + 1);
-    while compared.inputs() < 10_000 {
-        let table = match random.chance(1, 8) {
-            true => random::damaged_table(random),
-            false => random::valid_table(random),
-        };
-        for _ in 0..8 {
-            let shape = match random.chance(1, 10) {
-                true => Shape::any(random),
-                false => Shape::small(random, 9, 4),
-            };
-            let shape = shape.ranged(random, ranges);
-            let [general, specific] = random::pair_of_records(random, &table, &shape, ranges);
-            compared.check(&table, &[&general, &specific]);
-        }
-    }
-    compared
+    assert_eq!(Refusal::NoReasonRoom.number(), 22);
 }
 
 #[test]
 fn the_reasons_of_random_pairs() {
-    let compared = compare_pairs(211, Ranges::Absent);
+    let compared = compare_pairs(DIFFERENCE_EXPLAINED, 211, 10_000, Ranges::Absent);
     compared.assert_replies(&[0, 1, 2, 3, 4, 5, 6, 7, 8, 12, 13, 22], 15);
     compared.assert_reasons(2_000);
 }
 
 #[test]
 fn the_reasons_of_random_pairs_with_ranges() {
-    let compared = compare_pairs(213, Ranges::Present);
+    let compared = compare_pairs(DIFFERENCE_EXPLAINED, 213, 10_000, Ranges::Present);
     compared.assert_replies(&[0, 1, 2, 3, 4, 5, 6, 7, 8, 12, 13, 22], 15);
     compared.assert_reasons(2_000);
 }
@@ -163,9 +141,7 @@ fn the_reasons_of_random_pairs_with_ranges() {
 /// so that the order of reasons is often not that of the links in the specific record.
 #[test]
 fn the_reasons_of_graphs_with_many_shared_nodes() {
-    let mut compared = Explanations::new(215);
-    let random = &mut Xorshift::stored(216);
-    while compared.inputs() < 2_000 {
+    let compared = compare(DIFFERENCE_EXPLAINED, 215, 2_000, |compared, random| {
         let table = random::brouwer_table(random);
         let accepted = table.accepted();
         for ranges in [Ranges::Absent, Ranges::Present] {
@@ -175,7 +151,7 @@ fn the_reasons_of_graphs_with_many_shared_nodes() {
             let [g, s] = [g, s].map(|graph| random::record_of(random, &graph, ranges));
             compared.check(&table, &[&g, &s]);
         }
-    }
+    });
     compared.assert_replies(&[0, 8, 22], 1_500);
     compared.assert_reasons(4_000);
 }
@@ -183,9 +159,7 @@ fn the_reasons_of_graphs_with_many_shared_nodes() {
 /// Over tables that admit no differences: 13 and lengths both come up often.
 #[test]
 fn the_reasons_over_rival_types() {
-    let mut compared = Explanations::new(217);
-    let random = &mut Xorshift::stored(218);
-    while compared.inputs() < 3_000 {
+    let compared = compare(DIFFERENCE_EXPLAINED, 217, 3_000, |compared, random| {
         let table = random::rival_table(random);
         let accepted = table.accepted();
         for ranges in [Ranges::Absent, Ranges::Present] {
@@ -194,7 +168,7 @@ fn the_reasons_over_rival_types() {
             let [g, s] = [g, s].map(|graph| random::record_of(random, &graph, ranges));
             compared.check(&table, &[&g, &s]);
         }
-    }
+    });
     compared.assert_replies(&[0, 8, 13, 22], 1_000);
     compared.assert_reasons(1_000);
 }
@@ -202,7 +176,7 @@ fn the_reasons_over_rival_types() {
 /// Pairs of graphs with up to 255 nodes and 2,048 links.
 #[test]
 fn the_reasons_of_large_pairs() {
-    let mut compared = Explanations::new(219);
+    let mut compared = Comparison::new(DIFFERENCE_EXPLAINED, 219);
     let random = &mut Xorshift::stored(220);
     for round in 0..200 {
         let ranges = [Ranges::Absent, Ranges::Present][round % 2];

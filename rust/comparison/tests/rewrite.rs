@@ -3,7 +3,7 @@
 //! without ranges and with them, with outputs that are empty, one byte short, exact
 //! and larger.
 
-use comparison::{Comparison, REWRITE};
+use comparison::{Comparison, REWRITE, compare};
 use reference::graph::{Graph, Node};
 use reference::label::Range;
 use reference::random::{self, Ranges, Shape, TableBytes, Xorshift};
@@ -98,9 +98,7 @@ fn random_and_damaged_records_with_ranges() {
 }
 
 fn compare_records(seed: u64, ranges: Ranges) {
-    let mut compared = Comparison::new(REWRITE, seed);
-    let random = &mut Xorshift::stored(seed + 1);
-    while compared.inputs() < 20_000 {
+    let compared = compare(REWRITE, seed, 20_000, |compared, random| {
         let table = match random.chance(1, 8) {
             true => random::damaged_table(random),
             false => random::valid_table(random),
@@ -117,7 +115,7 @@ fn compare_records(seed: u64, ranges: Ranges) {
             };
             compared.check(&table, &[&record]);
         }
-    }
+    });
     compared.assert_replies(&[0, 1, 2, 3, 4, 5, 6, 7, 8], 100);
 }
 

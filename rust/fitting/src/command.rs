@@ -67,8 +67,8 @@ fn told(arguments: &[String]) -> Result<Told, Failure> {
         "make" => make(&table, &arguments),
         "draw" => draw(&table, &arguments),
         "order" => order(&table, &arguments),
-        "common" => operate(Operation::Common, &table, &arguments),
-        "combine" => operate(Operation::Combine, &table, &arguments),
+        "common" => operate(Operation::Generalize, &table, &arguments),
+        "combine" => operate(Operation::Unify, &table, &arguments),
         "difference" => operate(Operation::Difference, &table, &arguments),
         _ => unreachable!("the help has no further commands"),
     }

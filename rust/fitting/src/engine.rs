@@ -9,9 +9,9 @@ use record_engine::{difference_explained, difference_explained_by};
 #[derive(Clone, Copy, Debug, PartialEq, Eq)]
 pub enum Operation {
     /// What both say, their generalization.
-    Common,
+    Generalize,
     /// What they say together, their unification.
-    Combine,
+    Unify,
     /// What the second says beyond the first.
     Difference,
 }
@@ -41,8 +41,8 @@ pub fn operate(
     second: &[u8],
 ) -> Result<Vec<u8>, Refusal> {
     let call = match operation {
-        Operation::Common => record_engine::generalize,
-        Operation::Combine => record_engine::unify,
+        Operation::Generalize => record_engine::generalize,
+        Operation::Unify => record_engine::unify,
         Operation::Difference => record_engine::difference,
     };
     written(|output| call(table.n, &table.bytes, first, second, output))

@@ -1,10 +1,10 @@
 //! A refusal in words: its number and side as the engine gives them, then what the tool
 //! finds out itself about the cause, and what to do.
 
-mod combination;
 mod pair;
 mod record;
 mod table;
+mod unify;
 
 use crate::engine::Operation;
 use crate::failure::Failure;
@@ -115,9 +115,16 @@ mod tests {
                 "refused 18 first: a node has a feature that the list does not allow its type",
                 "refused 18 second: a node has a feature that the list does not allow its type",
                 "refused 8: the output is shorter than the result",
+                "refused 14: a row's feature is above 63 or a node number is out of range",
+                "refused 15: two rows have one parent and feature",
+                "refused 16: nothing has been added to the gathering",
                 "refused 17: the list has not one type for each of the 64 features",
                 "refused 19: the list has not each of the 64 features once",
+                "refused 20: the version is above 15, or absent, or present already",
+                "refused 21: the store has too few bytes",
                 "refused 22: fewer bytes are lent for reasons than there are links",
+                "refused 23: the number of features is not 1 or 2",
+                "refused 24: the record is not one of those listed",
             ]
         );
     }

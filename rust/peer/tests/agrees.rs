@@ -5,7 +5,7 @@ use reference::calls;
 use reference::order::Order;
 use reference::random::{self, Ranges, Shape, TableBytes, Xorshift};
 use reference::record::LONGEST_RECORD;
-use reference::reply::{self, Reply, Which};
+use reference::reply::{self, Reply, Side};
 use reference::table::Table;
 
 fn reply_of(result: Result<usize, Refusal>) -> Result<Reply, Refusal> {
@@ -17,7 +17,7 @@ fn expected(reply: Reply) -> Result<Reply, Refusal> {
     match reply {
         Reply::Refused(refusal) => Err(Refusal {
             number: refusal.number(),
-            second: matches!(refusal, reply::Refusal::Graph(_, Which::Second)),
+            second: matches!(refusal, reply::Refusal::Graph(_, Side::Second)),
         }),
         reply => Ok(reply),
     }
@@ -60,12 +60,12 @@ fn check(table: &TableBytes, first: &[u8], second: &[u8], room: usize, counts: &
     check(
         "common part",
         &mut |out| reply_of(peer::generalize(n, bytes, first, second, out)),
-        &mut |out| calls::common_part(n, bytes, first, second, out),
+        &mut |out| calls::generalize(n, bytes, first, second, out),
     );
     check(
         "combination",
         &mut |out| reply_of(peer::unify(n, bytes, first, second, out)),
-        &mut |out| calls::combination(n, bytes, first, second, out),
+        &mut |out| calls::unify(n, bytes, first, second, out),
     );
     check(
         "difference",

@@ -9,6 +9,8 @@ use crate::refusal::{Refusal, Side};
 pub enum Answer {
     Length(usize),
     Order(Order),
+    End,
+    Counts { nodes: usize, rows: usize },
     Refused(Refusal),
 }
 
@@ -21,20 +23,50 @@ const UNDER: u64 = SAME + 1;
 const ABOVE: u64 = SAME + 2;
 const NEITHER: u64 = SAME + 3;
 
+/// The end of a listing.
+const END: u64 = SAME + 4;
+
+/// From this number on are counts: the nodes in 16 bits, and below them the rows in 16.
+const FIRST_COUNTS: u64 = 1 << 34;
+const LAST_COUNTS: u64 = FIRST_COUNTS + (1 << 32) - 1;
+
 /// The answer that a number stands for; stops the program where there is none.
 pub fn answer(code: u64) -> Answer {
     match code {
+        length @ 0..FIRST_REFUSAL => Answer::Length(length as usize),
         SAME => Answer::Order(Order::Same),
         UNDER => Answer::Order(Order::Under),
         ABOVE => Answer::Order(Order::Above),
         NEITHER => Answer::Order(Order::Neither),
-        length if length < FIRST_REFUSAL => Answer::Length(length as usize),
+        END => Answer::End,
+        FIRST_COUNTS..=LAST_COUNTS => Answer::Counts {
+            nodes: (code >> 16 & 0xFFFF) as usize,
+            rows: (code & 0xFFFF) as usize,
+        },
         _ => {
             let refusal = Refusal::ALL
                 .into_iter()
                 .find(|&known| code_of(known) == code);
             Answer::Refused(refusal.unwrap_or_else(|| panic!("{code} is the number of no answer")))
         }
+    }
+}
+
+/// The answer of a call that writes.
+pub fn length(code: u64) -> Result<usize, Refusal> {
+    match answer(code) {
+        Answer::Length(length) => Ok(length),
+        Answer::Refused(refusal) => Err(refusal),
+        other => unreachable!("a call that writes gives a length, not {other:?}"),
+    }
+}
+
+/// The answer of the order.
+pub fn order_of(code: u64) -> Result<Order, Refusal> {
+    match answer(code) {
+        Answer::Order(order) => Ok(order),
+        Answer::Refused(refusal) => Err(refusal),
+        other => unreachable!("the order gives one of four answers, not {other:?}"),
     }
 }
 
@@ -75,8 +107,9 @@ mod tests {
                 (1 << 32) + 512 + 18,
                 Refusal::Graph(GraphFault::Inappropriate, Side::Second),
             ),
-            ((1 << 32) + 19, Refusal::FeatureList),
-            ((1 << 32) + 22, Refusal::NoRoomForReasons),
+            ((1 << 32) + 19, Refusal::ReadingOrder),
+            ((1 << 32) + 22, Refusal::NoReasonRoom),
+            ((1 << 32) + 24, Refusal::NotListed),
         ];
         for (code, refusal) in known {
             assert_eq!(answer(code), Answer::Refused(refusal));
@@ -85,6 +118,12 @@ mod tests {
         let four = [Order::Same, Order::Under, Order::Above, Order::Neither];
         for (code, order) in (1 << 33..).zip(four) {
             assert_eq!(answer(code), Answer::Order(order));
+        }
+        assert_eq!(answer((1 << 33) + 4), Answer::End);
+        for (nodes, rows) in [(1, 0), (3, 2), (255, 2048)] {
+            let code = (1 << 34) + (nodes << 16) + rows;
+            let [nodes, rows] = [nodes, rows].map(|count| count as usize);
+            assert_eq!(answer(code), Answer::Counts { nodes, rows });
         }
         for refusal in Refusal::ALL {
             assert_eq!(answer(code_of(refusal)), Answer::Refused(refusal));

@@ -60,17 +60,31 @@ pub enum Refusal {
     /// 13: difference, some node of the second record has no wanted type: among the
     /// types that restore its type, none is the greatest.
     NoWantedType,
+    /// 14: a row has a feature above 63 or a node number outside the count.
+    RowOutOfRange,
+    /// 15: two rows have one parent and feature.
+    RowTwice,
+    /// 16: nothing has been added to the gathering.
+    NothingGathered,
     /// 17: the list is not of 64 bytes or has an entry of n or more.
     TypeList,
     /// 19: the list is not one of all 64 features, each once.
-    FeatureList,
+    ReadingOrder,
+    /// 20: the version is above 15, or absent for a read or a drop, or present for a put.
+    WrongVersion,
+    /// 21: the store has too few bytes.
+    NoStoreRoom,
     /// 22: difference with reasons, it has more links than bytes are lent for the reasons.
-    NoRoomForReasons,
+    NoReasonRoom,
+    /// 23: the number of features is not 1 or 2.
+    FeatureCount,
+    /// 24: the record is not listed.
+    NotListed,
 }
 
 impl Refusal {
     /// Every refusal.
-    pub const ALL: [Refusal; 22] = [
+    pub const ALL: [Refusal; 29] = [
         Refusal::Table(TableFault::Size),
         Refusal::Table(TableFault::Order),
         Refusal::Table(TableFault::Bounds),
@@ -90,9 +104,16 @@ impl Refusal {
         Refusal::TooLarge,
         Refusal::NotBelow,
         Refusal::NoWantedType,
+        Refusal::RowOutOfRange,
+        Refusal::RowTwice,
+        Refusal::NothingGathered,
         Refusal::TypeList,
-        Refusal::FeatureList,
-        Refusal::NoRoomForReasons,
+        Refusal::ReadingOrder,
+        Refusal::WrongVersion,
+        Refusal::NoStoreRoom,
+        Refusal::NoReasonRoom,
+        Refusal::FeatureCount,
+        Refusal::NotListed,
     ];
 
     /// The number of this refusal in documents 01 and 02.
@@ -117,9 +138,16 @@ impl Refusal {
             Refusal::TooLarge => 11,
             Refusal::NotBelow => 12,
             Refusal::NoWantedType => 13,
+            Refusal::RowOutOfRange => 14,
+            Refusal::RowTwice => 15,
+            Refusal::NothingGathered => 16,
             Refusal::TypeList => 17,
-            Refusal::FeatureList => 19,
-            Refusal::NoRoomForReasons => 22,
+            Refusal::ReadingOrder => 19,
+            Refusal::WrongVersion => 20,
+            Refusal::NoStoreRoom => 21,
+            Refusal::NoReasonRoom => 22,
+            Refusal::FeatureCount => 23,
+            Refusal::NotListed => 24,
         }
     }
 
@@ -152,10 +180,19 @@ impl fmt::Display for Refusal {
             Refusal::Clash => "a class of shared paths has no type or no level in common",
             Refusal::NotBelow => "the second record is not below the first",
             Refusal::NoWantedType => "a node of the second record has no wanted type",
+            Refusal::RowOutOfRange => {
+                "a row's feature is above 63 or a node number is out of range"
+            }
+            Refusal::RowTwice => "two rows have one parent and feature",
+            Refusal::NothingGathered => "nothing has been added to the gathering",
             Refusal::TypeList => "the list has not one type for each of the 64 features",
-            Refusal::FeatureList => "the list has not each of the 64 features once",
+            Refusal::ReadingOrder => "the list has not each of the 64 features once",
+            Refusal::WrongVersion => "the version is above 15, or absent, or present already",
+            Refusal::NoStoreRoom => "the store has too few bytes",
             Refusal::TooLarge => "the result has more than 255 nodes or 2,048 links",
-            Refusal::NoRoomForReasons => "fewer bytes are lent for reasons than there are links",
+            Refusal::NoReasonRoom => "fewer bytes are lent for reasons than there are links",
+            Refusal::FeatureCount => "the number of features is not 1 or 2",
+            Refusal::NotListed => "the record is not one of those listed",
         };
         write!(formatter, "refused {}", self.number())?;
         match self.side() {

@@ -8,15 +8,15 @@
 
 use crate::appropriateness::Appropriateness;
 use crate::canonical::canonical;
-use crate::combination::unification;
-use crate::common::generalization;
 use crate::difference::{self, Explained};
+use crate::generalize;
 use crate::graph::Graph;
 use crate::link_order::LinkOrder;
 use crate::order;
 use crate::record::{self, GraphFault, LONGEST_RECORD, MOST_LINKS, MOST_NODES};
-use crate::reply::{Refusal, Reply, Which};
+use crate::reply::{Refusal, Reply, Side};
 use crate::table::Table;
+use crate::unify;
 
 /// A call that takes a table and two graphs and writes a record.
 pub type Call = fn(usize, &[u8], &[u8], &[u8], &mut [u8]) -> Reply;
@@ -52,7 +52,7 @@ pub fn written_by(call: impl FnOnce(&mut [u8]) -> Reply) -> Result<Vec<u8>, Refu
 /// Rewrites one record in canonical (written) form.
 pub fn rewrite(n: usize, table: &[u8], graph: &[u8], output: &mut [u8]) -> Reply {
     let result = accept_table(n, table)
-        .and_then(|table| accept_graph(&table, graph, Which::First))
+        .and_then(|table| accept_graph(&table, graph, Side::First))
         .and_then(|graph| deliver(&graph, output));
     reply(result)
 }
@@ -66,7 +66,7 @@ pub fn rewrite_appropriate(
     output: &mut [u8],
 ) -> Reply {
     let result = accept_list(n, table, list)
-        .and_then(|(table, list)| accept_obeying(&table, &list, graph, Which::First))
+        .and_then(|(table, list)| accept_obeying(&table, &list, graph, Side::First))
         .and_then(|graph| deliver(&graph, output));
     reply(result)
 }
@@ -79,18 +79,12 @@ pub fn order(n: usize, table: &[u8], first: &[u8], second: &[u8]) -> Reply {
 }
 
 /// The common part (generalization) of two graphs.
-pub fn common_part(
-    n: usize,
-    table: &[u8],
-    first: &[u8],
-    second: &[u8],
-    output: &mut [u8],
-) -> Reply {
-    deliver_common_part(accept(n, table, first, second), output)
+pub fn generalize(n: usize, table: &[u8], first: &[u8], second: &[u8], output: &mut [u8]) -> Reply {
+    deliver_generalization(accept(n, table, first, second), output)
 }
 
 /// The common part of two graphs that obey a list.
-pub fn common_part_appropriate(
+pub fn generalize_appropriate(
     n: usize,
     table: &[u8],
     list: &[u8],
@@ -98,22 +92,16 @@ pub fn common_part_appropriate(
     second: &[u8],
     output: &mut [u8],
 ) -> Reply {
-    deliver_common_part(accept_both_obeying(n, table, list, first, second), output)
+    deliver_generalization(accept_both_obeying(n, table, list, first, second), output)
 }
 
 /// The combination (unification) of two graphs.
-pub fn combination(
-    n: usize,
-    table: &[u8],
-    first: &[u8],
-    second: &[u8],
-    output: &mut [u8],
-) -> Reply {
-    deliver_combination(accept(n, table, first, second), output)
+pub fn unify(n: usize, table: &[u8], first: &[u8], second: &[u8], output: &mut [u8]) -> Reply {
+    deliver_unification(accept(n, table, first, second), output)
 }
 
 /// The combination of two graphs that obey a list.
-pub fn combination_appropriate(
+pub fn unify_appropriate(
     n: usize,
     table: &[u8],
     list: &[u8],
@@ -121,7 +109,7 @@ pub fn combination_appropriate(
     second: &[u8],
     output: &mut [u8],
 ) -> Reply {
-    deliver_combination(accept_both_obeying(n, table, list, first, second), output)
+    deliver_unification(accept_both_obeying(n, table, list, first, second), output)
 }
 
 /// The difference: g first, s second, for s below g.
@@ -186,7 +174,7 @@ fn explained_by(
     s: &[u8],
 ) -> Result<Explained, Refusal> {
     let table = accept_table(n, table)?;
-    let order = LinkOrder::by_list(list).ok_or(Refusal::FeatureList)?;
+    let order = LinkOrder::by_list(list).ok_or(Refusal::ReadingOrder)?;
     let (g, s) = accept_graphs(&table, g, s)?;
     difference::difference_by(&order, &table, &g, &s)
 }
@@ -210,8 +198,8 @@ fn accept_both_obeying(
     second: &[u8],
 ) -> Accepted {
     let (table, list) = accept_list(n, table, list)?;
-    let first = accept_obeying(&table, &list, first, Which::First)?;
-    let second = accept_obeying(&table, &list, second, Which::Second)?;
+    let first = accept_obeying(&table, &list, first, Side::First)?;
+    let second = accept_obeying(&table, &list, second, Side::Second)?;
     Ok((table, first, second))
 }
 
@@ -220,13 +208,13 @@ fn accept_table(n: usize, bytes: &[u8]) -> Result<Table, Refusal> {
 }
 
 fn accept_graphs(table: &Table, first: &[u8], second: &[u8]) -> Result<(Graph, Graph), Refusal> {
-    let first = accept_graph(table, first, Which::First)?;
-    let second = accept_graph(table, second, Which::Second)?;
+    let first = accept_graph(table, first, Side::First)?;
+    let second = accept_graph(table, second, Side::Second)?;
     Ok((first, second))
 }
 
-fn accept_graph(table: &Table, bytes: &[u8], which: Which) -> Result<Graph, Refusal> {
-    record::read(table, bytes).map_err(|fault| Refusal::Graph(fault, which))
+fn accept_graph(table: &Table, bytes: &[u8], side: Side) -> Result<Graph, Refusal> {
+    record::read(table, bytes).map_err(|fault| Refusal::Graph(fault, side))
 }
 
 /// "A list entry of n or more, or a list not of 64 bytes, is 17, after the table."
@@ -242,25 +230,25 @@ fn accept_obeying(
     table: &Table,
     list: &Appropriateness,
     bytes: &[u8],
-    which: Which,
+    side: Side,
 ) -> Result<Graph, Refusal> {
-    let graph = accept_graph(table, bytes, which)?;
+    let graph = accept_graph(table, bytes, side)?;
     match list.is_obeyed(table, &graph) {
         true => Ok(graph),
-        false => Err(Refusal::Graph(GraphFault::Inappropriate, which)),
+        false => Err(Refusal::Graph(GraphFault::Inappropriate, side)),
     }
 }
 
-fn deliver_common_part(accepted: Accepted, output: &mut [u8]) -> Reply {
+fn deliver_generalization(accepted: Accepted, output: &mut [u8]) -> Reply {
     let result = accepted
-        .map(|(table, first, second)| generalization(&table, &first, &second))
+        .map(|(table, first, second)| generalize::generalize(&table, &first, &second))
         .and_then(|common| deliver(&common, output));
     reply(result)
 }
 
-fn deliver_combination(accepted: Accepted, output: &mut [u8]) -> Reply {
+fn deliver_unification(accepted: Accepted, output: &mut [u8]) -> Reply {
     let result = accepted
-        .and_then(|(table, first, second)| unification(&table, &first, &second))
+        .and_then(|(table, first, second)| unify::unify(&table, &first, &second))
         .and_then(|combined| deliver(&combined, output));
     reply(result)
 }
@@ -283,7 +271,7 @@ fn deliver_explained(
     let record = fitting_record(&explained.graph, output)?;
     let bytes: Vec<u8> = explained.reasons.iter().map(|&why| why.byte()).collect();
     if bytes.len() > reasons.len() {
-        return Err(Refusal::ShortReasons);
+        return Err(Refusal::NoReasonRoom);
     }
     put(&record, output);
     put(&bytes, reasons);
@@ -298,7 +286,7 @@ fn fitting_record(graph: &Graph, output: &[u8]) -> Result<Vec<u8>, Refusal> {
     }
     let record = record::write(&canonical(graph));
     if record.len() > output.len() {
-        return Err(Refusal::ShortOutput);
+        return Err(Refusal::NoRoom);
     }
     Ok(record)
 }

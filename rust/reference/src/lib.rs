@@ -10,9 +10,8 @@
 pub mod appropriateness;
 pub mod calls;
 pub mod canonical;
-pub mod combination;
-pub mod common;
 pub mod difference;
+pub mod generalize;
 pub mod graph;
 pub mod house;
 pub mod label;
@@ -26,3 +25,4 @@ pub mod reader;
 pub mod record;
 pub mod reply;
 pub mod table;
+pub mod unify;

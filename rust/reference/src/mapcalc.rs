@@ -5,7 +5,7 @@
 use crate::calls;
 use crate::reader::Reader;
 use crate::record::LONGEST_RECORD;
-use crate::reply::{Refusal, Reply, Which};
+use crate::reply::{Refusal, Reply, Side};
 
 /// A record length above this is bad input.
 pub const MOST_LENGTH: usize = 8192;
@@ -14,9 +14,9 @@ pub const MOST_LENGTH: usize = 8192;
 #[derive(Clone, Copy, Debug, PartialEq, Eq)]
 pub enum Operation {
     /// 1: the common part.
-    Common,
+    Generalize,
     /// 2: the combination.
-    Combine,
+    Unify,
     /// 3: the difference, g first.
     Difference,
     /// 4: which is the broader, seen from the first.
@@ -26,8 +26,8 @@ pub enum Operation {
 impl Operation {
     /// All operations, in the order of their bytes.
     pub const ALL: [Operation; 4] = [
-        Operation::Common,
-        Operation::Combine,
+        Operation::Generalize,
+        Operation::Unify,
         Operation::Difference,
         Operation::Order,
     ];
@@ -35,8 +35,8 @@ impl Operation {
     /// The operation byte.
     pub fn byte(self) -> u8 {
         match self {
-            Operation::Common => 1,
-            Operation::Combine => 2,
+            Operation::Generalize => 1,
+            Operation::Unify => 2,
             Operation::Difference => 3,
             Operation::Order => 4,
         }
@@ -73,20 +73,20 @@ pub fn line(input: &[u8]) -> String {
     let n = usize::from(input.n);
     let mut output = [0; LONGEST_RECORD];
     let reply = match input.operation {
-        Operation::Common => calls::common_part(n, table, first, second, &mut output),
-        Operation::Combine => calls::combination(n, table, first, second, &mut output),
+        Operation::Generalize => calls::generalize(n, table, first, second, &mut output),
+        Operation::Unify => calls::unify(n, table, first, second, &mut output),
         Operation::Difference => calls::difference(n, table, first, second, &mut output),
         Operation::Order => calls::order(n, table, first, second),
     };
     match reply {
         Reply::Length(length) => format!("ok {length} {}", hexadecimal(&output[..length])),
         Reply::Order(order) => order.word().to_string(),
-        Reply::Refused(Refusal::Graph(fault, which)) => {
-            let which = match which {
-                Which::First => "first",
-                Which::Second => "second",
+        Reply::Refused(Refusal::Graph(fault, side)) => {
+            let side = match side {
+                Side::First => "first",
+                Side::Second => "second",
             };
-            format!("refused {} {which}", fault.number())
+            format!("refused {} {side}", fault.number())
         }
         Reply::Refused(refusal) => format!("refused {}", refusal.number()),
     }

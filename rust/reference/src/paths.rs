@@ -114,7 +114,7 @@ pub fn obeys(table: &Table, list: &[Type], graph: &PathGraph) -> bool {
 /// The common part: "the paths in both, each with the join of its two types, two
 /// sharing exactly when they share in both"; each has "the smallest range holding
 /// both".
-pub fn generalization(table: &Table, first: &PathGraph, second: &PathGraph) -> PathGraph {
+pub fn generalize(table: &Table, first: &PathGraph, second: &PathGraph) -> PathGraph {
     let mut labels = BTreeMap::new();
     for (path, &left) in &first.labels {
         if let Some(&right) = second.labels.get(path) {
@@ -140,15 +140,11 @@ pub fn generalization(table: &Table, first: &PathGraph, second: &PathGraph) -> P
 /// down or a class is seen to hold a path and a longer path that begins with it: then
 /// it reaches itself. Without a loop a path is no longer than there are classes, so
 /// this ends.
-pub fn unification(
-    table: &Table,
-    first: &PathGraph,
-    second: &PathGraph,
-) -> Result<PathGraph, Refusal> {
+pub fn unify(table: &Table, first: &PathGraph, second: &PathGraph) -> Result<PathGraph, Refusal> {
     let mut classes = equivalence(first.classes.union(&second.classes).cloned());
     loop {
         if classes.iter().any(reaches_itself) {
-            return Err(Refusal::Loop);
+            return Err(Refusal::Cycle);
         }
         let paths: BTreeSet<Path> = classes.iter().flatten().cloned().collect();
         let features: BTreeSet<Feature> = paths.iter().flatten().copied().collect();

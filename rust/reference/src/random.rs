@@ -4,16 +4,16 @@
 //! the same inputs on every machine. Nothing here uses the operations on graphs: a graph above another is
 //! made by steps that plainly weaken it.
 
-mod feature_lists;
 mod graphs;
 mod inputs;
 mod lists;
+mod reading_orders;
 mod tables;
 
-pub use feature_lists::*;
 pub use graphs::*;
 pub use inputs::*;
 pub use lists::*;
+pub use reading_orders::*;
 pub use tables::*;
 
 use std::env;

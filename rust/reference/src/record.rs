@@ -26,12 +26,12 @@ pub const HAS_RANGE: u8 = 1 << 7;
 #[derive(Clone, Copy, Debug, PartialEq, Eq)]
 pub enum GraphFault {
     /// 4: N is 0, the record is short or has bytes left over, or has more than 2,048 links.
-    Shape,
+    Malformed,
     /// 5: a type that is 0 or at least n, a target at least N, or a lowest level above
     /// the highest.
-    Value,
+    OutOfRange,
     /// 6: a node reaches itself.
-    Cycle,
+    Cyclic,
     /// 7: a node the root does not reach.
     Unreached,
     /// 18: a link that the list of a call forbids; reading finds the others alone.
@@ -42,9 +42,9 @@ impl GraphFault {
     /// The number of this fault in the papers.
     pub fn number(self) -> u8 {
         match self {
-            GraphFault::Shape => 4,
-            GraphFault::Value => 5,
-            GraphFault::Cycle => 6,
+            GraphFault::Malformed => 4,
+            GraphFault::OutOfRange => 5,
+            GraphFault::Cyclic => 6,
             GraphFault::Unreached => 7,
             GraphFault::Inappropriate => 18,
         }
@@ -54,10 +54,10 @@ impl GraphFault {
 /// Reads a record; the graph keeps the numbering of the record.
 pub fn read(table: &Table, record: &[u8]) -> Result<Graph, GraphFault> {
     let Some(graph) = parse(record) else {
-        return Err(GraphFault::Shape);
+        return Err(GraphFault::Malformed);
     };
     if graph.link_count() > MOST_LINKS {
-        return Err(GraphFault::Shape);
+        return Err(GraphFault::Malformed);
     }
     let label_stands = |node: &Node| {
         !node.label.is_contradiction() && usize::from(node.label.node_type) < table.n()
@@ -72,10 +72,10 @@ pub fn read(table: &Table, record: &[u8]) -> Result<Graph, GraphFault> {
         .iter()
         .all(|node| label_stands(node) && targets_stand(node))
     {
-        return Err(GraphFault::Value);
+        return Err(GraphFault::OutOfRange);
     }
     if graph.bottom_up().is_none() {
-        return Err(GraphFault::Cycle);
+        return Err(GraphFault::Cyclic);
     }
     if graph.reached().len() != graph.nodes.len() {
         return Err(GraphFault::Unreached);

@@ -8,7 +8,7 @@ use crate::table::TableFault;
 
 /// Which of the two graphs of a call; a lone graph counts as the first.
 #[derive(Clone, Copy, Debug, PartialEq, Eq)]
-pub enum Which {
+pub enum Side {
     /// The first graph.
     First,
     /// The second graph.
@@ -21,11 +21,11 @@ pub enum Refusal {
     /// 1 to 3: the table.
     Table(TableFault),
     /// 4 to 7 and 18: one of the graphs.
-    Graph(GraphFault, Which),
+    Graph(GraphFault, Side),
     /// 8: the result exists and the output is shorter.
-    ShortOutput,
+    NoRoom,
     /// 9: combination, a class reaches itself.
-    Loop,
+    Cycle,
     /// 10: combination, a class has type 0 for its meet or an empty overlap, and no loop.
     Clash,
     /// 11: the result has over 255 nodes or 2,048 links.
@@ -37,9 +37,9 @@ pub enum Refusal {
     /// 17: the list is not of 64 bytes or has an entry of n or more.
     TypeList,
     /// 19: difference, the list is not one "of all 64 features, each once".
-    FeatureList,
+    ReadingOrder,
     /// 22: difference, "too few bytes lent for the reasons".
-    ShortReasons,
+    NoReasonRoom,
 }
 
 impl Refusal {
@@ -48,15 +48,23 @@ impl Refusal {
         match self {
             Refusal::Table(fault) => fault.number(),
             Refusal::Graph(fault, _) => fault.number(),
-            Refusal::ShortOutput => 8,
-            Refusal::Loop => 9,
+            Refusal::NoRoom => 8,
+            Refusal::Cycle => 9,
             Refusal::Clash => 10,
             Refusal::TooLarge => 11,
             Refusal::NotBelow => 12,
             Refusal::NoWantedType => 13,
             Refusal::TypeList => 17,
-            Refusal::FeatureList => 19,
-            Refusal::ShortReasons => 22,
+            Refusal::ReadingOrder => 19,
+            Refusal::NoReasonRoom => 22,
+        }
+    }
+
+    /// The graph that is refused, for 4 to 7 and 18.
+    pub fn side(self) -> Option<Side> {
+        match self {
+            Refusal::Graph(_, side) => Some(side),
+            _ => None,
         }
     }
 }

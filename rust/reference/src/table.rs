@@ -23,7 +23,7 @@ pub enum TableFault {
     /// 2: a bit at n or above; not an order; 0 not least; n−1 not greatest.
     Order,
     /// 3: two types without a meet or a join.
-    Lattice,
+    Bounds,
 }
 
 impl TableFault {
@@ -32,7 +32,7 @@ impl TableFault {
         match self {
             TableFault::Size => 1,
             TableFault::Order => 2,
-            TableFault::Lattice => 3,
+            TableFault::Bounds => 3,
         }
     }
 }
@@ -71,10 +71,10 @@ impl Table {
                 let lower_bounds = table.down[a] & table.down[b];
                 let upper_bounds = table.up[a] & table.up[b];
                 let Some(meet) = table.greatest(lower_bounds) else {
-                    return Err(TableFault::Lattice);
+                    return Err(TableFault::Bounds);
                 };
                 let Some(join) = table.least(upper_bounds) else {
-                    return Err(TableFault::Lattice);
+                    return Err(TableFault::Bounds);
                 };
                 table.meets[a][b] = meet;
                 table.joins[a][b] = join;

@@ -6,27 +6,27 @@
 use reference::appropriateness::Appropriateness;
 use reference::calls::{self, Call, CallWithList, written, written_by};
 use reference::canonical::canonical;
-use reference::combination::unification;
-use reference::common::generalization;
 use reference::difference::difference;
+use reference::generalize::generalize;
 use reference::graph::{FEATURES, Graph, Node};
 use reference::notation::graph;
 use reference::paths::{self, PathGraph};
 use reference::random::{self, InputWithList, Ranges, Shape, TableBytes, Xorshift};
 use reference::record::{self, GraphFault};
-use reference::reply::{Refusal, Reply, Which};
+use reference::reply::{Refusal, Reply, Side};
 use reference::table::Table;
+use reference::unify::unify;
 use std::collections::BTreeMap;
 
 /// The calls on two graphs, each beside the plain one.
 const PAIRS: [(CallWithList, Call); 2] = [
-    (calls::common_part_appropriate, calls::common_part),
-    (calls::combination_appropriate, calls::combination),
+    (calls::generalize_appropriate, calls::generalize),
+    (calls::unify_appropriate, calls::unify),
 ];
 
 /// 18 of one of the graphs.
-const fn inappropriate(which: Which) -> Refusal {
-    Refusal::Graph(GraphFault::Inappropriate, which)
+const fn inappropriate(side: Side) -> Refusal {
+    Refusal::Graph(GraphFault::Inappropriate, side)
 }
 
 /// The list that has these entries, each behind its feature, and else the one given.
@@ -70,7 +70,7 @@ fn assert_refused(table: &TableBytes, list: &[u8], records: [&[u8]; 2], refusal:
             let reply = call(table.n, &table.bytes, list, first, second, &mut output);
             assert_eq!(reply, refused, "{list:?} {first:?} {second:?}");
         }
-        if !matches!(refusal, Refusal::Graph(_, Which::Second)) {
+        if !matches!(refusal, Refusal::Graph(_, Side::Second)) {
             let reply = calls::rewrite_appropriate(table.n, &table.bytes, list, first, &mut output);
             assert_eq!(reply, refused, "{list:?} {first:?}");
         }
@@ -98,7 +98,7 @@ fn a_node_may_have_a_feature_when_its_type_is_below_or_equal() {
                     let list = list(0, &[(usize::from(feature), entry)]);
                     let expected = match accepted.below(node_type, entry) {
                         true => Ok(record.clone()),
-                        false => Err(inappropriate(Which::First)),
+                        false => Err(inappropriate(Side::First)),
                     };
                     let result = rewritten(&table, &list, &record);
                     assert_eq!(result, expected, "{node_type} by {feature}, {entry}");
@@ -133,7 +133,7 @@ fn by_hand_over_the_diamond() {
         let record = over_diamond(text);
         let expected = match obeys {
             true => Ok(record.clone()),
-            false => Err(inappropriate(Which::First)),
+            false => Err(inappropriate(Side::First)),
         };
         assert_eq!(rewritten(&table, &list, &record), expected, "{text}");
     }
@@ -145,19 +145,19 @@ fn a_list_that_forbids_all_is_obeyed_by_lone_nodes() {
     let none = list(0, &[]);
     let [a, b, top] = ["a", "b", "top"].map(over_diamond);
     assert_eq!(rewritten(&table, &none, &a), Ok(a.clone()));
-    let common = given(calls::common_part_appropriate, &table, &none, &a, &b);
+    let common = given(calls::generalize_appropriate, &table, &none, &a, &b);
     assert_eq!(common, Ok(top.clone()));
-    let combined = given(calls::combination_appropriate, &table, &none, &a, &top);
+    let combined = given(calls::unify_appropriate, &table, &none, &a, &top);
     assert_eq!(combined, Ok(a.clone()));
-    let clash = given(calls::combination_appropriate, &table, &none, &a, &b);
+    let clash = given(calls::unify_appropriate, &table, &none, &a, &b);
     assert_eq!(clash, Err(Refusal::Clash));
     for feature in 0..FEATURES {
         let nodes = vec![Node::new(1, [(feature as u8, 1)]), Node::new(1, [])];
         let linked = record::write(&Graph { nodes });
-        let first = inappropriate(Which::First);
+        let first = inappropriate(Side::First);
         assert_refused(&table, &none, [&linked, &top], first);
         assert_refused(&table, &none, [&linked, &linked], first);
-        assert_refused(&table, &none, [&top, &linked], inappropriate(Which::Second));
+        assert_refused(&table, &none, [&top, &linked], inappropriate(Side::Second));
     }
 }
 
@@ -172,9 +172,9 @@ fn faulty_records() -> [(GraphFault, Vec<u8>); 4] {
     let mut longer = linked(&[&[(0, 1)], &[]]);
     longer.push(0);
     [
-        (GraphFault::Shape, longer),
-        (GraphFault::Value, linked(&[&[(0, 1), (1, 2)], &[]])),
-        (GraphFault::Cycle, linked(&[&[(0, 1)], &[(0, 1)]])),
+        (GraphFault::Malformed, longer),
+        (GraphFault::OutOfRange, linked(&[&[(0, 1), (1, 2)], &[]])),
+        (GraphFault::Cyclic, linked(&[&[(0, 1)], &[(0, 1)]])),
         (GraphFault::Unreached, linked(&[&[(0, 1)], &[], &[]])),
     ]
 }
@@ -242,10 +242,10 @@ fn refusal_18_tells_which_graph() {
     let table = random::diamond();
     let list = list(3, &[(0, 1)]);
     let [good, bad] = ["a[0: b[1: a[0: top]]]", "a[0: b[1: b[0: top]]]"].map(over_diamond);
-    assert_refused(&table, &list, [&bad, &good], inappropriate(Which::First));
-    assert_refused(&table, &list, [&good, &bad], inappropriate(Which::Second));
-    assert_refused(&table, &list, [&bad, &bad], inappropriate(Which::First));
-    assert_eq!(inappropriate(Which::First).number(), 18);
+    assert_refused(&table, &list, [&bad, &good], inappropriate(Side::First));
+    assert_refused(&table, &list, [&good, &bad], inappropriate(Side::Second));
+    assert_refused(&table, &list, [&bad, &bad], inappropriate(Side::First));
+    assert_eq!(inappropriate(Side::First).number(), 18);
     assert_eq!(Refusal::TypeList.number(), 17);
 }
 
@@ -256,17 +256,17 @@ fn refusal_18_comes_straight_after_7() {
     let [lone, bad] = ["a", "a[0: b]"].map(over_diamond);
     for (fault, faulty) in faulty_records() {
         // The first graph's 4 to 7 before its 18.
-        let first = Refusal::Graph(fault, Which::First);
+        let first = Refusal::Graph(fault, Side::First);
         assert_refused(&table, &none, [&faulty, &lone], first);
         assert_refused(&table, &none, [&faulty, &bad], first);
         // The first graph's 18 before the second's 4 to 7.
-        let first = inappropriate(Which::First);
+        let first = inappropriate(Side::First);
         assert_refused(&table, &none, [&bad, &faulty], first);
         // The second graph's 4 to 7 before its 18.
-        let second = Refusal::Graph(fault, Which::Second);
+        let second = Refusal::Graph(fault, Side::Second);
         assert_refused(&table, &none, [&lone, &faulty], second);
     }
-    assert_refused(&table, &none, [&bad, &[]], inappropriate(Which::First));
+    assert_refused(&table, &none, [&bad, &[]], inappropriate(Side::First));
 }
 
 #[test]
@@ -287,11 +287,11 @@ fn refusal_18_comes_before_what_the_result_is_refused_by() {
         (11, long(0), forbidden),
     ] {
         let (first, second) = (record::write(&first), record::write(&second));
-        let plain = written(calls::combination, table.n, &table.bytes, &first, &second);
+        let plain = written(calls::unify, table.n, &table.bytes, &first, &second);
         assert_eq!(plain.map_err(Refusal::number), Err(number));
-        let second_refused = inappropriate(Which::Second);
+        let second_refused = inappropriate(Side::Second);
         assert_refused(&table, &list, [&first, &second], second_refused);
-        let first_refused = inappropriate(Which::First);
+        let first_refused = inappropriate(Side::First);
         assert_refused(&table, &list, [&second, &first], first_refused);
     }
 }
@@ -310,7 +310,7 @@ fn one_forbidden_link_among_255_nodes_is_found() {
             one_above.nodes[node].label.node_type = 3;
             let lower = list(3, &[(usize::from(feature), 1)]);
             let record = record::write(&random::renumbered(&mut random, &one_above));
-            let first = inappropriate(Which::First);
+            let first = inappropriate(Side::First);
             assert_refused(&table, &lower, [&record, &lone], first);
             one_above.nodes[node].links.remove(&feature);
             let record = record::write(&one_above);
@@ -372,7 +372,7 @@ fn results_of_graphs_that_obey_a_list_obey_it() {
         let list = random::obeyed_list(random, types, &[p, q]);
         let obeyed = |graph: &Graph| accepted(types, &list).is_obeyed(types, graph);
         assert!(obeyed(p) && obeyed(q));
-        let common = generalization(types, p, q);
+        let common = generalize(types, p, q);
         assert!(obeyed(&common), "{list:?} {p:?} {q:?}");
         // With an entry at the type of a node that has the feature.
         let is_tight = |node: &Node| {
@@ -380,7 +380,7 @@ fn results_of_graphs_that_obey_a_list_obey_it() {
             node.links.keys().any(at)
         };
         tight += usize::from(common.nodes.iter().any(is_tight));
-        if let Ok(result) = unification(types, p, q) {
+        if let Ok(result) = unify(types, p, q) {
             assert!(obeyed(&result), "{list:?} {p:?} {q:?}");
             combined += usize::from(result.link_count() > 0);
         }
@@ -402,17 +402,12 @@ fn results_may_obey_what_their_graphs_break() {
     let list = list(3, &[(0, 1)]);
     // The combination has type a where the first graph has top.
     let [first, second, combined] = ["top[0: b]", "a", "a[0: b]"].map(over_diamond);
-    let plain = written(calls::combination, table.n, &table.bytes, &first, &second);
+    let plain = written(calls::unify, table.n, &table.bytes, &first, &second);
     assert_eq!(plain, Ok(combined.clone()));
     assert_eq!(rewritten(&table, &list, &combined), Ok(combined));
-    assert_refused(
-        &table,
-        &list,
-        [&first, &second],
-        inappropriate(Which::First),
-    );
+    assert_refused(&table, &list, [&first, &second], inappropriate(Side::First));
     // The common part leaves the link out.
-    let plain = written(calls::common_part, table.n, &table.bytes, &first, &second);
+    let plain = written(calls::generalize, table.n, &table.bytes, &first, &second);
     assert_eq!(plain, Ok(over_diamond("top")));
 }
 
@@ -461,7 +456,7 @@ fn nothing_else_differs_from_the_plain_calls() {
         assert_eq!(reply, expected, "{input:?}");
         assert_eq!(with_list, plain, "{input:?}");
         let kind = match reply {
-            Reply::Refused(Refusal::Graph(fault, which)) => format!("{} {which:?}", fault.number()),
+            Reply::Refused(Refusal::Graph(fault, side)) => format!("{} {side:?}", fault.number()),
             reply => format!("{:?}", reply.number()),
         };
         *counts.entry(kind).or_default() += 1;
@@ -486,13 +481,13 @@ fn forbidden(input: &InputWithList, records: &[&Vec<u8>]) -> Option<Refusal> {
     if list.len() != 64 || list.iter().any(|&entry| usize::from(entry) >= table.n) {
         return Some(Refusal::TypeList);
     }
-    for (record, which) in records.iter().zip([Which::First, Which::Second]) {
+    for (record, side) in records.iter().zip([Side::First, Side::Second]) {
         let graph = record::read(&types, record).ok()?;
         for link in graph.incoming().concat() {
             let node_type = graph.nodes[link.parent].label.node_type;
             let entry = list[usize::from(link.feature)];
             if types.join(node_type, entry) != entry {
-                return Some(inappropriate(which));
+                return Some(inappropriate(side));
             }
         }
     }
@@ -516,13 +511,13 @@ fn a_difference_need_not_obey_the_list() {
         plain(calls::difference, &general, &specific),
         Ok(rest.clone())
     );
-    let refused = Err(inappropriate(Which::First));
+    let refused = Err(inappropriate(Side::First));
     assert_eq!(rewritten(&table, &list, &rest), refused);
-    let combination = calls::combination_appropriate;
-    let refused = Err(inappropriate(Which::Second));
+    let combination = calls::unify_appropriate;
+    let refused = Err(inappropriate(Side::Second));
     assert_eq!(given(combination, &table, &list, &general, &rest), refused);
     // Through the plain call it gives the specific graph, which obeys.
-    let restored = plain(calls::combination, &general, &rest);
+    let restored = plain(calls::unify, &general, &rest);
     assert_eq!(restored, Ok(specific));
 }
 
@@ -535,7 +530,7 @@ fn a_difference_combined_by_the_plain_call_obeys_again() {
             return;
         };
         let list = random::obeyed_list(random, types, &[g, s]);
-        let restored = unification(types, g, &rest).expect("a difference restores");
+        let restored = unify(types, g, &rest).expect("a difference restores");
         assert_eq!(canonical(&restored), canonical(s));
         assert!(accepted(types, &list).is_obeyed(types, &restored));
         match accepted(types, &list).is_obeyed(types, &rest) {

@@ -3,15 +3,15 @@
 //! graphs, so each test says which half of its claim is exact.
 
 use reference::canonical::canonical;
-use reference::combination::unification;
-use reference::common::generalization;
 use reference::difference::difference_by;
+use reference::generalize::generalize;
 use reference::graph::{FEATURES, Feature, Graph, Node};
 use reference::label::{Label, Level, Range};
 use reference::link_order::LinkOrder;
 use reference::order::below;
 use reference::random::{self, TableBytes};
 use reference::table::Table;
+use reference::unify::unify;
 use std::collections::{BTreeMap, BTreeSet};
 
 /// All canonical graphs with a few nodes, features and ranges over a table, and for
@@ -87,7 +87,7 @@ impl Universe {
         for a in self.places() {
             for b in a..self.graphs.len() {
                 let (first, second) = (&self.graphs[a], &self.graphs[b]);
-                let common = canonical(&generalization(&self.table, first, second));
+                let common = canonical(&generalize(&self.table, first, second));
                 assert!(below(&self.table, first, &common));
                 assert!(below(&self.table, second, &common));
                 let above_both: BTreeSet<usize> = self.above[a]
@@ -115,7 +115,7 @@ impl Universe {
             for b in a..self.graphs.len() {
                 let (first, second) = (&self.graphs[a], &self.graphs[b]);
                 let mut below_both = self.below[a].intersection(&self.below[b]).copied();
-                let Ok(combined) = unification(&self.table, first, second) else {
+                let Ok(combined) = unify(&self.table, first, second) else {
                     assert_eq!(below_both.next(), None, "{first:?} {second:?}");
                     refused += 1;
                     continue;
@@ -173,7 +173,7 @@ impl Universe {
     }
 
     fn restored(&self, difference: &Graph, g: &Graph) -> Option<Graph> {
-        let combined = unification(&self.table, difference, g).ok()?;
+        let combined = unify(&self.table, difference, g).ok()?;
         Some(canonical(&combined))
     }
 

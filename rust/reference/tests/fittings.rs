@@ -47,40 +47,40 @@ fn notation_and_tables_are_those_of_the_document() {
 
 #[test]
 fn case_1_common_part_without_agreement_is_a_lone_top() {
-    let result = on_diamond(calls::common_part, "a[0: b]", "b");
+    let result = on_diamond(calls::generalize, "a[0: b]", "b");
     assert_eq!(result, Ok(bytes(LONE_TOP)));
 }
 
 #[test]
 fn case_2_a_with_b_clashes() {
-    let result = on_diamond(calls::combination, "a", "b");
+    let result = on_diamond(calls::unify, "a", "b");
     assert_eq!(result, Err(Refusal::Clash));
     assert_eq!(Refusal::Clash.number(), 10);
 }
 
 #[test]
 fn case_3_sharing_merges_types() {
-    let result = on_diamond(calls::combination, P, "top[0: a, 1: top]");
+    let result = on_diamond(calls::unify, P, "top[0: a, 1: top]");
     assert_eq!(result, Ok(bytes(R_BYTES)));
 }
 
 #[test]
 fn case_4_sharing_makes_a_clash() {
-    let result = on_diamond(calls::combination, P, "top[0: a, 1: b]");
+    let result = on_diamond(calls::unify, P, "top[0: a, 1: b]");
     assert_eq!(result, Err(Refusal::Clash));
 }
 
 #[test]
 fn case_5_a_loop_is_told_before_a_clash() {
-    let result = on_diamond(calls::combination, P, "top[0: Z a, 1: b[0: Z]]");
-    assert_eq!(result, Err(Refusal::Loop));
-    assert_eq!(Refusal::Loop.number(), 9);
+    let result = on_diamond(calls::unify, P, "top[0: Z a, 1: b[0: Z]]");
+    assert_eq!(result, Err(Refusal::Cycle));
+    assert_eq!(Refusal::Cycle.number(), 9);
 }
 
 #[test]
 fn case_6_common_part_shares_only_what_both_share() {
-    assert_eq!(on_diamond(calls::common_part, P, Q), Ok(bytes(Q_BYTES)));
-    assert_eq!(on_diamond(calls::common_part, Q, P), Ok(bytes(Q_BYTES)));
+    assert_eq!(on_diamond(calls::generalize, P, Q), Ok(bytes(Q_BYTES)));
+    assert_eq!(on_diamond(calls::generalize, Q, P), Ok(bytes(Q_BYTES)));
 }
 
 #[test]
@@ -155,7 +155,7 @@ fn case_12_three_middle_types_have_wanted_types() {
     // The table is accepted: the other calls give results.
     let one = record::write(&Graph::lone(1));
     let two = record::write(&Graph::lone(2));
-    let common = written(calls::common_part, 5, &table.bytes, &one, &two);
+    let common = written(calls::generalize, 5, &table.bytes, &one, &two);
     assert_eq!(common, Ok(bytes("01 04 0000000000000000")));
 }
 
@@ -184,11 +184,11 @@ fn three_types_over_one_keep_the_refusal() {
 /// difference that keeps a node for its range alone, a full range spelled out.
 #[test]
 fn level_ranges() {
-    let combined = on_diamond(calls::combination, "a{10..100}", "top{50..200}");
+    let combined = on_diamond(calls::unify, "a{10..100}", "top{50..200}");
     assert_eq!(combined, Ok(bytes("01 81 32 64 0000000000000000")));
-    let clash = on_diamond(calls::combination, "a{10..100}", "a{101..200}");
+    let clash = on_diamond(calls::unify, "a{10..100}", "a{101..200}");
     assert_eq!(clash, Err(Refusal::Clash));
-    let common = on_diamond(calls::common_part, "a{10..20}", "a{90..100}");
+    let common = on_diamond(calls::generalize, "a{10..20}", "a{90..100}");
     assert_eq!(common, Ok(bytes("01 81 0A 64 0000000000000000")));
     // One end is shared and need not be said again; the root has nothing to say.
     let rest = on_diamond(
@@ -216,7 +216,7 @@ fn case_13_two_types_with_two_least_upper_bounds() {
     let reply = calls::rewrite(6, &bytes(rows), &record, &mut output);
     assert_eq!(reply.number(), Some(3));
     assert_eq!(output, [0xEE; 10]);
-    let result = written(calls::common_part, 6, &bytes(rows), &record, &record);
+    let result = written(calls::generalize, 6, &bytes(rows), &record, &record);
     assert_eq!(result.map_err(Refusal::number), Err(3));
 }
 
@@ -225,7 +225,7 @@ fn case_14_a_combination_of_255_nodes_and_one_of_256() {
     let table = diamond();
     let chain = |nodes: usize, feature: u8| record::write(&random::chain_graph(nodes, feature, 3));
     let result = written(
-        calls::combination,
+        calls::unify,
         4,
         &table.bytes,
         &chain(128, 0),
@@ -246,7 +246,7 @@ fn case_14_a_combination_of_255_nodes_and_one_of_256() {
     assert_eq!(result, Ok(expected));
 
     let result = written(
-        calls::combination,
+        calls::unify,
         4,
         &table.bytes,
         &chain(129, 0),
@@ -260,8 +260,8 @@ fn case_14_a_combination_of_255_nodes_and_one_of_256() {
 fn case_15_an_output_one_byte_short_and_one_that_fits() {
     let table = diamond();
     let cases: [(Call, &str, &str, &str); 4] = [
-        (calls::common_part, P, Q, Q_BYTES),
-        (calls::combination, P, R, R_BYTES),
+        (calls::generalize, P, Q, Q_BYTES),
+        (calls::unify, P, R, R_BYTES),
         (calls::difference, Q, R, R_BYTES),
         (calls::difference, P, P, LONE_TOP),
     ];
@@ -272,7 +272,7 @@ fn case_15_an_output_one_byte_short_and_one_that_fits() {
 
         let mut short = vec![0xEE; length - 1];
         let reply = call(4, &table.bytes, &first, &second, &mut short);
-        assert_eq!(reply, Reply::Refused(Refusal::ShortOutput));
+        assert_eq!(reply, Reply::Refused(Refusal::NoRoom));
         assert_eq!(reply.number(), Some(8));
         assert_eq!(short, vec![0xEE; length - 1]);
 

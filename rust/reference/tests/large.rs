@@ -41,9 +41,9 @@ fn a_ladder_goes_through_all_calls() {
     assert_eq!(reply, Reply::Length(record.len()));
     assert_eq!(output, record);
     assert!(is_below(&ladder, &ladder));
-    let same = over_diamond(calls::common_part, &ladder, &ladder);
+    let same = over_diamond(calls::generalize, &ladder, &ladder);
     assert_eq!(same.as_ref(), Ok(&record));
-    let same = over_diamond(calls::combination, &ladder, &ladder);
+    let same = over_diamond(calls::unify, &ladder, &ladder);
     assert_eq!(same.as_ref(), Ok(&record));
     let lone_top = record::write(&Graph::lone(TOP));
     let difference = over_diamond(calls::difference, &ladder, &ladder);
@@ -58,7 +58,7 @@ fn the_longest_record_is_read_and_written() {
         longest.nodes[number].links.insert(1, number + 1);
     }
     assert_eq!(longest.link_count(), 2048);
-    let combined = over_diamond(calls::combination, &longest, &longest_ladder());
+    let combined = over_diamond(calls::unify, &longest, &longest_ladder());
     assert_eq!(combined, Ok(record::write(&longest)));
     // A range at every node.
     for (lowest, node) in (1..=255).zip(&mut longest.nodes) {
@@ -66,10 +66,10 @@ fn the_longest_record_is_read_and_written() {
     }
     let record = record::write(&longest);
     assert_eq!(record.len(), record::LONGEST_RECORD);
-    let combined = over_diamond(calls::combination, &longest, &longest_ladder());
+    let combined = over_diamond(calls::unify, &longest, &longest_ladder());
     assert_eq!(combined, Ok(record));
     longest.nodes[16].links.insert(1, 17);
-    let refused = over_diamond(calls::combination, &longest, &longest_ladder());
+    let refused = over_diamond(calls::unify, &longest, &longest_ladder());
     assert_eq!(refused.map_err(Refusal::number), Err(4));
 }
 
@@ -84,7 +84,7 @@ fn a_type_at_the_end_of_a_ladder_is_kept_by_one_path() {
     let mut expected = random::chain_graph(255, 0, TOP);
     expected.nodes[254].label.node_type = 1;
     assert_eq!(difference, Ok(record::write(&expected)));
-    let restored = over_diamond(calls::combination, &general, &expected);
+    let restored = over_diamond(calls::unify, &general, &expected);
     assert_eq!(restored, Ok(record::write(&specific)));
 }
 
@@ -103,7 +103,7 @@ fn a_range_at_the_end_of_a_ladder_is_kept_by_one_path() {
     let mut expected = random::chain_graph(255, 0, TOP);
     expected.nodes[254].label.range.highest = 100;
     assert_eq!(difference, Ok(record::write(&expected)));
-    let restored = over_diamond(calls::combination, &general, &expected);
+    let restored = over_diamond(calls::unify, &general, &expected);
     assert_eq!(restored, Ok(record::write(&specific)));
 }
 
@@ -115,8 +115,8 @@ fn a_chain_merged_into_itself_by_one_shared_pair_loops() {
     first.nodes[0].links.insert(1, 2);
     let mut second = random::chain_graph(2, 0, TOP);
     second.nodes[0].links.insert(1, 1);
-    let looping = over_diamond(calls::combination, &first, &second);
-    assert_eq!(looping, Err(Refusal::Loop));
+    let looping = over_diamond(calls::unify, &first, &second);
+    assert_eq!(looping, Err(Refusal::Cycle));
 }
 
 #[test]
@@ -139,9 +139,9 @@ fn merging_passes_down_two_long_chains() {
     };
     let mut shared = random::chain_graph(2, 0, TOP);
     shared.nodes[0].links.insert(1, 1);
-    let clash = over_diamond(calls::combination, &two_chains(1, 2), &shared);
+    let clash = over_diamond(calls::unify, &two_chains(1, 2), &shared);
     assert_eq!(clash, Err(Refusal::Clash));
-    let combined = over_diamond(calls::combination, &two_chains(1, TOP), &shared);
+    let combined = over_diamond(calls::unify, &two_chains(1, TOP), &shared);
     let mut expected = random::chain_graph(128, 0, TOP);
     expected.nodes[0].links.insert(1, 1);
     expected.nodes[127].label.node_type = 1;
@@ -173,9 +173,9 @@ fn large_random_graphs_keep_the_laws() {
         };
         let order = calls::order(table.n, &table.bytes, &s, &g);
         assert!(matches!(order, Reply::Order(order) if order.is_below()));
-        assert_eq!(make(calls::combination, &s, &g).as_ref(), Ok(&written_s));
+        assert_eq!(make(calls::unify, &s, &g).as_ref(), Ok(&written_s));
         let difference = make(calls::difference, &g, &s).expect("s is below g");
-        let restored = make(calls::combination, &g, &difference);
+        let restored = make(calls::unify, &g, &difference);
         assert_eq!(restored, Ok(written_s));
     }
 }

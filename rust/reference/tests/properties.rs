@@ -4,9 +4,8 @@
 
 use reference::calls::{self, Call, written};
 use reference::canonical::canonical;
-use reference::combination::unification;
-use reference::common::generalization;
 use reference::difference::{difference, difference_by};
+use reference::generalize::generalize;
 use reference::graph::{Graph, Node, ROOT};
 use reference::label::{Label, Level, Range};
 use reference::link_order::LinkOrder;
@@ -16,6 +15,7 @@ use reference::random::{self, Ranges, Shape, TableBytes, Xorshift};
 use reference::record;
 use reference::reply::{Refusal, Reply};
 use reference::table::{Table, Type};
+use reference::unify::unify;
 use std::collections::{BTreeMap, BTreeSet};
 
 /// Calls the property with many random pairs of small graphs, half of them with
@@ -153,7 +153,7 @@ fn full_ranges_may_be_spelled_out_and_are_never_written() {
             calls::order(n, &bytes, &long_first, &plain_first),
             Reply::Order(Order::Same)
         );
-        for call in [calls::common_part, calls::combination, calls::difference] {
+        for call in [calls::generalize, calls::unify, calls::difference] {
             let result = written(call, n, &bytes, &plain_first, &plain_second);
             let same = written(call, n, &bytes, &long_first, &long_second);
             assert_eq!(result, same);
@@ -183,8 +183,8 @@ fn without_ranges_nothing_gets_one() {
         if !full(first) || !full(second) {
             return;
         }
-        assert!(full(&generalization(table, first, second)));
-        let combined = unification(table, first, second);
+        assert!(full(&generalize(table, first, second)));
+        let combined = unify(table, first, second);
         let rest = difference(table, first, second);
         for result in [combined, rest].into_iter().flatten() {
             assert!(full(&result));
@@ -201,8 +201,8 @@ fn common_part_agrees_with_the_sentence_over_paths() {
             return;
         }
         let (p, q) = (PathGraph::of(first), PathGraph::of(second));
-        let by_paths = paths::generalization(table, &p, &q);
-        let common = generalization(table, first, second);
+        let by_paths = paths::generalize(table, &p, &q);
+        let common = generalize(table, first, second);
         assert_eq!(PathGraph::of(&common), by_paths);
         assert_eq!(canonical(&common), by_paths.graph());
     });
@@ -211,10 +211,10 @@ fn common_part_agrees_with_the_sentence_over_paths() {
 #[test]
 fn common_part_is_above_both_and_below_what_is_above_both() {
     for_pairs(7, 500, |table, first, second| {
-        let common = generalization(table, first, second);
+        let common = generalize(table, first, second);
         assert!(below(table, first, &common));
         assert!(below(table, second, &common));
-        let swapped = generalization(table, second, first);
+        let swapped = generalize(table, second, first);
         assert_eq!(canonical(&common), canonical(&swapped));
         // Steps that weaken the first give graphs above it; those above the
         // second too must be above the common part.
@@ -223,7 +223,7 @@ fn common_part_is_above_both_and_below_what_is_above_both() {
                 assert!(below(table, &common, &weaker));
             }
         }
-        let with_itself = generalization(table, first, first);
+        let with_itself = generalize(table, first, first);
         assert_eq!(canonical(&with_itself), canonical(first));
     });
 }
@@ -236,8 +236,8 @@ fn combination_agrees_with_the_sentence_over_paths() {
             return;
         }
         let (p, q) = (PathGraph::of(first), PathGraph::of(second));
-        let by_paths = paths::unification(table, &p, &q);
-        match unification(table, first, second) {
+        let by_paths = paths::unify(table, &p, &q);
+        match unify(table, first, second) {
             Ok(combined) => {
                 assert_eq!(Ok(canonical(&combined)), by_paths.map(|p| p.graph()));
                 results += 1;
@@ -245,7 +245,7 @@ fn combination_agrees_with_the_sentence_over_paths() {
             Err(refusal) => {
                 assert_eq!(Some(refusal), by_paths.err());
                 match refusal {
-                    Refusal::Loop => loops += 1,
+                    Refusal::Cycle => loops += 1,
                     _ => clashes += 1,
                 }
             }
@@ -259,8 +259,8 @@ fn combination_agrees_with_the_sentence_over_paths() {
 fn combination_is_below_both_and_above_what_is_below_both() {
     let mut random = Xorshift::stored(9);
     for_pairs(10, 500, |table, first, second| {
-        let result = unification(table, first, second).map(|graph| canonical(&graph));
-        let swapped = unification(table, second, first).map(|graph| canonical(&graph));
+        let result = unify(table, first, second).map(|graph| canonical(&graph));
+        let swapped = unify(table, second, first).map(|graph| canonical(&graph));
         assert_eq!(result, swapped);
         if let Ok(combined) = result {
             assert!(below(table, &combined, first));
@@ -269,7 +269,7 @@ fn combination_is_below_both_and_above_what_is_below_both() {
         // Two graphs above a third have a combination, and it is above the third.
         let upper = random::graph_above(&mut random, table, first);
         let other = random::graph_above(&mut random, table, first);
-        let combined = unification(table, &upper, &other);
+        let combined = unify(table, &upper, &other);
         assert!(combined.is_ok_and(|combined| below(table, first, &combined)));
     });
 }
@@ -277,17 +277,17 @@ fn combination_is_below_both_and_above_what_is_below_both() {
 #[test]
 fn common_part_and_combination_absorb_each_other() {
     for_pairs(11, 500, |table, first, second| {
-        let common = generalization(table, first, second);
-        let back = unification(table, first, &common);
+        let common = generalize(table, first, second);
+        let back = unify(table, first, &common);
         assert_eq!(back.map(|g| canonical(&g)), Ok(canonical(first)));
-        if let Ok(combined) = unification(table, first, second) {
-            let back = generalization(table, first, &combined);
+        if let Ok(combined) = unify(table, first, second) {
+            let back = generalize(table, first, &combined);
             assert_eq!(canonical(&back), canonical(first));
         }
         // The order is the one both operations make.
         let is_below = below(table, first, second);
         assert_eq!(is_below, canonical(&common) == canonical(second));
-        let combined = unification(table, first, second).map(|g| canonical(&g));
+        let combined = unify(table, first, second).map(|g| canonical(&g));
         assert_eq!(is_below, combined == Ok(canonical(first)));
     });
 }
@@ -366,7 +366,7 @@ fn difference_restores_and_nothing_more_general_does() {
     let mut random = Xorshift::stored(54);
     let mut differences = 0;
     for_pairs_over(13, 4000, random::brouwer_table, |table, g, s| {
-        let list = random::feature_list(&mut random);
+        let list = random::reading_order(&mut random);
         let order = match random.chance(1, 2) {
             true => LinkOrder::ByParent,
             false => LinkOrder::by_list(&list).expect("all features, each once"),
@@ -377,7 +377,7 @@ fn difference_restores_and_nothing_more_general_does() {
             return;
         }
         let result = result.expect("s is below g");
-        let restored = |d: &Graph| unification(table, d, g).map(|graph| canonical(&graph));
+        let restored = |d: &Graph| unify(table, d, g).map(|graph| canonical(&graph));
         assert_eq!(restored(&result), Ok(canonical(s)));
         assert!(below(table, s, &result));
         for weaker in weakenings(table, &result) {
@@ -402,7 +402,7 @@ fn difference_and_combination_give_back_the_bytes() {
             written(call, table.n, &table.bytes, first, second).expect("a record")
         };
         let difference = make(calls::difference, &g_record, &s_record);
-        let restored = make(calls::combination, &difference, &g_record);
+        let restored = make(calls::unify, &difference, &g_record);
         assert_eq!(restored, record::write(&canonical(&s)));
     }
 }
@@ -438,7 +438,7 @@ fn difference_is_refused_where_a_node_has_no_wanted_type() {
         match difference(&table, &g, &s) {
             Ok(rest) => {
                 assert!((0..s.nodes.len()).all(has_wanted));
-                let restored_graph = unification(&table, &rest, &g);
+                let restored_graph = unify(&table, &rest, &g);
                 assert_eq!(restored_graph.map(|graph| canonical(&graph)), Ok(s));
                 restored += 1;
             }
@@ -596,7 +596,7 @@ fn the_output_beyond_the_record_and_under_a_refusal_is_unchanged() {
             }
         };
         let (first, second) = (record(&mut random), record(&mut random));
-        let calls: [Call; 3] = [calls::common_part, calls::combination, calls::difference];
+        let calls: [Call; 3] = [calls::generalize, calls::unify, calls::difference];
         let length = *random.choose(&[0, 9, 10, 30, 100, record::LONGEST_RECORD]);
         let before: Vec<u8> = (0..length).map(|_| random.byte()).collect();
         let mut after = before.clone();
@@ -631,7 +631,7 @@ fn graphs_of_any_size_go_by_the_same_rules() {
         random::chain_graph(300, 0, 3),
         random::chain_graph(300, 1, 3),
     );
-    let combined = unification(&table, &first, &second).expect("nothing clashes");
+    let combined = unify(&table, &first, &second).expect("nothing clashes");
     assert_eq!(combined.nodes.len(), 599);
     assert!(below(&table, &combined, &first) && below(&table, &combined, &second));
     assert!(!below(&table, &first, &combined));
@@ -649,7 +649,7 @@ fn graphs_of_any_size_go_by_the_same_rules() {
     for _ in 0..20 {
         let one = random::graph(&mut random, 4, &shape);
         let other = random::graph(&mut random, 4, &shape);
-        let common = generalization(&table, &one, &other);
+        let common = generalize(&table, &one, &other);
         assert!(below(&table, &one, &common) && below(&table, &other, &common));
         largest = largest.max(common.nodes.len());
     }

@@ -7,7 +7,6 @@ mod overlaid;
 use overlaid::{facts_of_reasons, table_and_shape};
 use reference::calls::{self, written_by};
 use reference::canonical::canonical;
-use reference::combination::unification;
 use reference::difference::{Reason, difference, difference_by, difference_explained};
 use reference::graph::{FEATURES, Graph, Link};
 use reference::link_order::LinkOrder;
@@ -17,6 +16,7 @@ use reference::paths::paths;
 use reference::random::{self, InputWithList, Ranges, Xorshift};
 use reference::record::{self, LONGEST_RECORD, MOST_LINKS};
 use reference::reply::{Refusal, Reply};
+use reference::unify::unify;
 use std::collections::BTreeMap;
 
 const P: &str = "top[0: X top, 1: X]";
@@ -45,7 +45,7 @@ fn assert_read(first: &[u8], g: &str, s: &str, expected: &str, reasons: &[u8]) {
     assert_eq!(record, plain);
     assert_eq!(beside[..reasons.len()], *reasons);
     assert!(beside[reasons.len()..].iter().all(|&byte| byte == 0xEE));
-    let restored = written_by(|output| calls::combination(n, table, &g, &expected, output));
+    let restored = written_by(|output| calls::unify(n, table, &g, &expected, output));
     assert_eq!(restored, Ok(s));
 }
 
@@ -100,7 +100,7 @@ fn all_three_reasons_by_a_list() {
 fn which_lists_are_accepted() {
     let mut random = Xorshift::stored(51);
     for _ in 0..20 {
-        let list = random::feature_list(&mut random);
+        let list = random::reading_order(&mut random);
         let mut places = [0; FEATURES];
         for (place, &feature) in (0..).zip(&list) {
             places[usize::from(feature)] = place;
@@ -121,7 +121,7 @@ fn which_lists_are_accepted() {
             let resized: Vec<u8> = list.iter().copied().cycle().take(length).collect();
             assert_eq!(LinkOrder::by_list(&resized), None);
         }
-        let damaged = random::damaged_feature_list(&mut random, list);
+        let damaged = random::damaged_reading_order(&mut random, list);
         assert_eq!(LinkOrder::by_list(&damaged), None, "{damaged:?}");
     }
 }
@@ -137,7 +137,7 @@ fn what_a_list_keeps_is_true_of_the_paths_of_both_graphs() {
     for round in 0..8_000 {
         let (table, shape) = table_and_shape(&mut random, round);
         let (g, s) = random::low_pair(&mut random, &table, &shape);
-        let lists = [0, 1].map(|_| random::feature_list(&mut random));
+        let lists = [0, 1].map(|_| random::reading_order(&mut random));
         if paths(&s).len() > 60 {
             continue;
         }
@@ -157,7 +157,7 @@ fn what_a_list_keeps_is_true_of_the_paths_of_both_graphs() {
             for (reason, ..) in facts_of_reasons(&table, &g, &s, explained, key) {
                 *reasons.entry(reason).or_insert(0) += 1;
             }
-            let restored = unification(&table, &explained.graph, &g);
+            let restored = unify(&table, &explained.graph, &g);
             assert_eq!(restored.map(|graph| canonical(&graph)), Ok(canonical(&s)));
         }
         let expected = match one.graph == two.graph {
@@ -187,7 +187,7 @@ fn checks_run_in_the_papers_order() {
             table,
             list,
             records: [g, s],
-        } = random::input_with_feature_list(&mut random, ranges);
+        } = random::input_with_reading_order(&mut random, ranges);
         let (n, bytes) = (table.n, &table.bytes);
         let rooms = [LONGEST_RECORD, MOST_LINKS].map(|most| {
             let any = random.pick(most);
@@ -208,7 +208,7 @@ fn checks_run_in_the_papers_order() {
             }
             _ => {
                 assert_eq!([output, reasons], before);
-                let short = reply == Reply::Refused(Refusal::ShortReasons);
+                let short = reply == Reply::Refused(Refusal::NoReasonRoom);
                 assert!(plain == reply || short);
                 assert!(short || alone == before[0]);
             }
@@ -231,7 +231,7 @@ fn checks_run_in_the_papers_order() {
 
 #[test]
 fn the_number_of_a_refused_list() {
-    assert_eq!(Refusal::FeatureList.number(), 19);
+    assert_eq!(Refusal::ReadingOrder.number(), 19);
     let lone = record::write(&Graph::lone(3));
     let table = random::diamond();
     let list = random::list_beginning(&[]);
@@ -239,7 +239,7 @@ fn the_number_of_a_refused_list() {
     for list in [&[][..], &list[1..], &[7; FEATURES], &longer] {
         let mut output = [0xEE; 10];
         let reply = calls::difference_by(4, &table.bytes, list, &lone, &lone, &mut output);
-        assert_eq!(reply, Reply::Refused(Refusal::FeatureList));
+        assert_eq!(reply, Reply::Refused(Refusal::ReadingOrder));
         assert_eq!(output, [0xEE; 10]);
     }
 }

@@ -233,8 +233,8 @@ fn refusal_22_comes_after_8_and_changes_nothing() {
             let mut reasons = vec![0xEE; count];
             let reply = calls::difference_explained(n, table, &q, &r, &mut output, &mut reasons);
             let expected = match (room < r.len(), count < 2) {
-                (true, _) => Reply::Refused(Refusal::ShortOutput),
-                (false, true) => Reply::Refused(Refusal::ShortReasons),
+                (true, _) => Reply::Refused(Refusal::NoRoom),
+                (false, true) => Reply::Refused(Refusal::NoReasonRoom),
                 (false, false) => Reply::Length(r.len()),
             };
             assert_eq!(reply, expected);
@@ -248,7 +248,7 @@ fn refusal_22_comes_after_8_and_changes_nothing() {
             assert!(beyond.copied().all(|byte| byte == 0xEE));
         }
     }
-    assert_eq!(Refusal::ShortReasons.number(), 22);
+    assert_eq!(Refusal::NoReasonRoom.number(), 22);
     // No reason needs no room.
     let mut output = [0; 10];
     let reply = calls::difference_explained(n, table, &q, &q, &mut output, &mut []);

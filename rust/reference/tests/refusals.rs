@@ -9,11 +9,11 @@ use reference::notation::{bytes, graph};
 use reference::order::Order;
 use reference::random::{self, TableBytes};
 use reference::record::{self, GraphFault};
-use reference::reply::{Refusal, Reply, Which};
+use reference::reply::{Refusal, Reply, Side};
 use reference::table::{Table, TableFault};
 use std::collections::BTreeSet;
 
-const CALLS: [Call; 3] = [calls::common_part, calls::combination, calls::difference];
+const CALLS: [Call; 3] = [calls::generalize, calls::unify, calls::difference];
 
 /// A table from the first bytes of its rows, the rest zero.
 fn table(first_bytes: &[u8]) -> TableBytes {
@@ -68,8 +68,8 @@ fn assert_record_refused(record: &[u8], fault: GraphFault) {
     let diamond = random::diamond();
     let (n, table) = (diamond.n, &diamond.bytes);
     let good = bytes("01 01 0000000000000000");
-    let as_first = Reply::Refused(Refusal::Graph(fault, Which::First));
-    let as_second = Reply::Refused(Refusal::Graph(fault, Which::Second));
+    let as_first = Reply::Refused(Refusal::Graph(fault, Side::First));
+    let as_second = Reply::Refused(Refusal::Graph(fault, Side::Second));
     let mut output = [0xEE; 32];
     assert_eq!(calls::rewrite(n, table, record, &mut output), as_first);
     assert_eq!(calls::order(n, table, record, &good), as_first);
@@ -184,7 +184,7 @@ fn refusal_3_an_order_that_is_no_lattice() {
     for damaged in [two_by_two, wider] {
         assert_table_refused(&damaged, 3);
         let fault = Table::accept(damaged.n, &damaged.bytes).map(|_| ());
-        assert_eq!(fault, Err(TableFault::Lattice));
+        assert_eq!(fault, Err(TableFault::Bounds));
     }
 }
 
@@ -208,9 +208,9 @@ fn the_smallest_and_the_largest_tables_are_accepted() {
 
 #[test]
 fn refusal_4_no_nodes() {
-    assert_record_refused(&[], GraphFault::Shape);
-    assert_record_refused(&[0], GraphFault::Shape);
-    assert_record_refused(&bytes("00 03 0000000000000000"), GraphFault::Shape);
+    assert_record_refused(&[], GraphFault::Malformed);
+    assert_record_refused(&[0], GraphFault::Malformed);
+    assert_record_refused(&bytes("00 03 0000000000000000"), GraphFault::Malformed);
 }
 
 #[test]
@@ -222,10 +222,10 @@ fn refusal_4_short_at_every_length() {
     ));
     for whole in [whole, ranged] {
         for length in 0..whole.len() {
-            assert_record_refused(&whole[..length], GraphFault::Shape);
+            assert_record_refused(&whole[..length], GraphFault::Malformed);
         }
     }
-    assert_record_refused(&bytes("FF 03 0000000000000000"), GraphFault::Shape);
+    assert_record_refused(&bytes("FF 03 0000000000000000"), GraphFault::Malformed);
 }
 
 #[test]
@@ -241,23 +241,23 @@ fn refusal_4_bit_7_and_no_levels() {
         // The first of two: the bytes are taken from its map on.
         "02 83 0100000000000000 01 81 00FF 0000000000000000",
     ] {
-        assert_record_refused(&bytes(record), GraphFault::Shape);
+        assert_record_refused(&bytes(record), GraphFault::Malformed);
     }
     // Bytes of a range and no bit 7.
     for record in ["01 03 00FF 0000000000000000", "01 03 0007 0000000000000000"] {
-        assert_record_refused(&bytes(record), GraphFault::Shape);
+        assert_record_refused(&bytes(record), GraphFault::Malformed);
     }
 }
 
 #[test]
 fn refusal_4_bytes_left_over() {
-    assert_record_refused(&bytes("01 03 0000000000000000 00"), GraphFault::Shape);
+    assert_record_refused(&bytes("01 03 0000000000000000 00"), GraphFault::Malformed);
     let mut doubled = record::write(&graph(3, "top[0: a]"));
     doubled.extend(doubled.clone());
-    assert_record_refused(&doubled, GraphFault::Shape);
+    assert_record_refused(&doubled, GraphFault::Malformed);
     let mut ranged = record::write(&graph(3, "top[0: a{3..4}]"));
     ranged.push(0);
-    assert_record_refused(&ranged, GraphFault::Shape);
+    assert_record_refused(&ranged, GraphFault::Malformed);
 }
 
 /// Nodes in a row, each with up to 64 links to the next, so many links in all.
@@ -282,12 +282,12 @@ fn refusal_4_more_links_than_2048() {
     let mut output = vec![0; record::LONGEST_RECORD];
     let reply = calls::rewrite(4, &table.bytes, &most, &mut output);
     assert_eq!(reply, Reply::Length(most.len()));
-    assert_record_refused(&record::write(&many_links(2049)), GraphFault::Shape);
-    assert_record_refused(&record::write(&many_links(2112)), GraphFault::Shape);
+    assert_record_refused(&record::write(&many_links(2049)), GraphFault::Malformed);
+    assert_record_refused(&record::write(&many_links(2112)), GraphFault::Malformed);
     // 255 nodes with all 64 features each.
     let full = Node::new(3, (0..64).map(|feature| (feature, 0)));
     let nodes = vec![full; 255];
-    assert_record_refused(&record::write(&Graph { nodes }), GraphFault::Shape);
+    assert_record_refused(&record::write(&Graph { nodes }), GraphFault::Malformed);
 }
 
 #[test]
@@ -299,17 +299,23 @@ fn refusal_5_a_type_that_is_none() {
                 range,
             };
             let lone = Graph::lone(label);
-            assert_record_refused(&record::write(&lone), GraphFault::Value);
+            assert_record_refused(&record::write(&lone), GraphFault::OutOfRange);
             let spelled_out = record::write_spelling(&lone, |_| true);
-            assert_record_refused(&spelled_out, GraphFault::Value);
+            assert_record_refused(&spelled_out, GraphFault::OutOfRange);
             let mut below = graph(3, "top[0: a, 1: b]");
             below.nodes[2].label = label;
-            assert_record_refused(&record::write(&below), GraphFault::Value);
+            assert_record_refused(&record::write(&below), GraphFault::OutOfRange);
         }
     }
     // Bit 7 is no bit of the type: 0x80 has type 0, 0x84 has type n.
-    assert_record_refused(&bytes("01 80 0708 0000000000000000"), GraphFault::Value);
-    assert_record_refused(&bytes("01 84 0708 0000000000000000"), GraphFault::Value);
+    assert_record_refused(
+        &bytes("01 80 0708 0000000000000000"),
+        GraphFault::OutOfRange,
+    );
+    assert_record_refused(
+        &bytes("01 84 0708 0000000000000000"),
+        GraphFault::OutOfRange,
+    );
 }
 
 fn levels(lowest: u8, highest: u8) -> Range {
@@ -324,10 +330,10 @@ fn refusal_5_a_lowest_level_above_the_highest() {
             range,
         };
         let lone = record::write(&Graph::lone(label));
-        assert_record_refused(&lone, GraphFault::Value);
+        assert_record_refused(&lone, GraphFault::OutOfRange);
         let mut below = graph(3, "top[0: a, 1: b]");
         below.nodes[2].label.range = range;
-        assert_record_refused(&record::write(&below), GraphFault::Value);
+        assert_record_refused(&record::write(&below), GraphFault::OutOfRange);
     }
     // One level is a range.
     let table = random::diamond();
@@ -349,10 +355,10 @@ fn refusal_5_a_target_that_is_none() {
     for target in [2, 3, 255] {
         let mut pair = graph(3, "top[0: a]");
         pair.nodes[0].links.insert(1, target);
-        assert_record_refused(&record::write(&pair), GraphFault::Value);
+        assert_record_refused(&record::write(&pair), GraphFault::OutOfRange);
         let mut lower = graph(3, "top[0: a]");
         lower.nodes[1].links.insert(63, target);
-        assert_record_refused(&record::write(&lower), GraphFault::Value);
+        assert_record_refused(&record::write(&lower), GraphFault::OutOfRange);
     }
 }
 
@@ -380,7 +386,7 @@ fn refusal_6_a_node_reaches_itself() {
         self_loop_unreached,
         loop_unreached,
     ] {
-        assert_record_refused(&record::write(&damaged), GraphFault::Cycle);
+        assert_record_refused(&record::write(&damaged), GraphFault::Cyclic);
     }
 }
 
@@ -406,27 +412,27 @@ fn faults_of_a_record_are_told_in_order_over_the_whole_record() {
     let mut all = linked(&[&[(0, 0), (1, 9)], &[]]);
     all.nodes[0].label.node_type = 0;
     let mut record = record::write(&all);
-    assert_record_refused(&record, GraphFault::Value);
+    assert_record_refused(&record, GraphFault::OutOfRange);
     record.push(0);
-    assert_record_refused(&record, GraphFault::Shape);
+    assert_record_refused(&record, GraphFault::Malformed);
     // 5 before 6 and 7: a loop and an unreached node come first, the bad type last.
     let mut last_bad = linked(&[&[(0, 0)], &[], &[]]);
     last_bad.nodes[2].label.node_type = 4;
-    assert_record_refused(&record::write(&last_bad), GraphFault::Value);
+    assert_record_refused(&record::write(&last_bad), GraphFault::OutOfRange);
     last_bad.nodes[2].label = Label {
         node_type: 3,
         range: levels(9, 8),
     };
     let mut record = record::write(&last_bad);
-    assert_record_refused(&record, GraphFault::Value);
+    assert_record_refused(&record, GraphFault::OutOfRange);
     // 4 before 5: a range that is none comes first, the row of the last node is short.
     last_bad.nodes.swap(1, 2);
     record = record::write(&last_bad);
     record.pop();
-    assert_record_refused(&record, GraphFault::Shape);
+    assert_record_refused(&record, GraphFault::Malformed);
     // 6 before 7: an unreached node, then a loop in another unreached part.
     let loop_last = linked(&[&[], &[], &[(0, 2)]]);
-    assert_record_refused(&record::write(&loop_last), GraphFault::Cycle);
+    assert_record_refused(&record::write(&loop_last), GraphFault::Cyclic);
 }
 
 #[test]
@@ -437,7 +443,7 @@ fn the_first_graph_is_judged_whole_before_the_second() {
     for second in [looping.as_slice(), &[]] {
         for call in CALLS {
             let result = written(call, 4, &table.bytes, &unreached, second);
-            let expected = Refusal::Graph(GraphFault::Unreached, Which::First);
+            let expected = Refusal::Graph(GraphFault::Unreached, Side::First);
             assert_eq!(result, Err(expected));
         }
         let reply = calls::order(4, &table.bytes, &unreached, second);
@@ -452,8 +458,8 @@ fn refusal_8_an_output_too_short_for_the_result() {
     for length in 0..p.len() {
         let mut output = vec![0xEE; length];
         let reply = calls::rewrite(4, &table.bytes, &p, &mut output);
-        assert_eq!(reply, Reply::Refused(Refusal::ShortOutput));
-        for call in [calls::common_part, calls::combination] {
+        assert_eq!(reply, Reply::Refused(Refusal::NoRoom));
+        for call in [calls::generalize, calls::unify] {
             let reply = call(4, &table.bytes, &p, &p, &mut output);
             assert_eq!(reply.number(), Some(8));
         }
@@ -497,12 +503,12 @@ fn refusals_of_results_in_the_order_of_the_checks() {
     // 10 before 11: two long chains that clash at the root.
     let long = |feature: u8, node_type: u8| random::chain_graph(200, feature, node_type);
     assert_eq!(
-        refused(&diamond, calls::combination, &long(0, 1), &long(1, 2)),
+        refused(&diamond, calls::unify, &long(0, 1), &long(1, 2)),
         Some(10)
     );
     // 11 before 8.
     assert_eq!(
-        refused(&diamond, calls::combination, &long(0, 3), &long(1, 3)),
+        refused(&diamond, calls::unify, &long(0, 3), &long(1, 3)),
         Some(11)
     );
     // 9 before 10 and 11: two nodes of the first are shared by the second, one
@@ -513,10 +519,7 @@ fn refusals_of_results_in_the_order_of_the_checks() {
     let mut second = long(1, 2);
     second.nodes[0].links.insert(5, 1);
     second.nodes[0].links.insert(6, 1);
-    assert_eq!(
-        refused(&diamond, calls::combination, &first, &second),
-        Some(9)
-    );
+    assert_eq!(refused(&diamond, calls::unify, &first, &second), Some(9));
 }
 
 #[test]
@@ -525,7 +528,7 @@ fn refusal_11_of_a_combination_by_links_alone() {
     let combined = |nodes: usize, low: &[u8], high: &[u8]| {
         let low = record::write(&random::ladder(nodes, low, 3));
         let high = record::write(&random::ladder(nodes, high, 3));
-        written(calls::combination, 4, &table.bytes, &low, &high)
+        written(calls::unify, 4, &table.bytes, &low, &high)
     };
     let (low, high): (Vec<u8>, Vec<u8>) = ((0..32).collect(), (31..64).collect());
     // Rows of 33 and 34 nodes: 32 × 64 and 33 × 64 links.
@@ -570,7 +573,7 @@ fn refusal_11_of_a_common_part_by_nodes() {
             }
         }
         let (first, second) = (record::write(&counting), record::write(&reading));
-        let result = written(calls::common_part, 4, &table.bytes, &first, &second);
+        let result = written(calls::generalize, 4, &table.bytes, &first, &second);
         let count = result.map(|record| usize::from(record[0]));
         let expected = match pairs.len() {
             0..=255 => Ok(pairs.len()),
@@ -590,7 +593,7 @@ fn refusal_11_of_a_common_part_by_links_alone() {
         let odd = layered(layers, 64, |_, feature| feature % 2);
         let half = layered(layers, 64, |_, feature| feature / 2 % 2);
         let (odd, half) = (record::write(&odd), record::write(&half));
-        written(calls::common_part, 4, &table.bytes, &odd, &half)
+        written(calls::generalize, 4, &table.bytes, &odd, &half)
     };
     let nodes = 1 + 4 * 8;
     let links = 64 * (1 + 4 * 7);

@@ -173,14 +173,14 @@ fn different_nodes_may_lie_over_one() {
 fn the_common_part_does_not_share_what_one_side_shares() {
     // Three paths to one node on one side, two of them shared on the other.
     assert_gives(
-        calls::common_part,
+        calls::generalize,
         "top[0: X a, 1: X, 2: X]",
         "top[0: Y a, 1: top, 2: Y]",
         "top[0: Z a, 1: top, 2: Z]",
     );
     // What hangs below comes twice too.
     assert_gives(
-        calls::common_part,
+        calls::generalize,
         "top[0: X a[3: b], 1: X]",
         "top[0: a[3: b], 1: a[3: top]]",
         "top[0: a[3: b], 1: a[3: top]]",
@@ -190,7 +190,7 @@ fn the_common_part_does_not_share_what_one_side_shares() {
 #[test]
 fn a_combination_merges_below_what_it_merges() {
     assert_gives(
-        calls::combination,
+        calls::unify,
         "top[0: X top, 1: X]",
         "top[0: top[2: a[3: top]], 1: top[2: top[3: b]]]",
         "top[0: X top[2: a[3: b]], 1: X]",
@@ -201,11 +201,11 @@ fn a_combination_merges_below_what_it_merges() {
 fn a_loop_far_below_is_told_before_a_clash_at_the_root() {
     let result = make(
         &random::diamond(),
-        calls::combination,
+        calls::unify,
         "a[0: top[0: X top, 1: X]]",
         "b[0: top[0: Z top, 1: top[7: Z]]]",
     );
-    assert_eq!(result, Err(Refusal::Loop));
+    assert_eq!(result, Err(Refusal::Cycle));
 }
 
 /// The order over the diamond.
@@ -243,22 +243,17 @@ fn a_range_belongs_to_the_meaning_as_the_type_does() {
 
 #[test]
 fn a_range_of_one_level_is_not_empty() {
-    assert_gives(calls::combination, "a{0..7}", "a{7..255}", "a{7..7}");
-    assert_gives(calls::combination, "a{0..0}", "a", "a{0..0}");
-    assert_gives(calls::combination, "a{255..255}", "a", "a{255..255}");
-    let apart = make(
-        &random::diamond(),
-        calls::combination,
-        "a{0..7}",
-        "a{8..255}",
-    );
+    assert_gives(calls::unify, "a{0..7}", "a{7..255}", "a{7..7}");
+    assert_gives(calls::unify, "a{0..0}", "a", "a{0..0}");
+    assert_gives(calls::unify, "a{255..255}", "a", "a{255..255}");
+    let apart = make(&random::diamond(), calls::unify, "a{0..7}", "a{8..255}");
     assert_eq!(apart, Err(Refusal::Clash));
 }
 
 #[test]
 fn a_combination_overlaps_all_ranges_of_a_class() {
     assert_gives(
-        calls::combination,
+        calls::unify,
         "top[0: X top{0..200}, 1: X]",
         "top[0: top{10..255}, 1: a{5..100}]",
         "top[0: X a{10..100}, 1: X]",
@@ -266,7 +261,7 @@ fn a_combination_overlaps_all_ranges_of_a_class() {
     // Each two overlap with the shared node, and not with each other.
     let clash = make(
         &random::diamond(),
-        calls::combination,
+        calls::unify,
         "top[0: X top, 1: X]",
         "top[0: top{0..99}, 1: top{100..255}]",
     );
@@ -277,17 +272,17 @@ fn a_combination_overlaps_all_ranges_of_a_class() {
 fn a_loop_is_told_before_ranges_that_do_not_overlap() {
     let result = make(
         &random::diamond(),
-        calls::combination,
+        calls::unify,
         "top{0..5}[0: X top, 1: X]",
         "top{6..9}[0: Z top, 1: top[0: Z]]",
     );
-    assert_eq!(result, Err(Refusal::Loop));
+    assert_eq!(result, Err(Refusal::Cycle));
 }
 
 #[test]
 fn a_common_part_has_the_smallest_range_holding_both() {
     assert_gives(
-        calls::common_part,
+        calls::generalize,
         "a{10..20}[0: b{7..7}, 1: a{0..9}]",
         "b{15..30}[0: b{9..9}, 1: a{200..255}]",
         "top{10..30}[0: b{7..9}, 1: a]",

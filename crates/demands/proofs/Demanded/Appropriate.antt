@@ -19,7 +19,7 @@ use Rattle.lattice.specs.declared.Opened.{Opened}
 use Rattle.lattice.specs.declared.Opened.the-variants as opened
 use Rattle.lattice.specs.Labels.{tableLabels}
 use Rattle.lattice.specs.Reply as table
-use Rattle.lattice.proofs.Residuals.{opened-accepted}
+use Rattle.lattice.proofs.Acceptance.{opened-accepted}
 use Rattle.encode.specs.declared.Written.{Written}
 use Rattle.encode.specs.declared.Written.the-variants as written
 use Rattle.encode.specs.Encode.{writtenOut}
@@ -34,14 +34,16 @@ use Rattle.generalize.specs.Pairs.{samePair}
 use Rattle.replies.specs.declared.Side.the-variants.{First, Second}
 use Rattle.replies.specs.declared.Reply.the-variants.{Length, Graph, TypeList}
 use Rattle.replies.specs.Reply.{Result, refusal, replyOf, refusing}
-use Rattle.engine.specs.Reply.{checked, readBoth, rewritten, rewriting, generalized, generalizing}
-use Rattle.engine.specs.Unification.{sameEither, combined, unifiedRows, unifying}
-use Rattle.engine.specs.Difference.{differing}
-use Rattle.engine.specs.Appropriate.{rewritingAppropriate, generalizingAppropriate, unifyingAppropriate}
+use Rattle.calls.specs.Calls.{checked, rewriting, generalizing, unifying, differing}
+use Rattle.pairs.specs.Pair.{readBoth}
+use Rattle.engine.specs.Rewriting.{rewritten}
+use Rattle.engine.specs.Generalizing.{generalized}
+use Rattle.engine.specs.Unifying.{sameEither, combined, unifiedRows}
+use Rattle.calls.specs.Appropriate.{rewritingAppropriate, generalizingAppropriate, unifyingAppropriate}
 use Rattle.demands.specs.Appropriate.{Passes, Breaks, Fits, Obeys}
 use Rattle.demands.specs.Demand.{Given, WrittenRecord}
-use Rattle.engine.proofs.Replies.{table-accepted}
-use Rattle.engine.proofs.Listed.{Checks, table-before-list, list-refused, list-passed, list-exact, rewriting-checked, generalizing-checked, unifying-checked}
+use Rattle.calls.proofs.Tables.{table-accepted}
+use Rattle.calls.proofs.Listed.{Checks, table-before-list, list-refused, list-passed, list-exact, rewriting-checked, generalizing-checked, unifying-checked}
 use Rattle.demands.proofs.Demanded.Output.{generalizing-leaves, unifying-leaves}
 use Rattle.demands.proofs.Demanded.Meaning.{written-again, own-bytes}
 use Rattle.demands.proofs.Demanded.CommonPart.{common-part}

@@ -21,7 +21,7 @@ use Rattle.lattice.specs.Labels.{tableLabels, wantedRange, wantedLabel}
 use Rattle.lattice.proofs.Every.{every-all}
 use Rattle.lattice.proofs.Lawful.{inside}
 use Rattle.lattice.proofs.Laws.{zero-type, residual-exists, wanted-residual}
-use Rattle.lattice.proofs.Residuals.{opened-accepted}
+use Rattle.lattice.proofs.Acceptance.{opened-accepted}
 use Rattle.encode.specs.Encode.{Outcome, encoded, writtenOut}
 use Rattle.record.specs.Read.{Reading, refused, accepted, graphOfRows, reading}
 use Rattle.record.proofs.Accepted.{Rules, accepted-rules, rules-of-any-size, rules-types, rules-fit}
@@ -31,11 +31,12 @@ use Rattle.difference.specs.Promise.{wantedAlong, allWantedAlong, differenceAlo
 use Rattle.replies.specs.declared.Reply.{Reply}
 use Rattle.replies.specs.declared.Reply.the-variants.{NotBelow, NoWantedType}
 use Rattle.replies.specs.Reply.{Result, refusal, resultOf, refusing}
-use Rattle.engine.specs.Reply.{checked, readBoth}
-use Rattle.engine.specs.Difference.{over, wantedAt, allWanted, differenceRows, differed, numbered, differedRows, differing}
+use Rattle.calls.specs.Calls.{checked, differing}
+use Rattle.pairs.specs.Pair.{readBoth}
+use Rattle.difference.specs.Difference.{over, wantedAt, allWanted, differenceRows, differed, numbered, differedRows}
 use Rattle.demands.specs.Before.{residualLabel, residualRows, differedBefore, differingBefore}
-use Rattle.engine.proofs.Orders.{order-test}
-use Rattle.engine.proofs.Readings.{both-same}
+use Rattle.record.proofs.Ordered.{order-test}
+use Rattle.pairs.proofs.Readings.{both-same}
 use Rattle.engine.proofs.Tables.{label-known}
 use Rattle.demands.proofs.Demanded.Combination.{other-refusal}
 use Rattle.demands.proofs.Demanded.Wanted.{meet-known, label-below}

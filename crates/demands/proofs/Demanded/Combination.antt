@@ -9,7 +9,7 @@ use Prim.Native.Nat.{ℕ}
 use native.Mathlib.Omega.{arith}
 use lib.Dec.{eqb}
 use lib.ListN.{take}
-use Rattle.graphs.specs.Graph.{Graph, Tells}
+use Rattle.graphs.specs.Graph.{Graph, TellsApart}
 use Rattle.graphs.specs.Rows.{Row}
 use Rattle.graphs.specs.Number.{Canonical, canonical}
 use Rattle.graphs.specs.Unify.{Cycle, Unified, cycle, clash, unified, unification}
@@ -21,7 +21,7 @@ use Rattle.lattice.specs.Label.{Label}
 use Rattle.lattice.specs.Table as table
 use Rattle.lattice.specs.Reply.{opened}
 use Rattle.lattice.specs.Labels.{tableLabels, OfAnySize, GreatestOfAnySize, IsCombination, LabelClash}
-use Rattle.lattice.proofs.Residuals.{opened-accepted}
+use Rattle.lattice.proofs.Acceptance.{opened-accepted}
 use Rattle.lattice.proofs.AnySize.{
   answer,
   unification-combination,
@@ -42,12 +42,13 @@ use Rattle.record.specs.Read.{reading, accepted, graphOfRows}
 use Rattle.record.proofs.Theorems.{accepted-of-any-size, accepted-nodes}
 use Rattle.replies.specs.declared.Reply.the-variants as replies
 use Rattle.replies.specs.Reply.{Result, refusal, refusing, replyOf, resultOf}
-use Rattle.engine.specs.Unification.{sameEither, combined, unifiedRows, unifying}
+use Rattle.engine.specs.Unifying.{sameEither, combined, unifiedRows}
+use Rattle.calls.specs.Calls.{unifying}
 use Rattle.demands.specs.Demand.{Given, Writes, NoneBelow, Combination}
 use Rattle.demands.proofs.Results.{resultFor, result-writes, seven-bits}
 use Rattle.demands.proofs.Demanded.Order.{order-exact}
 
-pub tells-either : Tells sameEither
+pub tells-either : TellsApart sameEither
 tells-either = same-beside eqb eqb tells-eqb tells-eqb
 
 -- writing a graph refuses by 8 and 11 alone
@@ -159,7 +160,7 @@ module _ (n : ℕ) (t a b : List ℕ) (g h : List (Row Label)) (given : Given n 
         go (written u is best e) = (u, is, best)
 
     -- Whatever graph is the greatest of any size below both, it is what the call writes.
-    module _ {C : Type 0} (same : C → C → Bool) (tells : Tells same) (u : Graph Label C)
+    module _ {C : Type 0} (same : C → C → Bool) (tells : TellsApart same) (u : Graph Label C)
         (best : GreatestOfAnySize n t (graphOfRows g) (graphOfRows h) u) where
       pub greatest-result : unifying n t a b out ≡ resultFor same u out
       greatest-result =

@@ -12,14 +12,15 @@ use Rattle.lattice.specs.Label.{Label}
 use Rattle.lattice.specs.Table as table
 use Rattle.lattice.specs.Reply.{opened}
 use Rattle.lattice.specs.Labels.{tableLabels, LeastOfAnySize}
-use Rattle.lattice.proofs.Residuals.{opened-accepted}
+use Rattle.lattice.proofs.Acceptance.{opened-accepted}
 use Rattle.lattice.proofs.AnySize.{generalization-least, same-least}
 use Rattle.record.specs.Read.{reading, accepted, graphOfRows}
 use Rattle.record.proofs.Theorems.{accepted-of-any-size}
 use Rattle.generalize.specs.Pairs.{samePair}
 use Rattle.generalize.proofs.Sides.{tells-pair}
 use Rattle.replies.specs.declared.Reply.the-variants.{Length}
-use Rattle.engine.specs.Reply.{generalized, generalizing}
+use Rattle.engine.specs.Generalizing.{generalized}
+use Rattle.calls.specs.Calls.{generalizing}
 use Rattle.demands.specs.Demand.{Given, Writes, common, CommonPart}
 use Rattle.demands.proofs.Results.{result-writes, seven-bits}
 use Rattle.demands.proofs.Demanded.Order.{order-exact}

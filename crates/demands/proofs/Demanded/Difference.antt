@@ -21,7 +21,7 @@ use Rattle.lattice.specs.Table as table
 use Rattle.lattice.specs.Reply.{opened}
 use Rattle.lattice.specs.Labels.{tableLabels, SomeUnwanted}
 use Rattle.lattice.proofs.Every.{not-false-true}
-use Rattle.lattice.proofs.Residuals.{opened-accepted}
+use Rattle.lattice.proofs.Acceptance.{opened-accepted}
 use Rattle.lattice.proofs.Relabel.{same-below-left, same-below-right}
 use Rattle.lattice.proofs.Transfer.{same-of-any-size}
 use Rattle.lattice.proofs.AnySize.{same-greatest, greatest-sides}
@@ -29,13 +29,13 @@ use Rattle.encode.specs.Encode.{Outcome, encoded, writtenOut}
 use Rattle.record.specs.Read.{reading, accepted, graphOfRows}
 use Rattle.record.proofs.Accepted.{Rules, accepted-rules}
 use Rattle.record.proofs.Theorems.{accepted-of-any-size, accepted-fits, written-accepted}
-use Rattle.groups.specs.Reading.{isReadingOrder}
+use Rattle.groups.specs.LinkOrders.{isReadingOrder}
 use Rattle.replies.specs.declared.Reply.the-variants as replies
 use Rattle.replies.specs.Reply.{Result, refusal, refusing, resultOf}
-use Rattle.engine.specs.Unification.{unifying}
-use Rattle.engine.specs.Difference.{allWanted, numbered, differenceRows, differed, differedRows, differing, differingBy}
+use Rattle.calls.specs.Calls.{unifying, differing, differingBy}
+use Rattle.difference.specs.Difference.{allWanted, numbered, differenceRows, differed, differedRows}
 use Rattle.demands.specs.Demand.{Given, Large, Writes, MoreGeneral, remainder, Restores, Difference}
-use Rattle.engine.proofs.Orders.{order-test}
+use Rattle.record.proofs.Ordered.{order-test}
 use Rattle.demands.proofs.Results.{resultFor, rewriting-is, result-writes, seven-bits}
 use Rattle.demands.proofs.Demanded.Order.{order-exact, above-exact}
 use Rattle.demands.proofs.Demanded.Combination.{other-refusal, greatest-result, written-combination}

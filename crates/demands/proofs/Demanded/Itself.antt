@@ -34,15 +34,15 @@ use Rattle.lattice.proofs.Lawful.{inside-le, le-antisymmetric, le-reflexive, pl
 use Rattle.lattice.proofs.Plain.{contradiction-plain}
 use Rattle.lattice.proofs.WantedLabels.{wanted-at, wanted-label-of-same}
 use Rattle.lattice.proofs.Relabel.{same-below-right}
-use Rattle.lattice.proofs.Residuals.{opened-accepted}
+use Rattle.lattice.proofs.Acceptance.{opened-accepted}
 use Rattle.encode.specs.Encode.{bitsFrom, isFull, encodedLabel, encodedRow, encodedRows, encoded, fitted, writtenOut}
 use Rattle.record.specs.Read.{reading, accepted, graphOfRows}
 use Rattle.record.proofs.Accepted.{accepted-rules}
 use Rattle.record.proofs.Theorems.{accepted-of-any-size, written-reads}
 use Rattle.replies.specs.Reply.{resultOf}
-use Rattle.engine.specs.Difference.{differing}
+use Rattle.calls.specs.Calls.{differing}
 use Rattle.demands.specs.Demand.{Given, loneTop, remainder, Restores}
-use Rattle.engine.proofs.Orders.{short}
+use Rattle.record.proofs.Ordered.{short}
 use Rattle.demands.proofs.Results.{seven-bits}
 use Rattle.demands.proofs.Demanded.Difference.{plain-parts, all-wanted, remainder-small, remainder-restores, remainder-result}
 

@@ -18,7 +18,7 @@ use Rattle.lattice.specs.Label.{Label}
 use Rattle.lattice.specs.declared.Opened.the-variants.{Accepted}
 use Rattle.lattice.specs.Reply.{opened}
 use Rattle.lattice.specs.Labels.{tableLabels}
-use Rattle.lattice.proofs.Residuals.{opened-accepted}
+use Rattle.lattice.proofs.Acceptance.{opened-accepted}
 use Rattle.lattice.proofs.AnySize.{below-both}
 use Rattle.encode.specs.Encode.{encoded, fitted, writtenOut}
 use Rattle.record.specs.Read.{reading, accepted, graphOfRows}
@@ -27,7 +27,7 @@ use Rattle.record.proofs.Theorems.{accepted-of-any-size, accepted-fits, accepte
 use Rattle.record.proofs.Theorems as record-theorems
 use Rattle.replies.specs.declared.Reply.the-variants.{Length, Same}
 use Rattle.replies.specs.Reply.{Result, resultOf}
-use Rattle.engine.specs.Reply.{ordering, rewriting}
+use Rattle.calls.specs.Calls.{ordering, rewriting}
 use Rattle.demands.specs.Demand.{Given, WrittenRecord, Writes, Rewritten}
 use Rattle.demands.proofs.Results.{rewriting-is, result-writes}
 use Rattle.demands.proofs.Demanded.Order.{same-exact}

@@ -19,27 +19,32 @@ use Rattle.record.specs.Read.{Reading, refused, accepted, reading, graphOfRows}
 use Rattle.record.specs.declared.GraphFault.{GraphFault}
 use Rattle.record.proofs.Accepted.{accepted-rules}
 use Rattle.replies.specs.declared.Side.the-variants.{First, Second}
-use Rattle.replies.specs.declared.kinds.Kind.{Kind}
-use Rattle.replies.specs.declared.kinds.Kind.the-variants as kind
+use Rattle.replies.specs.declared.answers.Answer.{Answer}
+use Rattle.replies.specs.declared.answers.Answer.the-variants as answer
 use Rattle.replies.specs.declared.Reply.{Reply}
 use Rattle.replies.specs.declared.Reply.the-variants.{Same, Under, Above, Neither, Table, Graph}
-use Rattle.replies.specs.Reply.{kindOf}
-use Rattle.engine.specs.Reply.{checked, readBoth, rowsBelow, compared, ordered, ordering}
+use Rattle.replies.specs.Reply.{answerOf}
+use Rattle.subsume.specs.Promise.{rowsBelow}
+use Rattle.calls.specs.Calls.{checked, ordering}
+use Rattle.pairs.specs.Pair.{readBoth}
+use Rattle.engine.specs.Ordering.{compared, ordered}
 use Rattle.demands.specs.Demand.{Given, AnswersBelow, AnswersNotBelow}
-use Rattle.engine.proofs.Orders.{order-test}
+use Rattle.record.proofs.Ordered.{order-test}
 
 -- the two tests that one of the four tells
-toldIn : Kind → Option (Bool × Bool)
-toldIn kind.Same = some (true, true)
-toldIn kind.Under = some (true, false)
-toldIn kind.Above = some (false, true)
-toldIn kind.Neither = some (false, false)
-toldIn (kind.Length l) = none
-toldIn (kind.Refused number) = none
-toldIn (kind.RefusedGraph number side) = none
+toldIn : Answer → Option (Bool × Bool)
+toldIn answer.Same = some (true, true)
+toldIn answer.Under = some (true, false)
+toldIn answer.Above = some (false, true)
+toldIn answer.Neither = some (false, false)
+toldIn (answer.Length l) = none
+toldIn (answer.Counts nodes rows) = none
+toldIn answer.End = none
+toldIn (answer.Refused number) = none
+toldIn (answer.RefusedGraph number side) = none
 
 abbrev told : Reply → Option (Bool × Bool)
-told r = toldIn (kindOf r)
+told r = toldIn (answerOf r)
 
 compared-told : (x y : Bool) → told (compared x y) ≡ some (x, y)
 unfolding toldIn

@@ -9,7 +9,7 @@ use Prim.Native.Nat.{ℕ, _≤_, _<_}
 use native.Mathlib.Omega.{arith}
 use lib.Dec.{eqb}
 use lib.ListN.{length, take}
-use Rattle.graphs.specs.Graph.{Graph, Tells, Reached}
+use Rattle.graphs.specs.Graph.{Graph, TellsApart, Reached}
 use Rattle.graphs.specs.Rows.{Row}
 use Rattle.graphs.specs.Difference.{Link, StrictOrder, byNumber, byReading}
 use Rattle.graphs.proofs.Lists.{tells-eqb}
@@ -21,7 +21,7 @@ use Rattle.lattice.specs.declared.Opened.{Opened}
 use Rattle.lattice.specs.declared.Opened.the-variants as opened
 use Rattle.lattice.specs.Table as types
 use Rattle.lattice.specs.Reply as table
-use Rattle.lattice.proofs.Residuals.{opened-accepted}
+use Rattle.lattice.proofs.Acceptance.{opened-accepted}
 use Rattle.lattice.specs.Labels.{OfAnySize}
 use Rattle.encode.specs.Encode.{encoded}
 use Rattle.encode.proofs.Lengths.{longest}
@@ -31,7 +31,7 @@ use Rattle.record.proofs.Nodes.{few-nodes, few-links}
 use Rattle.record.proofs.Accepted.{rules-linked, accepted-rules}
 use Rattle.record.proofs.Rewritten.{written-injective, form-again}
 use Rattle.record.proofs.Theorems.{accepted-of-any-size, accepted-types}
-use Rattle.groups.specs.Reading.{isReadingOrder}
+use Rattle.groups.specs.LinkOrders.{isReadingOrder}
 use Rattle.generalize.specs.Pairs.{samePair}
 use Rattle.generalize.proofs.Sides.{tells-pair}
 use Rattle.replies.specs.declared.Side.{Side}
@@ -39,9 +39,12 @@ use Rattle.replies.specs.declared.Side.the-variants.{First, Second}
 use Rattle.replies.specs.declared.Reply.{Reply}
 use Rattle.replies.specs.declared.Reply.the-variants as replies
 use Rattle.replies.specs.Reply.{Result, refusal, refusing}
-use Rattle.engine.specs.Reply.{checked, checkedList, readBoth, rewritten, rewriting, generalizing, generalized}
-use Rattle.engine.specs.Unification.{sameEither, unifiedRows, unifying}
-use Rattle.engine.specs.Difference.{differedRows, differing, differingBy}
+use Rattle.calls.specs.Calls.{checked, checkedList, rewriting, generalizing, unifying, differing, differingBy}
+use Rattle.pairs.specs.Pair.{readBoth}
+use Rattle.engine.specs.Rewriting.{rewritten}
+use Rattle.engine.specs.Generalizing.{generalized}
+use Rattle.engine.specs.Unifying.{sameEither, unifiedRows}
+use Rattle.difference.specs.Difference.{differedRows}
 use Rattle.demands.specs.Demand.{Given, Leaves, Large, common, remainder}
 use Rattle.demands.proofs.Results.{resultFor, result-writes, seven-bits}
 use Rattle.demands.proofs.Demanded.CommonPart.{common-part-exists}
@@ -78,7 +81,7 @@ module _ (n : ℕ) (out : List ℕ) where
       none : (l : ℕ) → r ≡ replies.Length l → ⊥
       none l q = let z : _≡_ {A = ℕ} 0 1 = cc (e, ap refusal q) in omega arith
 
-  graph-leaves : (t : List ℕ) {C : Type 0} (same : C → C → Bool) → Tells same → (k : Graph Label C) → OfAnySize n t k →
+  graph-leaves : (t : List ℕ) {C : Type 0} (same : C → C → Bool) → TellsApart same → (k : Graph Label C) → OfAnySize n t k →
       ((v : C) → Reached k v → k .label v .type < 128) → Leaves n out (resultFor same k out)
   graph-leaves t same tells k size types =
       let writes = result-writes n t same tells k size types out in

@@ -31,21 +31,23 @@ use Rattle.record.specs.declared.GraphFault.{GraphFault}
 use Rattle.record.specs.declared.GraphFault.the-variants as faults
 use Rattle.record.specs.Read.{Reading, refused, accepted, reading, graphOfRows, graphNumber}
 use Rattle.record.proofs.Accepted.{Rules, rules-of-any-size, rules-nodes}
-use Rattle.groups.specs.Reading.{isReadingOrder}
+use Rattle.groups.specs.LinkOrders.{isReadingOrder}
 use Rattle.difference.specs.Promise.{differenceAlong, reasonsAlong}
 use Rattle.replies.specs.declared.Reply.{Reply}
 use Rattle.replies.specs.declared.Reply.the-variants as replies
-use Rattle.replies.specs.declared.kinds.Kind.{Kind}
-use Rattle.replies.specs.declared.kinds.Kind.the-variants as kind
-use Rattle.replies.specs.Reply.{Result, kindOf, refusal, resultOf, refusing, lengthIn, lengthOf}
-use Rattle.engine.specs.Reply.{checked, readBoth, rowsBelow}
-use Rattle.engine.specs.Difference.{wantedAt, allWanted, numbered, differenceRows, differed, differedRows, differing, differingBy}
-use Rattle.engine.specs.Pair.{parting}
+use Rattle.replies.specs.declared.answers.Answer.{Answer}
+use Rattle.replies.specs.declared.answers.Answer.the-variants as answer
+use Rattle.replies.specs.Reply.{Result, answerOf, refusal, resultOf, refusing, lengthIn, lengthOf}
+use Rattle.subsume.specs.Promise.{rowsBelow}
+use Rattle.calls.specs.Calls.{checked, differing, differingBy}
+use Rattle.pairs.specs.Pair.{readBoth}
+use Rattle.difference.specs.Difference.{wantedAt, allWanted, numbered, differenceRows, differed, differedRows}
+use Rattle.engine.specs.Differing.{parting, reasonsOf}
 use Rattle.demands.specs.Demand.{Given, remainder}
-use Rattle.engine.specs.Explained.{Explained, explainedResult, lengthBeside, beside, reasonsOf}
+use Rattle.difference.specs.Explained.{Explained, explainedResult, lengthWithReasons, withReasons}
 use Rattle.demands.specs.Explained.{reasonFor, LinkReason}
-use Rattle.replies.proofs.Numbers.{kind-injective}
-use Rattle.engine.proofs.Over.{over-map}
+use Rattle.replies.proofs.Numbers.{answer-injective}
+use Rattle.difference.proofs.Over.{over-map}
 use Rattle.demands.proofs.Demanded.Combination.{other-refusal}
 use Rattle.demands.proofs.Demanded.Difference.{general-rules, form, form-is, form-below, form-rules}
 
@@ -103,13 +105,13 @@ module _ (n : ℕ) (t a b : List ℕ) (g s : List (Row Label)) (given : Given n 
 
 -- Beside the plain call, whatever is handed in.
 module _ (plain : Result) (reasons out old : List ℕ) where
-  lengths : (l : ℕ) → plain .reply ≡ replies.Length l → beside plain reasons out old ≡
+  lengths : (l : ℕ) → plain .reply ≡ replies.Length l → withReasons plain reasons out old ≡
       cond (leb (length reasons) (length old)) (explainedResult (plain .reply) (plain .output) (reasons ++ drop (length reasons) old))
       (explainedResult replies.NoReasonRoom out old)
-  lengths l e = ap (λ (r : Reply). lengthBeside (lengthOf r) plain reasons out old) e
+  lengths l e = ap (λ (r : Reply). lengthWithReasons (lengthOf r) plain reasons out old) e
 
   pub beside-room : (l : ℕ) → plain .reply ≡ replies.Length l → length reasons ≤ length old →
-      beside plain reasons out old ≡ explainedResult (replies.Length l) (plain .output) (reasons ++ drop (length reasons) old)
+      withReasons plain reasons out old ≡ explainedResult (replies.Length l) (plain .output) (reasons ++ drop (length reasons) old)
   beside-room l e h =
       lengths l e
       ∙ ap (λ (b : Bool).
@@ -118,15 +120,15 @@ module _ (plain : Result) (reasons out old : List ℕ) where
       ∙ ap (λ (r : Reply). explainedResult r (plain .output) (reasons ++ drop (length reasons) old)) e
 
   pub beside-short : (l : ℕ) → plain .reply ≡ replies.Length l → length old < length reasons →
-      beside plain reasons out old ≡ explainedResult replies.NoReasonRoom out old
+      withReasons plain reasons out old ≡ explainedResult replies.NoReasonRoom out old
   beside-short l e h =
       lengths l e
       ∙ ap (λ (b : Bool).
       cond b (explainedResult (plain .reply) (plain .output) (reasons ++ drop (length reasons) old)) (explainedResult replies.NoReasonRoom out old))
       (lt-leb (length reasons) (length old) h)
 
-  pub beside-refused : lengthOf (plain .reply) ≡ none → beside plain reasons out old ≡ explainedResult (plain .reply) out old
-  beside-refused e = ap (λ (o : Option ℕ). lengthBeside o plain reasons out old) e
+  pub beside-refused : lengthOf (plain .reply) ≡ none → withReasons plain reasons out old ≡ explainedResult (plain .reply) out old
+  beside-refused e = ap (λ (o : Option ℕ). lengthWithReasons o plain reasons out old) e
 
 -- What follows the table gives no number above 18.
 
@@ -160,20 +162,22 @@ module _ (earlier : Link ℕ → Link ℕ → Bool) (n : ℕ) (t out : List ℕ)
 
 -- the reply that tells a length
 length-told : (r : Reply) (l : ℕ) → lengthOf r ≡ some l → r ≡ replies.Length l
-length-told r l e = kind-injective r (replies.Length l) (go (kindOf r) e)
+length-told r l e = answer-injective r (replies.Length l) (go (answerOf r) e)
   where
-    go : (k : Kind) → lengthIn k ≡ some l → k ≡ kind.Length l
-    go (kind.Length m) q = ap kind.Length (some-injective q)
-    go kind.Same q = none-some q
-    go kind.Under q = none-some q
-    go kind.Above q = none-some q
-    go kind.Neither q = none-some q
-    go (kind.Refused number) q = none-some q
-    go (kind.RefusedGraph number side) q = none-some q
+    go : (k : Answer) → lengthIn k ≡ some l → k ≡ answer.Length l
+    go (answer.Length m) q = ap answer.Length (some-injective q)
+    go answer.Same q = none-some q
+    go answer.Under q = none-some q
+    go answer.Above q = none-some q
+    go answer.Neither q = none-some q
+    go (answer.Counts nodes rows) q = none-some q
+    go answer.End q = none-some q
+    go (answer.Refused number) q = none-some q
+    go (answer.RefusedGraph number side) q = none-some q
 
 -- 22 exactly where the reasons do not fit beside a plain call that never gives it
 pub no-room-exact : (plain : Result) (reasons out old : List ℕ) → (plain .reply ≡ replies.NoReasonRoom → ⊥) →
-    (beside plain reasons out old .reply ≡ replies.NoReasonRoom) ↔
+    (withReasons plain reasons out old .reply ≡ replies.NoReasonRoom) ↔
     ((l : ℕ) × (plain .reply ≡ replies.Length l) × (length old < length reasons))
 no-room-exact plain reasons out old never = (
   λ e. there (lengthOf (plain .reply)) refl e,
@@ -181,7 +185,7 @@ no-room-exact plain reasons out old never = (
 )
   where
     fits : (l : ℕ) → plain .reply ≡ replies.Length l → (c : Bool) → leb (length reasons) (length old) ≡ c →
-        beside plain reasons out old .reply ≡ replies.NoReasonRoom → length old < length reasons
+        withReasons plain reasons out old .reply ≡ replies.NoReasonRoom → length old < length reasons
     fits l q false c e = leb-false (length reasons) (length old) c
     fits l q true c e =
         let z : _≡_ {A = ℕ} 0 1 =
@@ -189,7 +193,7 @@ no-room-exact plain reasons out old never = (
         (beside-room plain reasons out old l q (leb-true (length reasons) (length old) c))) ∙ e) in
         absurd (omega arith)
 
-    there : (o : Option ℕ) → lengthOf (plain .reply) ≡ o → beside plain reasons out old .reply ≡ replies.NoReasonRoom →
+    there : (o : Option ℕ) → lengthOf (plain .reply) ≡ o → withReasons plain reasons out old .reply ≡ replies.NoReasonRoom →
         (l : ℕ) × (plain .reply ≡ replies.Length l) × (length old < length reasons)
     there none q e = absurd (never (sym (ap (λ (x : Explained). x .reply) (beside-refused plain reasons out old q)) ∙ e))
     there (some l) q e =

@@ -34,9 +34,9 @@ use Rattle.record.specs.Read.{graphOfRows}
 use Rattle.record.proofs.Nodes.{few-nodes, few-links}
 use Rattle.record.proofs.Accepted.{Rules, rules-linked}
 use Rattle.difference.specs.Promise.{wantedAlong, differenceAlong}
-use Rattle.engine.specs.Difference.{over, wantedAt, allWanted, differenceRows}
+use Rattle.difference.specs.Difference.{over, wantedAt, allWanted, differenceRows}
 use Rattle.demands.specs.Demand.{Large, Restores}
-use Rattle.engine.proofs.Over.{over-map}
+use Rattle.difference.proofs.Over.{over-map}
 use Rattle.demands.proofs.Demanded.Wanted.{general-size, specific-size, operands, labelOver, meet-label, s-label, label-below, wanted-exact, wanted-found}
 
 -- a graph whose links are links of another from the same root reaches no more of it

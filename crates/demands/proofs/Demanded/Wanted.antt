@@ -32,9 +32,9 @@ use Rattle.lattice.proofs.Transfer.{lift, map-lift, meetOver-label}
 use Rattle.record.specs.Read.{graphOfRows}
 use Rattle.record.proofs.Accepted.{Rules, rules-of-any-size, rules-nodes}
 use Rattle.difference.specs.Promise.{wantedAlong, allWantedAlong}
-use Rattle.engine.specs.Difference.{over, wantedAt, allWanted}
+use Rattle.difference.specs.Difference.{over, wantedAt, allWanted}
 use Rattle.engine.proofs.Tables.{label-known}
-use Rattle.engine.proofs.Over.{over-map}
+use Rattle.difference.proofs.Over.{over-map}
 
 -- no label that a test picks
 meetWhere-none : (𝓛 : Labels) {B : Type 0} (test : B → Bool) (label : B → 𝓛 .L) (ys : List B) → ((y : B) → List·Memᴰ y ys → test y ≡ false) →

@@ -6,19 +6,18 @@ use mathlib.Core.List.{List}
 use mathlib.Core.Logic.{_⊎_}
 use Prim.Native.Nat.{ℕ}
 use lib.ListN.{take}
-use Rattle.graphs.specs.Graph.{Graph, Tells, Below}
+use Rattle.graphs.specs.Graph.{Graph, TellsApart, Below}
 use Rattle.graphs.specs.Rows.{Row}
 use Rattle.graphs.specs.Generalize.{generalization}
 use Rattle.lattice.specs.Label.{Label}
 use Rattle.lattice.specs.declared.Opened.the-variants.{Accepted}
 use Rattle.lattice.specs.Reply.{opened}
 use Rattle.lattice.specs.Labels.{tableLabels, OfAnySize, LeastOfAnySize, GreatestOfAnySize, IsCombination}
-use Rattle.lattice.proofs.Residuals.{opened-accepted}
+use Rattle.lattice.proofs.Acceptance.{opened-accepted}
 use Rattle.lattice.proofs.AnySize.{generalization-least, least-monotone, greatest-monotone, combines-broader, combines-not-refuted}
 use Rattle.record.specs.Read.{reading, accepted, graphOfRows}
 use Rattle.replies.specs.declared.Reply.the-variants.{Length, Cycle, Clash}
-use Rattle.engine.specs.Reply.{generalizing}
-use Rattle.engine.specs.Unification.{unifying}
+use Rattle.calls.specs.Calls.{generalizing, unifying}
 use Rattle.demands.specs.Demand.{Given, AnswersBelow}
 use Rattle.demands.proofs.Broader.{RecordBelow, answer-below, rows-below, below-answer, below-paths}
 use Rattle.demands.proofs.Broader as Broader
@@ -81,7 +80,7 @@ module _ (n : ℕ) (t : List ℕ) (opens : opened n t ≡ Accepted) {A B C D : T
 
   -- Where there is one of the narrower pair, there is one of the broader pair, namely what the classes give, where the nodes of the
   -- broader graphs are told apart;
-  pub any-size-combines : (sameB : B → B → Bool) (sameD : D → D → Bool) → Tells sameB → Tells sameD → {U : Type 0} (u : Graph Label U) →
+  pub any-size-combines : (sameB : B → B → Bool) (sameD : D → D → Bool) → TellsApart sameB → TellsApart sameD → {U : Type 0} (u : Graph Label U) →
       GreatestOfAnySize n t g h u →
       (w : Graph Label (B ⊎ D)) × IsCombination n t k m w × GreatestOfAnySize n t k m w × Below (tableLabels n t) u w
   any-size-combines = combines-broader n t (opened-accepted n t (opened n t) refl opens) g k h m g-size k-size h-size m-size first second

@@ -15,8 +15,7 @@ use Rattle.record.specs.declared.GraphFault.{GraphFault}
 use Rattle.record.specs.Read.{reading, accepted, graphOfRows}
 use Rattle.replies.specs.declared.Side.the-variants.{First, Second}
 use Rattle.replies.specs.declared.Reply.the-variants.{Length, Same, Under, Above, Neither, Graph as Refusal, NotBelow}
-use Rattle.engine.specs.Reply.{rewriting, ordering}
-use Rattle.engine.specs.Difference.{differing}
+use Rattle.calls.specs.Calls.{rewriting, ordering, differing}
 use Rattle.demands.specs.Demand.{Given, AnswersNotBelow, WrittenRecord}
 use Rattle.demands.proofs.Demands.{meaning-bytes, meaning-order, written-one-form, order-exact, difference-not-below}
 use Rattle.demands.proofs.Demanded.Order as Order

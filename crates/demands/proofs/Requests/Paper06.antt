@@ -19,7 +19,7 @@ use Rattle.encode.specs.Encode.{fitted}
 use Rattle.record.specs.Read.{reading, accepted, graphOfRows}
 use Rattle.replies.specs.declared.Reply.the-variants.{Length, NotBelow, NoWantedType}
 use Rattle.replies.specs.Reply.{resultOf}
-use Rattle.engine.specs.Difference.{differing}
+use Rattle.calls.specs.Calls.{differing}
 use Rattle.demands.specs.Before.{differingBefore}
 use Rattle.demands.specs.Demand.{Given, Writes, loneTop, remainder, Restores, Difference}
 use Rattle.demands.proofs.Demanded.Difference as Differed

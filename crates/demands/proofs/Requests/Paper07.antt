@@ -9,9 +9,7 @@ use Rattle.encode.specs.Encode.{encodedLabel}
 use Rattle.record.specs.Read.{reading}
 use Rattle.record.specs.Unranged.{unranged}
 use Rattle.record.proofs.Theorems as records
-use Rattle.engine.specs.Reply.{rewriting, ordering, generalizing}
-use Rattle.engine.specs.Unification.{unifying}
-use Rattle.engine.specs.Difference.{differing}
+use Rattle.calls.specs.Calls.{rewriting, ordering, generalizing, unifying, differing}
 use Rattle.demands.specs.Unranged.{rewritingTypes, orderingTypes, generalizingTypes, unifyingTypes, differingTypes, WritesUnranged}
 use Rattle.demands.proofs.Unranged as Unranged
 

@@ -5,9 +5,9 @@ use mathlib.Core.List.{List, []}
 use mathlib.Core.Option.{some}
 use Prim.Native.Nat.{ℕ, _+_, _*_, _<_}
 use lib.ListN.{length, getD}
-use Rattle.lattice.specs.Sets.{meetIn, Holding}
+use Rattle.bounds.specs.Sets.{meetIn, Holding}
 use Rattle.lattice.specs.Table as types
-use Rattle.lattice.proofs.Types.{meets-known}
+use Rattle.bounds.proofs.Types.{meets-known}
 use Rattle.house.specs.House.{lesser, under, meets, houseTable}
 use Rattle.house.proofs.Theorems as house
 

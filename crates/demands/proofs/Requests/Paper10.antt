@@ -22,19 +22,20 @@ use Rattle.lattice.specs.Reply.{opened}
 use Rattle.lattice.specs.Labels.{tableLabels, SomeUnwanted}
 use Rattle.record.specs.declared.GraphFault.{GraphFault}
 use Rattle.record.specs.Read.{reading, refused, accepted, graphOfRows}
-use Rattle.groups.specs.Reading.{isReadingOrder, EachOnce}
+use Rattle.groups.specs.LinkOrders.{isReadingOrder, EachOnce}
 use Rattle.groups.proofs.ReadingOrder as Reading
 use Rattle.replies.specs.declared.Side.the-variants.{First, Second}
 use Rattle.replies.specs.declared.Reply.{Reply}
 use Rattle.replies.specs.declared.Reply.the-variants.{Length, Table, Graph as Refusal, TooLarge, NotBelow, NoWantedType, ReadingOrder, NoReasonRoom}
 use Rattle.replies.specs.Reply.{refusal, refusing, lengthOf}
-use Rattle.engine.specs.Reply.{checked}
-use Rattle.engine.specs.Difference.{numbered, differing, differingBy}
-use Rattle.engine.specs.Explained.{explainedResult, reasonsOf, explainingBy}
+use Rattle.calls.specs.Calls.{checked, differing, differingBy}
+use Rattle.difference.specs.Difference.{numbered}
+use Rattle.difference.specs.Explained.{explainedResult}
+use Rattle.engine.specs.Differing.{reasonsOf, parting}
+use Rattle.calls.specs.Explained.{explainingBy}
 use Rattle.demands.specs.Explained.{reasonFor, LinkReason}
 use Rattle.demands.specs.Demand.{Given, Leaves, Writes, remainder, Restores, Difference}
-use Rattle.engine.specs.Pair.{parting}
-use Rattle.engine.proofs.Listed.{table-before-list, list-exact, differing-checked}
+use Rattle.calls.proofs.Listed.{table-before-list, list-exact, differing-checked}
 use Rattle.demands.proofs.Demanded.Output as Output
 use Rattle.demands.proofs.Demanded.Difference as Differed
 use Rattle.demands.proofs.Demanded.Reasons.{differing-by-other, parting-low, no-room-exact, link-reasons, reasons-are, reasons-count, beside-room, beside-short, beside-refused}

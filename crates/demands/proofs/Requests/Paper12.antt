@@ -7,13 +7,14 @@ use Prim.Native.Nat.{ℕ, _<_}
 use lib.Bits.{bitAnd, bitOr}
 use lib.ListN.{length}
 use Rattle.lattice.specs.declared.Opened.{Opened}
-use Rattle.lattice.specs.Reply.{Opening}
-use Rattle.lattice.specs.Words.{Words, wordPrime}
-use Rattle.lattice.specs.Sets.{distributive, setOf, setIn, cellIn, meetIn, joinIn, Holding}
+use Rattle.bounds.specs.Opening.{Opening}
+use Rattle.lattice.specs.Words.{Words}
+use Rattle.bounds.specs.Primes.{wordPrime}
+use Rattle.bounds.specs.Sets.{distributive, setOf, setIn, cellIn, meetIn, joinIn, Holding}
 use Rattle.lattice.specs.Table as types
 use Rattle.lattice.proofs.Laws as types-laws
-use Rattle.lattice.proofs.Distributive as Sets
-use Rattle.lattice.proofs.Types.{meets-known, joins-known}
+use Rattle.bounds.proofs.Distributive as Sets
+use Rattle.bounds.proofs.Types.{meets-known, joins-known}
 
 -- Opening decides by two searches for each type whether "for every three types the meet spreads over the join".
 module _ (n : ℕ) (t : List ℕ) (ok : types.accepted n t ≡ true) where

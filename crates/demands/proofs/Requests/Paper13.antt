@@ -17,9 +17,12 @@ use Rattle.graphs.proofs.Difference.ByNumber.{by-number-order}
 use Rattle.lattice.specs.Labels.{tableLabels}
 use Rattle.record.specs.Read.{graphOfRows}
 use Rattle.replies.specs.declared.Reply.the-variants.{Length, NoReasonRoom}
-use Rattle.engine.specs.Difference.{numbered, differing}
+use Rattle.difference.specs.Difference.{numbered}
+use Rattle.calls.specs.Calls.{differing}
 use Rattle.replies.specs.Reply.{lengthOf}
-use Rattle.engine.specs.Explained.{explainedResult, reasonsOf, explaining}
+use Rattle.difference.specs.Explained.{explainedResult}
+use Rattle.engine.specs.Differing.{reasonsOf}
+use Rattle.calls.specs.Explained.{explaining}
 use Rattle.demands.specs.Explained.{reasonFor, LinkReason}
 use Rattle.demands.specs.Demand.{Given, remainder}
 use Rattle.demands.proofs.Demanded.Reasons.{differing-other, no-room-exact, link-reasons, reasons-are, reasons-count, beside-room, beside-short, beside-refused}

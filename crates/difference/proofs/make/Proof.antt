@@ -5,7 +5,7 @@ use lib.ListN.{length-replicate, getD-replicate}
 use Rattle.lattice.proofs.Laws.{accepted-size}
 use Rattle.lattice.proofs.Lawful.{known-more}
 use Rattle.difference.proofs.Wanting.{wants-known}
-use Rattle.difference.proofs.Result.{acyclic-lower, ready-words}
+use Rattle.difference.proofs.Result.{acyclic-lower, markable-words}
 use Rattle.difference.proofs.make.Statement.{statement}
 use Rattle.difference.proofs.make.Tie as tie
 
@@ -16,7 +16,7 @@ kept-nodes-requires c κs =
     let size = accepted-size (start .args .n) (start .args .table .now) (given .asked .ok) in (
       (size .0, size .1, wants-known (given .asked) (given .wants)),
       (
-        (ready-words (given .asked) (given .marked .stands .long) (length-replicate {A = ℕ} 255 0), λ v h. getD-replicate {A = ℕ} 255 v 0 0 h),
+        (markable-words (given .asked) (given .marked .stands .long) (length-replicate {A = ℕ} 255 0), λ v h. getD-replicate {A = ℕ} 255 v 0 0 h),
         acyclic-lower (given .asked),
       ),
     )
@@ -27,7 +27,7 @@ kept-links-requires c κs =
     let given = start .pre .0 .3 in
     let size = accepted-size (start .args .n) (start .args .table .now) (given .asked .ok) in
     let labels = wants-known (given .asked) (given .wants) in (
-      ready-words (given .asked) (given .marked .stands .long) (c .before .before .kept-nodes .ensures .long),
+      markable-words (given .asked) (given .marked .stands .long) (c .before .before .kept-nodes .ensures .long),
       ((labels .long, λ v h. known-more (omega (arith, size .1)) (labels .known v h)), start .pre .1),
     )
 

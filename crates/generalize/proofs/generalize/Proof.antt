@@ -6,7 +6,7 @@ use native.Mathlib.Omega.{arith}
 use lib.ListN.{length, replicate, length-replicate, getD-replicate}
 use Rattle.graphs.specs.Number.{Canonical}
 use Rattle.lattice.specs.Label.{Label}
-use Rattle.lattice.specs.Sets.{joinIn}
+use Rattle.bounds.specs.Sets.{joinIn}
 use Rattle.layout.specs.Layout.{header}
 use Rattle.layout.specs.Builder.{putLabel}
 use Rattle.layout.proofs.Builder.{length-put}

@@ -11,7 +11,7 @@ use native.Mathlib.Omega.{arith}
 use lib.Dec.{eqb}
 use lib.ListN.{length}
 use borrow.Author.Tests.{eqb-true, eq-eqb, not-true, not-false}
-use Rattle.graphs.specs.Graph.{Graph, Tells}
+use Rattle.graphs.specs.Graph.{Graph, TellsApart}
 use Rattle.graphs.specs.Unify.{anyOf, holds}
 use Rattle.graphs.specs.Difference.{Link, select, linksFrom, sameLink, incoming, covers, bare, touch, spread}
 use Rattle.graphs.proofs.Walk.{reached-link}
@@ -36,10 +36,10 @@ use Rattle.graphs.proofs.Difference.Laws.{Into, Enters}
 
 module _ {L A B : Type 0} {sameA : A → A → Bool} {sameB : B → B → Bool} {s : Graph L A} {ss : List A} {g : Graph L B}
     {gs : List B} (operands : Operands sameA sameB s ss g gs) (over : B → A) where
-  tellsA : Tells sameA
+  tellsA : TellsApart sameA
   tellsA = operands .tells-left
 
-  tellsB : Tells sameB
+  tellsB : TellsApart sameB
   tellsB = operands .tells-right
 
   abbrev same : Link A → Link A → Bool

@@ -10,7 +10,7 @@ use mathlib.Core.Logic.{_↔_, _⊎_, inl, inr, ⊎-elim, Equivalence}
 use mathlib.Core.Option.{Option, some, Option·map, map-eq-some-iff}
 use Prim.Native.Nat.{ℕ}
 use Rattle.graphs.specs.Label.{Labels, Lattice}
-use Rattle.graphs.specs.Graph.{Graph, AnySize, Below, Tells, follow, walk, Reached, Corefer}
+use Rattle.graphs.specs.Graph.{Graph, AnySize, Below, TellsApart, follow, walk, Reached, Corefer}
 use Rattle.graphs.specs.Map.{NodeMap}
 use Rattle.graphs.specs.Unify.{Joined, UnderClass}
 use Rattle.graphs.specs.Difference.{Link}
@@ -260,7 +260,7 @@ module _ {𝓛 : Labels} {A B E : Type 0} {s : Graph (𝓛 .L) A} {g : Graph (�
   root-over v q = (e .root, ([], refl, ap some (sym q)))
 
   -- whether a node of e lies over v
-  over-decided : (same : A → A → Bool) → Tells same → (v : A) → ((x : E) × Over x v) ⊎ ((x : E) → Over x v → ⊥)
+  over-decided : (same : A → A → Bool) → TellsApart same → (v : A) → ((x : E) × Over x v) ⊎ ((x : E) → Over x v → ⊥)
   over-decided same tells v =
       let size = above-any-size lattice belowE sound in
       ⊎-elim (λ (t : (x : E) × Over x v). inl t)
@@ -305,7 +305,7 @@ module _ {𝓛 : Labels} {A B E : Type 0} {s : Graph (𝓛 .L) A} {g : Graph (�
             let (t, b, c) = belowE .paths p x a in
             ap (λ z. 𝓛 .le (s .label z) (e .label x)) (some-unique w b) ∙ c
 
-    module _ (same : A → A → Bool) (tells : Tells same) where
+    module _ (same : A → A → Bool) (tells : TellsApart same) where
       -- a node of e lies over every kept node
       kept-over : (v : A) → Reached s v → keep v ≡ true → (x : E) × Over x v
       kept-over = children-first sound (λ v. keep v ≡ true → (x : E) × Over x v) next

@@ -21,7 +21,7 @@ use borrow.Author.Tests.{leb-true}
 use lib.Dec.{eqb, leb}
 use lib.ListN.{length, getD}
 use Rattle.graphs.specs.Label.{Labels}
-use Rattle.graphs.specs.Graph.{Graph, Tells, walk, Reached, SameMeaning}
+use Rattle.graphs.specs.Graph.{Graph, TellsApart, walk, Reached, SameMeaning}
 use Rattle.graphs.specs.Rows.{Row, target, graphOf}
 use Rattle.graphs.specs.Number.{canonical, counted, indexOf, linkCount, manyLinks, rowOf, visit, written}
 use Rattle.graphs.specs.Large.{Distinct}
@@ -57,7 +57,7 @@ module _ {L A : Type 0} (same : A → A → Bool) (g : Graph L A) where
       go none h q = let z : _≡_ {A = ℕ} 0 1 = cc in absurd (omega arith)
       go (some now) h q = let (few, r) = fits now (leb (linkCount (g .link) now) 2048) refl q in (now, h, few, r)
 
-module _ {L A : Type 0} (same : A → A → Bool) (tells : Tells same) (g : Graph L A)
+module _ {L A : Type 0} (same : A → A → Bool) (tells : TellsApart same) (g : Graph L A)
     (narrow : (v w : A) (f : ℕ) → Reached g v → g .link v f ≡ some w → f < 64) where
   onto : (v w : A) (f : ℕ) → Reached g v → g .link v f ≡ some w → Reached g w
   onto v w f r e = reached-link g f r e
@@ -178,7 +178,7 @@ module _ {L A : Type 0} (same : A → A → Bool) (tells : Tells same) (g : Grap
       (bisimilar-canonical same eqb tells tells-eqb (Numbered d now h) g (graphOf d (rows d now h)) (written-bisimilar d now h)))
       ∙ e
 
-module _ (𝓛 : Labels) {A : Type 0} (same : A → A → Bool) (tells : Tells same) (g : Graph (𝓛 .L) A)
+module _ (𝓛 : Labels) {A : Type 0} (same : A → A → Bool) (tells : TellsApart same) (g : Graph (𝓛 .L) A)
     (narrow : (v w : A) (f : ℕ) → Reached g v → g .link v f ≡ some w → f < 64) where
   -- The written form has the meaning of the graph.
   pub canonical-meaning : (form : List (Row (𝓛 .L))) → canonical same g ≡ written form → SameMeaning 𝓛 g (graphOf (𝓛 .top) form)
@@ -190,7 +190,7 @@ module _ (𝓛 : Labels) {A : Type 0} (same : A → A → Bool) (tells : Tells s
       (written-bisimilar same tells g narrow (𝓛 .top) now h))
 
 -- Of graphs that fit, equal meaning is exactly an equal written form.
-pub canonical-exact : (𝓛 : Labels) {A B : Type 0} (sameA : A → A → Bool) (sameB : B → B → Bool) → Tells sameA → Tells sameB →
+pub canonical-exact : (𝓛 : Labels) {A B : Type 0} (sameA : A → A → Bool) (sameB : B → B → Bool) → TellsApart sameA → TellsApart sameB →
     (g : Graph (𝓛 .L) A) (h : Graph (𝓛 .L) B) → ((v w : A) (f : ℕ) → Reached g v → g .link v f ≡ some w → f < 64) →
     ((v w : B) (f : ℕ) → Reached h v → h .link v f ≡ some w → f < 64) → (form : List (Row (𝓛 .L))) → canonical sameA g ≡ written form →
     SameMeaning 𝓛 g h ↔ (canonical sameB h ≡ written form)

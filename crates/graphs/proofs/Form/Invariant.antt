@@ -10,7 +10,7 @@ use native.Mathlib.Omega.{arith}
 use lib.Dec.{leb}
 use lib.ListN.{length}
 use Rattle.graphs.specs.Label.{Labels}
-use Rattle.graphs.specs.Graph.{Graph, Tells, SameMeaning}
+use Rattle.graphs.specs.Graph.{Graph, TellsApart, SameMeaning}
 use Rattle.graphs.specs.Rows.{Row, features, linksOf, addLink}
 use Rattle.graphs.specs.Number.{canonical, counted, countSome, each, enter, indexOf, linkCount, member, otherwise, outDegree, rowOf, visit, written, manyLinks}
 use Rattle.graphs.specs.Reasons.{orderIn, writtenOrder}
@@ -64,7 +64,7 @@ unfolding linksOf
 linksOf-cong next onto e [] = refl
 linksOf-cong next onto e (f ∷ fs) = ap₂ (addLink f) (e f) (linksOf-cong next onto e fs)
 
-module _ {L A B : Type 0} (sameA : A → A → Bool) (sameB : B → B → Bool) (tellsA : Tells sameA) (tellsB : Tells sameB)
+module _ {L A B : Type 0} (sameA : A → A → Bool) (sameB : B → B → Bool) (tellsA : TellsApart sameA) (tellsB : TellsApart sameB)
     (R : A → B → Type 0) (g : Graph L A) (h : Graph L B) (b : Bisimilar R g h) where
   related-same : (v v′ : A) (w w′ : B) → R v w → R v′ w′ → sameA v v′ ≡ sameB w w′
   related-same v v′ w w′ r r′ =
@@ -170,7 +170,7 @@ module _ {L A B : Type 0} (sameA : A → A → Bool) (sameB : B → B → Bool) 
   bisimilar-order = related-order (related-visit 255 (g .root) (h .root) [] [] (b .root) empty)
 
 -- Graphs of the same meaning have one written form, and are too large together.
-pub same-canonical : (𝓛 : Labels) {A B : Type 0} (sameA : A → A → Bool) (sameB : B → B → Bool) → Tells sameA → Tells sameB →
+pub same-canonical : (𝓛 : Labels) {A B : Type 0} (sameA : A → A → Bool) (sameB : B → B → Bool) → TellsApart sameA → TellsApart sameB →
     (g : Graph (𝓛 .L) A) (h : Graph (𝓛 .L) B) → SameMeaning 𝓛 g h → canonical sameA g ≡ canonical sameB h
 same-canonical 𝓛 sameA sameB tellsA tellsB g h m =
     bisimilar-canonical sameA sameB tellsA tellsB (Together g h) g h (same-bisimilar 𝓛 g h m)

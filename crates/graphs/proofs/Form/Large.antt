@@ -20,7 +20,7 @@ use native.Mathlib.Omega.{arith}
 use borrow.Author.Tests.{leb-true, leb-false}
 use lib.Dec.{leb}
 use lib.ListN.{length, length-append, length-map}
-use Rattle.graphs.specs.Graph.{Graph, Tells, Reached}
+use Rattle.graphs.specs.Graph.{Graph, TellsApart, Reached}
 use Rattle.graphs.specs.Rows.{Row, features, linksOf}
 use Rattle.graphs.specs.Number.{Canonical, canonical, counted, linkCount, manyLinks, manyNodes, visit, written}
 use Rattle.graphs.specs.Large.{Distinct, ManyNodes, ManyLinks, Ascending}
@@ -87,7 +87,7 @@ listed-few : {L : Type 0} (t : Bool) (rows : List (Row L)) → cond t (written r
 listed-few true rows e = let z : _≡_ {A = ℕ} 0 1 = cc in omega arith
 listed-few false rows e = let z : _≡_ {A = ℕ} 0 1 = cc in omega arith
 
-module _ {L A : Type 0} (same : A → A → Bool) (tells : Tells same) (g : Graph L A)
+module _ {L A : Type 0} (same : A → A → Bool) (tells : TellsApart same) (g : Graph L A)
     (narrow : (v w : A) (f : ℕ) → Reached g v → g .link v f ≡ some w → f < 64) where
   -- a visit that gives nothing has met too many nodes
   none-seen : visit same (g .link) 255 (g .root) [] ≡ none → ManyNodes g

@@ -23,14 +23,14 @@ use native.Mathlib.Omega.{arith}
 use borrow.Author.Tests.{leb-true, leb-false}
 use lib.Dec.{leb}
 use lib.ListN.{length, length-append}
-use Rattle.graphs.specs.Graph.{Tells}
+use Rattle.graphs.specs.Graph.{TellsApart}
 use Rattle.graphs.specs.Rows.{features}
 use Rattle.graphs.specs.Number.{each, enter, member, otherwise, visit}
 use Rattle.graphs.specs.Large.{Distinct}
 use Rattle.graphs.proofs.Walk.{some-injective, none-some}
 use Rattle.graphs.proofs.Lists.{mem-features, member-true, member-false}
 
-module _ {A : Type 0} (same : A → A → Bool) (tells : Tells same) (link : A → ℕ → Option A) (P : A → Type 0)
+module _ {A : Type 0} (same : A → A → Bool) (tells : TellsApart same) (link : A → ℕ → Option A) (P : A → Type 0)
     (onto : (v w : A) (f : ℕ) → P v → link v f ≡ some w → P w) (narrow : (v w : A) (f : ℕ) → P v → link v f ≡ some w → f < 64) where
   -- What was seen grows: by nodes with P, each once, all of whose links lead to what is seen then.
   pub record Grown (old now : List A) : Type 0 where

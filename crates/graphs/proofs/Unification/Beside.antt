@@ -21,13 +21,13 @@ use mathlib.Core.Sum.{inl-injective, inr-injective, inl-ne-inr, inr-ne-inl}
 use mathlib.Core.Option.{Option, some, Option·map, map-eq-some-iff}
 use Prim.Native.Nat.{ℕ, _<_}
 use Rattle.graphs.specs.Label.{Labels}
-use Rattle.graphs.specs.Graph.{Graph, Tells, follow, walk, Reached, AnySize}
+use Rattle.graphs.specs.Graph.{Graph, TellsApart, follow, walk, Reached, AnySize}
 use Rattle.graphs.specs.Unify.{Joined, left, right, flip, chain, down, beside, sameBeside, nodesBeside}
 use Rattle.graphs.proofs.Walk.{some-injective, snoc-induction, follow-last, walk-snoc}
 use Rattle.graphs.proofs.Search.{true-false}
 use Rattle.graphs.proofs.Unification.Related.{Related, roots, back, next, feat, Listing}
 
-pub same-beside : {A B : Type 0} (s : A → A → Bool) (t : B → B → Bool) → Tells s → Tells t → Tells (sameBeside s t)
+pub same-beside : {A B : Type 0} (s : A → A → Bool) (t : B → B → Bool) → TellsApart s → TellsApart t → TellsApart (sameBeside s t)
 same-beside s t hs ht (inl v) (inl w) = (λ e. ap inl (hs v w .0 e), λ e. hs v w .1 (inl-injective v w e))
 same-beside s t hs ht (inl v) (inr w) = (λ e. true-false e refl, λ e. absurd (inl-ne-inr e))
 same-beside s t hs ht (inr v) (inl w) = (λ e. true-false e refl, λ e. absurd (inr-ne-inl e))
@@ -122,13 +122,13 @@ pub record Lists {L A : Type 0} (g : Graph L A) (gs : List A) : Type 0 where
 -- What unification is given: two graphs with their nodes listed, and tests that tell their nodes apart.
 pub record Operands {L A B : Type 0} (sameA : A → A → Bool) (sameB : B → B → Bool) (g : Graph L A) (gs : List A)
     (h : Graph L B) (hs : List B) : Type 0 where
-  pub tells-left : Tells sameA
-  pub tells-right : Tells sameB
+  pub tells-left : TellsApart sameA
+  pub tells-right : TellsApart sameB
   pub lists-left : Lists g gs
   pub lists-right : Lists h hs
 
 pub any-size-operands : {𝓛 : Labels} {A B : Type 0} {sameA : A → A → Bool} {sameB : B → B → Bool} {g : Graph (𝓛 .L) A}
-    {h : Graph (𝓛 .L) B} → Tells sameA → Tells sameB → (a : AnySize 𝓛 g) (b : AnySize 𝓛 h) →
+    {h : Graph (𝓛 .L) B} → TellsApart sameA → TellsApart sameB → (a : AnySize 𝓛 g) (b : AnySize 𝓛 h) →
     Operands sameA sameB g (a .nodes) h (b .nodes)
 any-size-operands s t a b =
     record {
@@ -140,7 +140,7 @@ any-size-operands s t a b =
 
 module _ {L A B : Type 0} {sameA : A → A → Bool} {sameB : B → B → Bool} {g : Graph L A} {gs : List A} {h : Graph L B} {hs : List B}
     (given : Operands sameA sameB g gs h hs) where
-  pub tells-beside : Tells (sameBeside sameA sameB)
+  pub tells-beside : TellsApart (sameBeside sameA sameB)
   tells-beside = same-beside sameA sameB (given .tells-left) (given .tells-right)
 
   pub reached-listed : (x : A ⊎ B) → ReachedBeside g h x → List·Memᴰ x (nodesBeside gs hs)

@@ -18,7 +18,7 @@ use mathlib.Core.Logic.{_↔_, _⊎_, inl, inr}
 use mathlib.Core.Option.{Option, none, some, Option·map, map-eq-some-iff}
 use Prim.Native.Nat.{ℕ, _<_}
 use Rattle.graphs.specs.Label.{Labels, Lattice}
-use Rattle.graphs.specs.Graph.{Graph, Tells, Reached}
+use Rattle.graphs.specs.Graph.{Graph, TellsApart, Reached}
 use Rattle.graphs.specs.Unify.{
   IsUnification,
   labelBeside,
@@ -73,7 +73,7 @@ module _ {𝓛 : Labels} (lattice : Lattice 𝓛) {N : Type 0} (test : N → Boo
       go false d later = later
 
 -- The links of classes that are named.
-module _ {N : Type 0} {same : N → N → Bool} (tells : Tells same) (link : N → ℕ → Option N) (nodes : List N) (name : N → N) where
+module _ {N : Type 0} {same : N → N → Bool} (tells : TellsApart same) (link : N → ℕ → Option N) (nodes : List N) (name : N → N) where
   -- a link of a class is a link of one of its nodes
   pub classLink-source : (c d : N) (f : ℕ) → classLink same link nodes name c f ≡ some d →
       (x : N) × (y : N) × List·Memᴰ x nodes × (name x ≡ c) × (link x f ≡ some y) × (name y ≡ d)
@@ -139,7 +139,7 @@ module _ {𝓛 : Labels} (lattice : Lattice 𝓛) {A B : Type 0} {sameA : A → 
       link : A ⊎ B → ℕ → Option (A ⊎ B)
       link = linkBeside g h
 
-      tells : Tells (sameBeside sameA sameB)
+      tells : TellsApart (sameBeside sameA sameB)
       tells = tells-beside given
 
       test : A ⊎ B → A ⊎ B → Bool

@@ -9,7 +9,7 @@ use mathlib.Core.Option.{Option, none, some}
 use Prim.Native.Nat.{ℕ, zero, suc, _≤_, _<_}
 use native.Mathlib.Omega.{arith}
 use lib.ListN.{length}
-use Rattle.graphs.specs.Graph.{Tells}
+use Rattle.graphs.specs.Graph.{TellsApart}
 use Rattle.graphs.specs.Generalize.{both}
 use Rattle.graphs.specs.Rows.{features}
 use Rattle.graphs.specs.Unify.{firstOf, merge, apart, settle, unsettled, close}
@@ -28,17 +28,12 @@ use Rattle.graphs.proofs.Search.{
   select-length,
   select-fewer-strict,
 }
+use Rattle.graphs.proofs.Product.{both-some}
 use Rattle.graphs.proofs.Unification.Related.{Related, roots, back, next, feat, Listing, Classes, related-constant, related-listed}
-
-both-some : {A B : Type 0} (o : Option A) (p : Option B) (v : A) (w : B) → both o p ≡ some (v, w) → (o ≡ some v) × (p ≡ some w)
-both-some none p v w e = none-some e
-both-some (some x) none v w e = none-some e
-both-some (some x) (some y) v w e =
-    (ap (λ z. some (z .0)) (some-injective e), ap (λ z. some (z .1)) (some-injective e))
 
 -- Merges.
 
-module _ {N : Type 0} {same : N → N → Bool} (tells : Tells same) where
+module _ {N : Type 0} {same : N → N → Bool} (tells : TellsApart same) where
   apart-false : (x y : N) → (x ≡ y → ⊥) → same x y ≡ false
   apart-false x y h = not-true (same x y) (λ e. h (tells x y .0 e))
 
@@ -96,7 +91,7 @@ module _ {N : Type 0} {same : N → N → Bool} (tells : Tells same) where
 
 -- What is unsettled.
 
-module _ {N : Type 0} {same : N → N → Bool} (tells : Tells same) (link : N → ℕ → Option N) (nodes : List N) (name : N → N) where
+module _ {N : Type 0} {same : N → N → Bool} (tells : TellsApart same) (link : N → ℕ → Option N) (nodes : List N) (name : N → N) where
   -- the targets that one feature of x and y leads to, where they lie in different classes
   abbrev split : N → N → Option (N × N)
   split x y = firstOf features λ f. apart same name (both (link x f) (link y f))
@@ -124,7 +119,7 @@ module _ {N : Type 0} {same : N → N → Bool} (tells : Tells same) (link : N �
       let (q, e3) = cond-some (same (name x) (name y)) (split x y) (v, w) e2 in
       let (f, k, e4) = firstOf-some (λ f. apart same name (both (link x f) (link y f))) features (v, w) e3 in
       let (e5, d) = apart-some tells name (both (link x f) (link y f)) v w e4 in
-      let (a, b) = both-some (link x f) (link y f) v w e5 in
+      let (a, b) = both-some (link x f) (link y f) e5 in
       record {
         x = x;
         y = y;
@@ -159,7 +154,7 @@ record Names {N : Type 0} (link : N → ℕ → Option N) (r s : N) (nodes : Lis
 names : {N : Type 0} → (N → N → Bool) → List N → (N → N) → List N
 names same nodes name = select (λ x. same (name x) x) nodes
 
-module _ {N : Type 0} {same : N → N → Bool} (tells : Tells same) {link : N → ℕ → Option N} {r s : N} {nodes : List N}
+module _ {N : Type 0} {same : N → N → Bool} (tells : TellsApart same) {link : N → ℕ → Option N} {r s : N} {nodes : List N}
     (listing : Listing link r s nodes) where
   abbrev Rel : N → N → Type 0
   Rel = Related link r s

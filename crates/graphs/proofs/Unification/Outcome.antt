@@ -10,7 +10,7 @@ use Prim.Native.Nat.{ℕ, _+_}
 use native.Mathlib.Omega.{arith}
 use lib.ListN.{length, length-append, length-map}
 use Rattle.graphs.specs.Label.{Labels, Lattice}
-use Rattle.graphs.specs.Graph.{Graph, Tells, Below, AnySize}
+use Rattle.graphs.specs.Graph.{Graph, TellsApart, Below, AnySize}
 use Rattle.graphs.specs.Unify.{
   Cycle,
   Clash,
@@ -31,7 +31,6 @@ use Rattle.graphs.specs.Unify.{
 }
 use Rattle.graphs.specs.Difference.{select}
 use Rattle.graphs.proofs.Below.{below-trans}
-use Rattle.graphs.proofs.Finite.{same-any-size}
 use Rattle.graphs.proofs.Search.{true-false, not-true, anyOf-true, anyOf-finds, select-listed}
 use Rattle.graphs.proofs.Unification.Unifier.{
   below-no-cycle,
@@ -39,7 +38,6 @@ use Rattle.graphs.proofs.Unification.Unifier.{
   unification-left,
   unification-right,
   unification-greatest,
-  unification-unique,
   unification-cycle,
   unification-clash,
 }
@@ -82,7 +80,7 @@ module _ {𝓛 : Labels} (lattice : Lattice 𝓛) {A B : Type 0} {sameA : A → 
   abbrev nodes : List (A ⊎ B)
   nodes = nodesBeside gs hs
 
-  tells : Tells (sameBeside sameA sameB)
+  tells : TellsApart (sameBeside sameA sameB)
   tells = tells-beside given
 
   nodes-length : length nodes ≡ length gs + length hs
@@ -151,12 +149,6 @@ module _ {𝓛 : Labels} (lattice : Lattice 𝓛) {A B : Type 0} {sameA : A → 
       named : A ⊎ B → Bool
       named x = sameBeside sameA sameB (name x) x
 
-  -- So is every graph that is the unification.
-  pub unification-any-size : (Cycle 𝓛 g h → ⊥) → (Clash 𝓛 g h → ⊥) → {C : Type 0} {w : Graph (𝓛 .L) C} → IsUnification 𝓛 g h w →
-      AnySize 𝓛 w
-  unification-any-size no-cycle no-clash is′ =
-      same-any-size lattice (unification-unique is lattice is′) (class-any-size no-cycle no-clash)
-
   -- The three answers.
 
   no-cycle : (hasCycle 𝓛 sameA sameB g gs h hs ≡ false) ↔ (Cycle 𝓛 g h → ⊥)
@@ -192,15 +184,6 @@ module _ {𝓛 : Labels} (lattice : Lattice 𝓛) {A B : Type 0} {sameA : A → 
   pub bounded-graph : {C : Type 0} {k : Graph (𝓛 .L) C} → AnySize 𝓛 k → Below 𝓛 k g → Below 𝓛 k h →
       unification 𝓛 sameA sameB g gs h hs ≡ unified u
   bounded-graph size b c = answers-graph u .1 (below-no-cycle b c size, below-no-clash b c lattice size, refl)
-
-  -- Where a cycle or a clash is answered, no graph of any size lies below both.
-  pub cycle-unbounded : unification 𝓛 sameA sameB g gs h hs ≡ cycle → {C : Type 0} {k : Graph (𝓛 .L) C} → AnySize 𝓛 k →
-      Below 𝓛 k g → Below 𝓛 k h → ⊥
-  cycle-unbounded e size b c = below-no-cycle b c size (answers-cycle .0 e)
-
-  pub clash-unbounded : unification 𝓛 sameA sameB g gs h hs ≡ clash → {C : Type 0} {k : Graph (𝓛 .L) C} → AnySize 𝓛 k →
-      Below 𝓛 k g → Below 𝓛 k h → ⊥
-  clash-unbounded e size b c = below-no-clash b c lattice size (answers-clash .0 e .1)
 
 -- Unification is monotone: of graphs above two that have a unification a graph is answered too, and it lies above.
 pub unification-monotone : {𝓛 : Labels} → Lattice 𝓛 → {A B A′ B′ : Type 0} {sameA : A → A → Bool} {sameB : B → B → Bool}

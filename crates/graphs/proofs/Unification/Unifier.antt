@@ -4,11 +4,11 @@
 use mathlib.Core.Path.{_≡_, sym, _∙_, ap, subst}
 use mathlib.Core.Bool.{true}
 use mathlib.Core.List.{List, [], _∷_, _++_}
-use mathlib.Core.Logic.{_↔_, Iff·symm, Iff·trans}
+use mathlib.Core.Logic.{_↔_}
 use mathlib.Core.Option.{some}
 use Prim.Native.Nat.{ℕ}
 use Rattle.graphs.specs.Label.{Labels, Lattice}
-use Rattle.graphs.specs.Graph.{Graph, walk, Reached, Corefer, Below, SameMeaning, AnySize}
+use Rattle.graphs.specs.Graph.{Graph, walk, Reached, Corefer, Below, AnySize}
 use Rattle.graphs.specs.Unify.{Joined, left, right, flip, chain, down, UnderClass, ClassMeet, Cycle, Clash, IsUnification}
 use Rattle.graphs.proofs.Walk.{some-unique, walk-append, walk-snoc}
 use Rattle.graphs.proofs.Search.{true-false}
@@ -107,21 +107,6 @@ module _ {𝓛 : Labels} {A B C : Type 0} {g : Graph (𝓛 .L) A} {h : Graph (�
         corefers = λ p q c. is .corefers p q .1 (right c);
       }
 
-  pub unification-unique : Lattice 𝓛 → {D : Type 0} {w : Graph (𝓛 .L) D} → IsUnification 𝓛 g h w → SameMeaning 𝓛 u w
-  unification-unique lattice {w = w} is′ =
-      record {
-        there =
-            λ p x e.
-            let (y, a, b) = is′ .corefers p p .1 (is .corefers p p .0 (x, e, e)) in
-            (y, a, class-meet-unique lattice (is .labels p x e) (is′ .labels p y a));
-        back =
-            λ p y e.
-            let (x, a, b) = is .corefers p p .1 (is′ .corefers p p .0 (y, e, e)) in
-            (x, a, class-meet-unique lattice (is .labels p x a) (is′ .labels p y e));
-        corefers =
-            λ p q. (λ c. is′ .corefers p q .1 (is .corefers p q .0 c), λ c. is .corefers p q .1 (is′ .corefers p q .0 c));
-      }
-
   -- There is a cycle exactly where a node of the unification reaches itself.
   pub unification-cycle : Cycle 𝓛 g h ↔ Loop (u .link) (some (u .root))
   unification-cycle = (there, back)
@@ -145,13 +130,3 @@ module _ {𝓛 : Labels} {A B C : Type 0} {g : Graph (𝓛 .L) A} {h : Graph (�
 
       back : (x : C) × Reached u x × (𝓛 .contradiction (u .label x) ≡ true) → Clash 𝓛 g h
       back (x, (q, e), c) = (q, u .label x, is .corefers q q .0 (x, e, e), is .labels q x e, c)
-
-  -- What means the same is the unification too.
-  pub unification-same : {D : Type 0} {w : Graph (𝓛 .L) D} → SameMeaning 𝓛 u w → IsUnification 𝓛 g h w
-  unification-same {w = w} m =
-      record {
-        corefers = λ p q. Iff·trans (Iff·symm (m .corefers p q)) (is .corefers p q);
-        labels = λ p y e.
-            let (x, a, l) = m .back p y e in
-            subst (ClassMeet 𝓛 g h p) l (is .labels p x a);
-      }

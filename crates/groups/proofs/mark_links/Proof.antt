@@ -13,7 +13,7 @@ use Rattle.classes.proofs.forest.flatten.Reads as flatten-reads
 use Rattle.classes.proofs.forest.separate.Reads as separate-reads
 use Rattle.groups.proofs.cover.cover_row.Reads as cover-row-reads
 use Rattle.groups.proofs.mark.Reads as mark-reads
-use Rattle.groups.proofs.reading.ranks.Reads as ranks-reads
+use Rattle.groups.proofs.link_orders.ranks.Reads as ranks-reads
 
 abbrev Inv-loop : tie.InvT-loop
 Inv-loop s g map order marks owner₀ parent₀ nodes y₀ owner parent y = (y ≤ nodes) × Grouping s g map (rowFrom g y) owner parent

@@ -3,7 +3,7 @@ use mathlib.Core.Path.{sym, _∙_}
 use mathlib.Core.Bool.{false}
 use borrow.Author.Needs.{needs}
 use Rattle.lattice.proofs.Every.{refuted, held}
-use Rattle.lattice.proofs.Opening.{size-facts, answer-size, answer-order, lower-words, answer-found}
+use Rattle.lattice.proofs.Acceptance.{size-facts, answer-size, answer-order, order-words, table-size, lower-words, answer-found}
 use Rattle.lattice.proofs.accept.Statement.{statement}
 use Rattle.lattice.proofs.accept.Tie as tie
 
@@ -32,10 +32,10 @@ are-bounded-requires : tie.Need-are-bounded-requires
 are-bounded-requires c κs =
     let tested = c .before in
     let start = tested .before .before .before .before .before .before .before in
-    let size = held (tested .before .before .before .before .before .is-sized .ensures) (tested .before .before .before .before .if1 .left) in
-    let words = tested .before .before .before .read-words .ensures in
-    let order = held (tested .before .is-ordered .ensures) (tested .if2 .left) in
-    (size-facts _ _ size .1, lower-words (start .args .n) (start .args .table .now) _ size words order)
+    let passed =
+    order-words (held (tested .before .before .before .before .before .is-sized .ensures) (tested .before .before .before .before .if1 .left))
+    (tested .before .before .before .read-words .ensures) (held (tested .before .is-ordered .ensures) (tested .if2 .left)) in
+    (table-size (start .args .n) (start .args .table .now) _ passed .1, lower-words (start .args .n) (start .args .table .now) _ passed)
 
 bounded-requires : tie.Need-bounded-requires
 bounded-requires c κs = search needs
@@ -44,11 +44,12 @@ returns-3 : tie.Need-returns-3
 returns-3 c =
     let tested = c .before .before .before in
     let start = tested .before .before .before .before .before .before .before in
-    let size = held (tested .before .before .before .before .before .is-sized .ensures) (tested .before .before .before .before .if1 .left) in
     let words = tested .before .before .before .read-words .ensures in
-    let order = held (tested .before .is-ordered .ensures) (tested .if2 .left) in
+    let passed =
+    order-words (held (tested .before .before .before .before .before .is-sized .ensures) (tested .before .before .before .before .if1 .left)) words
+    (held (tested .before .is-ordered .ensures) (tested .if2 .left)) in
     c .bounded .ensures ∙
-    answer-found (start .args .n) (start .args .table .now) _ size words order false _ words _ (sym (c .before .are-bounded .ensures))
+    answer-found (start .args .n) (start .args .table .now) _ passed false _ words _ (sym (c .before .are-bounded .ensures))
 
 pub accept-spec : {M : Type 1} → statement M
 accept-spec =

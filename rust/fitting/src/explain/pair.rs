@@ -1,7 +1,7 @@
 //! Why an operation on two accepted records is refused, 9 to 13: the paths at which they
 //! loop, clash or are not below, the size of the result, or the types that restore.
 
-use super::combination::combination;
+use super::unify::unify;
 use super::{Cause, Place, listed};
 use crate::engine::Operation;
 use crate::graph::{Graph, Levels};
@@ -52,7 +52,7 @@ impl Pair<'_> {
     }
 
     fn cycle(&self) -> Option<Words> {
-        let combined = combination(self.table, [&self.graphs[0], &self.graphs[1]]).graph;
+        let combined = unify(self.table, [&self.graphs[0], &self.graphs[1]]).graph;
         let cycle = combined.cycle()?;
         let path = combined.paths()[cycle.node].clone()?;
         let again = [&path[..], &cycle.around].concat();
@@ -64,7 +64,7 @@ impl Pair<'_> {
     }
 
     fn clash(&self) -> Option<Words> {
-        let combination = combination(self.table, [&self.graphs[0], &self.graphs[1]]);
+        let combination = unify(self.table, [&self.graphs[0], &self.graphs[1]]);
         let nodes = &combination.graph.nodes;
         let paths = combination.graph.paths();
         let clashes = |node: usize| nodes[node].node_type == 0 || nodes[node].levels.is_empty();
@@ -104,9 +104,9 @@ impl Pair<'_> {
     fn too_large(&self, operation: Operation) -> Words {
         let [first, second] = [&self.graphs[0], &self.graphs[1]];
         let (nodes, links) = match operation {
-            Operation::Common => common_size(first, second),
-            Operation::Combine | Operation::Difference => {
-                let combined = combination(self.table, [first, second]).graph;
+            Operation::Generalize => common_size(first, second),
+            Operation::Unify | Operation::Difference => {
+                let combined = unify(self.table, [first, second]).graph;
                 (combined.nodes.len(), combined.link_count())
             }
         };

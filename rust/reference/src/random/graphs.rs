@@ -188,6 +188,11 @@ fn node_type(random: &mut Xorshift, n: usize, tops: usize) -> Type {
 pub fn renumbered(random: &mut Xorshift, graph: &Graph) -> Graph {
     let mut old: Vec<usize> = (0..graph.nodes.len()).collect();
     random.shuffle(&mut old[1..]);
+    with_nodes(graph, &old)
+}
+
+/// The graph of the nodes given, which no link leaves, numbered by their places.
+fn with_nodes(graph: &Graph, old: &[usize]) -> Graph {
     let number: BTreeMap<usize, usize> = old.iter().copied().zip(0..).collect();
     let nodes = old.iter().map(|&old| Node {
         label: graph.nodes[old].label,
@@ -332,18 +337,8 @@ fn parted(random: &mut Xorshift, graph: &Graph) -> Option<Graph> {
 
 /// The graph without the nodes that its root does not reach.
 fn without_unreached(graph: &Graph) -> Graph {
-    let number: BTreeMap<usize, usize> = graph.reached().into_iter().zip(0..).collect();
-    let nodes = number.keys().map(|&old| Node {
-        label: graph.nodes[old].label,
-        links: graph.nodes[old]
-            .links
-            .iter()
-            .map(|(&feature, target)| (feature, number[target]))
-            .collect(),
-    });
-    Graph {
-        nodes: nodes.collect(),
-    }
+    let reached: Vec<usize> = graph.reached().into_iter().collect();
+    with_nodes(graph, &reached)
 }
 
 /// A graph above the one given, by several steps.

@@ -5,7 +5,7 @@ use native.Mathlib.Omega.{arith}
 use mathlib.Core.Bool.{true}
 use borrow.Author.Tests.{not-true, not-false}
 use Rattle.lattice.specs.Words.{without, Inside, BoundsWith}
-use Rattle.lattice.proofs.Search.{without-inside}
+use Rattle.lattice.proofs.Seeking.{without-inside}
 use Rattle.lattice.proofs.Bits.{cleared-less}
 use Rattle.lattice.proofs.Covering.{Paired, paired-begin, paired-next, paired-end, paired-fails}
 use borrow.Author.Needs.{needs}

@@ -6,7 +6,7 @@ use borrow.Author.Tests.{le-ltb, lt-ltb}
 use Rattle.lattice.specs.Words.{without}
 use Rattle.lattice.proofs.Bits.{cleared-less}
 use Rattle.lattice.proofs.Rows.{holder-found}
-use Rattle.lattice.proofs.Search.{common-inside}
+use Rattle.lattice.proofs.Seeking.{common-inside}
 use Rattle.lattice.proofs.Covering.{Tested, tested-begin, tested-next, tested-end, tested-fails}
 use borrow.Author.Needs.{needs}
 use Rattle.lattice.proofs.covers.is_bounded_with.Statement.{statement}

@@ -1,7 +1,7 @@
 -- `is_sized` meets its contract.
 use mathlib.Core.Path.{sym}
 use borrow.Author.Needs.{needs}
-use Rattle.lattice.proofs.Opening.{size-low, size-high, size-length}
+use Rattle.lattice.proofs.Acceptance.{size-low, size-high, size-length}
 use Rattle.lattice.proofs.order.is_sized.Statement.{statement}
 use Rattle.lattice.proofs.order.is_sized.Tie as tie
 

@@ -32,55 +32,46 @@ shared-slice-read-end c = c .before .before .before .before .before .before .pre
 cast-end : tie.Need-cast-end Inv-loop μ-loop
 cast-end c = omega (arith, c .shared-slice-known4 .given (c .before .before .before .before .before .before .args .v + 2))
 
-add-k : tie.Need-add-k Inv-loop μ-loop
-add-k c = search needs
-
-mul-k : tie.Need-mul-k Inv-loop μ-loop
-mul-k c = search needs
-
-shared-slice-read-k : tie.Need-shared-slice-read-k Inv-loop μ-loop
-shared-slice-read-k c = omega (arith, c .before .before .before .before .before .before .before .pre .1 .0 .sound .shaped .node (c .before .before .before .before .before .before .before .args .v) (c .before .before .before .before .before .before .before .pre .1 .1) .listed)
-
-cast-k : tie.Need-cast-k Inv-loop μ-loop
-cast-k c = omega (arith, c .shared-slice-known5 .given (c .before .before .before .before .before .before .before .args .v + 1))
-
-add-k-2 : tie.Need-add-k-2 Inv-loop μ-loop
-add-k-2 c = omega (arith, c .shared-slice-known5 .given (c .before .before .before .before .before .before .before .args .v + 1))
+links-from-requires : tie.Need-links-from-requires Inv-loop μ-loop
+links-from-requires c κs = let start = c .before .before .before .before .before .before in omega (arith, start .pre .1 .0 .sound .shaped .node (start .args .v) (start .pre .1 .1) .listed)
 
 loop-holds : tie.Need-loop-holds Inv-loop μ-loop
-loop-holds c = row-start (c .before .before .before .before .before .before .before .pre .0) (c .before .before .before .before .before .before .before .pre .1 .0) (c .before .before .before .before .before .before .before .pre .1 .1) (ap (λ l. l .type) (c .before .before .before .label-at .ensures))
+loop-holds c = rw (c .links-from .ensures) (row-start (c .before .before .before .before .before .before .before .pre .0) (c .before .before .before .before .before .before .before .pre .1 .0) (c .before .before .before .before .before .before .before .pre .1 .1) (ap (λ l. l .type) (c .before .before .before .label-at .ensures)))
 
-mul-f : tie.Need-mul-f Inv-loop μ-loop
-mul-f c = let entry = c .before .before .before in omega (arith, entry .shared-slice-known4 .given (c .before .before .before .before .before .before .before .before .before .args .v + 2))
+mul-feature : tie.Need-mul-feature Inv-loop μ-loop
+mul-feature c = let entry = c .before .before .before in omega (arith, entry .shared-slice-known4 .given (c .before .before .before .before .before .before .before .before .before .args .v + 2))
 
-shared-slice-read-f : tie.Need-shared-slice-read-f Inv-loop μ-loop
-shared-slice-read-f c = row-place (c .before .before .loop .inv) (c .before .loop-test .taken)
+shared-slice-read-feature : tie.Need-shared-slice-read-feature Inv-loop μ-loop
+shared-slice-read-feature c = row-place (c .before .before .loop .inv) (c .before .loop-test .taken)
+
+feature-requires : tie.Need-feature-requires Inv-loop μ-loop
+feature-requires c κs = search needs
 
 cast-f : tie.Need-cast-f Inv-loop μ-loop
-cast-f c = omega (arith, c .shared-slice-known6 .given (c .before .before .loop .k))
+cast-f c = search needs
 
 shared-slice-read-is-below : tie.Need-shared-slice-read-is-below Inv-loop μ-loop
-shared-slice-read-is-below c = omega (arith, row-feature (c .before .before .before .loop .inv) (c .before .before .loop-test .taken), c .before .before .before .loop .inv .listed .long)
+shared-slice-read-is-below c = omega (arith, c .before .feature .ensures, row-feature (c .before .before .before .before .loop .inv) (c .before .before .before .loop-test .taken), c .before .before .before .before .loop .inv .listed .long)
 
 cast-is-below : tie.Need-cast-is-below Inv-loop μ-loop
-cast-is-below c = omega (arith, row-entry (c .before .before .before .loop .inv) (c .before .before .loop-test .taken))
+cast-is-below c = rw (c .before .feature .ensures) (omega (arith, row-entry (c .before .before .before .before .loop .inv) (c .before .before .before .loop-test .taken)))
 
 is-below-requires : tie.Need-is-below-requires Inv-loop μ-loop
-is-below-requires c κs = let kind = row-kind (c .before .before .before .loop .inv) in
-    let entry = row-entry (c .before .before .before .loop .inv) (c .before .before .loop-test .taken) in
-    (omega arith, omega arith)
+is-below-requires c κs = let kind = row-kind (c .before .before .before .before .loop .inv) in
+    let entry = row-entry (c .before .before .before .before .loop .inv) (c .before .before .before .loop-test .taken) in
+    (omega arith, rw (c .before .feature .ensures) (omega arith))
 
 returns : tie.Need-returns Inv-loop μ-loop
-returns c = row-out (c .before .before .before .before .before .loop .inv) (c .before .before .before .before .loop-test .taken) (sym (c .before .is-below .ensures) ∙ not-true (c .before .is-below .result) (c .if1 .taken))
+returns c = row-out (c .before .before .before .before .before .before .loop .inv) (c .before .before .before .before .before .loop-test .taken) (sym (rw (c .before .before .before .feature .ensures) at (c .before .is-below .ensures)) ∙ not-true (c .before .is-below .result) (c .if1 .taken))
 
-add-k-3 : tie.Need-add-k-3 Inv-loop μ-loop
-add-k-3 c = let entry = c .before .before .before .before .before .before .before in omega (arith, entry .shared-slice-known4 .given (c .before .before .before .before .before .before .before .before .before .before .before .before .before .args .v + 2))
+add-k : tie.Need-add-k Inv-loop μ-loop
+add-k c = let entry = c .before .before .before .before .before .before .before .before in omega (arith, entry .shared-slice-known4 .given (c .before .before .before .before .before .before .before .before .before .before .before .before .before .before .args .v + 2))
 
 loop-less : tie.Need-loop-less Inv-loop μ-loop
 loop-less c = omega arith
 
 loop-again : tie.Need-loop-again Inv-loop μ-loop
-loop-again c = row-next (c .before .before .before .before .before .loop .inv) (c .before .before .before .before .loop-test .taken) (sym (c .before .is-below .ensures) ∙ not-false (c .before .is-below .result) (c .if1 .left))
+loop-again c = row-next (c .before .before .before .before .before .before .loop .inv) (c .before .before .before .before .before .loop-test .taken) (sym (rw (c .before .before .before .feature .ensures) at (c .before .is-below .ensures)) ∙ not-false (c .before .is-below .result) (c .if1 .left))
 
 returns-2 : tie.Need-returns-2 Inv-loop μ-loop
 returns-2 c = row-all (c .before .loop .inv) (c .loop-test .left)
@@ -97,20 +88,17 @@ is-row-appropriate-spec =
     mul-end
     shared-slice-read-end
     cast-end
-    add-k
-    mul-k
-    shared-slice-read-k
-    cast-k
-    add-k-2
+    links-from-requires
     loop-holds
-    mul-f
-    shared-slice-read-f
+    mul-feature
+    shared-slice-read-feature
+    feature-requires
     cast-f
     shared-slice-read-is-below
     cast-is-below
     is-below-requires
     returns
-    add-k-3
+    add-k
     loop-less
     loop-again
     returns-2)

@@ -1,7 +1,9 @@
 -- `peeling::take_links` meets its contract. The loop's invariant: the links of v before k are taken away.
 use mathlib.Core.Logic.{⊎-elim}
-use Prim.Native.Nat.{_+_, _-_}
+use mathlib.Core.Path.{ap}
+use Prim.Native.Nat.{ℕ, _+_, _-_}
 use native.Mathlib.Omega.{arith}
+use lib.ListN.{getD}
 use Rattle.record.proofs.Counting.{
   Taking,
   due-listed,
@@ -31,77 +33,67 @@ mul-end : tie.Need-mul-end Inv-loop μ-loop
 mul-end c = search needs
 
 shared-slice-read-end : tie.Need-shared-slice-read-end Inv-loop μ-loop
-shared-slice-read-end c = due-listed (c .before .pre)
+shared-slice-read-end c = due-listed (c .before .before .pre)
 
 cast-end : tie.Need-cast-end Inv-loop μ-loop
-cast-end c = omega (arith, c .shared-slice-known .given (c .before .args .v + 2))
+cast-end c = omega (arith, c .before .shared-slice-known .given (c .before .before .args .v + 2))
 
-add-k : tie.Need-add-k Inv-loop μ-loop
-add-k c = search needs
-
-mul-k : tie.Need-mul-k Inv-loop μ-loop
-mul-k c = search needs
-
-shared-slice-read-k : tie.Need-shared-slice-read-k Inv-loop μ-loop
-shared-slice-read-k c = omega (arith, due-listed (c .before .before .pre))
-
-cast-k : tie.Need-cast-k Inv-loop μ-loop
-cast-k c = omega (arith, c .shared-slice-known2 .given (c .before .before .args .v + 1))
-
-add-k-2 : tie.Need-add-k-2 Inv-loop μ-loop
-add-k-2 c = omega (arith, c .shared-slice-known2 .given (c .before .before .args .v + 1))
+links-from-requires : tie.Need-links-from-requires Inv-loop μ-loop
+links-from-requires c κs = omega (arith, due-listed (c .before .before .pre))
 
 loop-holds : tie.Need-loop-holds Inv-loop μ-loop
-loop-holds c = row-start (c .before .before .pre)
+loop-holds c = rw (c .links-from .ensures) (row-start (c .before .before .before .pre))
 
-mul-w : tie.Need-mul-w Inv-loop μ-loop
-mul-w c = let entry = c .before .before .before in omega (arith, entry .shared-slice-known .given (entry .before .args .v + 2))
+mul-target : tie.Need-mul-target Inv-loop μ-loop
+mul-target c = let entry = c .before .before .before .before in omega (arith, entry .shared-slice-known .given (entry .before .args .v + 2))
 
-shared-slice-read-w : tie.Need-shared-slice-read-w Inv-loop μ-loop
-shared-slice-read-w c = row-place (c .before .before .loop .inv) (c .before .loop-test .taken)
+shared-slice-read-target : tie.Need-shared-slice-read-target Inv-loop μ-loop
+shared-slice-read-target c = row-place (c .before .before .loop .inv) (c .before .loop-test .taken)
 
-cast-w : tie.Need-cast-w Inv-loop μ-loop
-cast-w c = omega (arith, c .shared-slice-known3 .given (c .before .before .loop .k))
+target-requires : tie.Need-target-requires Inv-loop μ-loop
+target-requires c κs = search needs
 
 mul-left : tie.Need-mul-left Inv-loop μ-loop
-mul-left c = omega (arith, row-inside (c .before .before .loop .inv) (c .before .loop-test .taken), c .before .before .loop .inv .due .small)
+mul-left c = omega (arith, c .target .ensures, row-inside (c .before .before .before .loop .inv) (c .before .before .loop-test .taken), c .before .before .before .loop .inv .due .small)
 
 element-copy-out-left : tie.Need-element-copy-out-left Inv-loop μ-loop
-element-copy-out-left c = omega (arith, row-inside (c .before .before .loop .inv) (c .before .loop-test .taken), c .before .before .loop .inv .due .small)
+element-copy-out-left c = omega (arith, c .target .ensures, row-inside (c .before .before .before .loop .inv) (c .before .before .loop-test .taken), c .before .before .before .loop .inv .due .small)
 
 sub-left : tie.Need-sub-left Inv-loop μ-loop
-sub-left c = omega (arith, still-entered (c .before .before .before .loop .inv) (c .before .before .loop-test .taken))
+sub-left c =
+    omega (arith, ap (λ (w : ℕ). getD (c .before .before .before .before .loop .incoming) w 0) (c .before .target .ensures), still-entered (c .before .before .before .before .loop .inv) (c .before .before .before .loop-test .taken))
 
 mul-incoming : tie.Need-mul-incoming Inv-loop μ-loop
-mul-incoming c = omega (arith, row-inside (c .before .before .before .loop .inv) (c .before .before .loop-test .taken), c .before .before .before .loop .inv .due .small)
+mul-incoming c = omega (arith, c .before .target .ensures, row-inside (c .before .before .before .before .loop .inv) (c .before .before .before .loop-test .taken), c .before .before .before .before .loop .inv .due .small)
 
 element-write-incoming : tie.Need-element-write-incoming Inv-loop μ-loop
-element-write-incoming c = omega (arith, row-inside (c .before .before .before .loop .inv) (c .before .before .loop-test .taken), c .before .before .before .loop .inv .due .small)
+element-write-incoming c = omega (arith, c .before .target .ensures, row-inside (c .before .before .before .before .loop .inv) (c .before .before .before .loop-test .taken), c .before .before .before .before .loop .inv .due .small)
 
 cast-queue : tie.Need-cast-queue Inv-loop μ-loop
-cast-queue c = omega (arith, row-inside (c .before .before .before .before .loop .inv) (c .before .before .before .loop-test .taken), c .before .before .before .before .loop .inv .due .small)
+cast-queue c = omega (arith, c .before .before .target .ensures, row-inside (c .before .before .before .before .before .loop .inv) (c .before .before .before .before .loop-test .taken), c .before .before .before .before .before .loop .inv .due .small)
 
 mul-queue : tie.Need-mul-queue Inv-loop μ-loop
-mul-queue c = omega (arith, row-room (c .before .before .before .before .loop .inv) (c .before .before .before .loop-test .taken) (c .if1 .taken))
+mul-queue c = omega (arith, row-room (c .before .before .before .before .before .loop .inv) (c .before .before .before .before .loop-test .taken) (rw (c .before .before .target .ensures) at (c .if1 .taken)))
 
 element-write-queue : tie.Need-element-write-queue Inv-loop μ-loop
-element-write-queue c = omega (arith, row-room (c .before .before .before .before .loop .inv) (c .before .before .before .loop-test .taken) (c .if1 .taken))
+element-write-queue c = omega (arith, row-room (c .before .before .before .before .before .loop .inv) (c .before .before .before .before .loop-test .taken) (rw (c .before .before .target .ensures) at (c .if1 .taken)))
 
 add-count : tie.Need-add-count Inv-loop μ-loop
-add-count c = omega (arith, row-room (c .before .before .before .before .loop .inv) (c .before .before .before .loop-test .taken) (c .if1 .taken))
+add-count c = omega (arith, row-room (c .before .before .before .before .before .loop .inv) (c .before .before .before .before .loop-test .taken) (rw (c .before .before .target .ensures) at (c .if1 .taken)))
 
-add-k-3 : tie.Need-add-k-3 Inv-loop μ-loop
-add-k-3 c = let entry = c .before .before .before .before .before .before in omega (arith, entry .shared-slice-known .given (entry .before .args .v + 2))
+add-k : tie.Need-add-k Inv-loop μ-loop
+add-k c = let entry = c .before .before .before .before .before .before .before .before in omega (arith, entry .shared-slice-known .given (entry .before .args .v + 2))
 
 loop-less : tie.Need-loop-less Inv-loop μ-loop
 loop-less c = search needs
 
 loop-again : tie.Need-loop-again Inv-loop μ-loop
 loop-again c =
-    let turn = c .before .before .before in
+    let turn = c .before .before .before .before in
+    let is = c .before .before .target .ensures in
     ⊎-elim
-    (λ w. rw (w .1, w .2) (row-joins (turn .before .loop .inv) (turn .loop-test .taken) (w .0 .taken)))
-    (λ w. rw (w .1, w .2) (row-stays (turn .before .loop .inv) (turn .loop-test .taken) (w .0 .left)))
+    (λ w. rw (w .1, w .2, is) (row-joins (turn .before .loop .inv) (turn .loop-test .taken) (rw is at (w .0 .taken))))
+    (λ w. rw (w .1, w .2, is) (row-stays (turn .before .loop .inv) (turn .loop-test .taken) (rw is at (w .0 .left))))
     (c .if1 .came)
 
 returns : tie.Need-returns Inv-loop μ-loop
@@ -117,15 +109,11 @@ take-links-spec =
     mul-end
     shared-slice-read-end
     cast-end
-    add-k
-    mul-k
-    shared-slice-read-k
-    cast-k
-    add-k-2
+    links-from-requires
     loop-holds
-    mul-w
-    shared-slice-read-w
-    cast-w
+    mul-target
+    shared-slice-read-target
+    target-requires
     mul-left
     element-copy-out-left
     sub-left
@@ -135,7 +123,7 @@ take-links-spec =
     mul-queue
     element-write-queue
     add-count
-    add-k-3
+    add-k
     loop-less
     loop-again
     returns)

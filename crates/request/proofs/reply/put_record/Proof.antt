@@ -1,6 +1,6 @@
 -- `reply::put_record` meets its contract: four texts, one behind another.
 use native.Mathlib.Omega.{arith}
-use Rattle.request.proofs.Texts.{puts-then, decimal-short, length-hexadecimal}
+use Rattle.text.proofs.Texts.{puts-then, decimal-short, length-hexadecimal}
 use borrow.Author.Needs.{needs}
 use Rattle.request.proofs.reply.put_record.Statement.{statement}
 use Rattle.request.proofs.reply.put_record.Tie as tie

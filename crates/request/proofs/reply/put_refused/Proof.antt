@@ -1,6 +1,6 @@
 -- `reply::put_refused` meets its contract: two texts, one behind the other.
 use native.Mathlib.Omega.{arith}
-use Rattle.request.proofs.Texts.{puts-then, decimal-short}
+use Rattle.text.proofs.Texts.{puts-then, decimal-short}
 use borrow.Author.Needs.{needs}
 use Rattle.request.proofs.reply.put_refused.Statement.{statement}
 use Rattle.request.proofs.reply.put_refused.Tie as tie

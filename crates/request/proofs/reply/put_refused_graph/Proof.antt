@@ -1,6 +1,7 @@
 -- `reply::put_refused_graph` meets its contract: two texts, one behind the other.
 use native.Mathlib.Omega.{arith}
-use Rattle.request.proofs.Texts.{puts-then, refused-short}
+use Rattle.text.proofs.Texts.{puts-then}
+use Rattle.request.proofs.Bounds.{refused-short}
 use borrow.Author.Needs.{needs}
 use Rattle.request.proofs.reply.put_refused_graph.Statement.{statement}
 use Rattle.request.proofs.reply.put_refused_graph.Tie as tie

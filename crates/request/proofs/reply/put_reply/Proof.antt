@@ -2,31 +2,31 @@
 use mathlib.Core.Path.{sym, _∙_}
 use native.Mathlib.Omega.{arith}
 use lib.Seq.{length-take-le}
-use Rattle.replies.proofs.Numbers.{kind-bounded, number-small}
-use Rattle.request.proofs.Replies.{puts-kind}
+use Rattle.replies.proofs.Numbers.{answer-bounded, number-small}
+use Rattle.request.proofs.Replies.{puts-answer}
 use borrow.Author.Needs.{needs}
 use Rattle.request.proofs.reply.put_reply.Statement.{statement}
 use Rattle.request.proofs.reply.put_reply.Tie as tie
 
-kind-of-requires : tie.Need-kind-of-requires
-kind-of-requires c κs = search needs
+answer-of-requires : tie.Need-answer-of-requires
+answer-of-requires c κs = search needs
 
-enum-known-kind : tie.Need-enum-known-kind
-enum-known-kind c = search needs
+enum-known-answer : tie.Need-enum-known-answer
+enum-known-answer c = search needs
 
 slice-aggregate-put-record : tie.Need-slice-aggregate-put-record
 slice-aggregate-put-record c =
     let k = c .before .before in
     let f = k .before .before in
     let s = f .before .before .before in
-    sym (length-take-le _ (s .args .output .now) (kind-bounded (s .args .reply) (s .pre .0) _ (sym (f .kind-of .ensures) ∙ k .kind .given .1)))
+    sym (length-take-le _ (s .args .output .now) (answer-bounded (s .args .reply) (s .pre .0) _ (sym (f .answer-of .ensures) ∙ k .answer .given .1)))
 
 put-record-requires : tie.Need-put-record-requires
 put-record-requires c κs =
     let k = c .before .before .before in
     let f = k .before .before in
     let s = f .before .before .before in
-    let fits = kind-bounded (s .args .reply) (s .pre .0) _ (sym (f .kind-of .ensures) ∙ k .kind .given .1) in
+    let fits = answer-bounded (s .args .reply) (s .pre .0) _ (sym (f .answer-of .ensures) ∙ k .answer .given .1) in
     (omega (arith, fits, s .pre .1 .0), (omega (arith, fits, s .pre .1 .0, length-take-le _ (s .args .output .now) fits), search needs))
 
 enum-told : tie.Need-enum-told
@@ -65,23 +65,38 @@ slice-aggregate-put-word-4 c = search needs
 put-word-requires-4 : tie.Need-put-word-requires-4
 put-word-requires-4 c κs = search needs
 
-enum-known-kind-2 : tie.Need-enum-known-kind-2
-enum-known-kind-2 c = search needs
+enum-known-answer-2 : tie.Need-enum-known-answer-2
+enum-known-answer-2 c = search needs
+
+put-counts-requires : tie.Need-put-counts-requires
+put-counts-requires c κs = search needs
+
+enum-told-5 : tie.Need-enum-told-5
+enum-told-5 c = search needs
+
+slice-aggregate-put-word-5 : tie.Need-slice-aggregate-put-word-5
+slice-aggregate-put-word-5 c = search needs
+
+put-word-requires-5 : tie.Need-put-word-requires-5
+put-word-requires-5 c κs = search needs
+
+enum-known-answer-3 : tie.Need-enum-known-answer-3
+enum-known-answer-3 c = search needs
 
 put-refused-requires : tie.Need-put-refused-requires
 put-refused-requires c κs =
     let k = c .before .before in
     let f = k .before .before in
-    (number-small (f .before .before .before .args .reply) (sym (f .kind-of .ensures) ∙ k .kind2 .given .1), search needs)
+    (number-small (f .before .before .before .args .reply) (sym (f .answer-of .ensures) ∙ k .answer3 .given .1), search needs)
 
-enum-known-kind-3 : tie.Need-enum-known-kind-3
-enum-known-kind-3 c = search needs
+enum-known-answer-4 : tie.Need-enum-known-answer-4
+enum-known-answer-4 c = search needs
 
 put-refused-graph-requires : tie.Need-put-refused-graph-requires
 put-refused-graph-requires c κs =
     let k = c .before .before in
     let f = k .before .before in
-    (number-small (f .before .before .before .args .reply) (sym (f .kind-of .ensures) ∙ k .kind3 .given .1), search needs)
+    (number-small (f .before .before .before .args .reply) (sym (f .answer-of .ensures) ∙ k .answer4 .given .1), search needs)
 
 same-length : tie.Need-same-length
 same-length c = search needs
@@ -91,7 +106,7 @@ returns c =
     let p = c .before .before in
     let k = p .before .before .before .before in
     let f = k .before .before in
-    puts-kind (f .before .before .before .args .output .now) (sym (f .kind-of .ensures) ∙ k .kind .given .1) (p .put-record .ensures)
+    puts-answer (f .before .before .before .args .output .now) (sym (f .answer-of .ensures) ∙ k .answer .given .1) (p .put-record .ensures)
 
 same-length-2 : tie.Need-same-length-2
 same-length-2 c = search needs
@@ -101,7 +116,7 @@ returns-2 c =
     let p = c .before .before in
     let k = p .before .before .before in
     let f = k .before .before in
-    puts-kind (f .before .before .before .args .output .now) (sym (f .kind-of .ensures) ∙ k .enum-told .given .1) (p .put-word .ensures)
+    puts-answer (f .before .before .before .args .output .now) (sym (f .answer-of .ensures) ∙ k .enum-told .given .1) (p .put-word .ensures)
 
 same-length-3 : tie.Need-same-length-3
 same-length-3 c = search needs
@@ -111,7 +126,7 @@ returns-3 c =
     let p = c .before .before in
     let k = p .before .before .before in
     let f = k .before .before in
-    puts-kind (f .before .before .before .args .output .now) (sym (f .kind-of .ensures) ∙ k .enum-told2 .given .1) (p .put-word2 .ensures)
+    puts-answer (f .before .before .before .args .output .now) (sym (f .answer-of .ensures) ∙ k .enum-told2 .given .1) (p .put-word2 .ensures)
 
 same-length-4 : tie.Need-same-length-4
 same-length-4 c = search needs
@@ -121,7 +136,7 @@ returns-4 c =
     let p = c .before .before in
     let k = p .before .before .before in
     let f = k .before .before in
-    puts-kind (f .before .before .before .args .output .now) (sym (f .kind-of .ensures) ∙ k .enum-told3 .given .1) (p .put-word3 .ensures)
+    puts-answer (f .before .before .before .args .output .now) (sym (f .answer-of .ensures) ∙ k .enum-told3 .given .1) (p .put-word3 .ensures)
 
 same-length-5 : tie.Need-same-length-5
 same-length-5 c = search needs
@@ -131,7 +146,7 @@ returns-5 c =
     let p = c .before .before in
     let k = p .before .before .before in
     let f = k .before .before in
-    puts-kind (f .before .before .before .args .output .now) (sym (f .kind-of .ensures) ∙ k .enum-told4 .given .1) (p .put-word4 .ensures)
+    puts-answer (f .before .before .before .args .output .now) (sym (f .answer-of .ensures) ∙ k .enum-told4 .given .1) (p .put-word4 .ensures)
 
 same-length-6 : tie.Need-same-length-6
 same-length-6 c = search needs
@@ -141,7 +156,7 @@ returns-6 c =
     let p = c .before .before in
     let k = p .before .before .before in
     let f = k .before .before in
-    puts-kind (f .before .before .before .args .output .now) (sym (f .kind-of .ensures) ∙ k .kind2 .given .1) (p .put-refused .ensures)
+    puts-answer (f .before .before .before .args .output .now) (sym (f .answer-of .ensures) ∙ k .answer2 .given .1) (p .put-counts .ensures)
 
 same-length-7 : tie.Need-same-length-7
 same-length-7 c = search needs
@@ -151,14 +166,34 @@ returns-7 c =
     let p = c .before .before in
     let k = p .before .before .before in
     let f = k .before .before in
-    puts-kind (f .before .before .before .args .output .now) (sym (f .kind-of .ensures) ∙ k .kind3 .given .1) (p .put-refused-graph .ensures)
+    puts-answer (f .before .before .before .args .output .now) (sym (f .answer-of .ensures) ∙ k .enum-told5 .given .1) (p .put-word5 .ensures)
+
+same-length-8 : tie.Need-same-length-8
+same-length-8 c = search needs
+
+returns-8 : tie.Need-returns-8
+returns-8 c =
+    let p = c .before .before in
+    let k = p .before .before .before in
+    let f = k .before .before in
+    puts-answer (f .before .before .before .args .output .now) (sym (f .answer-of .ensures) ∙ k .answer3 .given .1) (p .put-refused .ensures)
+
+same-length-9 : tie.Need-same-length-9
+same-length-9 c = search needs
+
+returns-9 : tie.Need-returns-9
+returns-9 c =
+    let p = c .before .before in
+    let k = p .before .before .before in
+    let f = k .before .before in
+    puts-answer (f .before .before .before .args .output .now) (sym (f .answer-of .ensures) ∙ k .answer4 .given .1) (p .put-refused-graph .ensures)
 
 pub put-reply-spec : {M : Type 1} → statement M
 put-reply-spec =
     tie.close
     (tie.spec
-    kind-of-requires
-    enum-known-kind
+    answer-of-requires
+    enum-known-answer
     slice-aggregate-put-record
     put-record-requires
     enum-told
@@ -173,9 +208,14 @@ put-reply-spec =
     enum-told-4
     slice-aggregate-put-word-4
     put-word-requires-4
-    enum-known-kind-2
+    enum-known-answer-2
+    put-counts-requires
+    enum-told-5
+    slice-aggregate-put-word-5
+    put-word-requires-5
+    enum-known-answer-3
     put-refused-requires
-    enum-known-kind-3
+    enum-known-answer-4
     put-refused-graph-requires
     same-length
     returns
@@ -190,4 +230,8 @@ put-reply-spec =
     same-length-6
     returns-6
     same-length-7
-    returns-7)
+    returns-7
+    same-length-8
+    returns-8
+    same-length-9
+    returns-9)

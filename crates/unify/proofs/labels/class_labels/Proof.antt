@@ -3,7 +3,7 @@ use mathlib.Core.Path.{_∙_, ap}
 use Prim.Native.Nat.{ℕ, _+_, _-_, _<_}
 use native.Mathlib.Omega.{arith}
 use lib.ListN.{length-replicate}
-use Rattle.lattice.specs.Sets.{meetIn}
+use Rattle.bounds.specs.Sets.{meetIn}
 use Rattle.layout.specs.Layout.{size}
 use Rattle.unify.specs.Lowered.{lowered}
 use Rattle.unify.proofs.Lowering.{blank-below}

@@ -4,7 +4,7 @@ use Prim.Native.Nat.{_+_, _-_, _*_}
 use native.Mathlib.Omega.{arith}
 use lib.ListN.{getD}
 use Rattle.lattice.specs.Label.{Label}
-use Rattle.lattice.specs.Sets.{meetIn}
+use Rattle.bounds.specs.Sets.{meetIn}
 use Rattle.lattice.proofs.Lawful.{known-more}
 use Rattle.layout.specs.Layout.{header}
 use Rattle.layout.specs.Builder.{putLabel}

@@ -1,0 +1,41 @@
+// Opening a table for meets or for joins (document 01, "Type table"; document 02, Paper 12): it is accepted, or refused by 1, 2 or 3, and
+// sets or cells that the caller lends hold the bounds of one side. It knows tables, and nothing of records.
+ghost use mathlib.Core.Path.{_≡_};
+ghost use lib.ListN.{length};
+ghost use Rattle.lattice.specs.Table.{sideBound};
+ghost use Rattle.bounds.specs.Opening.{Opening};
+use lattice::Opened;
+use lattice::TableFault;
+
+mod cells;
+mod primes;
+pub mod sets;
+
+// Opens a table for joins for `up`, else for meets. If every irreducible type is prime, the sets are held; else the cells are filled.
+// If every two types have a bound on one side, every two have one on the other.
+pub fn open(
+    n: usize,
+    table: &[u8],
+    up: bool,
+    sets: &mut [u64; sets::WORDS],
+    cells: &mut [[u8; 64]; 64],
+) -> Opened
+    requires { ⌜ length (now sets) ≡ 128 ⌝ }
+    ensures { λ r. ⌜ Opening up n (now (table .entry)) (sideBound n (now (table .entry)) up) r (now (sets .exit)) (now (cells .entry)) (now (cells .exit)) ⌝ }
+{
+    if !lattice::order::is_sized(n, table) {
+        return Opened::Refused(TableFault::Size);
+    }
+    let down = lattice::words::read_words(n, table);
+    if !lattice::order::is_ordered(n, &down) {
+        return Opened::Refused(TableFault::Order);
+    }
+    if sets::hold(n, &down, up, sets) {
+        return lattice::bounded(lattice::covers::are_bounded(n, &down));
+    }
+    if up {
+        let above = lattice::words::turn_words(n, &down);
+        return lattice::bounded(cells::fill(n, &above, true, cells));
+    }
+    lattice::bounded(cells::fill(n, &down, false, cells))
+}

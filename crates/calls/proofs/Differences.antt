@@ -1,0 +1,78 @@
+-- From what the difference of two records answers over an accepted table to what the calls reply.
+use mathlib.Core.Path.{_≡_, refl, sym, _∙_, ap}
+use mathlib.Core.Bool.{Bool, true, false}
+use mathlib.Core.List.{List}
+use Prim.Native.Nat.{ℕ}
+use Rattle.graphs.specs.Difference.{Link, byNumber, byReading}
+use Rattle.lattice.specs.declared.TableFault.{TableFault}
+use Rattle.lattice.specs.declared.Opened.the-variants as opened
+use Rattle.lattice.specs.Reply as table
+use Rattle.groups.specs.LinkOrders.{isReadingOrder}
+use Rattle.difference.specs.Explained.{Explained, explainedResult, withReasonsIf}
+use Rattle.difference.proofs.Answering.{refuses-with-reasons}
+use Rattle.replies.specs.declared.Reply.{Reply}
+use Rattle.replies.specs.declared.Reply.the-variants.{Table, ReadingOrder}
+use Rattle.replies.specs.Reply.{Result, resulting, refusing}
+use Rattle.engine.specs.Differing.{parting, reasonsOf}
+use Rattle.calls.specs.Calls.{differing, differingBy}
+use Rattle.calls.specs.Explained.{explaining, explainingBy, differingWith, differingByWith}
+use Rattle.calls.proofs.Tables.{table-refused, table-accepted}
+use Rattle.calls.proofs.Listed.{table-before-list, list-refused, list-passed, differing-checked}
+
+-- without the reasons, reply and output alone are told
+pub plain-part : {plain : Result} {old : List ℕ} {r : Reply} {new rest : List ℕ} →
+    explainedResult r new rest ≡ explainedResult (plain .reply) (plain .output) old → resulting r new ≡ plain
+plain-part e = ap (λ (x : Explained). resulting (x .reply) (x .output)) e
+
+-- the two with their reasons
+pub with-explaining : (n : ℕ) (t a b out old : List ℕ) → differingWith true n t a b out old ≡ explaining n t a b out old
+unfolding explaining
+with-explaining n t a b out old = refl
+
+pub with-explaining-by : (n : ℕ) (t list a b out old : List ℕ) → differingByWith true n t list a b out old ≡ explainingBy n t list a b out old
+unfolding explainingBy
+with-explaining-by n t list a b out old = refl
+
+module _ (explained : Bool) (n : ℕ) (t a b out old : List ℕ) where
+  -- the difference by an order of links, and its reasons
+  abbrev partingBy : (Link ℕ → Link ℕ → Bool) → Explained
+  partingBy earlier = withReasonsIf explained (parting earlier n t a b out) (reasonsOf earlier n t a b) out old
+
+  -- 1 to 3
+  pub differing-refused : (fault : TableFault) → table.opened n t ≡ opened.Refused fault →
+      explainedResult (Table fault) out old ≡ differingWith explained n t a b out old
+  unfolding differing
+  differing-refused fault e =
+      refuses-with-reasons explained (Table fault) (reasonsOf byNumber n t a b) out old refl
+      (sym (table-refused (λ r. refusing r out) (parting byNumber n t a b out) fault e))
+
+  -- by an order of links that is document 01's
+  pub differing-accepted : {earlier : Link ℕ → Link ℕ → Bool} {x : Explained} → table.opened n t ≡ opened.Accepted → earlier ≡ byNumber →
+      x ≡ partingBy earlier → x ≡ differingWith explained n t a b out old
+  unfolding differing
+  differing-accepted e same h =
+      h ∙ ap partingBy same ∙
+      ap (λ (p : Result). withReasonsIf explained p (reasonsOf byNumber n t a b) out old)
+      (sym (table-accepted (λ r. refusing r out) (parting byNumber n t a b out) e))
+
+  -- and by one that is a list's
+  module _ (list : List ℕ) where
+    pub differing-by-refused : (fault : TableFault) → table.opened n t ≡ opened.Refused fault →
+        explainedResult (Table fault) out old ≡ differingByWith explained n t list a b out old
+    differing-by-refused fault e =
+        refuses-with-reasons explained (Table fault) (reasonsOf (byReading list) n t a b) out old refl
+        (table-before-list (differing-checked n t list a b out) fault e)
+
+    module _ (opens : table.opened n t ≡ opened.Accepted) where
+      pub differing-by-list : isReadingOrder list ≡ false →
+          explainedResult ReadingOrder out old ≡ differingByWith explained n t list a b out old
+      differing-by-list e =
+          refuses-with-reasons explained ReadingOrder (reasonsOf (byReading list) n t a b) out old refl
+          (list-refused (differing-checked n t list a b out) opens e)
+
+      pub differing-by-accepted : {earlier : Link ℕ → Link ℕ → Bool} {x : Explained} → isReadingOrder list ≡ true → earlier ≡ byReading list →
+          x ≡ partingBy earlier → x ≡ differingByWith explained n t list a b out old
+      differing-by-accepted listed same h =
+          h ∙ ap partingBy same ∙
+          ap (λ (p : Result). withReasonsIf explained p (reasonsOf (byReading list) n t a b) out old)
+          (list-passed (differing-checked n t list a b out) opens listed)

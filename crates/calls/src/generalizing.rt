@@ -1,0 +1,60 @@
+// The calls that write the common part of two records.
+
+use lattice::Opened;
+use replies::Reply;
+ghost use mathlib.Core.Path.{_≡_};
+ghost use mathlib.Core.Bool.{false};
+ghost use lib.ListN.{length};
+ghost use Rattle.replies.specs.Reply.{resulting};
+ghost use Rattle.calls.specs.Calls.{generalizing};
+ghost use Rattle.calls.specs.Appropriate.{generalizingAppropriate};
+ghost use Rattle.calls.specs.Beside.{generalizingBeside};
+
+// The common part of two graphs in written form.
+pub fn generalize(n: usize, table: &[u8], first: &[u8], second: &[u8], out: &mut [u8]) -> Reply
+    ensures { λ r. ⌜ resulting r (now (out .exit)) ≡ generalizing n (now (table .entry)) (now (first .entry)) (now (second .entry)) (now (out .entry)) ⌝ }
+{
+    generalize_beside(n, table, false, &table[..0], first, second, out)
+}
+
+// The same beside a list that gives for each feature the broadest type that may have it.
+pub fn generalize_appropriate(
+    n: usize,
+    table: &[u8],
+    list: &[u8],
+    first: &[u8],
+    second: &[u8],
+    out: &mut [u8],
+) -> Reply
+    ensures { λ r. ⌜ resulting r (now (out .exit)) ≡ generalizingAppropriate n (now (table .entry)) (now (list .entry)) (now (first .entry)) (now (second .entry)) (now (out .entry)) ⌝ }
+{
+    generalize_beside(n, table, true, list, first, second, out)
+}
+
+// Both: beside a list if there is one.
+fn generalize_beside(
+    n: usize,
+    table: &[u8],
+    listed: bool,
+    list: &[u8],
+    first: &[u8],
+    second: &[u8],
+    out: &mut [u8],
+) -> Reply
+    requires { ⌜ (listed ≡ false → length (now list) ≡ 0) ⌝ }
+    ensures { λ r. ⌜ resulting r (now (out .exit)) ≡
+        generalizingBeside n (now (table .entry)) listed (now (list .entry)) (now (first .entry)) (now (second .entry)) (now (out .entry)) ⌝ }
+{
+    let mut sets = [0u64; bounds::sets::WORDS];
+    let mut cells = [[0u8; 64]; 64];
+    let opened = bounds::open(n, table, true, &mut sets, &mut cells);
+    match opened {
+        Opened::Refused(fault) => Reply::Table(fault),
+        Opened::Accepted => {
+            if listed && !record::appropriate::is_list_accepted(n, list) {
+                return Reply::TypeList;
+            }
+            engine::generalizing::of_records(n, table, list, &sets, &cells, first, second, out)
+        }
+    }
+}

@@ -1,0 +1,17 @@
+// The call that tells which of two records is the broader.
+
+use lattice::Opened;
+use replies::Reply;
+ghost use mathlib.Core.Path.{_≡_};
+ghost use Rattle.calls.specs.Calls.{ordering};
+
+// Which of two graphs is the broader, seen from the first.
+pub fn order(n: usize, table: &[u8], first: &[u8], second: &[u8]) -> Reply
+    ensures { λ r. ⌜ r ≡ ordering n (now (table .entry)) (now (first .entry)) (now (second .entry)) ⌝ }
+{
+    let opened = lattice::accept(n, table);
+    match opened {
+        Opened::Refused(fault) => Reply::Table(fault),
+        Opened::Accepted => engine::ordering::of_records(n, table, first, second),
+    }
+}

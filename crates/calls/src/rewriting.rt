@@ -1,0 +1,55 @@
+// The calls that write a record in written form.
+
+use lattice::Opened;
+use replies::Reply;
+ghost use mathlib.Core.Path.{_≡_};
+ghost use mathlib.Core.Bool.{false};
+ghost use lib.ListN.{length};
+ghost use Rattle.replies.specs.Reply.{resulting};
+ghost use Rattle.calls.specs.Calls.{rewriting};
+ghost use Rattle.calls.specs.Appropriate.{rewritingAppropriate};
+ghost use Rattle.calls.specs.Beside.{rewritingBeside};
+
+// A record in written form.
+pub fn rewrite(n: usize, table: &[u8], bytes: &[u8], out: &mut [u8]) -> Reply
+    ensures { λ r. ⌜ resulting r (now (out .exit)) ≡ rewriting n (now (table .entry)) (now (bytes .entry)) (now (out .entry)) ⌝ }
+{
+    rewrite_beside(n, table, false, &table[..0], bytes, out)
+}
+
+// The same beside a list that gives for each feature the broadest type that may have it.
+pub fn rewrite_appropriate(
+    n: usize,
+    table: &[u8],
+    list: &[u8],
+    bytes: &[u8],
+    out: &mut [u8],
+) -> Reply
+    ensures { λ r. ⌜ resulting r (now (out .exit)) ≡ rewritingAppropriate n (now (table .entry)) (now (list .entry)) (now (bytes .entry)) (now (out .entry)) ⌝ }
+{
+    rewrite_beside(n, table, true, list, bytes, out)
+}
+
+// Both: beside a list if there is one.
+fn rewrite_beside(
+    n: usize,
+    table: &[u8],
+    listed: bool,
+    list: &[u8],
+    bytes: &[u8],
+    out: &mut [u8],
+) -> Reply
+    requires { ⌜ (listed ≡ false → length (now list) ≡ 0) ⌝ }
+    ensures { λ r. ⌜ resulting r (now (out .exit)) ≡ rewritingBeside n (now (table .entry)) listed (now (list .entry)) (now (bytes .entry)) (now (out .entry)) ⌝ }
+{
+    let opened = lattice::accept(n, table);
+    match opened {
+        Opened::Refused(fault) => Reply::Table(fault),
+        Opened::Accepted => {
+            if listed && !record::appropriate::is_list_accepted(n, list) {
+                return Reply::TypeList;
+            }
+            engine::rewriting::of_record(n, table, list, bytes, out)
+        }
+    }
+}

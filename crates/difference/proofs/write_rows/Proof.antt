@@ -1,0 +1,55 @@
+-- `write_rows` meets its contract: the rows are written, with the reasons beside them if they are asked for.
+use borrow.Author.Needs.{needs}
+use borrow.Author.Tests.{not-true, not-false}
+use Rattle.difference.proofs.Answering.{plain-written, marked-written}
+use Rattle.difference.proofs.write_rows.Statement.{statement}
+use Rattle.difference.proofs.write_rows.Tie as tie
+
+write-requires : tie.Need-write-requires
+write-requires c κs = search needs
+
+reply-of-requires : tie.Need-reply-of-requires
+reply-of-requires c κs = search needs
+
+same-length : tie.Need-same-length
+same-length c = search needs
+
+returns : tie.Need-returns
+returns c =
+    let a = c .before .before .before .before .before .before .before .before .before .before .args in
+    plain-written (a .out .now) (a .reasons .now) (not-true _ (c .before .before .before .before .before .if1 .taken)) (c .before .before .before .write .ensures) (c .reply-of .ensures)
+
+explain-links-requires : tie.Need-explain-links-requires
+explain-links-requires c κs = search needs
+
+write-marked-requires : tie.Need-write-marked-requires
+write-marked-requires c κs = search needs
+
+marked-reply-requires : tie.Need-marked-reply-requires
+marked-reply-requires c κs = search needs
+
+same-length-2 : tie.Need-same-length-2
+same-length-2 c = search needs
+
+same-length-3 : tie.Need-same-length-3
+same-length-3 c = search needs
+
+returns-2 : tie.Need-returns-2
+returns-2 c =
+    let a = c .before .before .before .before .before .before .before .before .before .before .before .before .before .before .before .before .args in
+    marked-written (a .out .now) (a .reasons .now) (not-false _ (c .before .before .before .before .before .before .before .before .before .before .before .if1 .left)) (c .before .before .before .before .before .before .before .before .before .explain-links .ensures) (c .before .before .before .before .before .write-marked .ensures) (c .marked-reply .ensures)
+
+pub write-rows-spec : {M : Type 1} → statement M
+write-rows-spec =
+    tie.close
+    (tie.spec
+    write-requires
+    reply-of-requires
+    same-length
+    returns
+    explain-links-requires
+    write-marked-requires
+    marked-reply-requires
+    same-length-2
+    same-length-3
+    returns-2)

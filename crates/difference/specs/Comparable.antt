@@ -1,0 +1,16 @@
+-- What the difference asks of a table and of two graphs in words.
+use mathlib.Core.Path.{_≡_}
+use mathlib.Core.Bool.{true}
+use mathlib.Core.List.{List}
+use Prim.Native.Nat.{ℕ, _≤_}
+use lib.ListN.{length}
+use Rattle.lattice.specs.Table.{accepted}
+use Rattle.layout.specs.Layout.{longest}
+use Rattle.record.specs.Reads.{Loaded}
+
+-- two graphs over an accepted table
+pub record Comparable (n : ℕ) (t g s : List ℕ) : Type 0 where
+  pub accepts : accepted n t ≡ true
+  pub general : Loaded n g
+  pub specific : Loaded n s
+  pub short : length s ≤ longest

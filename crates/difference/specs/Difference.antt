@@ -1,0 +1,58 @@
+-- The difference of g and s by an order of links, and what is replied and left in the output (document 01, "Difference"). The graphs are
+-- given by their rows.
+use mathlib.Core.Bool.{Bool, cond}
+use mathlib.Core.List.{List, [], _∷_}
+use mathlib.Core.Option.{Option}
+use Prim.Native.Nat.{ℕ}
+use lib.Dec.{eqb}
+use lib.ListN.{length}
+use Rattle.graphs.specs.Graph.{Graph}
+use Rattle.graphs.specs.Rows.{Row}
+use Rattle.graphs.specs.Number.{Canonical, manyNodes, manyLinks, written, canonical}
+use Rattle.graphs.specs.Order.{meetings}
+use Rattle.graphs.specs.Difference.{Link}
+use Rattle.lattice.specs.Label.{Label}
+use Rattle.layout.specs.Layout.{graphOfRows}
+use Rattle.encode.specs.Encode.{writtenOut}
+use Rattle.replies.specs.declared.Reply.the-variants.{NotBelow, NoWantedType}
+use Rattle.replies.specs.Reply.{Result, resultOf, refusing}
+use Rattle.subsume.specs.Promise.{rowsBelow}
+use Rattle.difference.specs.Promise.{wantedAlong, allWantedAlong, differenceAlong}
+
+-- the node that the first pair with y has beside it
+unfoldable pub firstAt : ℕ → List (ℕ × ℕ) → ℕ
+firstAt y [] = 0
+firstAt y (x ∷ xs) = cond (eqb (x .1) y) (x .0) (firstAt y xs)
+
+-- "Each path of g leads to one node of s": the node of s for the node y of g
+unfoldable pub over : List (Row Label) → List (Row Label) → ℕ → ℕ
+over s g y = firstAt y (meetings (graphOfRows s) (graphOfRows g) (length g))
+
+-- the wanted label of the node v of s, where it has one
+abbrev pub wantedAt : ℕ → List ℕ → List (Row Label) → List (Row Label) → ℕ → Option Label
+wantedAt n t s g v = wantedAlong n t s g (over s g) v
+
+-- every node of s has a wanted label; a wanted range it always has, so what may be missing is a wanted type
+abbrev pub allWanted : ℕ → List ℕ → List (Row Label) → List (Row Label) → Bool
+allWanted n t s g = allWantedAlong n t s g (over s g)
+
+-- the difference of g and s by an order of links, for s below g where every node of s has a wanted label
+abbrev pub differenceRows : (Link ℕ → Link ℕ → Bool) → ℕ → List ℕ → List (Row Label) → List (Row Label) → Graph Label ℕ
+differenceRows earlier n t g s = differenceAlong earlier n t s g (over s g)
+
+-- 12, then 13, else the difference in written form
+unfoldable pub differed : (Link ℕ → Link ℕ → Bool) → ℕ → List ℕ → List ℕ → List (Row Label) → List (Row Label) → Result
+differed earlier n t out g s =
+    cond (rowsBelow n t s g)
+    (cond (allWanted n t s g) (resultOf (writtenOut (canonical eqb (differenceRows earlier n t g s)) out)) (refusing NoWantedType out))
+    (refusing NotBelow out)
+
+-- "Number s as written": the rows of a written form; an accepted graph has one
+abbrev pub numbered : Canonical Label → List (Row Label)
+numbered manyNodes = []
+numbered manyLinks = []
+numbered (written rows) = rows
+
+-- the same with s numbered as written
+unfoldable pub differedRows : (Link ℕ → Link ℕ → Bool) → ℕ → List ℕ → List ℕ → List (Row Label) → List (Row Label) → Result
+differedRows earlier n t out g s = differed earlier n t out g (numbered (canonical eqb (graphOfRows s)))

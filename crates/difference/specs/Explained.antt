@@ -1,0 +1,62 @@
+-- The difference of g and s with its reasons: what is replied, and left in the two outputs (document 02, Paper 13). Reply and record are
+-- those of the difference without them.
+use mathlib.Core.Bool.{Bool, true, false, cond}
+use mathlib.Core.List.{List, _++_}
+use mathlib.Core.Option.{Option, none, some}
+use Prim.Native.Nat.{ℕ}
+use lib.Dec.{leb}
+use lib.ListN.{length, drop}
+use Rattle.graphs.specs.Rows.{Row}
+use Rattle.graphs.specs.Difference.{Link}
+use Rattle.lattice.specs.Label.{Label}
+use Rattle.layout.specs.Layout.{rowsOf}
+use Rattle.encode.specs.declared.Marked.{Marked}
+use Rattle.encode.specs.declared.Marked.the-variants as marked
+use Rattle.replies.specs.declared.Reply.{Reply}
+use Rattle.replies.specs.declared.Reply.the-variants.{NoReasonRoom}
+use Rattle.replies.specs.Reply.{Result, lengthOf, replyOf}
+use Rattle.groups.specs.LinkOrders.{earlierBy}
+use Rattle.difference.specs.declared.Options.{Options}
+use Rattle.difference.specs.Promise.{reasonsAlong}
+use Rattle.difference.specs.Difference.{over, differed}
+
+-- a reply and the two outputs beside it
+pub record Explained : Type 0 where
+  pub reply : Reply
+  pub output : List ℕ
+  pub reasons : List ℕ
+
+abbrev pub explainedResult : Reply → List ℕ → List ℕ → Explained
+explainedResult reply output reasons = record { reply = reply; output = output; reasons = reasons }
+
+-- "Beside the record, one byte for each of its links .., further bytes unchanged"; "too few bytes lent for the reasons gives 22, after 8,
+-- with both buffers unchanged". Every other refusal of the plain call stays, both outputs as they were.
+abbrev pub lengthWithReasons : Option ℕ → Result → List ℕ → List ℕ → List ℕ → Explained
+lengthWithReasons none plain reasons out old = explainedResult (plain .reply) out old
+lengthWithReasons (some l) plain reasons out old =
+    cond (leb (length reasons) (length old))
+    (explainedResult (plain .reply) (plain .output) (reasons ++ drop (length reasons) old))
+    (explainedResult NoReasonRoom out old)
+
+abbrev pub withReasons : Result → List ℕ → List ℕ → List ℕ → Explained
+withReasons plain reasons out old = lengthWithReasons (lengthOf (plain .reply)) plain reasons out old
+
+-- the reasons for the links of the difference of g and s by an order of links, in record order
+abbrev pub reasonsRows : (Link ℕ → Link ℕ → Bool) → ℕ → List ℕ → List (Row Label) → List (Row Label) → List ℕ
+reasonsRows earlier n t g s = reasonsAlong earlier n t s g (over s g)
+
+-- the reasons beside the plain result if they are asked for, else as they were
+abbrev pub withReasonsIf : Bool → Result → List ℕ → List ℕ → List ℕ → Explained
+withReasonsIf true plain reasons out old = withReasons plain reasons out old
+withReasonsIf false plain reasons out old = explainedResult (plain .reply) (plain .output) old
+
+-- the difference of graphs in words, as a call asks for it
+abbrev pub differedWords : Options → ℕ → List ℕ → List ℕ → List ℕ → List ℕ → List ℕ → Explained
+differedWords options n t g s out old =
+    withReasonsIf (options .explained) (differed (earlierBy (options .order)) n t out (rowsOf g) (rowsOf s))
+    (reasonsRows (earlierBy (options .order)) n t (rowsOf g) (rowsOf s)) out old
+
+-- what writing with marks answers, as a reply
+abbrev pub markedReply : Marked → Reply
+markedReply (marked.Written w) = replyOf w
+markedReply marked.NoMarkRoom = NoReasonRoom

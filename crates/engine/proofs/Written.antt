@@ -1,0 +1,30 @@
+-- From what writing and reading promise to what an operation answers.
+use mathlib.Core.Path.{_≡_, sym, _∙_, ap}
+use mathlib.Core.List.{List}
+use Prim.Native.Nat.{ℕ}
+use Rattle.layout.specs.Layout.{rowsOf}
+use Rattle.encode.specs.declared.Written.{Written}
+use Rattle.encode.specs.Encode.{Outcome, yielding}
+use Rattle.record.specs.declared.GraphFault.{GraphFault}
+use Rattle.record.specs.declared.reading.Verdict.{Verdict}
+use Rattle.record.specs.declared.reading.Verdict.the-variants.{Accepted, Refused}
+use Rattle.record.specs.Read.{Reading}
+use Rattle.record.specs.Reads.{ReadsAs}
+use Rattle.replies.specs.declared.Side.the-variants.{First}
+use Rattle.replies.specs.declared.Reply.{Reply}
+use Rattle.replies.specs.declared.Reply.the-variants.{Graph}
+use Rattle.replies.specs.Reply.{Result, resulting, replyOf, resultOf}
+use Rattle.pairs.proofs.Readings.{told-refused, told-accepted}
+use Rattle.engine.specs.Rewriting.{rewritten, rewrittenRows}
+
+-- what writing yields, as a result
+pub replied-as : {o : Outcome} {w : Written} {r : Reply} {new : List ℕ} → yielding w new ≡ o → r ≡ replyOf w → resulting r new ≡ resultOf o
+replied-as {new = new} yields said = ap (λ (q : Reply). resulting q new) said ∙ ap resultOf yields
+
+-- the refusal of a lone graph, and its written form
+module _ {n : ℕ} {o : Reading} {v : Verdict} {ws : List ℕ} (tells : ReadsAs n o v ws) (out : List ℕ) where
+  pub rewritten-refused : (fault : GraphFault) → v ≡ Refused fault → resulting (Graph fault First) out ≡ rewritten o out
+  rewritten-refused fault e = sym (ap (λ (i : Reading). rewritten i out) (told-refused tells fault e))
+
+  pub rewritten-accepted : v ≡ Accepted → rewrittenRows out (rowsOf ws) ≡ rewritten o out
+  rewritten-accepted e = sym (ap (λ (i : Reading). rewritten i out) (told-accepted tells e .is))

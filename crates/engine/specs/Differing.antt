@@ -1,0 +1,28 @@
+-- The difference of two records over an accepted table, with its reasons or without them: g is the first graph, s the second.
+use mathlib.Core.Bool.{Bool}
+use mathlib.Core.List.{List, []}
+use Prim.Native.Nat.{ℕ}
+use lib.Dec.{eqb}
+use Rattle.graphs.specs.Number.{canonical}
+use Rattle.graphs.specs.Difference.{Link}
+use Rattle.record.specs.Read.{graphOfRows, reading}
+use Rattle.groups.specs.LinkOrders.{earlierBy}
+use Rattle.difference.specs.declared.Options.{Options}
+use Rattle.difference.specs.Difference.{differedRows, numbered}
+use Rattle.difference.specs.Explained.{Explained, reasonsRows, withReasonsIf}
+use Rattle.pairs.specs.Pair.{readBoth}
+use Rattle.replies.specs.Reply.{Result, refusing}
+
+-- both graphs' 4 to 7, then their difference by an order of links
+abbrev pub parting : (Link ℕ → Link ℕ → Bool) → ℕ → List ℕ → List ℕ → List ℕ → List ℕ → Result
+parting earlier n t a b out = readBoth (λ r. refusing r out) (reading n a) (reading n b) (differedRows earlier n t out)
+
+-- the reasons for the links of the difference of two records, s numbered as written; none where a record is refused
+unfoldable pub reasonsOf : (Link ℕ → Link ℕ → Bool) → ℕ → List ℕ → List ℕ → List ℕ → List ℕ
+reasonsOf earlier n t a b =
+    readBoth (λ r. []) (reading n a) (reading n b) λ g s. reasonsRows earlier n t g (numbered (canonical eqb (graphOfRows s)))
+
+-- the difference as a call asks for it, with its reasons or without them
+abbrev pub partingWith : Options → ℕ → List ℕ → List ℕ → List ℕ → List ℕ → List ℕ → Explained
+partingWith options n t a b out old =
+    withReasonsIf (options .explained) (parting (earlierBy (options .order)) n t a b out) (reasonsOf (earlierBy (options .order)) n t a b) out old

@@ -1,0 +1,44 @@
+-- The combination of two graphs in written form, over an accepted table (document 01, "Combination").
+use mathlib.Core.List.{List}
+use mathlib.Core.Logic.{_⊎_}
+use Prim.Native.Nat.{ℕ}
+use lib.Dec.{eqb}
+use lib.ListN.{length}
+use Rattle.graphs.specs.Rows.{Row, from}
+use Rattle.graphs.specs.Number.{canonical}
+use Rattle.graphs.specs.Unify.{Unified, cycle, clash, unified, unification}
+use Rattle.lattice.specs.Label.{Label}
+use Rattle.lattice.specs.Labels.{tableLabels}
+use Rattle.encode.specs.Encode.{writtenOut}
+use Rattle.record.specs.Read.{graphOfRows}
+pub use Rattle.unify.specs.Outcome.{sameEither}
+use Rattle.unify.specs.declared.Combined.{Combined}
+use Rattle.unify.specs.declared.Combined.the-variants as unify
+use Rattle.pairs.specs.Pair.{readBoth, readingBeside}
+use Rattle.replies.specs.declared.Reply.{Reply}
+use Rattle.replies.specs.declared.Reply.the-variants.{Cycle, Clash}
+use Rattle.replies.specs.Reply.{Result, replyOf, resultOf, refusing}
+
+-- a loop, a clash and no loop, or the record in written form
+abbrev pub combined : Unified Label (ℕ ⊎ ℕ) → List ℕ → Result
+combined cycle out = refusing Cycle out
+combined clash out = refusing Clash out
+combined (unified u) out = resultOf (writtenOut (canonical sameEither u) out)
+
+-- the combination of two graphs in written form
+unfoldable pub unifiedRows : ℕ → List ℕ → List ℕ → List (Row Label) → List (Row Label) → Result
+unifiedRows n t out g h =
+    combined
+    (unification (tableLabels n t) eqb eqb (graphOfRows g) (from 0 (length g)) (graphOfRows h) (from 0 (length h)))
+    out
+
+-- both graphs' refusals, then their combination
+abbrev pub unifiedBeside : ℕ → List ℕ → List ℕ → List ℕ → List ℕ → List ℕ → Result
+unifiedBeside n t list a b out =
+    readBoth (λ r. refusing r out) (readingBeside n t list a) (readingBeside n t list b) (unifiedRows n t out)
+
+-- what combining answers, as a reply
+abbrev pub combinedReply : Combined → Reply
+combinedReply (unify.Written w) = replyOf w
+combinedReply unify.Cycle = Cycle
+combinedReply unify.Clash = Clash

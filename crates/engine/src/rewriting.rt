@@ -1,0 +1,32 @@
+// A graph in written form.
+
+use record::reading::Verdict;
+use replies::Reply;
+use replies::Side;
+ghost use mathlib.Core.Path.{_≡_};
+ghost use Prim.Native.Nat.{_≤_};
+ghost use Rattle.layout.specs.Layout.{Sound, rowsOf};
+ghost use Rattle.pairs.specs.Pair.{Optional, readingBeside};
+ghost use Rattle.replies.specs.Reply.{resulting};
+ghost use Rattle.engine.specs.Rewriting.{rewritten, rewrittenRows};
+
+// Writes the graph of a record over an accepted table with n types.
+pub fn of_record(n: usize, table: &[u8], list: &[u8], bytes: &[u8], out: &mut [u8]) -> Reply
+    requires { ⌜ (n ≤ 64) × Optional n (now list) ⌝ }
+    ensures { λ r. ⌜ resulting r (now (out .exit)) ≡ rewritten (readingBeside n (now (table .entry)) (now (list .entry)) (now (bytes .entry))) (now (out .entry)) ⌝ }
+{
+    let mut graph = [layout::BLANK; layout::LONGEST];
+    let verdict = pairs::read_one(n, table, list, bytes, &mut graph);
+    match verdict {
+        Verdict::Refused(fault) => Reply::Graph(fault, Side::First),
+        Verdict::Accepted => of_graph(&graph, out),
+    }
+}
+
+// Writes a graph in words.
+pub fn of_graph(graph: &[u16], out: &mut [u8]) -> Reply
+    requires { ⌜ Sound (now graph) ⌝ }
+    ensures { λ r. ⌜ resulting r (now (out .exit)) ≡ rewrittenRows (now (out .entry)) (rowsOf (now (graph .entry))) ⌝ }
+{
+    replies::reply_of(encode::canonical::write(graph, out))
+}

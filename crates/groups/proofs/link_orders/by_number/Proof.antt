@@ -1,0 +1,10 @@
+-- `by_number` meets its contract: the list is not asked.
+use Rattle.groups.proofs.LinkOrders.{number-order}
+use Rattle.groups.proofs.link_orders.by_number.Statement.{statement}
+use Rattle.groups.proofs.link_orders.by_number.Tie as tie
+
+returns : tie.Need-returns
+returns c = number-order _
+
+pub by-number-spec : {M : Type 1} → statement M
+by-number-spec = tie.close (tie.spec returns)

@@ -1,0 +1,35 @@
+-- The clinic's reading order: "a list of all 64 features, each once" (document 02, Paper 10), and the order of links that a difference
+-- is asked for.
+use mathlib.Core.Path.{_≡_}
+use mathlib.Core.Bool.{Bool, true, cond, not, _&&_}
+use mathlib.Core.List.{List}
+use Prim.Native.Nat.{ℕ, suc, _<_}
+use lib.Dec.{leb, eqb}
+use lib.ListN.{length, getD}
+use Rattle.graphs.specs.Difference.{Link, byNumber, placeIn, byReading}
+use Rattle.lattice.specs.Table.{every}
+use Rattle.groups.specs.declared.link_orders.LinkOrder.{LinkOrder}
+
+-- 64 bytes, none above 63, no feature twice; "a list that is anything else is 19"
+unfoldable pub isReadingOrder : List ℕ → Bool
+isReadingOrder list =
+    eqb (length list) 64
+    && every 64 λ i. leb (suc (getD list i 0)) 64 && every i λ j. not (eqb (getD list j 0) (getD list i 0))
+
+-- "all 64 features, each once"
+pub record EachOnce (list : List ℕ) : Type 0 where
+  pub long : length list ≡ 64
+  pub once : (f : ℕ) → f < 64 → (i : ℕ) × (i < 64) × (getD list i 0 ≡ f) × ((j : ℕ) → j < 64 → getD list j 0 ≡ f → j ≡ i)
+
+-- "by the feature's place in the list, then by parent number; 01's order remains for the call without a list"
+unfoldable pub earlierBy : LinkOrder → Link ℕ → Link ℕ → Bool
+earlierBy order = cond (order .listed) (byReading (order .list)) byNumber
+
+-- a list that is given is a reading order
+abbrev pub Fitting : LinkOrder → Type 0
+Fitting order = order .listed ≡ true → isReadingOrder (order .list) ≡ true
+
+-- The rank of each feature: links of a lesser rank come first, and links of one rank in the order of their places.
+pub record Ranks (order : LinkOrder) (rank : List ℕ) : Type 0 where
+  pub long : length rank ≡ 64
+  pub each : (f : ℕ) → f < 64 → getD rank f 0 ≡ cond (order .listed) (placeIn (order .list) f) 0

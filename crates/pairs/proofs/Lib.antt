@@ -1,0 +1,2 @@
+-- Laws of reading one record or two.
+pub mod Readings

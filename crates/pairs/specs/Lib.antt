@@ -1,0 +1,2 @@
+-- What reading the records of a call answers.
+pub mod Pair

@@ -1,0 +1,64 @@
+// Reading the records of a call over an accepted table, the first graph's refusal before the second's (document 01, "Returned by a call"),
+// with or without a list of types for features (document 02, Paper 9). An empty list stands for no list. It knows records and an accepted
+// table, and no operation.
+
+use record::GraphFault;
+use record::reading::Verdict;
+use replies::Side;
+ghost use mathlib.Core.Path.{_≡_};
+ghost use Prim.Native.Nat.{_≤_};
+ghost use lib.ListN.{length};
+ghost use Rattle.layout.specs.Layout.{longest};
+ghost use Rattle.record.specs.Reads.{ReadsAs};
+ghost use Rattle.pairs.specs.Pair.{Optional, ReadsBeside, readingBeside};
+
+// Whether two records are accepted; else the first refusal and which graph it tells of.
+pub enum PairVerdict {
+    Both,
+    Refused(GraphFault, Side),
+}
+
+// Reads a record over a table with n types into lent words, which are unspecified on refusal.
+pub fn read_one(
+    n: usize,
+    table: &[u8],
+    list: &[u8],
+    bytes: &[u8],
+    graph: &mut [u16; layout::LONGEST],
+) -> Verdict
+    requires { ⌜ (n ≤ 64) × Optional n (now list) × (length (now graph) ≡ longest) ⌝ }
+    ensures { λ r. ⌜ ReadsAs n (readingBeside n (now (table .entry)) (now (list .entry)) (now (bytes .entry))) r (now (graph .exit)) ⌝ }
+    ensures { λ r. ⌜ length (now (graph .exit)) ≡ longest ⌝ }
+{
+    if list.len() == 0 {
+        return record::reading::read(n, bytes, graph);
+    }
+    record::appropriate::read(n, table, list, bytes, graph)
+}
+
+// Reads two records over a table with n types, each into lent words. The second is read only where the first is accepted.
+pub fn read_both(
+    n: usize,
+    table: &[u8],
+    list: &[u8],
+    first: &[u8],
+    second: &[u8],
+    a: &mut [u16; layout::LONGEST],
+    b: &mut [u16; layout::LONGEST],
+) -> PairVerdict
+    requires { ⌜ (n ≤ 64) × Optional n (now list) ⌝ }
+    requires { ⌜ (length (now a) ≡ longest) × (length (now b) ≡ longest) ⌝ }
+    ensures { λ r. ⌜ ReadsBeside n (now (table .entry)) (now (list .entry)) (now (first .entry)) (now (second .entry)) r (now (a .exit)) (now (b .exit)) ⌝ }
+{
+    let one = read_one(n, table, list, first, a);
+    match one {
+        Verdict::Refused(fault) => PairVerdict::Refused(fault, Side::First),
+        Verdict::Accepted => {
+            let other = read_one(n, table, list, second, b);
+            match other {
+                Verdict::Refused(fault) => PairVerdict::Refused(fault, Side::Second),
+                Verdict::Accepted => PairVerdict::Both,
+            }
+        }
+    }
+}

@@ -1,0 +1,2 @@
+-- Laws of texts.
+pub mod Texts

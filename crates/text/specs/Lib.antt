@@ -1,0 +1,2 @@
+-- Numbers and words as text.
+pub mod Text

@@ -1,0 +1,38 @@
+//! Outputs that tell a stray write.
+
+use reference::random::Xorshift;
+
+/// Bytes on each side of an output, which no call may change.
+const MARGIN: usize = 16;
+
+/// An output in the midst of bytes that tell a stray write.
+#[derive(Clone, PartialEq, Eq)]
+pub struct Lent {
+    bytes: Vec<u8>,
+}
+
+impl Lent {
+    /// An output of a given length that holds any bytes.
+    pub fn new(random: &mut Xorshift, room: usize) -> Lent {
+        let start = random.pick(256);
+        let bytes = (0..MARGIN + room + MARGIN).map(|place| (start + 167 * place) as u8);
+        Lent {
+            bytes: bytes.collect(),
+        }
+    }
+
+    fn output(&mut self) -> &mut [u8] {
+        let end = self.bytes.len() - MARGIN;
+        &mut self.bytes[MARGIN..end]
+    }
+
+    /// The first bytes of the output, so many.
+    pub fn first(&self, count: usize) -> Vec<u8> {
+        self.bytes[MARGIN..MARGIN + count].to_vec()
+    }
+}
+
+/// The outputs that a call is lent.
+pub fn outputs(lent: &mut [Lent]) -> Vec<&mut [u8]> {
+    lent.iter_mut().map(Lent::output).collect()
+}

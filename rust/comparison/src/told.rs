@@ -1,0 +1,45 @@
+//! What a reply tells, whichever engine gives it: the papers' numbers.
+
+use record_engine::{Order, Refusal};
+use reference::reply::Reply;
+
+/// What a reply tells.
+#[derive(Clone, Copy, Debug, PartialEq, Eq)]
+pub enum Told {
+    /// The length of a record.
+    Length(usize),
+    /// The place among same, under, above and neither.
+    Order(usize),
+    /// The number of the refusal, and for a graph's its place among first and second.
+    Refused(u8, Option<usize>),
+}
+
+impl From<Refusal> for Told {
+    fn from(refusal: Refusal) -> Told {
+        Told::Refused(refusal.number(), refusal.side().map(|side| side as usize))
+    }
+}
+
+impl From<Result<usize, Refusal>> for Told {
+    fn from(result: Result<usize, Refusal>) -> Told {
+        result.map_or_else(Told::from, Told::Length)
+    }
+}
+
+impl From<Result<Order, Refusal>> for Told {
+    fn from(result: Result<Order, Refusal>) -> Told {
+        result.map_or_else(Told::from, |order| Told::Order(order as usize))
+    }
+}
+
+impl From<Reply> for Told {
+    fn from(reply: Reply) -> Told {
+        match reply {
+            Reply::Length(length) => Told::Length(length),
+            Reply::Order(order) => Told::Order(order as usize),
+            Reply::Refused(refusal) => {
+                Told::Refused(refusal.number(), refusal.side().map(|side| side as usize))
+            }
+        }
+    }
+}

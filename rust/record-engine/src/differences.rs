@@ -1,0 +1,124 @@
+//! The difference with the reason beside each of its links, by a reading order, and both.
+
+use crate::code::length;
+use crate::{Refusal, foreign};
+
+/// Writes the difference of two records as [`difference`](crate::difference) does, and beside it one byte
+/// for each of its links: the [`Reason`](crate::Reason) for which it is kept. The bytes stand first in
+/// `reasons`, in the order of the links in the written record, node by node and for each
+/// node by feature; the others are unchanged. Gives the length of the record.
+///
+/// Refused by 1 to 7, then by 12, 13, 8 and 22.
+///
+/// ```
+/// use record_engine::{LONGEST_RECORD, MOST_LINKS, Reason};
+/// let diamond = record_engine::table(&[0x01, 0x03, 0x05, 0x0F]).expect("at most 8 types");
+/// // The features 0 and 1 of the root lead to two nodes in the general record, and to one
+/// // node in the specific one.
+/// let general = [
+///     3, 3, 3, 0, 0, 0, 0, 0, 0, 0, 1, 2, 3, 0, 0, 0, 0, 0, 0, 0, 0, 3, 0, 0, 0, 0, 0, 0, 0, 0,
+/// ];
+/// let specific = [2, 3, 3, 0, 0, 0, 0, 0, 0, 0, 1, 1, 1, 0, 0, 0, 0, 0, 0, 0, 0];
+/// let (mut output, mut reasons) = ([0; LONGEST_RECORD], [0; MOST_LINKS]);
+/// let length = record_engine::difference_explained(
+///     4, &diamond, &general, &specific, &mut output, &mut reasons,
+/// )?;
+/// // Why does the shared node stand in the difference? Its two links are the only ones.
+/// assert_eq!(output[..length], specific);
+/// for (feature, &byte) in reasons[..2].iter().enumerate() {
+///     let reason = Reason::of(byte).expect("a reason for each link");
+///     println!("feature {feature} leads to the shared node: {reason}");
+///     assert_eq!(reason, Reason::Groups);
+/// }
+/// # Ok::<(), record_engine::Refusal>(())
+/// ```
+pub fn difference_explained(
+    n: usize,
+    table: &[u8],
+    general: &[u8],
+    specific: &[u8],
+    output: &mut [u8],
+    reasons: &mut [u8],
+) -> Result<usize, Refusal> {
+    length(foreign::record_difference_explained(
+        n, table, general, specific, output, reasons,
+    ))
+}
+
+/// Writes the difference of two records as [`difference`](crate::difference) does, where links are ordered by
+/// their feature's place in a list of all features, then by the number of the node that
+/// they leave.
+///
+/// Refused by 1 to 3, then by 19, by 4 to 7, 12, 13 and 8.
+///
+/// ```
+/// use record_engine::{FEATURES, LONGEST_RECORD, Refusal, difference_by, unify};
+/// let diamond = record_engine::table(&[0x01, 0x03, 0x05, 0x0F]).expect("at most 8 types");
+/// // The features 0 and 1 of the root lead to one node, of the type given.
+/// let both = |leaf| [2, 3, 3, 0, 0, 0, 0, 0, 0, 0, 1, 1, leaf, 0, 0, 0, 0, 0, 0, 0, 0];
+/// let [general, specific] = [both(3), both(1)];
+/// // The same with one of the two features alone.
+/// let alone = |map| [2, 3, map, 0, 0, 0, 0, 0, 0, 0, 1, 1, 0, 0, 0, 0, 0, 0, 0, 0];
+/// // All features, and 0 is read first; and with 1 before it.
+/// let mut list: Vec<u8> = (0..FEATURES as u8).collect();
+/// let mut output = [0; LONGEST_RECORD];
+/// let length = difference_by(4, &diamond, &list, &general, &specific, &mut output)?;
+/// assert_eq!(output[..length], alone(0b01));
+/// list.swap(0, 1);
+/// let length = difference_by(4, &diamond, &list, &general, &specific, &mut output)?;
+/// assert_eq!(output[..length], alone(0b10));
+/// let length = unify(4, &diamond, &general, &alone(0b10), &mut output)?;
+/// assert_eq!(output[..length], specific);
+/// // Feature 0 twice, and feature 1 not at all.
+/// list[0] = 0;
+/// let refused = difference_by(4, &diamond, &list, &general, &specific, &mut output);
+/// assert_eq!(refused, Err(Refusal::ReadingOrder));
+/// # Ok::<(), record_engine::Refusal>(())
+/// ```
+pub fn difference_by(
+    n: usize,
+    table: &[u8],
+    list: &[u8],
+    general: &[u8],
+    specific: &[u8],
+    output: &mut [u8],
+) -> Result<usize, Refusal> {
+    length(foreign::record_difference_by(
+        n, table, list, general, specific, output,
+    ))
+}
+
+/// Writes the difference of two records as [`difference_by`](crate::difference_by) does, and beside it the
+/// [`Reason`](crate::Reason) of each of its links, as [`difference_explained`](crate::difference_explained) does.
+///
+/// Refused by 1 to 3, then by 19, by 4 to 7, 12, 13, 8 and 22.
+///
+/// ```
+/// use record_engine::{FEATURES, LONGEST_RECORD, MOST_LINKS, Reason, difference_explained_by};
+/// let diamond = record_engine::table(&[0x01, 0x03, 0x05, 0x0F]).expect("at most 8 types");
+/// // The features 0 and 1 of the root lead to one node, of the type given.
+/// let both = |leaf| [2, 3, 3, 0, 0, 0, 0, 0, 0, 0, 1, 1, leaf, 0, 0, 0, 0, 0, 0, 0, 0];
+/// // Feature 63 is read first and feature 0 last.
+/// let list: Vec<u8> = (0..FEATURES as u8).rev().collect();
+/// let (mut output, mut reasons) = ([0; LONGEST_RECORD], [0; MOST_LINKS]);
+/// let length = difference_explained_by(
+///     4, &diamond, &list, &both(3), &both(1), &mut output, &mut reasons,
+/// )?;
+/// // Feature 1 alone, which is kept for the type of its node.
+/// assert_eq!(output[..length], [2, 3, 2, 0, 0, 0, 0, 0, 0, 0, 1, 1, 0, 0, 0, 0, 0, 0, 0, 0]);
+/// assert_eq!(Reason::of(reasons[0]), Some(Reason::Wanted));
+/// # Ok::<(), record_engine::Refusal>(())
+/// ```
+pub fn difference_explained_by(
+    n: usize,
+    table: &[u8],
+    list: &[u8],
+    general: &[u8],
+    specific: &[u8],
+    output: &mut [u8],
+    reasons: &mut [u8],
+) -> Result<usize, Refusal> {
+    length(foreign::record_difference_explained_by(
+        n, table, list, general, specific, output, reasons,
+    ))
+}

@@ -1,0 +1,48 @@
+//! Tables: that of the house types, and small ones by hand.
+
+use crate::code::length;
+use crate::{Refusal, foreign};
+
+/// The number of the house types.
+pub const HOUSE_TYPES: usize = 64;
+
+/// The length of their table.
+pub const HOUSE_TABLE_LENGTH: usize = 8 * HOUSE_TYPES;
+
+/// Fills the output's first [`HOUSE_TABLE_LENGTH`] bytes with the table of the house
+/// types, for n = [`HOUSE_TYPES`], and gives their number; its other bytes are
+/// unchanged. A house type has three grades of 0 to 3 and is numbered
+/// 16 × first + 4 × second + third; it is below another when each grade is at most
+/// the other's, and 3 tells nothing.
+///
+/// Refused by 8.
+///
+/// ```
+/// use record_engine::{HOUSE_TABLE_LENGTH, HOUSE_TYPES};
+/// let mut table = [0; HOUSE_TABLE_LENGTH];
+/// record_engine::house_table(&mut table)?;
+/// // The grades 1, 2, 3 and the grades 3, 0, 3 have 1, 0, 3 in common.
+/// let first = [1, 16 + 4 * 2 + 3, 0, 0, 0, 0, 0, 0, 0, 0];
+/// let second = [1, 16 * 3 + 3, 0, 0, 0, 0, 0, 0, 0, 0];
+/// let mut output = [0; record_engine::LONGEST_RECORD];
+/// let length = record_engine::unify(HOUSE_TYPES, &table, &first, &second, &mut output)?;
+/// assert_eq!(output[..length], [1, 16 + 3, 0, 0, 0, 0, 0, 0, 0, 0]);
+/// # Ok::<(), record_engine::Refusal>(())
+/// ```
+pub fn house_table(output: &mut [u8]) -> Result<usize, Refusal> {
+    length(foreign::record_house_table(output))
+}
+
+/// The bytes of a table of at most 8 types, from the first byte of each row; none for
+/// more types, whose rows have bits beyond their first bytes. Whether they are an order
+/// with meets and joins is for the calls to say.
+///
+/// ```
+/// let two = record_engine::table(&[0x01, 0x03]);
+/// assert_eq!(two, Some(vec![1, 0, 0, 0, 0, 0, 0, 0, 3, 0, 0, 0, 0, 0, 0, 0]));
+/// assert_eq!(record_engine::table(&[0xFF; 9]), None);
+/// ```
+pub fn table(first_bytes: &[u8]) -> Option<Vec<u8>> {
+    let rows = first_bytes.iter().map(|&byte| [byte, 0, 0, 0, 0, 0, 0, 0]);
+    (first_bytes.len() <= 8).then(|| rows.flatten().collect())
+}
