@@ -30,7 +30,7 @@ pub const LONGEST_LISTED: usize = 32;
 /// assert_eq!(length, Some(20));
 /// let two = [2, 1, 1, 0, 0, 0, 0, 0, 0, 0, 1, 1, 0, 0, 0, 0, 0, 0, 0, 0];
 /// assert_eq!(output[..20], two);
-/// // A lone node with a link by feature 2 to another is read and not listed.
+/// // A node whose feature 2 leads to another is read and not listed.
 /// let other = [2, 1, 4, 0, 0, 0, 0, 0, 0, 0, 1, 1, 0, 0, 0, 0, 0, 0, 0, 0];
 /// let refused = record_engine::next(4, &diamond, 2, &other, &mut output);
 /// assert_eq!(refused, Err(Refusal::NotListed));

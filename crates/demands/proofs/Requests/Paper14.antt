@@ -91,9 +91,9 @@ module _ (n : ℕ) (t : List ℕ) (opens : opened n t ≡ Accepted) (F : ℕ) (c
 
   -- and a graph of any size with at most three nodes, features below F and no range is the meaning of one listed record and no other,
   pub graph-comes-up : {A : Type 0} (same : A → A → Bool) → TellsApart same → (g : Graph Label A) → OfAnySize n t g →
-      (form : List (Row Label)) → canonical same g ≡ written form → length form ≤ 3 →
+      (nodes : List A) → ((v : A) → Reached g v → List·Memᴰ v nodes) → length nodes ≤ 3 →
       ((v w : A) (f : ℕ) → Reached g v → g .link v f ≡ some w → f < F) → ((v : A) → Reached g v → isFull (g .label v) ≡ true) → Steps.OneListed n F t g
-  graph-comes-up same tells g any form = Steps.graph-once n F t same tells g any (size .1) form
+  graph-comes-up same tells g any = Steps.graph-once n F t same tells g any (size .1)
 
   -- so is that of an accepted record, however it is numbered.
   pub record-comes-up : (bytes : List ℕ) (rows : List (Row Label)) → reading n bytes ≡ accepted rows → length rows ≤ 3 →
