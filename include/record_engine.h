@@ -1,4 +1,4 @@
-/* The record engine for C: eleven calls on bytes, and the table of the house types, in
+/* The record engine for C: twelve calls on bytes, and the table of the house types, in
  * the static library librecord_engine.a, which `rt staticlib record_engine` writes to
  * target/staticlib. examples/difference.c is a whole program.
  *
@@ -43,6 +43,13 @@
  * the specific record is written, then by feature; with one by the feature's place in the
  * list, then by that number. How records are written does not follow the list.
  *
+ * The listed records over a table and a number of features, 1 or 2, are the records in
+ * written form of at most 3 nodes that have no range and use features below that number.
+ * They stand in the order of their bytes: of two, the one that has the lesser byte where
+ * they first differ comes first. Every graph with so few nodes and features and without
+ * ranges is the meaning of one of them. With k types that are not 0 there are
+ * k + k * k + k * k * k of them for one feature and k + 3 * k * k + 16 * k * k * k for two.
+ *
  * A record, a list or an output is handed in as a pointer to its first byte and a length.
  * A pointer is not null, also where the length is 0. An output overlaps nothing
  * else that is handed in. The calls keep no pointer, share no state and may run
@@ -53,8 +60,8 @@
  *
  * A call that writes a record answers its length, which is at most
  * RECORD_LONGEST; the output's first bytes are then the record and its other bytes
- * are unchanged. On a refusal no byte of an output is changed. Refusals have the
- * numbers of documents 01 and 02:
+ * are unchanged. On a refusal, and at the end of a listing, no byte of an output is
+ * changed. Refusals have the numbers of documents 01 and 02:
  *
  *    1  n is not 2 to 64, or the table's length is not 8 times n
  *    2  a bit at n or above; no order; 0 not least; n - 1 not greatest
@@ -75,9 +82,11 @@
  *   18  a record with a link that the list forbids
  *   19  a reading order that is not a list of all 64 features, each once
  *   22  difference with reasons: it has more links than bytes are lent for the reasons
+ *   23  listing: the number of features is not 1 or 2
+ *   24  listing: the record is read but not listed
  *
  * Checks run in the order 1, 2, 3; 17 or 19; the first record's 4 to 7 and 18; the second's 4
- * to 7 and 18; then 12, 13, 9, 10, 11, 8, 22.
+ * to 7 and 18; then 12, 13, 9, 10, 11, 23, 24, 8, 22.
  */
 #ifndef RECORD_ENGINE_H
 #define RECORD_ENGINE_H
@@ -111,8 +120,12 @@ extern "C" {
 #define RECORD_ABOVE (RECORD_SAME + 2)
 #define RECORD_NEITHER (RECORD_SAME + 3)
 
-/* The end of a listing: no record follows the one that was handed in. */
+/* The end of a listing, answered by `record_next`: no record follows the one that was
+ * handed in. */
 #define RECORD_END (RECORD_SAME + 4)
+
+/* An output of so many bytes is never too short for `record_next`. */
+#define RECORD_LONGEST_LISTED 32
 
 /* Whether an answer is the counts of nodes and rows that were filled; the count of nodes,
  * 1 to 255; and the count of rows, at most RECORD_MOST_LINKS. */
@@ -234,6 +247,18 @@ uint64_t record_difference_explained_by(size_t n, const uint8_t *table, size_t t
                                         const uint8_t *specific, size_t specific_length,
                                         uint8_t *output, size_t output_length,
                                         uint8_t *reasons, size_t reasons_length);
+
+/* Writes the listed record after the one that is handed in, over the table and a number
+ * of features, 1 or 2; the first where the record has length 0. From the first on, each
+ * call with the record that the last one wrote, it goes through all listed records, each
+ * once. Answers the length, or RECORD_END where the record is the last; or refuses by 1
+ * to 3, by 4 to 7 where the record has bytes, which counts as the first, then by 23, by
+ * 24 where the record is read but not listed, and by 8. The cost of a call does not grow
+ * with the number of listed records. */
+uint64_t record_next(size_t n, const uint8_t *table, size_t table_length,
+                     size_t features,
+                     const uint8_t *record, size_t record_length,
+                     uint8_t *output, size_t output_length);
 
 /* Writes the type table of the house types, for n = RECORD_HOUSE_TYPES, into the
  * output's first RECORD_HOUSE_TABLE bytes; its other bytes are unchanged. A house

@@ -10,3 +10,4 @@ pub mod Paper09
 pub mod Paper10
 pub mod Paper12
 pub mod Paper13
+pub mod Paper14

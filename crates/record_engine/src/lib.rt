@@ -1,6 +1,6 @@
 // The engine's calls for programs in other languages: a static library whose functions take a number of types, a table, one or two records
-// and an output or two, each slice as a pointer and a length, and answer one number. One function gives the table of the house types. It
-// knows the calls, and gives each reply its code.
+// and an output or two, each slice as a pointer and a length, and answer one number. One function goes through all small graphs, one gives
+// the table of the house types. It knows the calls and the listing, and gives each reply its code.
 
 use replies::Reply;
 use replies::Side;
@@ -11,6 +11,7 @@ ghost use Rattle.encode.specs.Encode.{yielding};
 ghost use Rattle.calls.specs.Calls.{rewriting, ordering, generalizing, unifying, differing, differingBy};
 ghost use Rattle.calls.specs.Appropriate.{rewritingAppropriate, generalizingAppropriate, unifyingAppropriate};
 ghost use Rattle.calls.specs.Explained.{explaining, explainingBy};
+ghost use Rattle.listing.specs.Call.{stepping};
 ghost use Rattle.record_engine.specs.Code.{codeOf, countsCode, refusalCode, sideNumber};
 ghost use Rattle.record_engine.specs.Coded.{coded, codedBoth, yieldingBoth};
 ghost use Rattle.record_engine.specs.House.{tabling};
@@ -164,6 +165,21 @@ pub extern "C" fn record_difference_explained_by(
         codedBoth (explainingBy n (now (table .entry)) (now (list .entry)) (now (first .entry)) (now (second .entry)) (now (out .entry)) (now (reasons .entry))) ⌝ }
 {
     code(calls::differing::difference_explained_by(n, table, list, first, second, out, reasons))
+}
+
+// The record after the given one in the list of all small graphs over a number of features, the first where no bytes are given: the code of
+// the reply, and the output that the engine leaves.
+#[no_mangle]
+pub extern "C" fn record_next(
+    n: usize,
+    table: &[u8],
+    features: usize,
+    bytes: &[u8],
+    out: &mut [u8],
+) -> u64
+    ensures { λ r. ⌜ yielding r (now (out .exit)) ≡ coded (stepping n (now (table .entry)) features (now (bytes .entry)) (now (out .entry))) ⌝ }
+{
+    code(listing::next(n, table, features, bytes, out))
 }
 
 // The type table of the house types, for n = 64: the code of the reply, and the output that the engine leaves.

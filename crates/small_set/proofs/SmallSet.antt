@@ -81,9 +81,11 @@ use Rattle.difference.specs.Difference.{firstAt, over, wantedAt, allWanted, dif
 use Rattle.engine.specs.Differing.{reasonsOf}
 use Rattle.calls.specs.Explained.{explaining, explainingBy}
 use Rattle.replies.specs.declared.Reply.the-variants.{NoWantedType}
+use Rattle.listed.specs.Listing.{precedes, statedRows, span, runs, listing, isListed, firstAfter, following}
+use Rattle.listing.specs.Call.{continued, counted as counting, stepped, stepping}
 use Rattle.demands.proofs.Demanded.Wanted.{meet-known, label-below, wanted-exact}
 use Rattle.demands.proofs.Requests.Paper06.{unwanted-exact, itself-lone-top}
-use Rattle.small_set.specs.Cases.{threeMiddles, twoOverTwo, NeverUnwanted, ItselfTop, AllHold, none-left, _and_, cases, SmallSet, FourAnswers, Reasons, ReadingOrders, AsSets}
+use Rattle.small_set.specs.Cases.{threeMiddles, twoOverTwo, NeverUnwanted, ItselfTop, AllHold, none-left, _and_, cases, SmallSet, FourAnswers, Reasons, ReadingOrders, AsSets, Chains}
 
 all-hold : AllHold cases
 unfolding
@@ -246,4 +248,27 @@ as-sets =
       diamond-sets = refl;
       rival-sets = refl;
       raised-rival-sets = refl;
+    }
+
+-- The list over two types, computed.
+pub chains : Chains
+unfolding
+    bind orElse
+    stepping stepped counting continued isListed following firstAfter precedes listing runs span statedRows flatMap
+    opened sized ordered confined reflexive antisymmetric transitive least greatest bounded meet isMeet join isJoin every last below
+    reading decoded takeRows takeRow labelLength labelOf takeLinks bitOf inRange labelInRange allOf cyclic anyOf deep reachesAll
+    visit each member target from linksOf
+    fitted encoded encodedRows encodedRow encodedLabel isFull bitsFrom
+chains =
+    record {
+      list = refl;
+      more = refl;
+      first = refl;
+      second = refl;
+      third = refl;
+      end = refl;
+      no-feature = refl;
+      three-features = refl;
+      other-feature = refl;
+      spelled-out = refl;
     }

@@ -11,13 +11,15 @@ use Rattle.lattice.specs.Label.{Label}
 use Rattle.lattice.specs.Table.{upto}
 use Rattle.bounds.specs.Sets.{distributive, setOf}
 use Rattle.record.specs.Read.{reading, accepted}
-use Rattle.replies.specs.declared.Reply.the-variants.{Length, Same, Under, Above, Neither, NoWantedType, ReadingOrder, NoReasonRoom}
+use Rattle.replies.specs.declared.Reply.the-variants.{Length, Same, Under, Above, Neither, End, NoWantedType, ReadingOrder, NoReasonRoom, FeatureCount, NotListed}
 use Rattle.replies.specs.declared.Reply.{Reply}
 use Rattle.replies.specs.Reply.{Result, refusal, resulting, refusing, resultOf}
 use Rattle.calls.specs.Calls.{rewriting, generalizing, ordering, unifying, differing, differingBy}
 use Rattle.calls.specs.Appropriate.{rewritingAppropriate, generalizingAppropriate}
 use Rattle.difference.specs.Explained.{explainedResult}
 use Rattle.calls.specs.Explained.{explaining, explainingBy}
+use Rattle.listed.specs.Listing.{listing}
+use Rattle.listing.specs.Call.{stepping}
 use Rattle.demands.specs.Demand.{loneTop}
 use Rattle.encode.specs.Encode.{fitted}
 
@@ -323,3 +325,37 @@ pub record AsSets : Type 0 where
   pub diamond-sets : setsOf diamond ≡ 0 ∷ 2 ∷ 4 ∷ 6 ∷ []
   pub rival-sets : setsOf threeMiddles ≡ 0 ∷ 2 ∷ 4 ∷ 8 ∷ 14 ∷ []
   pub raised-rival-sets : setsOf threeOverOne ≡ 0 ∷ 2 ∷ 6 ∷ 10 ∷ 18 ∷ 30 ∷ []
+
+-- of Paper 14: "a two-type table"
+abbrev pub twoTypes : Types
+twoTypes = record { count = 2; table = rows (0x01 ∷ 0x03 ∷ []) }
+
+-- chains of two and of three nodes by one feature
+abbrev pub twoChain : List ℕ
+twoChain = 2 ∷ node 1 0x01 (1 ∷ []) ++ leaf 1
+
+abbrev pub threeChain : List ℕ
+threeChain = 3 ∷ node 1 0x01 (1 ∷ []) ++ node 1 0x01 (2 ∷ []) ++ leaf 1
+
+-- what a call over two types with F features gives after a record
+abbrev pub stepsOver : ℕ → List ℕ → Result
+stepsOver F bytes = stepping (twoTypes .count) (twoTypes .table) F bytes lent
+
+abbrev pub Follows : List ℕ → List ℕ → Type 0
+Follows bytes next = stepsOver 1 bytes ≡ resulting (Length (length next)) (next ++ drop (length next) lent)
+
+-- Paper 14: "Over a two-type table with F of 1 the list has three records: chains of one, two and three nodes." With F of 2 it has twenty.
+pub record Chains : Type 0 where
+  pub list : listing (twoTypes .count) 1 ≡ lone 1 ∷ twoChain ∷ threeChain ∷ []
+  pub more : length (listing (twoTypes .count) 2) ≡ 20
+  pub first : Follows [] (lone 1)
+  pub second : Follows (lone 1) twoChain
+  pub third : Follows twoChain threeChain
+  -- "or the end, the output then unchanged"
+  pub end : stepsOver 1 threeChain ≡ refusing End lent
+  -- "F outside 1 and 2 is 23", whether the record is listed or not
+  pub no-feature : stepsOver 0 [] ≡ refusing FeatureCount lent
+  pub three-features : stepsOver 3 (2 ∷ node 1 0x02 (1 ∷ []) ++ leaf 1) ≡ refusing FeatureCount lent
+  -- "a record that is read but not listed is 24": by feature 1, by a full range spelled out
+  pub other-feature : stepsOver 1 (2 ∷ node 1 0x02 (1 ∷ []) ++ leaf 1) ≡ refusing NotListed lent
+  pub spelled-out : stepsOver 1 (1 ∷ ranged 1 0 255) ≡ refusing NotListed lent

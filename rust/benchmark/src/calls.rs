@@ -96,6 +96,6 @@ fn length(reply: Reply) -> Option<usize> {
     match reply {
         Reply::Length(length) => Some(length),
         Reply::Order(order) => Some(order as usize),
-        Reply::Refused(_) => None,
+        Reply::End | Reply::Refused(_) => None,
     }
 }

@@ -92,6 +92,34 @@ pub const UNIFY_APPROPRIATE: Call = call!(unify_appropriate(list, first, second;
 /// The difference by a list of all features.
 pub const DIFFERENCE_BY: Call = call!(difference_by(list, general, specific; output: RECORD));
 
+/// The listed record after another. Before the record comes the number of features, as
+/// `number` gives its bytes.
+pub const NEXT: Call = Call {
+    engine: |table, inputs, outputs| {
+        let ([features, record, ..], [output]) = (inputs, outputs) else {
+            panic!("next takes a number, a record and an output");
+        };
+        record_engine::next(table.n, &table.bytes, number_of(features), record, output).into()
+    },
+    reference: |table, inputs, outputs| {
+        let ([features, record, ..], [output]) = (inputs, outputs) else {
+            panic!("next takes a number, a record and an output");
+        };
+        calls::next(table.n, &table.bytes, number_of(features), record, output)
+    },
+    outputs: &[RECORD],
+    plain: None,
+};
+
+/// A number as an input of a call.
+pub fn number(number: usize) -> [u8; size_of::<usize>()] {
+    number.to_le_bytes()
+}
+
+fn number_of(input: &[u8]) -> usize {
+    usize::from_le_bytes(input.try_into().expect("the bytes of a number"))
+}
+
 /// The difference with its reasons.
 pub const DIFFERENCE_EXPLAINED: Call = Call {
     plain: Some(&DIFFERENCE),

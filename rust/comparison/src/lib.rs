@@ -12,6 +12,7 @@ mod told;
 pub use calls::{Call, DIFFERENCE, GENERALIZE, ORDER, REWRITE, UNIFY};
 pub use calls::{DIFFERENCE_BY, DIFFERENCE_EXPLAINED, DIFFERENCE_EXPLAINED_BY};
 pub use calls::{GENERALIZE_APPROPRIATE, REWRITE_APPROPRIATE, UNIFY_APPROPRIATE};
+pub use calls::{NEXT, number};
 
 use lent::{Lent, outputs};
 use reference::order::Order;
@@ -48,6 +49,8 @@ pub struct Comparison {
     sides: [[usize; 2]; NUMBERS],
     /// The number of the order's answers, by their places in `Order::ALL`.
     answers: [usize; 4],
+    /// The number of times that a listing ended.
+    ends: usize,
     /// The number of reasons, by their bytes.
     reasons: [usize; 4],
 }
@@ -62,6 +65,7 @@ impl Comparison {
             replies: [0; NUMBERS],
             sides: [[0; 2]; NUMBERS],
             answers: [0; 4],
+            ends: 0,
             reasons: [0; 4],
         }
     }
@@ -81,7 +85,7 @@ impl Comparison {
         let length = match reply {
             Reply::Length(length) => length,
             Reply::Order(_) => return reply,
-            Reply::Refused(_) => {
+            Reply::End | Reply::Refused(_) => {
                 for rooms in [none, any] {
                     assert_eq!(self.make(table, records, &rooms).0, reply);
                 }
@@ -130,7 +134,7 @@ impl Comparison {
     }
 
     /// One call of each engine with outputs of given lengths: the reply, and what the
-    /// outputs hold. A refusal changes none of them.
+    /// outputs hold. A refusal and the end of a listing change none of them.
     fn make(
         &mut self,
         table: &TableBytes,
@@ -151,11 +155,12 @@ impl Comparison {
             by_engine == by_reference,
             "outputs of {rooms:?} bytes differ: {table:?}, the records {records:?}"
         );
-        let refused = matches!(reply, Reply::Refused(_));
-        assert!(!refused || by_engine == before, "{table:?} {records:?}");
+        let unwritten = matches!(reply, Reply::End | Reply::Refused(_));
+        assert!(!unwritten || by_engine == before, "{table:?} {records:?}");
         match engine {
             Told::Length(_) => self.replies[0] += 1,
             Told::Order(place) => self.answers[place] += 1,
+            Told::End => self.ends += 1,
             Told::Refused(number, side) => {
                 let number = usize::from(number);
                 self.replies[number] += 1;
@@ -221,6 +226,12 @@ impl Comparison {
             let enough = self.answers[order as usize] >= least || !random::is_stored();
             assert!(enough, "{order:?}: {:?}", self.answers);
         }
+    }
+
+    /// From the stored seeds, a listing ended at least so often.
+    pub fn assert_ends(&self, least: usize) {
+        let enough = self.ends >= least || !random::is_stored();
+        assert!(enough, "{} ends", self.ends);
     }
 
     /// From the stored seeds, each of the three reasons came at least so often.

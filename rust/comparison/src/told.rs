@@ -10,6 +10,8 @@ pub enum Told {
     Length(usize),
     /// The place among same, under, above and neither.
     Order(usize),
+    /// The end of a listing.
+    End,
     /// The number of the refusal, and for a graph's its place among first and second.
     Refused(u8, Option<usize>),
 }
@@ -32,11 +34,18 @@ impl From<Result<Order, Refusal>> for Told {
     }
 }
 
+impl From<Result<Option<usize>, Refusal>> for Told {
+    fn from(result: Result<Option<usize>, Refusal>) -> Told {
+        result.map_or_else(Told::from, |length| length.map_or(Told::End, Told::Length))
+    }
+}
+
 impl From<Reply> for Told {
     fn from(reply: Reply) -> Told {
         match reply {
             Reply::Length(length) => Told::Length(length),
             Reply::Order(order) => Told::Order(order as usize),
+            Reply::End => Told::End,
             Reply::Refused(refusal) => {
                 Told::Refused(refusal.number(), refusal.side().map(|side| side as usize))
             }

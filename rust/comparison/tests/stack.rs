@@ -3,7 +3,8 @@
 //! calls with a list are in `appropriate.rs`.
 
 use comparison::on_stated_stack;
-use record_engine::{LONGEST_RECORD, Order, difference, generalize, order, rewrite, unify};
+use record_engine::{LONGEST_RECORD, Order, Refusal};
+use record_engine::{difference, generalize, next, order, rewrite, unify};
 use reference::graph::Graph;
 use reference::random;
 use reference::record;
@@ -44,6 +45,8 @@ fn compare(graphs: [Graph; 2]) -> [usize; 2] {
         let (n, table) = (table.n, &table.bytes);
         assert_eq!(order(n, table, &ladder, &chain), Ok(Order::Under));
         assert_eq!(order(n, table, &chain, &chain), Ok(Order::Same));
+        let unlisted = next(n, table, 2, &ladder, &mut output);
+        assert_eq!(unlisted, Err(Refusal::NotListed));
         [
             rewrite(n, table, &chain, &mut output),
             rewrite(n, table, &ladder, &mut output),

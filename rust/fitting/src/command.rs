@@ -14,15 +14,19 @@ use crate::{draw, help, notation, picture, reading};
 use arguments::Arguments;
 use record_engine::Order;
 use std::io::{ErrorKind, Write};
+use std::iter;
 
 /// What a command tells, in order: on standard output, or of what failed.
-type Told = Vec<Result<Vec<u8>, Failure>>;
+type Told = Box<dyn Iterator<Item = Result<Vec<u8>, Failure>>>;
+
+/// A listing is told so many lines at a time.
+const LINES_AT_ONCE: usize = 1_000;
 
 /// Runs the tool: writes what a command tells, and gives the exit status, 0 for success, 1
 /// for a refusal, 2 for wrong use.
 pub fn run(arguments: &[String], out: &mut dyn Write, err: &mut dyn Write) -> u8 {
     let mut status = 0;
-    for part in told(arguments).unwrap_or_else(|failure| vec![Err(failure)]) {
+    for part in told(arguments).unwrap_or_else(|failure| Box::new(iter::once(Err(failure)))) {
         let failure = match part {
             Ok(bytes) => match out.write_all(&bytes).and_then(|()| out.flush()) {
                 // Whoever reads has read enough.
@@ -70,13 +74,14 @@ fn told(arguments: &[String]) -> Result<Told, Failure> {
         "common" => operate(Operation::Generalize, &table, &arguments),
         "combine" => operate(Operation::Unify, &table, &arguments),
         "difference" => operate(Operation::Difference, &table, &arguments),
+        "list" => list(table, &arguments),
         _ => unreachable!("the help has no further commands"),
     }
 }
 
 /// A text on standard output and nothing else.
 fn text(text: String) -> Told {
-    vec![Ok(text.into_bytes())]
+    Box::new(iter::once(Ok(text.into_bytes())))
 }
 
 fn check(table: &Table, arguments: &Arguments) -> Told {
@@ -99,7 +104,8 @@ fn check(table: &Table, arguments: &Arguments) -> Told {
         let line = format!("{}: accepted, {form}, {nodes} and {links}\n", input.name);
         Ok(line.into_bytes())
     });
-    checked.collect()
+    let checked: Vec<_> = checked.collect();
+    Box::new(checked.into_iter())
 }
 
 fn counted(number: usize, noun: &str) -> String {
@@ -120,10 +126,10 @@ fn make(table: &Table, arguments: &Arguments) -> Result<Told, Failure> {
 /// Writes a result to a file, or to standard output.
 fn put(file: &str, result: Vec<u8>) -> Result<Told, Failure> {
     if file == "-" {
-        return Ok(vec![Ok(result)]);
+        return Ok(Box::new(iter::once(Ok(result))));
     }
     match std::fs::write(file, result) {
-        Ok(()) => Ok(Vec::new()),
+        Ok(()) => Ok(Box::new(iter::empty())),
         Err(error) => Err(Failure::usage(format!("cannot write {file}: {error}"))),
     }
 }
@@ -148,7 +154,10 @@ fn draw(table: &Table, arguments: &Arguments) -> Result<Told, Failure> {
         }
     };
     match &arguments.output {
-        Some(file) if file != "-" => picture::draw(&dot, file).map(|()| Vec::new()),
+        Some(file) if file != "-" => {
+            picture::draw(&dot, file)?;
+            Ok(Box::new(iter::empty()))
+        }
         _ => Ok(text(dot)),
     }
 }
@@ -202,12 +211,36 @@ fn operate(operation: Operation, table: &Table, arguments: &Arguments) -> Result
             (explained.difference, why)
         }
     };
-    let mut told = match &arguments.output {
+    let told = match &arguments.output {
         Some(file) => put(file, result)?,
         None => text(notation::write(table, &Graph::of_written(&result))),
     };
-    told.push(Ok(why.into_bytes()));
-    Ok(told)
+    Ok(Box::new(told.chain(iter::once(Ok(why.into_bytes())))))
+}
+
+/// Every small graph, in order.
+fn list(table: Table, arguments: &Arguments) -> Result<Told, Failure> {
+    let Some(features) = &arguments.features else {
+        return Err(arguments.misused("`list` needs `--features F`, which is 1 or 2"));
+    };
+    let Ok(features) = features.parse() else {
+        return Err(arguments.misused(&format!("`--features`: `{features}` is no number")));
+    };
+    let mut upcoming = engine::next(&table, features, &[]).map_err(|refusal| {
+        Failure::Refused(format!(
+            "{refusal}\n  give `--features 1` or `--features 2`"
+        ))
+    })?;
+    let mut record = move || {
+        let record = upcoming.take()?;
+        upcoming = engine::next(&table, features, &record).expect("a listed record goes on");
+        Some(notation::write_line(&table, &Graph::of_written(&record)))
+    };
+    let lines = iter::from_fn(move || {
+        let lines: String = iter::from_fn(&mut record).take(LINES_AT_ONCE).collect();
+        (!lines.is_empty()).then(|| Ok(lines.into_bytes()))
+    });
+    Ok(Box::new(lines))
 }
 
 /// The record that an operation gives, or why it is refused.

@@ -2,7 +2,7 @@
 //! All that the tool tells as a result comes from here.
 
 use crate::table::Table;
-use record_engine::{LONGEST_RECORD, MOST_LINKS, Order, Reason, Refusal};
+use record_engine::{LONGEST_LISTED, LONGEST_RECORD, MOST_LINKS, Order, Reason, Refusal};
 use record_engine::{difference_explained, difference_explained_by};
 
 /// An operation on two records that gives a third.
@@ -67,6 +67,13 @@ pub fn explain(
     // Behind the last link's the bytes are as they were lent, and 0 is no reason.
     let reasons = reasons.into_iter().map_while(Reason::of).collect();
     Ok((difference, reasons))
+}
+
+/// The listed record after another, or the first after no bytes; none at the end.
+pub fn next(table: &Table, features: usize, record: &[u8]) -> Result<Option<Vec<u8>>, Refusal> {
+    let mut output = [0; LONGEST_LISTED];
+    let length = record_engine::next(table.n, &table.bytes, features, record, &mut output)?;
+    Ok(length.map(|length| output[..length].to_vec()))
 }
 
 /// What a call writes.

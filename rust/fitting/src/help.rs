@@ -15,7 +15,7 @@ pub struct Command {
 }
 
 /// Every command.
-pub const COMMANDS: [Command; 8] = [
+pub const COMMANDS: [Command; 9] = [
     Command {
         name: "check",
         usage: "fitting check TABLE [FILE..]",
@@ -79,6 +79,14 @@ pub const COMMANDS: [Command; 8] = [
         takes_more: false,
         options: &["--why", "--by", "-o"],
         help: include_str!("help/difference.txt"),
+    },
+    Command {
+        name: "list",
+        usage: "fitting list TABLE --features F",
+        operands: &["TABLE"],
+        takes_more: false,
+        options: &["--features"],
+        help: include_str!("help/list.txt"),
     },
 ];
 

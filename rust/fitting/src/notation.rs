@@ -8,4 +8,4 @@ mod write;
 
 pub use read::{Text, read};
 pub use tokens::is_name;
-pub use write::{label, write};
+pub use write::{label, write, write_line};

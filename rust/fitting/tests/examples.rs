@@ -7,7 +7,7 @@ use std::fs;
 use std::path::Path;
 use tool::{folder, output, tool};
 
-const SUBJECTS: [&str; 11] = [
+const SUBJECTS: [&str; 12] = [
     "",
     "text",
     "table",
@@ -19,6 +19,7 @@ const SUBJECTS: [&str; 11] = [
     "common",
     "combine",
     "difference",
+    "list",
 ];
 
 #[test]

@@ -29,13 +29,18 @@ fn differences_by_a_reading_order() {
 }
 
 #[test]
+fn listings() {
+    assert_eq!(session::run("list"), 11);
+}
+
+#[test]
 fn pictures() {
     assert_eq!(session::run("draw"), 8);
 }
 
 #[test]
 fn help() {
-    assert_eq!(session::run("help"), 11);
+    assert_eq!(session::run("help"), 12);
 }
 
 #[test]

@@ -61,6 +61,14 @@ pub fn length(code: u64) -> Result<usize, Refusal> {
     }
 }
 
+/// The answer of a step through a listing; none is its end.
+pub fn length_or_end(code: u64) -> Result<Option<usize>, Refusal> {
+    match answer(code) {
+        Answer::End => Ok(None),
+        _ => length(code).map(Some),
+    }
+}
+
 /// The answer of the order.
 pub fn order_of(code: u64) -> Result<Order, Refusal> {
     match answer(code) {

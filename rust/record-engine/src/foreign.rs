@@ -2,15 +2,15 @@
 //! the same name that takes slices. Only this file has `unsafe` code.
 
 /// Declares functions of the library by their parameters: numbers, then slices that are
-/// read, then slices that are written. In C a slice is a pointer to its first byte and a
-/// length.
+/// read, each behind a number in brackets where it has one, then slices that are written.
+/// In C a slice is a pointer to its first byte and a length.
 macro_rules! functions {
-    ($($name:ident($($number:ident),*; $($input:ident),*; $($output:ident),*);)*) => {
+    ($($name:ident($($number:ident),*; $($([$count:ident])? $input:ident),*; $($output:ident),*);)*) => {
         mod library {
             unsafe extern "C" {
                 $(pub fn $name(
                     $($number: usize,)*
-                    $($input: *const u8, _: usize,)*
+                    $($($count: usize,)? $input: *const u8, _: usize,)*
                     $($output: *mut u8, _: usize,)*
                 ) -> u64;)*
             }
@@ -18,7 +18,7 @@ macro_rules! functions {
 
         $(pub fn $name(
             $($number: usize,)*
-            $($input: &[u8],)*
+            $($($count: usize,)? $input: &[u8],)*
             $($output: &mut [u8],)*
         ) -> u64 {
             // SAFETY: the pointers and lengths are those of slices that live through the
@@ -27,7 +27,7 @@ macro_rules! functions {
             unsafe {
                 library::$name(
                     $($number,)*
-                    $($input.as_ptr(), $input.len(),)*
+                    $($($count,)? $input.as_ptr(), $input.len(),)*
                     $($output.as_mut_ptr(), $output.len(),)*
                 )
             }
@@ -47,5 +47,6 @@ functions! {
     record_difference_explained(n; table, general, specific; output, reasons);
     record_difference_by(n; table, list, general, specific; output);
     record_difference_explained_by(n; table, list, general, specific; output, reasons);
+    record_next(n; table, [features] record; output);
     record_house_table(;; output);
 }

@@ -1,7 +1,7 @@
 //! The record engine for Rust programs. A call takes a type table, one or two
 //! records, some calls a list, and, where it writes a record, an output that the caller
 //! lends; it gives the length of what it wrote, an [`Order`],
-//! or a [`Refusal`].
+//! or a [`Refusal`]. [`Listing`] goes through all small graphs over a table.
 //!
 //! The functions behind these calls are proved (`crates/engine`); here is only
 //! the passage to them, by the static library `librecord_engine.a`, which
@@ -105,6 +105,7 @@ mod code;
 mod differences;
 #[allow(unsafe_code)]
 mod foreign;
+mod listing;
 mod reason;
 mod refusal;
 mod tables;
@@ -112,6 +113,7 @@ mod tables;
 pub use appropriate::{generalize_appropriate, rewrite_appropriate, unify_appropriate};
 pub use calls::{difference, generalize, order, rewrite, unify};
 pub use differences::{difference_by, difference_explained, difference_explained_by};
+pub use listing::{LONGEST_LISTED, Listing, next};
 pub use reason::Reason;
 pub use refusal::{GraphFault, Refusal, Side, TableFault};
 pub use tables::{HOUSE_TABLE_LENGTH, HOUSE_TYPES, house_table, table};

@@ -1,9 +1,9 @@
 //! The calls on bytes: rewriting, order, common part, combination, difference, and the
 //! difference with its reasons (Paper 13); the first, third and fourth also with a list
 //! of types for features (Paper 9), the differences also with a list of all features
-//! (Paper 10). Checks run in the papers' order: the table (1, 2, 3), the list (17, 19),
+//! (Paper 10); and a step through all small graphs (Paper 14). Checks run in the papers' order: the table (1, 2, 3), the list (17, 19),
 //! the first graph and then the second (4 to 7, and 18 by the list of types), then
-//! 12, 13, 9, 10, 11, 8 and 22. An output changes only where a length is returned, and
+//! 12, 13, 9, 10, 11, 23, 24, 8 and 22. An output changes only where a length is returned, and
 //! then only its first bytes.
 
 use crate::appropriateness::Appropriateness;
@@ -12,6 +12,7 @@ use crate::difference::{self, Explained};
 use crate::generalize;
 use crate::graph::Graph;
 use crate::link_order::LinkOrder;
+use crate::listing::Listing;
 use crate::order;
 use crate::record::{self, GraphFault, LONGEST_RECORD, MOST_LINKS, MOST_NODES};
 use crate::reply::{Refusal, Reply, Side};
@@ -45,7 +46,7 @@ pub fn written_by(call: impl FnOnce(&mut [u8]) -> Reply) -> Result<Vec<u8>, Refu
             Ok(output)
         }
         Reply::Refused(refusal) => Err(refusal),
-        Reply::Order(_) => unreachable!("a call that writes gives a length"),
+        Reply::Order(_) | Reply::End => unreachable!("a call that writes gives a length"),
     }
 }
 
@@ -165,6 +166,35 @@ pub fn difference_explained_by(
     reply(result)
 }
 
+/// "A call with no record, that is one of no bytes, gives the first, with a listed record
+/// the next or the end, the output then unchanged."
+pub fn next(n: usize, table: &[u8], features: usize, record: &[u8], output: &mut [u8]) -> Reply {
+    let result = following(n, table, features, record).and_then(|next| match next {
+        None => Ok(Reply::End),
+        Some(next) => deliver_record(next, output),
+    });
+    reply(result)
+}
+
+/// The listed record after another, or after none. "F outside 1 and 2 is 23, and a record
+/// that is read but not listed is 24, both after the table and the record's own 4 to 7."
+fn following(
+    n: usize,
+    table: &[u8],
+    features: usize,
+    record: &[u8],
+) -> Result<Option<&'static [u8]>, Refusal> {
+    let table = accept_table(n, table)?;
+    if !record.is_empty() {
+        accept_graph(&table, record, Side::First)?;
+    }
+    let listing = Listing::of(&table, features).ok_or(Refusal::FeatureCount)?;
+    if !record.is_empty() && !listing.has(record) {
+        return Err(Refusal::NotListed);
+    }
+    Ok(listing.after(record))
+}
+
 /// The difference by a list. "A list that is anything else is 19, after the table."
 fn explained_by(
     n: usize,
@@ -258,6 +288,15 @@ fn deliver_unification(accepted: Accepted, output: &mut [u8]) -> Reply {
 fn deliver(graph: &Graph, output: &mut [u8]) -> Result<Reply, Refusal> {
     let record = fitting_record(graph, output)?;
     put(&record, output);
+    Ok(Reply::Length(record.len()))
+}
+
+/// Writes a record: 8 if the output is too short, else its bytes and its length.
+fn deliver_record(record: &[u8], output: &mut [u8]) -> Result<Reply, Refusal> {
+    if record.len() > output.len() {
+        return Err(Refusal::NoRoom);
+    }
+    put(record, output);
     Ok(Reply::Length(record.len()))
 }
 

@@ -16,6 +16,7 @@ pub mod graph;
 pub mod house;
 pub mod label;
 pub mod link_order;
+pub mod listing;
 pub mod mapcalc;
 pub mod notation;
 pub mod order;

@@ -81,6 +81,7 @@ pub fn line(input: &[u8]) -> String {
     match reply {
         Reply::Length(length) => format!("ok {length} {}", hexadecimal(&output[..length])),
         Reply::Order(order) => order.word().to_string(),
+        Reply::End => unreachable!("no operation goes through a listing"),
         Reply::Refused(Refusal::Graph(fault, side)) => {
             let side = match side {
                 Side::First => "first",

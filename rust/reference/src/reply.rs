@@ -1,5 +1,5 @@
-//! What a call gives back: a length, one of the order's four answers, or a refusal
-//! with the number it has in the papers. A refusal of a graph tells the kind and
+//! What a call gives back: a length, one of the order's four answers, the end of a
+//! listing, or a refusal with the number it has in the papers. A refusal of a graph tells the kind and
 //! which graph.
 
 use crate::order::Order;
@@ -40,6 +40,10 @@ pub enum Refusal {
     ReadingOrder,
     /// 22: difference, "too few bytes lent for the reasons".
     NoReasonRoom,
+    /// 23: "F outside 1 and 2".
+    FeatureCount,
+    /// 24: "a record that is read but not listed".
+    NotListed,
 }
 
 impl Refusal {
@@ -57,6 +61,8 @@ impl Refusal {
             Refusal::TypeList => 17,
             Refusal::ReadingOrder => 19,
             Refusal::NoReasonRoom => 22,
+            Refusal::FeatureCount => 23,
+            Refusal::NotListed => 24,
         }
     }
 
@@ -76,15 +82,18 @@ pub enum Reply {
     Length(usize),
     /// Which graph is the broader, seen from the first.
     Order(Order),
+    /// No listed record follows, and the output is unchanged.
+    End,
     /// There is no result, and every output is unchanged.
     Refused(Refusal),
 }
 
 impl Reply {
-    /// The number of the refusal in the papers; none for a length and for the order's answers.
+    /// The number of the refusal in the papers; none for a length, for the order's answers
+    /// and for the end of a listing.
     pub fn number(self) -> Option<u8> {
         match self {
-            Reply::Length(_) | Reply::Order(_) => None,
+            Reply::Length(_) | Reply::Order(_) | Reply::End => None,
             Reply::Refused(refusal) => Some(refusal.number()),
         }
     }

@@ -15,6 +15,8 @@ pub struct Arguments {
     pub why: bool,
     /// `--by FEATURES`
     pub by: Option<String>,
+    /// `--features F`
+    pub features: Option<String>,
 }
 
 impl Arguments {
@@ -27,6 +29,7 @@ impl Arguments {
             over: None,
             why: false,
             by: None,
+            features: None,
         };
         let mut waiting = arguments.iter();
         let mut options_end = false;
@@ -64,6 +67,7 @@ impl Arguments {
             "-o" => self.output = value("a file")?,
             "--over" => self.over = value("a file")?,
             "--by" => self.by = value("features")?,
+            "--features" => self.features = value("a number")?,
             _ => self.why = true,
         }
         Ok(())

@@ -1,6 +1,6 @@
 //! A graph to text. A value that fits into the rest of a line stands there; of another,
-//! each link has its own line. A shared node is described where it is first met, lowest
-//! feature first, and is its capital alone in the other places.
+//! each link has its own line, unless all is to stand on one. A shared node is described
+//! where it is first met, lowest feature first, and is its capital alone in the other places.
 
 use crate::graph::{Graph, Levels, Node};
 use crate::table::Table;
@@ -11,9 +11,19 @@ const WIDTH: usize = 80;
 
 /// The text of an accepted graph, with the line's end.
 pub fn write(table: &Table, graph: &Graph) -> String {
+    write_within(WIDTH, table, graph)
+}
+
+/// The same on one line, however long.
+pub fn write_line(table: &Table, graph: &Graph) -> String {
+    write_within(usize::MAX, table, graph)
+}
+
+fn write_within(width: usize, table: &Table, graph: &Graph) -> String {
     let mut writer = Writer {
         table,
         graph,
+        width,
         capitals: graph.capitals(),
         widths: vec![0; graph.nodes.len()],
         first_links: BTreeSet::new(),
@@ -36,6 +46,8 @@ pub fn label(table: &Table, node: &Node) -> String {
 struct Writer<'a> {
     table: &'a Table,
     graph: &'a Graph,
+    /// How many characters a line may have.
+    width: usize,
     capitals: Vec<Option<String>>,
     /// For each node the width of its description on one line.
     widths: Vec<usize>,
@@ -85,7 +97,7 @@ impl Writer<'_> {
             return;
         }
         // Behind it a comma may follow.
-        let fits = column + self.widths[node] < WIDTH;
+        let fits = column + self.widths[node] < self.width;
         let separator = match fits {
             true => " ".to_string(),
             false => format!("\n{}", " ".repeat(indent + 2)),

@@ -1,0 +1,3 @@
+-- The listed records and their order.
+pub mod Listing
+pub mod Numbers

@@ -1,0 +1,3 @@
+-- What the listing's call replies, and what its inner functions promise.
+pub mod Call
+pub mod Numbers

@@ -1,0 +1,129 @@
+//! All small graphs over a table, in the order of their records' bytes: the call that
+//! gives the next one, and an iterator by it.
+
+use crate::code::length_or_end;
+use crate::{Refusal, foreign};
+
+/// The length of the longest listed record: an output of so many bytes is never too short
+/// for [`next`].
+pub const LONGEST_LISTED: usize = 32;
+
+/// Writes the listed record after the given one, and gives its length, or nothing where the
+/// given one is the last; the output is then unchanged. A record of no bytes asks for the
+/// first. Listed are the written records of at most 3 nodes that have no range and use
+/// features below `features`, which is 1 or 2, in the order of their bytes: by the first
+/// byte in which two differ.
+///
+/// Refused by 1 to 3; by 4 to 7 where the record has bytes, as the first; then by 23 where
+/// `features` is not 1 or 2, by 24 where the record is not listed, and by 8.
+///
+/// ```
+/// use record_engine::Refusal;
+/// let diamond = record_engine::table(&[0x01, 0x03, 0x05, 0x0F]).expect("at most 8 types");
+/// let mut output = [0; record_engine::LONGEST_LISTED];
+/// let length = record_engine::next(4, &diamond, 2, &[], &mut output)?;
+/// assert_eq!(length, Some(10));
+/// assert_eq!(output[..10], [1, 1, 0, 0, 0, 0, 0, 0, 0, 0]);
+/// // After the greatest lone node comes the least graph of two nodes.
+/// let top = [1, 3, 0, 0, 0, 0, 0, 0, 0, 0];
+/// let length = record_engine::next(4, &diamond, 2, &top, &mut output)?;
+/// assert_eq!(length, Some(20));
+/// let two = [2, 1, 1, 0, 0, 0, 0, 0, 0, 0, 1, 1, 0, 0, 0, 0, 0, 0, 0, 0];
+/// assert_eq!(output[..20], two);
+/// // A node whose feature 2 leads to another is read and not listed.
+/// let other = [2, 1, 4, 0, 0, 0, 0, 0, 0, 0, 1, 1, 0, 0, 0, 0, 0, 0, 0, 0];
+/// let refused = record_engine::next(4, &diamond, 2, &other, &mut output);
+/// assert_eq!(refused, Err(Refusal::NotListed));
+/// # Ok::<(), Refusal>(())
+/// ```
+///
+/// Over two types and one feature there are three: chains of one, two and three nodes.
+///
+/// ```
+/// let two = record_engine::table(&[0x01, 0x03]).expect("at most 8 types");
+/// let mut output = [0; record_engine::LONGEST_LISTED];
+/// let chain = [
+///     3, 1, 1, 0, 0, 0, 0, 0, 0, 0, 1, 1, 1, 0, 0, 0, 0, 0, 0, 0, 2, 1, 0, 0, 0, 0, 0, 0, 0, 0,
+/// ];
+/// assert_eq!(record_engine::next(2, &two, 1, &chain, &mut output), Ok(None));
+/// assert_eq!(output, [0; record_engine::LONGEST_LISTED]);
+/// ```
+pub fn next(
+    n: usize,
+    table: &[u8],
+    features: usize,
+    record: &[u8],
+    output: &mut [u8],
+) -> Result<Option<usize>, Refusal> {
+    length_or_end(foreign::record_next(n, table, features, record, output))
+}
+
+/// The listed records of a table and a number of features, from the first to the last, by
+/// [`next`].
+///
+/// ```
+/// use record_engine::Listing;
+/// let diamond = record_engine::table(&[0x01, 0x03, 0x05, 0x0F]).expect("at most 8 types");
+/// assert_eq!(Listing::new(4, &diamond, 1)?.count(), 39);
+/// assert_eq!(Listing::new(4, &diamond, 2)?.count(), 462);
+/// let lone = Listing::new(4, &diamond, 2)?.take_while(|record| record[0] == 1);
+/// let types: Vec<u8> = lone.map(|record| record[1]).collect();
+/// assert_eq!(types, [1, 2, 3]);
+/// # Ok::<(), record_engine::Refusal>(())
+/// ```
+#[derive(Clone, Debug)]
+pub struct Listing<'a> {
+    n: usize,
+    table: &'a [u8],
+    features: usize,
+    /// The record that is given next; none at the end.
+    upcoming: Option<Vec<u8>>,
+}
+
+impl<'a> Listing<'a> {
+    /// The listing over a table of n types and a number of features, before its first
+    /// record.
+    ///
+    /// Refused by 1 to 3 and by 23.
+    ///
+    /// ```
+    /// use record_engine::{Listing, Refusal};
+    /// let two = record_engine::table(&[0x01, 0x03]).expect("at most 8 types");
+    /// let refused = Listing::new(2, &two, 3).err();
+    /// assert_eq!(refused, Some(Refusal::FeatureCount));
+    /// ```
+    pub fn new(n: usize, table: &'a [u8], features: usize) -> Result<Listing<'a>, Refusal> {
+        let upcoming = after(n, table, features, &[])?;
+        Ok(Listing {
+            n,
+            table,
+            features,
+            upcoming,
+        })
+    }
+}
+
+impl Iterator for Listing<'_> {
+    type Item = Vec<u8>;
+
+    fn next(&mut self) -> Option<Vec<u8>> {
+        let record = self.upcoming.take()?;
+        self.upcoming = after(self.n, self.table, self.features, &record)
+            .expect("a listed record is refused by no number");
+        Some(record)
+    }
+}
+
+impl std::iter::FusedIterator for Listing<'_> {}
+
+/// The listed record after one, if there is one.
+fn after(
+    n: usize,
+    table: &[u8],
+    features: usize,
+    record: &[u8],
+) -> Result<Option<Vec<u8>>, Refusal> {
+    let mut output = [0; LONGEST_LISTED];
+    let length = next(n, table, features, record, &mut output)?;
+    Ok(length.map(|length| output[..length].to_vec()))
+}
