@@ -1,6 +1,7 @@
-/* The record engine for C: twelve calls on bytes, and the table of the house types, in
- * the static library librecord_engine.a, which `rt staticlib record_engine` writes to
- * target/staticlib. examples/difference.c is a whole program.
+/* The record engine for C: twelve calls on bytes, four on a gathering, and the table of
+ * the house types, in the static library librecord_engine.a, which
+ * `rt staticlib record_engine` writes to target/staticlib. examples/difference.c is a
+ * whole program.
  *
  * A type table orders n types, 2 to 64, by a row of 8 bytes for each. In row i, bit
  * j % 8 of byte j / 8 is set exactly when type j is below type i or is type i; bit 0
@@ -50,17 +51,34 @@
  * ranges is the meaning of one of them. With k types that are not 0 there are
  * k + k * k + k * k * k of them for one feature and k + 3 * k * k + 16 * k * k * k for two.
  *
- * A record, a list or an output is handed in as a pointer to its first byte and a length.
- * A pointer is not null, also where the length is 0. An output overlaps nothing
- * else that is handed in. The calls keep no pointer, share no state and may run
- * side by side.
+ * A gathering keeps the common part of the records that were added to it so far, over one
+ * table. It is bytes that the caller lends:
+ *    1 byte       n
+ *    8 * n bytes  the table
+ *    2 bytes      the length of the common part, low byte first; 0 before the first addition
+ *    the rest     the common part in written form, then room; together at least
+ *                 RECORD_LONGEST bytes, so that an addition never lacks room
+ * The bytes behind the common part hold anything. Whatever calls are made on a gathering,
+ * its bytes are those that the accepted additions alone give, in their order, and the
+ * common part is the least graph above all of them; where the same records are all
+ * accepted in another order, it is the same record. Bytes that hold no gathering are
+ * refused by what is wrong with them: by 1 to 3 for the table, 1 where they end before it
+ * does; then, where the call takes a record, by its 4 to 7, as the first; then by 4 to 7
+ * for the common part, as the second, which ends with the bytes where they are fewer than
+ * its length; a byte of the length that is missing counts as 0. Adding is then refused by
+ * 8 where the common part has no room.
+ *
+ * A record, a list, a gathering or an output is handed in as a pointer to its first byte
+ * and a length. A pointer is not null, also where the length is 0. An output, or a
+ * gathering that is begun or added to, overlaps nothing else that is handed in. The calls
+ * keep no pointer, share no state and may run side by side.
  *
  * A thread that makes a call needs 256 KiB of stack. The largest calls take up to
  * 136 KiB of it; nothing tests for room, and a call that has less overruns the stack.
  *
- * A call that writes a record answers its length, which is at most
- * RECORD_LONGEST; the output's first bytes are then the record and its other bytes
- * are unchanged. On a refusal, and at the end of a listing, no byte of an output is
+ * A call that writes a record answers its length, which is at most RECORD_LONGEST; the
+ * output's first bytes are then the record and its other bytes are unchanged. On a
+ * refusal, and at the end of a listing, no byte of an output or of a gathering is
  * changed. Refusals have the numbers of documents 01 and 02:
  *
  *    1  n is not 2 to 64, or the table's length is not 8 times n
@@ -78,6 +96,7 @@
  *   12  difference: the second graph is not below the first
  *   13  difference: some node of the second graph has no wanted type: among the types
  *       whose meet with the first graph's types over it is its own, none is the greatest
+ *   16  gathering: an order or a finish before the first addition
  *   17  a list that is not of 64 bytes, or with an entry of n or more
  *   18  a record with a link that the list forbids
  *   19  a reading order that is not a list of all 64 features, each once
@@ -86,7 +105,7 @@
  *   24  listing: the record is read but not listed
  *
  * Checks run in the order 1, 2, 3; 17 or 19; the first record's 4 to 7 and 18; the second's 4
- * to 7 and 18; then 12, 13, 9, 10, 11, 23, 24, 8, 22.
+ * to 7 and 18; then 16, 12, 13, 9, 10, 11, 23, 24, 8, 22.
  */
 #ifndef RECORD_ENGINE_H
 #define RECORD_ENGINE_H
@@ -100,6 +119,10 @@ extern "C" {
 
 /* An output of so many bytes is never too short. */
 #define RECORD_LONGEST 4854
+
+/* So many bytes are enough for a gathering over every table; 1 + 8 * n + 2 +
+ * RECORD_LONGEST are for a table of n types. */
+#define RECORD_GATHERING (1 + 8 * 64 + 2 + RECORD_LONGEST)
 
 /* The number of features, and so the length of a list. */
 #define RECORD_FEATURES 64
@@ -259,6 +282,29 @@ uint64_t record_next(size_t n, const uint8_t *table, size_t table_length,
                      size_t features,
                      const uint8_t *record, size_t record_length,
                      uint8_t *output, size_t output_length);
+
+/* Begins a gathering over a table, with nothing added yet. Answers how many bytes it uses
+ * so far, 3 + 8 * n; the others are unchanged. Refuses by 1 to 3, then by 8 where fewer
+ * than 1 + 8 * n + 2 + RECORD_LONGEST bytes are lent. */
+uint64_t record_gathering_begin(size_t n, const uint8_t *table, size_t table_length,
+                                uint8_t *gathering, size_t gathering_length);
+
+/* Adds a record. Answers the length of the common part, or refuses by 4 to 7 of the
+ * record, which counts as the first, and by 11, and by nothing else on bytes that hold a
+ * gathering; a refused addition changes nothing. */
+uint64_t record_gathering_add(uint8_t *gathering, size_t gathering_length,
+                              const uint8_t *record, size_t record_length);
+
+/* Which is the broader, seen from the record: the order, as `record_order` gives it, of
+ * the record and the common part so far. Answers one of its four, or refuses by 4 to 7 of
+ * the record, which counts as the first, then by 16. */
+uint64_t record_gathering_order(const uint8_t *gathering, size_t gathering_length,
+                                const uint8_t *record, size_t record_length);
+
+/* Writes the common part so far. The gathering stays open. Answers the length, or refuses
+ * by 16, then by 8. */
+uint64_t record_gathering_finish(const uint8_t *gathering, size_t gathering_length,
+                                 uint8_t *output, size_t output_length);
 
 /* Writes the type table of the house types, for n = RECORD_HOUSE_TYPES, into the
  * output's first RECORD_HOUSE_TABLE bytes; its other bytes are unchanged. A house

@@ -1,6 +1,7 @@
 // The engine's calls for programs in other languages: a static library whose functions take a number of types, a table, one or two records
-// and an output or two, each slice as a pointer and a length, and answer one number. One function goes through all small graphs, one gives
-// the table of the house types. It knows the calls and the listing, and gives each reply its code.
+// and an output or two, each slice as a pointer and a length, and answer one number. One function goes through all small graphs, four are on
+// the bytes of a gathering, and one gives the table of the house types. It knows the calls, the listing and the gathering, and gives each
+// reply its code.
 
 use replies::Reply;
 use replies::Side;
@@ -12,6 +13,7 @@ ghost use Rattle.calls.specs.Calls.{rewriting, ordering, generalizing, unifying
 ghost use Rattle.calls.specs.Appropriate.{rewritingAppropriate, generalizingAppropriate, unifyingAppropriate};
 ghost use Rattle.calls.specs.Explained.{explaining, explainingBy};
 ghost use Rattle.listing.specs.Call.{stepping};
+ghost use Rattle.gathering.specs.Gathering.{begun, adding, comparing, finishing};
 ghost use Rattle.record_engine.specs.Code.{codeOf, countsCode, refusalCode, sideNumber};
 ghost use Rattle.record_engine.specs.Coded.{coded, codedBoth, yieldingBoth};
 ghost use Rattle.record_engine.specs.House.{tabling};
@@ -180,6 +182,38 @@ pub extern "C" fn record_next(
     ensures { λ r. ⌜ yielding r (now (out .exit)) ≡ coded (stepping n (now (table .entry)) features (now (bytes .entry)) (now (out .entry))) ⌝ }
 {
     code(listing::next(n, table, features, bytes, out))
+}
+
+// Begins a gathering over a table in lent bytes: the code of the reply, and the bytes that the engine leaves.
+#[no_mangle]
+pub extern "C" fn record_gathering_begin(n: usize, table: &[u8], state: &mut [u8]) -> u64
+    ensures { λ r. ⌜ yielding r (now (state .exit)) ≡ coded (begun n (now (table .entry)) (now (state .entry))) ⌝ }
+{
+    code(gathering::begin(n, table, state))
+}
+
+// Adds a record to a gathering: the code of the reply, and the bytes that the engine leaves.
+#[no_mangle]
+pub extern "C" fn record_gathering_add(state: &mut [u8], bytes: &[u8]) -> u64
+    ensures { λ r. ⌜ yielding r (now (state .exit)) ≡ coded (adding (now (state .entry)) (now (bytes .entry))) ⌝ }
+{
+    code(gathering::add(state, bytes))
+}
+
+// The order of a record to what is gathered: the code of the reply.
+#[no_mangle]
+pub extern "C" fn record_gathering_order(state: &[u8], bytes: &[u8]) -> u64
+    ensures { λ r. ⌜ r ≡ codeOf (comparing (now (state .entry)) (now (bytes .entry))) ⌝ }
+{
+    code(gathering::order(state, bytes))
+}
+
+// What is gathered in written form: the code of the reply, and the output that the engine leaves.
+#[no_mangle]
+pub extern "C" fn record_gathering_finish(state: &[u8], out: &mut [u8]) -> u64
+    ensures { λ r. ⌜ yielding r (now (out .exit)) ≡ coded (finishing (now (state .entry)) (now (out .entry))) ⌝ }
+{
+    code(gathering::finish(state, out))
 }
 
 // The type table of the house types, for n = 64: the code of the reply, and the output that the engine leaves.

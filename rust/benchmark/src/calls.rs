@@ -2,8 +2,8 @@
 
 use crate::inputs::Input;
 use record_engine::LONGEST_RECORD;
-use reference::calls;
 use reference::reply::Reply;
+use reference::{calls, gathering};
 
 /// Who does the work.
 #[derive(Clone, Copy, PartialEq, Eq)]
@@ -43,7 +43,11 @@ impl Call {
     }
 }
 
-pub const CALLS: [Call; 5] = [
+/// The places of the common part and of the addition among the calls.
+pub const COMMON_PART: usize = 2;
+pub const ADDITION: usize = 3;
+
+pub const CALLS: [Call; 6] = [
     Call {
         name: "rewrite",
         engine: |x, out| record_engine::rewrite(x.n, &x.table, &x.specific, out).ok(),
@@ -67,6 +71,23 @@ pub const CALLS: [Call; 5] = [
         engine: |x, out| record_engine::generalize(x.n, &x.table, &x.general, &x.other, out).ok(),
         peer: |x, out| peer::generalize(x.n, &x.table, &x.general, &x.other, out).ok(),
         reference: |x, out| length(calls::generalize(x.n, &x.table, &x.general, &x.other, out)),
+    },
+    Call {
+        // Of the same graphs as the common part; each call begins with a copy of the
+        // gathering.
+        name: "addition",
+        engine: |x, _| {
+            let mut state = x.gathered;
+            record_engine::gathering_add(&mut state, &x.general).ok()
+        },
+        peer: |x, _| {
+            let mut state = x.gathered;
+            peer::gathering_add(&mut state, &x.general).ok()
+        },
+        reference: |x, _| {
+            let mut state = x.gathered;
+            length(gathering::add(&mut state, &x.general))
+        },
     },
     Call {
         name: "combination",

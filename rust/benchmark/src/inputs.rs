@@ -3,6 +3,7 @@
 //! and with them. The same on every run.
 
 use reference::difference::difference;
+use reference::gathering::{self, LONGEST_GATHERING};
 use reference::graph::Graph;
 use reference::house;
 use reference::order::subsumption;
@@ -28,6 +29,8 @@ pub struct Input {
     pub general: Vec<u8>,
     /// Another graph above it.
     pub other: Vec<u8>,
+    /// A gathering to which that one was added.
+    pub gathered: [u8; LONGEST_GATHERING],
 }
 
 impl Input {
@@ -100,6 +103,7 @@ fn attempt(kind: &'static str, table: &TableBytes, nodes: usize, seed: u64) -> I
     let specific = random::graph(random, table.n, &shape);
     let general = weaker(random, &table.accepted(), &specific);
     let other = weaker(random, &table.accepted(), &specific);
+    let other = record::write(&other);
     Input {
         kind,
         has_ranges: false,
@@ -108,8 +112,20 @@ fn attempt(kind: &'static str, table: &TableBytes, nodes: usize, seed: u64) -> I
         table: table.bytes.clone(),
         specific: record::write(&specific),
         general: record::write(&general),
-        other: record::write(&other),
+        gathered: gathered(table.n, &table.bytes, &other),
+        other,
     }
+}
+
+/// A gathering over a table to which a record was added.
+fn gathered(n: usize, table: &[u8], record: &[u8]) -> [u8; LONGEST_GATHERING] {
+    let mut state = [0; LONGEST_GATHERING];
+    let replies = [
+        gathering::begin(n, table, &mut state),
+        gathering::add(&mut state, record),
+    ];
+    assert!(replies.iter().all(|reply| reply.number().is_none()));
+    state
 }
 
 /// The same graphs with ranges: at every other node of the specific one, and at the
@@ -137,10 +153,12 @@ fn with_ranges(input: &Input) -> Input {
         }
         record::write(&above)
     };
+    let (general, other) = (above(&general), above(&other));
     Input {
         has_ranges: true,
-        general: above(&general),
-        other: above(&other),
+        general,
+        gathered: gathered(input.n, &input.table, &other),
+        other,
         specific: record::write(&ranged),
         table: input.table.clone(),
         ..*input

@@ -1,7 +1,7 @@
 //! Instructions of a call, counted by valgrind: this program runs itself under it
 //! with one call and with some more, and takes the difference.
 
-use crate::calls::{CALLS, Worker};
+use crate::calls::{ADDITION, CALLS, COMMON_PART, Worker};
 use crate::inputs::{input_at, inputs};
 use crate::print_means;
 use record_engine::LONGEST_RECORD;
@@ -54,6 +54,7 @@ pub fn print() {
     println!("| call | types | nodes | engine | peer | / peer |");
     println!("|---|---|---|---|---|---|");
     let mut ratios = Vec::new();
+    let mut by_engine = [const { Vec::new() }; CALLS.len()];
     for (call, known) in CALLS.iter().enumerate() {
         for (place, input) in inputs().iter().enumerate() {
             let [engine, peer] = [0, 1].map(|worker| {
@@ -61,6 +62,7 @@ pub fn print() {
                 (run(1 + MORE) - run(1)) as f64 / MORE as f64
             });
             ratios.push((input.has_ranges, engine / peer));
+            by_engine[call].push(engine);
             println!(
                 "| {} | {} | {} | {engine:.0} | {peer:.0} | {:.2} |",
                 known.name,
@@ -71,4 +73,8 @@ pub fn print() {
         }
     }
     print_means(&ratios);
+    let additions = by_engine[ADDITION].iter().zip(&by_engine[COMMON_PART]);
+    let most = additions.map(|(addition, common)| addition / common);
+    let most = most.fold(0.0, f64::max);
+    println!("engine, an addition / the common part of the same graphs: at most {most:.3}\n");
 }

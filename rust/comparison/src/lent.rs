@@ -21,9 +21,22 @@ impl Lent {
         }
     }
 
-    fn output(&mut self) -> &mut [u8] {
+    /// The bytes given, in the midst of others.
+    pub fn holding(random: &mut Xorshift, bytes: &[u8]) -> Lent {
+        let mut lent = Lent::new(random, bytes.len());
+        lent.output().copy_from_slice(bytes);
+        lent
+    }
+
+    /// The bytes that are lent.
+    pub fn output(&mut self) -> &mut [u8] {
         let end = self.bytes.len() - MARGIN;
         &mut self.bytes[MARGIN..end]
+    }
+
+    /// All of them, to be read.
+    pub fn all(&self) -> &[u8] {
+        &self.bytes[MARGIN..self.bytes.len() - MARGIN]
     }
 
     /// The first bytes of the output, so many.

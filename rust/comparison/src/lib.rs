@@ -5,6 +5,8 @@
 
 mod calls;
 pub mod cases;
+mod counts;
+mod gathering;
 mod lent;
 pub mod program;
 mod told;
@@ -14,16 +16,14 @@ pub use calls::{DIFFERENCE_BY, DIFFERENCE_EXPLAINED, DIFFERENCE_EXPLAINED_BY};
 pub use calls::{GENERALIZE_APPROPRIATE, REWRITE_APPROPRIATE, UNIFY_APPROPRIATE};
 pub use calls::{NEXT, number};
 
+pub use gathering::Gatherings;
+
+use counts::Counts;
 use lent::{Lent, outputs};
-use reference::order::Order;
 use reference::random::{self, Ranges, Shape, TableBytes, Xorshift};
 use reference::record;
 use reference::reply::Reply;
 use std::thread;
-use told::Told;
-
-/// One more than the greatest number of a refusal.
-const NUMBERS: usize = 25;
 
 /// The stack that the header, the wrapper and the README state for a call.
 const STACK: usize = 256 << 10;
@@ -43,14 +43,7 @@ pub struct Comparison {
     call: Call,
     random: Xorshift,
     inputs: usize,
-    /// The number of lengths, at 0, and of refusals, by the papers' number.
-    replies: [usize; NUMBERS],
-    /// The number of refusals of the first graph and of the second, by the papers' number.
-    sides: [[usize; 2]; NUMBERS],
-    /// The number of the order's answers, by their places in `Order::ALL`.
-    answers: [usize; 4],
-    /// The number of times that a listing ended.
-    ends: usize,
+    counts: Counts,
     /// The number of reasons, by their bytes.
     reasons: [usize; 4],
 }
@@ -62,10 +55,7 @@ impl Comparison {
             call,
             random: Xorshift::stored(seed),
             inputs: 0,
-            replies: [0; NUMBERS],
-            sides: [[0; 2]; NUMBERS],
-            answers: [0; 4],
-            ends: 0,
+            counts: Counts::default(),
             reasons: [0; 4],
         }
     }
@@ -157,18 +147,7 @@ impl Comparison {
         );
         let unwritten = matches!(reply, Reply::End | Reply::Refused(_));
         assert!(!unwritten || by_engine == before, "{table:?} {records:?}");
-        match engine {
-            Told::Length(_) => self.replies[0] += 1,
-            Told::Order(place) => self.answers[place] += 1,
-            Told::End => self.ends += 1,
-            Told::Refused(number, side) => {
-                let number = usize::from(number);
-                self.replies[number] += 1;
-                if let Some(side) = side {
-                    self.sides[number][side] += 1;
-                }
-            }
-        }
+        self.counts.count(engine);
         (reply, by_engine)
     }
 
@@ -200,38 +179,23 @@ impl Comparison {
     /// From the stored seeds, each of these replies came at least so often, and no other
     /// at all; 0 is a length.
     pub fn assert_replies(&self, numbers: &[usize], least: usize) {
-        for (number, &count) in self.replies.iter().enumerate() {
-            let enough = match numbers.contains(&number) {
-                true => count >= least,
-                false => count == 0,
-            };
-            let enough = enough || !random::is_stored();
-            assert!(enough, "reply {number}: {:?}", self.replies);
-        }
+        self.counts.assert_replies(numbers, least);
     }
 
     /// From the stored seeds, each of these refusals came at least so often of the first
     /// graph and at least so often of the second.
     pub fn assert_sides(&self, numbers: &[usize], least: usize) {
-        for &number in numbers {
-            let [first, second] = self.sides[number];
-            let enough = first.min(second) >= least || !random::is_stored();
-            assert!(enough, "reply {number}: {first} first, {second} second");
-        }
+        self.counts.assert_sides(numbers, least);
     }
 
     /// From the stored seeds, each of the order's four answers came at least so often.
     pub fn assert_answers(&self, least: usize) {
-        for order in Order::ALL {
-            let enough = self.answers[order as usize] >= least || !random::is_stored();
-            assert!(enough, "{order:?}: {:?}", self.answers);
-        }
+        self.counts.assert_answers(least);
     }
 
     /// From the stored seeds, a listing ended at least so often.
     pub fn assert_ends(&self, least: usize) {
-        let enough = self.ends >= least || !random::is_stored();
-        assert!(enough, "{} ends", self.ends);
+        self.counts.assert_ends(least);
     }
 
     /// From the stored seeds, each of the three reasons came at least so often.

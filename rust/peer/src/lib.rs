@@ -71,6 +71,32 @@ pub fn generalize(
     write::write(&common, output)
 }
 
+/// Adds a record, the first, to what is gathered, the second: the number of types, the
+/// table, the length of the common part in two bytes, low byte first, the common part, and
+/// room. Gives the length of the new common part.
+pub fn gathering_add(gathering: &mut [u8], record: &[u8]) -> Result<usize, Refusal> {
+    let n = gathering.first().map_or(0, |&byte| usize::from(byte));
+    let (head, rest) = gathering.split_at_mut(gathering.len().min(1 + 8 * n));
+    let (count, room) = rest.split_at_mut(rest.len().min(2));
+    let length = count
+        .iter()
+        .rfold(0, |high, &byte| 256 * high + usize::from(byte));
+    let mut joins: Bounds = [[0; 64]; 64];
+    Table::empty().open_joins(n, head.get(1..).unwrap_or(&[]), &mut joins)?;
+    let (mut a, mut b, mut common) = (Graph::empty(), Graph::empty(), Graph::empty());
+    let written = if length == 0 {
+        a.read(n, record).map_err(Refusal::of)?;
+        write::write(&a, room)?
+    } else {
+        let part = &room[..length.min(room.len())];
+        read_both(n, [record, part], [&mut a, &mut b])?;
+        generalize::generalize(&joins, &a, &b, &mut common)?;
+        write::write(&common, room)?
+    };
+    count.copy_from_slice(&[written as u8, (written >> 8) as u8]);
+    Ok(written)
+}
+
 /// The combination.
 pub fn unify(
     n: usize,

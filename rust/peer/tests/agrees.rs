@@ -2,6 +2,7 @@
 
 use peer::Refusal;
 use reference::calls;
+use reference::gathering;
 use reference::order::Order;
 use reference::random::{self, Ranges, Shape, TableBytes, Xorshift};
 use reference::record::LONGEST_RECORD;
@@ -63,6 +64,21 @@ fn check(table: &TableBytes, first: &[u8], second: &[u8], room: usize, counts: &
         &mut |out| calls::generalize(n, bytes, first, second, out),
     );
     check(
+        "addition",
+        &mut |out| {
+            let mut state = gathered(table, second, out.len());
+            let result = reply_of(peer::gathering_add(&mut state, first));
+            out.copy_from_slice(&state[state.len() - out.len()..]);
+            result
+        },
+        &mut |out| {
+            let mut state = gathered(table, second, out.len());
+            let reply = gathering::add(&mut state, first);
+            out.copy_from_slice(&state[state.len() - out.len()..]);
+            reply
+        },
+    );
+    check(
         "combination",
         &mut |out| reply_of(peer::unify(n, bytes, first, second, out)),
         &mut |out| calls::unify(n, bytes, first, second, out),
@@ -72,6 +88,17 @@ fn check(table: &TableBytes, first: &[u8], second: &[u8], room: usize, counts: &
         &mut |out| reply_of(peer::difference(n, bytes, first, second, out)),
         &mut |out| calls::difference(n, bytes, first, second, out),
     );
+}
+
+/// A state over a table with a record in it, refused or not, and nothing for one of no
+/// bytes; so many bytes stand from the record on.
+fn gathered(table: &TableBytes, record: &[u8], room: usize) -> Vec<u8> {
+    let length = [record.len() as u8, (record.len() >> 8) as u8];
+    let mut state = [&[table.n as u8], &table.bytes[..], &length].concat();
+    let start = state.len();
+    state.extend(record);
+    state.resize(start + room, 7);
+    state
 }
 
 #[test]

@@ -90,6 +90,15 @@
 //! record and nothing strictly more general does. How records are written does not follow
 //! the list. A list that is anything else is refused by 19.
 //!
+//! # Gathering
+//!
+//! A [`Gathering`] is begun over one table; records are added to it one after another, and
+//! it keeps their common part. A record may be put beside what is gathered so far and its
+//! order learned; this changes nothing, and a refused addition changes nothing. Finishing
+//! writes the common part and leaves the gathering open. The calls [`gathering_begin`],
+//! [`gathering_add`], [`gathering_order`] and [`gathering_finish`] do the same in bytes that
+//! the caller lends. An order or a finish before the first addition is refused by 16.
+//!
 //! # Stack
 //!
 //! A thread that makes a call needs 256 KiB of stack; the largest calls take up to
@@ -105,6 +114,7 @@ mod code;
 mod differences;
 #[allow(unsafe_code)]
 mod foreign;
+mod gathering;
 mod listing;
 mod reason;
 mod refusal;
@@ -113,6 +123,8 @@ mod tables;
 pub use appropriate::{generalize_appropriate, rewrite_appropriate, unify_appropriate};
 pub use calls::{difference, generalize, order, rewrite, unify};
 pub use differences::{difference_by, difference_explained, difference_explained_by};
+pub use gathering::{GATHERING_LENGTH, Gathering};
+pub use gathering::{gathering_add, gathering_begin, gathering_finish, gathering_order};
 pub use listing::{LONGEST_LISTED, Listing, next};
 pub use reason::Reason;
 pub use refusal::{GraphFault, Refusal, Side, TableFault};

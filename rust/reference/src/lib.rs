@@ -11,6 +11,7 @@ pub mod appropriateness;
 pub mod calls;
 pub mod canonical;
 pub mod difference;
+pub mod gathering;
 pub mod generalize;
 pub mod graph;
 pub mod house;

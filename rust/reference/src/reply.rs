@@ -34,6 +34,8 @@ pub enum Refusal {
     NotBelow,
     /// 13: difference, some node of s has no wanted type.
     NoWantedType,
+    /// 16: an order or a finish "before the first addition".
+    NothingGathered,
     /// 17: the list is not of 64 bytes or has an entry of n or more.
     TypeList,
     /// 19: difference, the list is not one "of all 64 features, each once".
@@ -58,6 +60,7 @@ impl Refusal {
             Refusal::TooLarge => 11,
             Refusal::NotBelow => 12,
             Refusal::NoWantedType => 13,
+            Refusal::NothingGathered => 16,
             Refusal::TypeList => 17,
             Refusal::ReadingOrder => 19,
             Refusal::NoReasonRoom => 22,

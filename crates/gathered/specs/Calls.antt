@@ -1,0 +1,58 @@
+-- Calls in turn on a state, and the fold of programs.
+use mathlib.Core.List.{List, [], _∷_, map}
+use mathlib.Core.Option.{Option, none, some}
+use Prim.Native.Nat.{ℕ}
+use lib.ListN.{take, replicate}
+use Rattle.replies.specs.Reply.{Result, resulting, lengthOf}
+use Rattle.gathering.specs.Gathering.{joining, adding, comparing, finishing}
+
+pub data Call : Type 0 where
+  add : List ℕ → Call
+  order : List ℕ → Call
+  finish : List ℕ → Call
+
+-- the reply of a call, and the state after it
+abbrev pub called : List ℕ → Call → Result
+called state (add bytes) = adding state bytes
+called state (order bytes) = resulting (comparing state bytes) state
+called state (finish out) = resulting (finishing state out .reply) state
+
+-- the state after all
+unfoldable pub stateAfter : List ℕ → List Call → List ℕ
+stateAfter state [] = state
+stateAfter state (c ∷ cs) = stateAfter (called state c .output) cs
+
+abbrev pub keptWhere : Option ℕ → List ℕ → List (List ℕ) → List (List ℕ)
+keptWhere none bytes others = others
+keptWhere (some l) bytes others = bytes ∷ others
+
+-- the accepted additions: those that are answered by a length, in their order
+unfoldable pub additions : List ℕ → List Call → List (List ℕ)
+additions state [] = []
+additions state (add bytes ∷ cs) = keptWhere (lengthOf (adding state bytes .reply)) bytes (additions (adding state bytes .output) cs)
+additions state (order bytes ∷ cs) = additions state cs
+additions state (finish out ∷ cs) = additions state cs
+
+-- the additions alone
+abbrev pub alone : List (List ℕ) → List Call
+alone programs = map add programs
+
+-- The record that a call writes, whatever its length: "The longest record becomes 4,854 bytes" (Paper 7).
+unfoldable pub blank : List ℕ
+blank = replicate 4854 0
+
+abbrev pub takenBy : Option ℕ → Result → Option (List ℕ)
+takenBy none r = none
+takenBy (some l) r = some (take l (r .output))
+
+abbrev pub taken : Result → Option (List ℕ)
+taken r = takenBy (lengthOf (r .reply)) r
+
+abbrev pub instead : Option (List ℕ) → Option (List ℕ) → Option (List ℕ)
+instead o none = o
+instead o (some part) = some part
+
+-- "folded in their order": the first gives what `rewriting` writes, each other what `generalizing` writes of it and what stands so far
+unfoldable pub folded : ℕ → List ℕ → Option (List ℕ) → List (List ℕ) → Option (List ℕ)
+folded n t o [] = o
+folded n t o (bytes ∷ more) = folded n t (instead o (taken (joining n t o bytes blank))) more

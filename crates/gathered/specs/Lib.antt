@@ -1,0 +1,3 @@
+-- The words that the theorems about gatherings are stated in.
+pub mod Calls
+pub mod Theorem

@@ -1,0 +1,47 @@
+-- The length that a reply tells, and what settling it leaves.
+use mathlib.Core.Path.{_≡_, refl, sym, _∙_, ap}
+use mathlib.Core.List.{List, _++_}
+use mathlib.Core.Option.{Option, none, some}
+use Prim.Native.Nat.{ℕ, _+_}
+use native.Mathlib.Omega.{arith}
+use lib.ListN.{take, drop}
+use Rattle.replies.specs.declared.answers.Answer.{Answer}
+use Rattle.replies.specs.declared.answers.Answer.the-variants as answer
+use Rattle.replies.specs.declared.Reply.{Reply}
+use Rattle.replies.specs.declared.Reply.the-variants.{Length}
+use Rattle.replies.specs.Reply.{resulting, answerOf, lengthOf, lengthIn}
+use Rattle.replies.proofs.Numbers.{answer-injective}
+use Rattle.gathering.specs.Gathering.{twoBytes}
+use Rattle.gathering.specs.Joined.{settledFor, settledAt}
+
+pub none-some : {A X : Type 0} {x : A} → none ≡ some x → X
+none-some e = let z : _≡_ {A = ℕ} 0 1 = cc in absurd (omega arith)
+
+-- the reply that tells a length
+pub length-told : (r : Reply) (l : ℕ) → lengthOf r ≡ some l → r ≡ Length l
+length-told r l e = answer-injective r (Length l) (go (answerOf r) e)
+  where
+    go : (k : Answer) → lengthIn k ≡ some l → k ≡ answer.Length l
+    go (answer.Length m) q = let d : m ≡ l = cc in ap answer.Length d
+    go answer.Same q = none-some q
+    go answer.Under q = none-some q
+    go answer.Above q = none-some q
+    go answer.Neither q = none-some q
+    go (answer.Counts nodes rows) q = none-some q
+    go answer.End q = none-some q
+    go (answer.Refused number) q = none-some q
+    go (answer.RefusedGraph number side) q = none-some q
+
+module _ (at : ℕ) (state : List ℕ) (reply : Reply) where
+  -- any other reply leaves the state
+  pub settled-none : ((l : ℕ) → reply ≡ Length l → ⊥) → resulting reply state ≡ settledAt at state reply
+  settled-none other = go (lengthOf reply) refl
+    where
+      go : (o : Option ℕ) → lengthOf reply ≡ o → resulting reply state ≡ settledFor at state reply (lengthOf reply)
+      go none e = sym (ap (settledFor at state reply) e)
+      go (some l) e = absurd (other l (length-told reply l e))
+
+  -- a length is put
+  pub settled-some : (l : ℕ) {new : List ℕ} → reply ≡ Length l → new ≡ take at state ++ (twoBytes l ++ drop (at + 2) state) →
+      resulting (Length l) new ≡ settledAt at state reply
+  settled-some l e put = ap (resulting (Length l)) put ∙ sym (ap (settledAt at state) e)

@@ -1,0 +1,20 @@
+-- The exported call answers the code of what the engine replies, and leaves the gathering as the engine leaves it.
+use borrow.Author.Needs.{needs}
+use Rattle.record_engine.proofs.Codes.{codes}
+use Rattle.record_engine.proofs.record_gathering_begin.Statement.{statement}
+use Rattle.record_engine.proofs.record_gathering_begin.Tie as tie
+
+begin-requires : tie.Need-begin-requires
+begin-requires c κs = search needs
+
+code-requires : tie.Need-code-requires
+code-requires c κs = search needs
+
+same-length : tie.Need-same-length
+same-length c = search needs
+
+returns : tie.Need-returns
+returns c = codes (c .code .ensures) (c .before .before .before .begin .ensures)
+
+pub record-gathering-begin-spec : {M : Type 1} → statement M
+record-gathering-begin-spec = tie.close (tie.spec begin-requires code-requires same-length returns)

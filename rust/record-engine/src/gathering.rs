@@ -1,0 +1,130 @@
+//! Gathering: programs are added one after another, and their common part is kept.
+
+use crate::code::{length, order_of};
+use crate::{LONGEST_RECORD, Order, Refusal, foreign};
+
+/// So many bytes are enough for a gathering over every table: the number of types, the
+/// longest table, the length of the common part, and the longest record.
+pub const GATHERING_LENGTH: usize = 1 + 8 * 64 + 2 + LONGEST_RECORD;
+
+/// The common part of the records that were added so far, over one table, in bytes of its
+/// own. What it holds after any calls is what the accepted additions alone give, in their
+/// order: the least graph above all of them.
+///
+/// ```
+/// use record_engine::{Gathering, LONGEST_RECORD, Order, Refusal};
+/// let diamond = record_engine::table(&[0x01, 0x03, 0x05, 0x0F]).expect("at most 8 types");
+/// // A root of type 3 whose feature 0 leads to a node of the type given.
+/// let record = |leaf| [2, 3, 1, 0, 0, 0, 0, 0, 0, 0, 1, leaf, 0, 0, 0, 0, 0, 0, 0, 0];
+/// let mut output = [0; LONGEST_RECORD];
+/// let mut gathering = Gathering::begin(4, &diamond)?;
+/// // Nothing has been added.
+/// assert_eq!(gathering.finish(&mut output), Err(Refusal::NothingGathered));
+/// assert_eq!(gathering.order(&record(1)), Err(Refusal::NothingGathered));
+/// // The first record is its own common part.
+/// assert_eq!(gathering.add(&record(1))?, 20);
+/// assert_eq!(gathering.order(&record(2))?, Order::Neither);
+/// // The types 1 and 2 have top in common, so both records are now below what is gathered.
+/// gathering.add(&record(2))?;
+/// assert_eq!(gathering.order(&record(2))?, Order::Under);
+/// // A record that is refused is not added; one without bytes is malformed.
+/// assert!(gathering.add(&[]).is_err());
+/// let length = gathering.finish(&mut output)?;
+/// assert_eq!(output[..length], record(3));
+/// // It stays open: a lone node of type 3 has less in common with them.
+/// let lone = [1, 3, 0, 0, 0, 0, 0, 0, 0, 0];
+/// gathering.add(&lone)?;
+/// let length = gathering.finish(&mut output)?;
+/// assert_eq!(output[..length], lone);
+/// # Ok::<(), record_engine::Refusal>(())
+/// ```
+#[derive(Clone, Debug, PartialEq, Eq)]
+pub struct Gathering {
+    bytes: Vec<u8>,
+}
+
+impl Gathering {
+    /// A gathering over a table, with nothing added yet.
+    ///
+    /// Refused by 1 to 3.
+    pub fn begin(n: usize, table: &[u8]) -> Result<Gathering, Refusal> {
+        let mut bytes = vec![0; GATHERING_LENGTH];
+        gathering_begin(n, table, &mut bytes)?;
+        Ok(Gathering { bytes })
+    }
+
+    /// Adds a record, and gives the length of the common part.
+    ///
+    /// Refused by 4 to 7, the record counting as the first, and by 11; the gathering is
+    /// then as it was.
+    pub fn add(&mut self, record: &[u8]) -> Result<usize, Refusal> {
+        gathering_add(&mut self.bytes, record)
+    }
+
+    /// Which is the broader, seen from the record, beside the common part so far.
+    ///
+    /// Refused by 4 to 7, the record counting as the first, and by 16 before the first
+    /// addition.
+    pub fn order(&self, record: &[u8]) -> Result<Order, Refusal> {
+        gathering_order(&self.bytes, record)
+    }
+
+    /// Writes the common part so far in written form. The gathering stays open.
+    ///
+    /// Refused by 16 before the first addition, and by 8.
+    pub fn finish(&self, output: &mut [u8]) -> Result<usize, Refusal> {
+        gathering_finish(&self.bytes, output)
+    }
+}
+
+/// Begins a gathering over a table in bytes that the caller lends, and gives the number of
+/// bytes that it uses so far, 3 + 8 × n; the others are unchanged. The bytes are n (1), the
+/// table (8 × n), the length of the common part (2, low byte first, 0 before the first
+/// addition), its record in written form, and room up to [`LONGEST_RECORD`].
+///
+/// Refused by 1 to 3, and by 8 where fewer than 1 + 8 × n + 2 + [`LONGEST_RECORD`] bytes
+/// are lent; [`GATHERING_LENGTH`] are enough for every table.
+///
+/// ```
+/// use record_engine::{GATHERING_LENGTH, gathering_add, gathering_begin, gathering_finish};
+/// let diamond = record_engine::table(&[0x01, 0x03, 0x05, 0x0F]).expect("at most 8 types");
+/// let lone = |node_type| [1, node_type, 0, 0, 0, 0, 0, 0, 0, 0];
+/// let mut gathering = [0; GATHERING_LENGTH];
+/// assert_eq!(gathering_begin(4, &diamond, &mut gathering)?, 3 + 8 * 4);
+/// gathering_add(&mut gathering, &lone(1))?;
+/// gathering_add(&mut gathering, &lone(2))?;
+/// let mut output = [0; record_engine::LONGEST_RECORD];
+/// let length = gathering_finish(&gathering, &mut output)?;
+/// assert_eq!(output[..length], lone(3));
+/// # Ok::<(), record_engine::Refusal>(())
+/// ```
+pub fn gathering_begin(n: usize, table: &[u8], gathering: &mut [u8]) -> Result<usize, Refusal> {
+    length(foreign::record_gathering_begin(n, table, gathering))
+}
+
+/// Adds a record to a gathering in lent bytes, and gives the length of the common part.
+///
+/// Refused by 4 to 7, the record counting as the first, and by 11; no byte is then
+/// changed. Bytes that hold no gathering are refused by what is wrong with them: by 1 to 3
+/// for the table, after the record's 4 to 7 by those of what was gathered, which counts as
+/// the second, and by 8 where the common part has no room.
+pub fn gathering_add(gathering: &mut [u8], record: &[u8]) -> Result<usize, Refusal> {
+    length(foreign::record_gathering_add(gathering, record))
+}
+
+/// Which is the broader, seen from a record, beside what is gathered in lent bytes.
+///
+/// Refused by 4 to 7, the record counting as the first, and by 16 before the first
+/// addition. Bytes that hold no gathering are refused as by [`gathering_add`].
+pub fn gathering_order(gathering: &[u8], record: &[u8]) -> Result<Order, Refusal> {
+    order_of(foreign::record_gathering_order(gathering, record))
+}
+
+/// Writes what is gathered in lent bytes in written form. The gathering stays open.
+///
+/// Refused by 16 before the first addition, and by 8. Bytes that hold no gathering are
+/// refused by 1 to 3 for the table, and by 4 to 7 for what was gathered, which counts as
+/// the second.
+pub fn gathering_finish(gathering: &[u8], output: &mut [u8]) -> Result<usize, Refusal> {
+    length(foreign::record_gathering_finish(gathering, output))
+}
