@@ -1,0 +1,7 @@
+-- Laws of rows, and of the loops over them.
+pub mod BigLit
+pub mod Laid
+pub mod LocalArray
+pub mod Known
+pub mod Placed
+pub mod FilledRows
