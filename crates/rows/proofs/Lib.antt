@@ -5,3 +5,4 @@ pub mod LocalArray
 pub mod Known
 pub mod Placed
 pub mod FilledRows
+pub mod LentRows

@@ -2,3 +2,4 @@
 pub mod Rows
 pub mod Placing
 pub mod Filling
+pub mod Lending

@@ -7,6 +7,7 @@ ghost use lib.ListN.{length, take, drop};
 ghost use mathlib.Core.List.{_++_};
 
 pub mod filling;
+pub mod lending;
 pub mod placing;
 
 // One link: the node that it leaves, its feature, and the node that it enters.

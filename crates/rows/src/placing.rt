@@ -3,12 +3,11 @@
 
 use crate::Row;
 ghost use mathlib.Core.Path.{_≡_};
-ghost use mathlib.Core.Bool.{true, not, cond};
-ghost use Prim.Native.Nat.{_≤_, _+_};
-ghost use lib.Dec.{eqb};
-ghost use lib.ListN.{take, length, getD, set};
+ghost use mathlib.Core.Bool.{true, not};
+ghost use Prim.Native.Nat.{_≤_};
+ghost use lib.ListN.{take, length};
 ghost use Rattle.rows.specs.Rows.{isKnown, allKnown, hasTwice};
-ghost use Rattle.rows.specs.Placing.{slot, Near, AllNear, Empty, Placed};
+ghost use Rattle.rows.specs.Placing.{Near, AllNear, Empty, Placed, Places};
 
 // The places of the table: 255 parents with 64 features each.
 pub const PLACES: usize = 255 * 64;
@@ -45,7 +44,7 @@ pub fn all_known(all: [Row; 2048], count: usize, nodes: usize) -> bool
 // Places a row's target in the table, or tells that its place is taken.
 fn place(row: Row, targets: &mut [u16; PLACES]) -> bool
     requires { ⌜ Near row × (length (now targets) ≡ 16320) ⌝ }
-    ensures { λ r. ⌜ (r ≡ eqb (getD (now (targets .entry)) (slot row) 0) 0) × (now (targets .exit) ≡ cond r (set (now (targets .entry)) (slot row) (row .target + 1)) (now (targets .entry))) × (row .target ≤ 255) ⌝ }
+    ensures { λ r. ⌜ Places row (now (targets .entry)) r (now (targets .exit)) ⌝ }
 {
     let at = row.parent as usize * 64 + row.feature as usize;
     if targets[at] != 0 {
