@@ -6,3 +6,4 @@ pub mod Known
 pub mod Placed
 pub mod FilledRows
 pub mod LentRows
+pub mod Tables
