@@ -1,0 +1,3 @@
+-- Laws of import and export.
+pub mod Imports
+pub mod Exports

@@ -1,0 +1,2 @@
+-- What import and export reply and leave in their outputs.
+pub mod Planning
