@@ -7,3 +7,5 @@ pub mod Placed
 pub mod FilledRows
 pub mod LentRows
 pub mod Tables
+pub mod AnyOrder
+pub mod RoundTrip

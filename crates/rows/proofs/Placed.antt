@@ -32,7 +32,7 @@ last (x ∷ xs) r p f = go (isOf p f x) (last xs r p f)
     go true e = refl
     go false e = e
 
-is-own : (r : Row) → isOf (r .parent) (r .feature) r ≡ true
+pub is-own : (r : Row) → isOf (r .parent) (r .feature) r ≡ true
 unfolding isOf
 is-own r = ap (λ (t : Bool). cond t (eqb (r .feature) (r .feature)) false) (eq-eqb (r .parent) (r .parent) refl) ∙ eq-eqb (r .feature) (r .feature) refl
 
@@ -81,11 +81,11 @@ eqb-sym a b = go (ℕ-discrete a b)
     go (yes e) = eq-eqb a b e ∙ sym (eq-eqb b a (sym e))
     go (no n) = ne-eqb a b n ∙ sym (ne-eqb b a (λ e. n (sym e)))
 
-is-sym : (x r : Row) → isOf (x .parent) (x .feature) r ≡ isOf (r .parent) (r .feature) x
+pub is-sym : (x r : Row) → isOf (x .parent) (x .feature) r ≡ isOf (r .parent) (r .feature) x
 unfolding isOf
 is-sym x r = ap₂ (λ (t u : Bool). cond t u false) (eqb-sym (r .parent) (x .parent)) (eqb-sym (r .feature) (x .feature))
 
-cond-false : (t u : Bool) → cond t true u ≡ false → (t ≡ false) × (u ≡ false)
+pub cond-false : (t u : Bool) → cond t true u ≡ false → (t ≡ false) × (u ≡ false)
 cond-false true u e = let z : _≡_ {A = ℕ} 0 1 = cc in absurd (omega arith)
 cond-false false u e = (refl, e)
 

@@ -64,7 +64,7 @@ links-distinct v (l ∷ ls) a =
     (λ m. let (k, i, e) = Memᴰ·of-map (lentLink v) ls m in omega (arith, a .0 k i, ap (λ (r : lent.Row). r .feature) e), links-distinct v ls (a .1))
 
 module _ (nodes : List ℕ) (rows : List lent.Row) where
-  abbrev stated : ℕ → Row Label
+  abbrev pub stated : ℕ → Row Label
   stated v = (labelIn nodes v, linksOf (targetIn rows v) features)
 
   abbrev Said : ℕ → lent.Row → Type 0
@@ -105,13 +105,13 @@ module _ (nodes : List ℕ) (rows : List lent.Row) where
 
 -- The table of targets states what its rows state.
 
-linksOf-same : (next onto : ℕ → Option ℕ) (fs : List ℕ) → ((f : ℕ) → List·Memᴰ f fs → next f ≡ onto f) → linksOf next fs ≡ linksOf onto fs
+pub linksOf-same : (next onto : ℕ → Option ℕ) (fs : List ℕ) → ((f : ℕ) → List·Memᴰ f fs → next f ≡ onto f) → linksOf next fs ≡ linksOf onto fs
 unfolding linksOf
 linksOf-same next onto [] h = refl
 linksOf-same next onto (f ∷ fs) h =
     ap₂ (addLink f) (h f (List·Memᴰ·head refl)) (linksOf-same next onto fs (λ g m. h g (List·Memᴰ·tail m)))
 
-map-same : {X Y : Type 0} (f g : X → Y) (xs : List X) → ((x : X) → List·Memᴰ x xs → f x ≡ g x) → map f xs ≡ map g xs
+pub map-same : {X Y : Type 0} (f g : X → Y) (xs : List X) → ((x : X) → List·Memᴰ x xs → f x ≡ g x) → map f xs ≡ map g xs
 map-same f g [] h = refl
 map-same {X} {Y} f g (x ∷ xs) h =
     ap₂ (λ (y : Y) (ys : List Y). y ∷ ys) (h x (List·Memᴰ·head refl)) (map-same f g xs (λ z m. h z (List·Memᴰ·tail m)))

@@ -3,3 +3,4 @@ pub mod Rows
 pub mod Placing
 pub mod Filling
 pub mod Lending
+pub mod Reordered
