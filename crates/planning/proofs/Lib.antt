@@ -2,3 +2,4 @@
 pub mod Imports
 pub mod Exports
 pub mod Theorems
+pub mod RoundTrips

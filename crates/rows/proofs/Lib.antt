@@ -9,3 +9,4 @@ pub mod LentRows
 pub mod Tables
 pub mod AnyOrder
 pub mod RoundTrip
+pub mod LentOnce

@@ -32,7 +32,7 @@ is-of p f r = go (eqb (r .parent) p) refl
     go true e h = (eqb-true (r .parent) p e, eqb-true (r .feature) f h)
     go false e h = let z : _≡_ {A = ℕ} 0 1 = cc in absurd (omega arith)
 
-row-is : {p q f g v w : ℕ} → p ≡ q → f ≡ g → v ≡ w → _≡_ {A = lent.Row} (record { parent = p; feature = f; target = v }) (record { parent = q; feature = g; target = w })
+pub row-is : {p q f g v w : ℕ} → p ≡ q → f ≡ g → v ≡ w → _≡_ {A = lent.Row} (record { parent = p; feature = f; target = v }) (record { parent = q; feature = g; target = w })
 row-is a b c = λ j. record { parent = a j; feature = b j; target = c j }
 
 -- a target that rows give is a row's
@@ -67,22 +67,23 @@ module _ (nodes : List ℕ) (rows : List lent.Row) where
   abbrev pub stated : ℕ → Row Label
   stated v = (labelIn nodes v, linksOf (targetIn rows v) features)
 
-  abbrev Said : ℕ → lent.Row → Type 0
-  Said k r = (k ≤ r .parent) × (targetIn rows (r .parent) (r .feature) ≡ some (r .target))
+  abbrev pub Said : ℕ → ℕ → lent.Row → Type 0
+  Said n k r = (k ≤ r .parent) × (r .parent < k + n) × (r .feature < 64) × (targetIn rows (r .parent) (r .feature) ≡ some (r .target))
 
   -- a row that is lent of the table is said by it
-  lent-said : (n k : ℕ) (r : lent.Row) → List·Memᴰ r (lentFrom k (map stated (from k n))) → Said k r
+  pub lent-said : (n k : ℕ) (r : lent.Row) → List·Memᴰ r (lentFrom k (map stated (from k n))) → Said n k r
   unfolding lentFrom from
   lent-said zero k r m = absurd (List·Memᴰ·not-nil m)
   lent-said (suc n) k r m =
       ⊎-elim
       (λ (i : List·Memᴰ r (map (lentLink k) (linksOf (targetIn rows k) features))).
       let (l, j, e) = Memᴰ·of-map (lentLink k) (linksOf (targetIn rows k) features) i in
-      subst (Said k) e (omega arith, linksOf-source (targetIn rows k) features l j .1))
-      (λ (i : List·Memᴰ r (lentFrom (suc k) (map stated (from (suc k) n)))). let (low, e) = lent-said n (suc k) r i in (omega arith, e))
+      let source = linksOf-source (targetIn rows k) features l j in
+      subst (Said (suc n) k) e (omega arith, omega arith, features-small (l .0) (source .0), source .1))
+      (λ (i : List·Memᴰ r (lentFrom (suc k) (map stated (from (suc k) n)))). let (low, high, f, e) = lent-said n (suc k) r i in (omega arith, omega arith, f, e))
       (List·Memᴰ·append-cases (map (lentLink k) (linksOf (targetIn rows k) features)) m)
 
-  lent-distinct : (n k : ℕ) → Distinct (lentFrom k (map stated (from k n)))
+  pub lent-distinct : (n k : ℕ) → Distinct (lentFrom k (map stated (from k n)))
   unfolding lentFrom from
   lent-distinct zero k = tt
   lent-distinct (suc n) k =
@@ -100,7 +101,7 @@ module _ (nodes : List ℕ) (rows : List lent.Row) where
         arith,
         lent-length (map stated (from 0 (nodesIn nodes))) 0,
         distinct-bound (lentFrom 0 (map stated (from 0 (nodesIn nodes)))) rows (lent-distinct (nodesIn nodes) 0)
-            (λ r m. target-row rows (r .parent) (r .feature) (r .target) (lent-said (nodesIn nodes) 0 r m .1)),
+            (λ r m. target-row rows (r .parent) (r .feature) (r .target) (lent-said (nodesIn nodes) 0 r m .3)),
       )
 
 -- The table of targets states what its rows state.
