@@ -3,3 +3,4 @@ pub mod Imports
 pub mod Exports
 pub mod Theorems
 pub mod RoundTrips
+pub mod TableGraph

@@ -1,5 +1,5 @@
 -- `record_export` meets its contract: a walk of its MIR, by hand. `export_coded` fills the types and gives the rows by value, and `store_rows` stores these. Of both callees the proof knows only that they meet their contracts.
--- Both borrows are given up for good, each to its callee, at their own lifetimes, shares and ghost names. Assumes nothing.
+-- Both borrows are given up for good, each to its callee, at their own lifetimes, shares and ghost names.
 use mathlib.Core.Path.{_≡_, refl, sym, _∙_, ap}
 use Prim.Native.Nat.{ℕ, _<_, _≤_, _^_}
 use mathlib.Core.List.{[], _∷_, List, _++_, map}

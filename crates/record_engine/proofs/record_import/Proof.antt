@@ -1,6 +1,6 @@
 -- `record_import` meets its contract: a walk of its MIR, by hand. The rows are loaded, and what is loaded, the other slices and the numbers are passed to `import_coded`. Of both callees the proof knows only that they meet their contracts.
 -- A `&` is Copy: what it owns is had twice, and one copy is kept for the exit. The output's borrow is given up to `import_coded` for good, at its own lifetime, share and ghost name.
--- Assumes nothing.
+--
 use mathlib.Core.Path.{_≡_, refl, _∙_, ap}
 use Prim.Native.Nat.{ℕ, _<_, _^_}
 use mathlib.Core.List.{[], _∷_, List}
