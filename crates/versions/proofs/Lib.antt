@@ -1,0 +1,2 @@
+-- Laws of the state of a store.
+pub mod Loops
