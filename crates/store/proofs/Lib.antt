@@ -1,1 +1,3 @@
--- Proofs about the code of a store.
+-- Proofs about the calls of a store.
+pub mod Settling
+pub mod Programs
