@@ -1,2 +1,3 @@
 -- Laws of the state of a store.
+pub mod SlotLaws
 pub mod Loops
