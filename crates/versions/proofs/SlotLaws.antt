@@ -1,22 +1,24 @@
 -- The programs in slots: each by its number, and what putting a record into a slot, or clearing one, makes of them.
-use mathlib.Core.Path.{_≡_, refl, sym, _∙_, ap, ap₂}
+use mathlib.Core.Path.{_≡_, refl, sym, _∙_, ap, ap₂, subst}
 use mathlib.Core.Bool.{Bool, cond}
 use mathlib.Core.List.{List, [], _∷_, _++_, append-assoc, map}
 use mathlib.Core.Option.{Option, none, some}
-use Prim.Native.Nat.{ℕ, zero, suc, _+_, _-_, _*_, _/_, _%_, _≤_, _<_}
+use Prim.Native.Nat.{ℕ, zero, suc, _+_, _-_, _*_, _/_, _%_, _^_, _≤_, _<_}
 use native.Mathlib.Decide.{decLt, ℕ-discrete}
-use native.Mathlib.Nat.{add-zero, suc-add, add-suc}
+use native.Mathlib.Nat.{add-zero, suc-add, add-suc, two-pow-succ}
 use native.Mathlib.Omega.{arith}
 use borrow.Author.Tests.{eq-eqb, ne-eqb}
 use lib.Dec.{eqb}
-use lib.ListN.{length, take, drop, getD, set, replicate, length-append, length-drop, length-map, length-set, length-replicate, getD-replicate, take-append-drop, List·getD-append}
-use lib.Seq.{take-nil, take-suc, drop-cons, take-append-seam, drop-append-seam, take-append-le, drop-append-le, drop-at, length-take-le, take-take, drop-drop, getD-take, getD-drop, getD-set-same, getD-set-other, ext-getD}
+use lib.ListN.{length, take, drop, getD, set, replicate, length-append, length-drop, length-map, length-set, length-replicate, getD-replicate, take-append-drop, drop-of-length-le}
+use lib.Pow.{pow-mono}
+use lib.Seq.{take-nil, take-suc, drop-cons, take-append-seam, drop-append-seam, take-append-le, drop-append-le, drop-at, length-take-le, take-take, drop-drop, getD-take, getD-drop, getD-set-same, getD-set-other, ext-getD, take-length, take-at, paste, length-paste}
 use Rattle.graphs.specs.Rows.{from}
+use Rattle.graphs.specs.Number.{countSome}
 use Rattle.graphs.proofs.Lists.{length-from}
 use Rattle.gathering.specs.Gathering.{twoBytes, lengthAt, firstOf}
-use Rattle.versions.specs.State.{Programs, noPrograms, measured}
+use Rattle.versions.specs.State.{Programs, noPrograms, mapOf, measured}
 use Rattle.versions.specs.Slots.{measuredIn, slotAt, programsIn, Slotted, Parted, Absent}
-use Rattle.versions.specs.Promise.{Puts}
+use Rattle.versions.specs.Promise.{EndsAt, NoneFrom, Puts}
 
 -- Each program by its number.
 
@@ -105,6 +107,21 @@ module _ (p rest : List ℕ) (short : length p ≤ 4854) where
   measured-read h =
       measured-some (measured p ++ rest) (λ e. omega (arith, h, e, length-at-measured)) ∙
       ap₂ (λ (l : ℕ) (bytes : List ℕ). some (take l bytes)) length-at-measured behind ∙ ap some (take-append-seam p rest)
+
+-- The place behind a record.
+
+module _ (bytes : List ℕ) (at : ℕ) where
+  pub length-at-small : getD bytes at 0 < 256 → getD bytes (at + 1) 0 < 256 → lengthAt (drop at bytes) < 65536
+  length-at-small low high =
+      let same : at + 0 ≡ at = omega arith in
+      omega (arith, low, high, getD-drop at bytes 0 0 ∙ ap (λ (k : ℕ). getD bytes k 0) same, getD-drop at bytes 1 0)
+
+  module _ {l : ℕ} (is : l ≡ lengthAt (drop at bytes)) (inside : at ≤ length bytes) where
+    pub ends-early : length bytes - at < 2 + l → EndsAt bytes at 0
+    ends-early h = record { early = λ e. omega (arith, h, is, inside); whole = λ d. absurd (d refl) }
+
+    pub ends-whole : 2 + l ≤ length bytes - at → EndsAt bytes at (at + 2 + l)
+    ends-whole h = record { early = λ e. absurd (omega (arith, e)); whole = λ d. (omega (arith, is), omega (arith, h, inside)) }
 
 -- A record is among the first bytes that it takes.
 
@@ -238,6 +255,47 @@ module _ {old : List ℕ} (slotted : Slotted old) (v : ℕ) (inside : v < 16) (x
         empty = λ i from low. other-length i low (λ e. omega (arith, e, h, from)) ∙ absent .empty i from low;
       }
 
+-- Bytes are put behind their length.
+
+pub puts-none : (p : List ℕ) (at : ℕ) (old : List ℕ) → length old < at + 2 + length p → Puts p at old old
+puts-none p at old h = record { long = refl; put = λ fits. absurd (omega (arith, h, fits)); kept = λ h. refl }
+
+module _ (p : List ℕ) (at : ℕ) (old mid new : List ℕ) (fits : at + 2 + length p ≤ length old)
+    (first : mid ≡ take at old ++ (twoBytes (length p) ++ drop (at + 2) old)) (second : new ≡ paste mid (at + 2) p (length p)) where
+  put-front : length (take at old ++ twoBytes (length p)) ≡ at + 2
+  put-front =
+      omega (arith, length-append (take at old) (twoBytes (length p)), length-take-le at old (omega (arith, fits)), length-two-bytes (length p))
+
+  put-mid : mid ≡ take at old ++ twoBytes (length p) ++ drop (at + 2) old
+  put-mid = first ∙ sym (append-assoc (take at old) (twoBytes (length p)) (drop (at + 2) old))
+
+  pub put-mid-long : length mid ≡ length old
+  put-mid-long =
+      omega (arith, fits, ap length put-mid, put-front, length-append (take at old ++ twoBytes (length p)) (drop (at + 2) old), length-drop (at + 2) old)
+
+  put-rest : drop (at + 2 + length p) mid ≡ drop (at + 2 + length p) old
+  put-rest =
+      sym (drop-drop (length p) (at + 2) mid) ∙
+      ap (drop (length p))
+      (ap (drop (at + 2)) put-mid ∙ drop-at (take at old ++ twoBytes (length p)) (drop (at + 2) old) (at + 2) put-front) ∙
+      drop-drop (length p) (at + 2) old
+
+  pub puts-both : Puts p at old new
+  unfolding measured
+  puts-both =
+      record {
+        long = ap length second ∙ length-paste mid (at + 2) p (length p) (omega (arith, fits, put-mid-long)) (omega arith) ∙ put-mid-long;
+        put = λ h.
+            second ∙
+            ap (λ (x : List ℕ). x ++ take (length p) p ++ drop (at + 2 + length p) mid)
+            (ap (take (at + 2)) put-mid ∙ take-at (take at old ++ twoBytes (length p)) (drop (at + 2) old) (at + 2) put-front) ∙
+            ap₂ (λ (x y : List ℕ). take at old ++ twoBytes (length p) ++ x ++ y) (take-length p) put-rest ∙
+            append-assoc (take at old ++ twoBytes (length p)) p (drop (at + 2 + length p) old) ∙
+            append-assoc (take at old) (twoBytes (length p)) (p ++ drop (at + 2 + length p) old) ∙
+            ap (λ (x : List ℕ). take at old ++ x) (sym (append-assoc (twoBytes (length p)) p (drop (at + 2 + length p) old)));
+        kept = λ h. absurd (omega (arith, h, fits));
+      }
+
 -- A record is put into a slot.
 
 module _ (p old new : List ℕ) (at : ℕ) (fits : at + 2 + length p ≤ length old) (puts : Puts p at old new) where
@@ -342,3 +400,105 @@ module _ {old new : List ℕ} (parted : Parted old) (is : new ≡ take 0 old ++ 
     },
     measured-none new part-none,
   )
+
+-- Whether no version exists from one on: those from it up to another do not.
+pub record Seeking (slots : List ℕ) (version v : ℕ) : Type 0 where
+  pub slotted : Slotted slots
+  pub low : version ≤ v
+  pub high : v ≤ 16
+  pub nothing : NoneFrom version v (programsIn slots)
+
+pub seeking-start : (slots : List ℕ) (version : ℕ) → Slotted slots → version ≤ 16 → Seeking slots version version
+seeking-start slots version slotted h =
+    record { slotted = slotted; low = omega arith; high = h; nothing = λ i low high. absurd (omega (arith, low, high)) }
+
+pub seeking-next : {slots : List ℕ} {version v : ℕ} → Seeking slots version v → v < 16 → lengthAt (drop (v * 4856) slots) ≡ 0 →
+    Seeking slots version (v + 1)
+seeking-next {slots} {version} {v} seeking h e =
+    record {
+      slotted = seeking .slotted;
+      low = omega (arith, seeking .low);
+      high = omega arith;
+      nothing = λ i low high. go i low high (ℕ-discrete i v);
+    }
+  where
+    go : (i : ℕ) → version ≤ i → i < v + 1 → Dec (i ≡ v) → getD (programsIn slots) i none ≡ none
+    go i low high (yes d) = ap (λ (k : ℕ). getD (programsIn slots) k none) d ∙ program-at slots v h ∙ slot-none slots v e
+    go i low high (no d) = seeking .nothing i low (omega (arith, high, d))
+
+-- The map of versions, from the last down.
+
+count-one : {X : Type 0} (o : Option X) → countSome o ≤ 1
+count-one none = omega arith
+count-one (some x) = omega arith
+
+-- as many bits as versions
+map-below : (ps : Programs) → mapOf ps < 2 ^ length ps
+unfolding mapOf
+map-below [] = omega arith
+map-below (p ∷ ps) = omega (arith, count-one p, map-below ps, two-pow-succ (length ps))
+
+pub map-small : (ps : Programs) → length ps ≤ 16 → mapOf ps < 65536
+map-small ps h = omega (arith, map-below ps, pow-mono h)
+
+pub record MapFrom (slots : List ℕ) (count bits v : ℕ) : Type 0 where
+  pub slotted : Slotted slots
+  pub short : count ≤ 16
+  pub low : v ≤ count
+  pub is : bits ≡ mapOf (drop v (take count (programsIn slots)))
+
+module _ {slots : List ℕ} {count : ℕ} where
+  pub map-start : Slotted slots → count ≤ 16 → MapFrom slots count 0 count
+  unfolding mapOf
+  map-start slotted h =
+      record {
+        slotted = slotted;
+        short = h;
+        low = omega arith;
+        is = sym (ap mapOf (drop-of-length-le (take count (programsIn slots)) {i = count} (omega (arith, taken-length))));
+      }
+    where
+      taken-length : length (take count (programsIn slots)) ≡ count
+      taken-length = length-take-le count (programsIn slots) (omega (arith, h, programs-length slots))
+
+  module _ {bits v : ℕ} (map : MapFrom slots count bits v) where
+    taken-long : length (take count (programsIn slots)) ≡ count
+    taken-long = length-take-le count (programsIn slots) (omega (arith, map .short, programs-length slots))
+
+    pub map-fits : bits < 65536
+    map-fits =
+        omega (
+          arith,
+          map .is,
+          map .short,
+          taken-long,
+          length-drop v (take count (programsIn slots)),
+          map-small (drop v (take count (programsIn slots))) (omega (arith, map .short, taken-long, length-drop v (take count (programsIn slots)))),
+        )
+
+    map-step : 0 < v → (b : ℕ) → countSome (slotAt slots (v - 1)) ≡ b → MapFrom slots count (bits * 2 + b) (v - 1)
+    unfolding mapOf
+    map-step h b e =
+        let next : suc (v - 1) ≡ v = omega arith in
+        let inside : v - 1 < 16 = omega (arith, map .short, map .low) in
+        let one : drop (v - 1) (take count (programsIn slots)) ≡ slotAt slots (v - 1) ∷ drop v (take count (programsIn slots)) =
+        drop-cons (take count (programsIn slots)) (v - 1) none (omega (arith, map .low, taken-long)) ∙
+        ap₂ (λ (p : Option (List ℕ)) (k : ℕ). p ∷ drop k (take count (programsIn slots)))
+        (getD-take count (programsIn slots) (v - 1) none (omega (arith, map .low)) ∙ program-at slots (v - 1) inside) next in
+        record {
+          slotted = map .slotted;
+          short = map .short;
+          low = omega (arith, map .low);
+          is = omega (arith, map .is, e, ap mapOf one);
+        }
+
+    pub map-present : 0 < v → (lengthAt (drop ((v - 1) * 4856) slots) ≡ 0 → ⊥) → MapFrom slots count (bits * 2 + 1) (v - 1)
+    map-present h d = map-step h 1 (ap countSome (slot-some slots (v - 1) d))
+
+    pub map-absent : 0 < v → lengthAt (drop ((v - 1) * 4856) slots) ≡ 0 → MapFrom slots count (bits * 2) (v - 1)
+    map-absent h d =
+        let same : bits * 2 + 0 ≡ bits * 2 = omega arith in
+        subst (λ (k : ℕ). MapFrom slots count k (v - 1)) same (map-step h 0 (ap countSome (slot-none slots (v - 1) d)))
+
+    pub map-all : v ≡ 0 → (bits ≡ mapOf (take count (programsIn slots))) × (bits < 65536)
+    map-all e = (map .is ∙ ap (λ (k : ℕ). mapOf (drop k (take count (programsIn slots)))) e, map-fits)
