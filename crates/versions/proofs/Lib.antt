@@ -1,3 +1,5 @@
 -- Laws of the state of a store.
 pub mod SlotLaws
 pub mod Loops
+pub mod Lengths
+pub mod Packs
