@@ -1,3 +1,4 @@
 -- Laws of the state of a store.
 pub mod SlotLaws
+pub mod Written
 pub mod Loops
