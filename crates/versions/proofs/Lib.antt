@@ -1,4 +1,5 @@
 -- Laws of the state of a store.
 pub mod SlotLaws
 pub mod Written
+pub mod Restoring
 pub mod Loops
