@@ -3,3 +3,4 @@ pub mod SlotLaws
 pub mod Written
 pub mod Restoring
 pub mod Loops
+pub mod Unpacked

@@ -1,3 +1,4 @@
+-- `restore` meets its contract.
 use mathlib.Core.Path.{refl, sym, _∙_}
 use native.Mathlib.Omega.{arith}
 use Rattle.pairs.proofs.Readings.{optional-none}
@@ -6,28 +7,19 @@ use Rattle.versions.proofs.Written.{not-length}
 use borrow.Author.Needs.{needs}
 use Rattle.versions.proofs.unpacking.restore.Statement.{statement}
 use Rattle.versions.proofs.unpacking.restore.Tie as tie
-use Rattle.versions.proofs.unpacking.restore.Reads as reads
-use Rattle.versions.proofs.unpacking.restore.Lts as lts
-use Rattle.engine.proofs.unifying.of_records.Reads as of-records-reads
-use Rattle.versions.proofs.slots.put_measured.Reads as put-measured-reads
 
--- src/unpacking.rt:109:9
 slice-aggregate-of-records : tie.Need-slice-aggregate-of-records
 slice-aggregate-of-records c = search needs
 
--- src/unpacking.rt:114:9
 slice-aggregate-of-records-2 : tie.Need-slice-aggregate-of-records-2
 slice-aggregate-of-records-2 c = search needs
 
--- src/unpacking.rt:106:9
 of-records-requires : tie.Need-of-records-requires
 of-records-requires c κs = (c .before .before .before .before .before .before .pre .0, optional-none (c .before .before .before .before .before .before .args .n) _ refl)
 
--- src/unpacking.rt:116:23
 enum-known-reply : tie.Need-enum-known-reply
 enum-known-reply c = search needs
 
--- src/unpacking.rt:117:9
 returns : tie.Need-returns
 returns c =
     let start = c .before .before .before .before .before .before .before .before .before in
