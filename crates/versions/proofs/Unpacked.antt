@@ -1,21 +1,26 @@
--- The programs of a buffer, one version after the other.
+-- The programs of a buffer: its map, its common part, then one version after the other.
 use mathlib.Core.Path.{_≡_, refl, sym, _∙_, ap, ap₂, subst}
 use mathlib.Core.Bool.{Bool, true, false, cond}
 use mathlib.Core.List.{List, [], _∷_, _++_}
-use mathlib.Core.Option.{Option, none, some, Option·map}
+use mathlib.Core.Option.{Option, none, some, Option·map, bind}
 use Prim.Native.Nat.{ℕ, suc, _+_, _-_, _*_, _/_, _%_, _≤_, _<_}
 use native.Mathlib.Omega.{arith}
-use borrow.Author.Tests.{le-leb, lt-leb}
-use lib.Dec.{leb}
+use borrow.Author.Tests.{eq-eqb, ne-eqb, le-leb, lt-leb}
+use lib.Dec.{eqb, leb}
 use lib.ListN.{length, take, drop, set, length-drop}
 use lib.Seq.{take-all, take-suc-set, drop-drop}
+use Rattle.lattice.specs.declared.TableFault.{TableFault}
+use Rattle.lattice.specs.declared.Opened.the-variants.{Accepted, Refused}
+use Rattle.lattice.specs.Table.{accepted}
+use Rattle.lattice.specs.Reply.{opened}
+use Rattle.lattice.proofs.Acceptance.{accepted-opened}
 use Rattle.replies.specs.declared.Reply.{Reply}
 use Rattle.gathering.specs.Gathering.{lengthAt}
 use Rattle.gathering.proofs.Told.{none-some}
-use Rattle.versions.specs.State.{Made, made, stopped, recordIn, Programs, combination, takeMeasured, restored}
+use Rattle.versions.specs.State.{Made, made, stopped, recordIn, Programs, noPrograms, combination, takeMeasured, restored, unpackedBy, unpacked}
 use Rattle.versions.specs.Slots.{slotAt, programsIn, Slotted, Absent}
-use Rattle.versions.specs.Promise.{EndsAt, Restores}
-use Rattle.versions.proofs.SlotLaws.{programs-length, take-program, slot-none}
+use Rattle.versions.specs.Promise.{EndsAt, Restores, Unpacks}
+use Rattle.versions.proofs.SlotLaws.{programs-length, take-program, slot-none, empty-programs}
 use Rattle.versions.proofs.Loops.{restoredOn, on-end, on-absent, on-short, on-refused, on-present}
 
 -- A record is taken after its length where all its bytes are there.
@@ -149,3 +154,72 @@ module _ {n : ℕ} {t part : List ℕ} {bits : ℕ} {differences slots : List �
                   (sym (ap₂ (λ (k : ℕ) (ps : Programs). take k ps) one-more is ∙
                   take-suc-set (programsIn slots) version (some p) (omega (arith, inside, programs-length slots))));
             }
+
+-- A whole buffer.
+
+true-false : {X : Type 0} → true ≡ false → X
+true-false e = let z : _≡_ {A = ℕ} 0 1 = cc in absurd (omega arith)
+
+unpacked-by : (n : ℕ) (t buffer : List ℕ) → 2 ≤ length buffer → unpacked n t buffer ≡ unpackedBy n t (lengthAt buffer) (drop 2 buffer)
+unfolding unpacked
+unpacked-by n t [] h = absurd (omega arith)
+unpacked-by n t (low ∷ []) h = absurd (omega arith)
+unpacked-by n t (low ∷ high ∷ rest) h = refl
+
+-- an accepted table is not refused
+pub not-refused : (n : ℕ) (t : List ℕ) {fault : TableFault} {X : Type 0} → accepted n t ≡ true → opened n t ≡ Refused fault → X
+not-refused n t {fault} ok e =
+    let d : Accepted ≡ Refused fault = sym (accepted-opened n t ok) ∙ e in
+    let z : _≡_ {A = ℕ} 0 1 = cc in absurd (omega arith)
+
+module _ (n : ℕ) (t buffer : List ℕ) (two : 2 ≤ length buffer) {bits : ℕ} (is : bits ≡ lengthAt buffer) where
+  abbrev rest : Option Programs
+  rest = bind (takeMeasured (drop 2 buffer)) λ part. restored n t (part .0) 16 bits (part .1)
+
+  tested : (b : Bool) → eqb bits 0 ≡ b → unpacked n t buffer ≡ cond b (some noPrograms) rest
+  tested b e =
+      unpacked-by n t buffer two ∙ ap (λ (k : ℕ). unpackedBy n t k (drop 2 buffer)) (sym is) ∙
+      ap (λ (x : Bool). cond x (some noPrograms) rest) e
+
+  -- an empty store
+  pub unpacks-none : {slots : List ℕ} → Absent slots 0 → bits ≡ 0 → Unpacks n t buffer true slots
+  unpacks-none absent e =
+      record {
+        slotted = absent .slotted;
+        unpacks = λ d. tested true (eq-eqb bits 0 e) ∙ ap some (sym (empty-programs absent));
+        fails = λ d. true-false d;
+      }
+
+  module _ (there : bits ≡ 0 → ⊥) {end : ℕ} (ends : EndsAt buffer 2 end) where
+    -- no common part
+    pub unpacks-short : {slots : List ℕ} → Absent slots 0 → end ≡ 0 → Unpacks n t buffer false slots
+    unfolding bind
+    unpacks-short absent e =
+        record {
+          slotted = absent .slotted;
+          unpacks = λ d. true-false (sym d);
+          fails = λ d.
+              tested false (ne-eqb bits 0 there) ∙
+              ap (λ (o : Option (List ℕ × List ℕ)). bind o λ part. restored n t (part .0) 16 bits (part .1)) (measured-short buffer 2 end two ends e);
+        }
+
+    module _ (whole : end ≡ 0 → ⊥) where
+      pub behind-part : (4 ≤ end) × (end ≤ length buffer)
+      behind-part = (omega (arith, ends .whole whole .0), ends .whole whole .1)
+
+      -- the common part, and the differences behind it
+      pub unpacks-all : {answer : Bool} {slots : List ℕ} → Slotted slots →
+          restored n t (take (end - 4) (drop 4 buffer)) 16 bits (take (length buffer - end) (drop end buffer)) ≡ cond answer (some (programsIn slots)) none →
+          Unpacks n t buffer answer slots
+      unfolding bind
+      unpacks-all {answer} {slots} slotted e =
+          let all : unpacked n t buffer ≡ cond answer (some (programsIn slots)) none =
+          tested false (ne-eqb bits 0 there) ∙
+          ap (λ (o : Option (List ℕ × List ℕ)). bind o λ part. restored n t (part .0) 16 bits (part .1)) (measured-whole buffer 2 end two ends whole) ∙
+          ap (restored n t (take (end - 4) (drop 4 buffer)) 16 bits)
+          (sym (take-all (length buffer - end) (drop end buffer) (omega (arith, length-drop end buffer)))) ∙ e in
+          record {
+            slotted = slotted;
+            unpacks = λ d. all ∙ ap (λ (b : Bool). cond b (some (programsIn slots)) none) d;
+            fails = λ d. all ∙ ap (λ (b : Bool). cond b (some (programsIn slots)) none) d;
+          }
