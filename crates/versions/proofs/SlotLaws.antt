@@ -350,10 +350,10 @@ module _ {old new : List ℕ} {v : ℕ} (slotted : Slotted old) (inside : v < 16
 pub empty-programs : {slots : List ℕ} → Absent slots 0 → programsIn slots ≡ noPrograms
 empty-programs {slots} absent =
     ext-getD none (programsIn slots) noPrograms
-    (programs-length slots ∙ sym (length-replicate 16 none))
+    (programs-length slots ∙ sym (length-replicate {A = Option (List ℕ)} 16 none))
     (λ i low.
     let inside : i < 16 = omega (arith, low, programs-length slots) in
-    program-at slots i inside ∙ slot-none slots i (absent .empty i (omega arith) inside) ∙ sym (getD-replicate 16 i none none inside))
+    program-at slots i inside ∙ slot-none slots i (absent .empty i (omega arith) inside) ∙ sym (getD-replicate {A = Option (List ℕ)} 16 i none none inside))
 
 pub absent-zeros : (xs : List ℕ) → length xs ≡ 77696 → ((k : ℕ) → getD xs k 0 ≡ 0) → Absent xs 0
 absent-zeros xs long zeros =

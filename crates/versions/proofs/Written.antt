@@ -2,7 +2,7 @@
 -- it was. And the record that is taken from the output.
 use mathlib.Core.Path.{_≡_, refl, sym, _∙_, ap, subst}
 use mathlib.Core.Bool.{Bool, true, false, cond}
-use mathlib.Core.List.{List, _++_}
+use mathlib.Core.List.{List, [], _∷_, _++_}
 use mathlib.Core.Logic.{_⊎_}
 use mathlib.Core.Option.{Option, none, some}
 use Prim.Native.Nat.{ℕ, suc, _≤_}
@@ -11,6 +11,8 @@ use borrow.Author.Tests.{leb-true}
 use lib.Dec.{eqb, leb}
 use lib.ListN.{length, take, drop, length-append, length-drop, length-replicate}
 use lib.Seq.{length-take-le}
+use denote.Enum.Declared.{tagOf}
+use types.Run.{OneOf, miss}
 use Rattle.graphs.specs.Rows.{Row, from}
 use Rattle.graphs.specs.Number.{Canonical, canonical, manyNodes, manyLinks, written}
 use Rattle.graphs.specs.Unify.{Unified, cycle, clash, unified, unification}
@@ -25,6 +27,7 @@ use Rattle.encode.specs.Encode.{yielding, encoded, fitted, writtenOut}
 use Rattle.record.specs.Read.{Reading, refused, accepted, reading, graphOfRows}
 use Rattle.replies.specs.declared.Reply.{Reply}
 use Rattle.replies.specs.declared.Reply.the-variants.{Length, Table, Graph, NoRoom, TooLarge, Cycle, Clash, NotBelow, NoWantedType}
+use Rattle.replies.proofs.Reply.{the-type}
 use Rattle.replies.specs.declared.Side.the-variants.{First, Second}
 use Rattle.replies.specs.Reply.{Result, resulting, resultOf, refusing, lengthOf}
 use Rattle.subsume.specs.Promise.{rowsBelow}
@@ -36,6 +39,13 @@ use Rattle.engine.specs.Unifying.{combined, unifiedRows}
 use Rattle.calls.specs.Calls.{checked, rewriting, generalizing, unifying, differing}
 use Rattle.gathering.proofs.Told.{none-some, length-told}
 use Rattle.versions.specs.State.{Made, made, stopped, taken, takenBy, blank, commonPart, combination, differenceOf}
+
+-- the places of the replies that tell no length, and what a match that leaves these tells
+abbrev pub otherReplies : List ℕ
+otherReplies = 1 ∷ 2 ∷ 3 ∷ 4 ∷ 5 ∷ 6 ∷ 7 ∷ 8 ∷ 9 ∷ 10 ∷ 11 ∷ 12 ∷ 13 ∷ 14 ∷ 15 ∷ 16 ∷ 17 ∷ 18 ∷ 19 ∷ 20 ∷ 21 ∷ 22 ∷ 23 ∷ 24 ∷ []
+
+pub not-length : (r : Reply) → OneOf otherReplies (tagOf the-type r) → (l : ℕ) → r ≡ Length l → ⊥
+not-length r other l e = miss otherReplies 0 tt (subst (λ (q : Reply). OneOf otherReplies (tagOf the-type q)) e other)
 
 pub length-blank : length blank ≡ 4854
 unfolding blank
