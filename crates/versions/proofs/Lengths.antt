@@ -1,30 +1,26 @@
--- The replies that tell no length: bytes are made of no other.
-use mathlib.Core.Path.{_≡_, refl, sym, _∙_, ap, subst}
-use mathlib.Core.List.{List, [], _∷_}
+-- The replies that tell no length stop what follows; any other tells one length.
+use mathlib.Core.Path.{_≡_, refl, sym, _∙_, ap}
+use mathlib.Core.List.{List}
 use mathlib.Core.Option.{Option, none, some}
 use Prim.Native.Nat.{ℕ, _≤_}
 use native.Mathlib.Omega.{arith}
 use denote.Enum.Declared.{tagOf}
-use types.Run.{OneOf, miss}
-use lib.ListN.{take}
+use types.Run.{OneOf}
 use Rattle.replies.specs.declared.Reply.{Reply}
 use Rattle.replies.specs.declared.Reply.the-variants.{Length}
 use Rattle.replies.specs.Reply.{resulting, lengthOf, Bounded}
 use Rattle.replies.proofs.Reply.{the-type}
 use Rattle.gathering.proofs.Told.{none-some, length-told}
-use Rattle.versions.specs.State.{Made, made, stopped, takenBy, taken}
+use Rattle.versions.specs.State.{Made, stopped, takenBy, taken}
 use Rattle.versions.specs.Promise.{onwardBy, onward}
+use Rattle.versions.proofs.Written.{otherReplies, not-length}
 
--- the places of the replies that tell no length
-abbrev pub others : List ℕ
-others = 1 ∷ 2 ∷ 3 ∷ 4 ∷ 5 ∷ 6 ∷ 7 ∷ 8 ∷ 9 ∷ 10 ∷ 11 ∷ 12 ∷ 13 ∷ 14 ∷ 15 ∷ 16 ∷ 17 ∷ 18 ∷ 19 ∷ 20 ∷ 21 ∷ 22 ∷ 23 ∷ 24 ∷ []
-
-pub no-length : (r : Reply) → OneOf others (tagOf the-type r) → lengthOf r ≡ none
-no-length r one = go (lengthOf r) refl
+pub no-length : (r : Reply) → OneOf otherReplies (tagOf the-type r) → lengthOf r ≡ none
+no-length r other = go (lengthOf r) refl
   where
     go : (o : Option ℕ) → lengthOf r ≡ o → lengthOf r ≡ none
     go none e = e
-    go (some l) e = absurd (miss others 0 tt (subst (λ (q : Reply). OneOf others (tagOf the-type q)) (length-told r l e) one))
+    go (some l) e = absurd (not-length r other l (length-told r l e))
 
 module _ (r : Reply) (no : lengthOf r ≡ none) where
   pub none-bounded : (most : ℕ) → Bounded r most
@@ -36,7 +32,7 @@ module _ (r : Reply) (no : lengthOf r ≡ none) where
   pub none-onward : (next : ℕ → Made) → onward r next ≡ stopped r
   none-onward next = ap (λ (o : Option ℕ). onwardBy o r next) no
 
--- a reply that tells a length tells one
+-- the length that a reply tells
 pub length-same : {l k : ℕ} → Length l ≡ Length k → l ≡ k
 length-same e = cc
 
