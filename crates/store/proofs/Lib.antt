@@ -1,4 +1,5 @@
 -- Proofs about the calls of a store.
+pub mod Starts
 pub mod Settling
 pub mod Programs
 pub mod Among
