@@ -1,0 +1,10 @@
+-- Theorems about stores.
+pub mod Bytes
+pub mod Records
+pub mod Restoring
+pub mod Way
+pub mod Held
+pub mod Stops
+pub mod Calls
+pub mod Puts
+pub mod Exact
