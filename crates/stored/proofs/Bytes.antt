@@ -2,8 +2,8 @@
 use mathlib.Core.Path.{_≡_, refl, sym, _∙_, ap, ap₂}
 use mathlib.Core.Bool.{Bool, true, false, cond, _&&_}
 use mathlib.Core.List.{List, [], _∷_, _++_}
-use mathlib.Core.Option.{Option, none, some}
-use Prim.Native.Nat.{ℕ, zero, suc, _+_, _*_, _/_, _%_, _≤_, _<_}
+use mathlib.Core.Option.{none, some}
+use Prim.Native.Nat.{ℕ, _+_, _*_, _/_, _%_, _<_}
 use native.Mathlib.Omega.{arith}
 use borrow.Author.Tests.{le-leb, eq-eqb, eqb-true}
 use lib.Dec.{eqb, leb}
@@ -30,7 +30,7 @@ unfolding startsWith
 starts-append [] rest = refl
 starts-append (x ∷ xs) rest = ap (λ b. b && startsWith xs (xs ++ rest)) (eq-eqb x x refl) ∙ starts-append xs rest
 
--- and what begins with bytes is these and the others
+-- a list that begins with bytes is these bytes and what stands behind them
 pub starts-with : (xs bytes : List ℕ) → startsWith xs bytes ≡ true → bytes ≡ xs ++ drop (length xs) bytes
 unfolding startsWith
 starts-with [] bytes h = refl

@@ -2,23 +2,22 @@
 use mathlib.Core.Path.{_≡_, refl, sym, _∙_, ap, ap₂, subst}
 use mathlib.Core.Bool.{Bool, true, false, cond, _&&_}
 use mathlib.Core.List.{List, [], _∷_, _++_}
-use mathlib.Core.Logic.{_↔_, _⊎_, inl, inr, ⊎-elim}
+use mathlib.Core.Logic.{_⊎_, inl, inr, ⊎-elim}
 use mathlib.Core.Option.{Option, none, some}
 use Prim.Native.Nat.{ℕ, zero, suc, _+_, _≤_, _<_}
 use native.Mathlib.Omega.{arith}
 use borrow.Author.Tests.{ltb-true}
-use lib.Dec.{eqb, ltb}
-use lib.ListN.{length, getD, set, take, drop, length-append, length-drop, length-set}
-use lib.Seq.{getD-set-same, getD-set-other, set-out, take-append-seam, drop-append-seam}
+use lib.Dec.{ltb}
+use lib.ListN.{length, getD, set, drop, length-append, length-drop, length-set}
+use lib.Seq.{drop-append-seam}
 use Rattle.graphs.specs.Rows.{Row}
 use Rattle.lattice.specs.Label.{Label}
 use Rattle.lattice.specs.declared.Opened.the-variants.{Accepted}
 use Rattle.lattice.specs.declared.Opened.{Opened}
 use Rattle.lattice.specs.Reply.{opened}
-use Rattle.record.specs.declared.GraphFault.{GraphFault}
-use Rattle.record.specs.Read.{Reading, refused, accepted, reading, graphOfRows}
+use Rattle.record.specs.Read.{Reading, refused, accepted, reading}
 use Rattle.replies.specs.declared.Reply.the-variants.{WrongVersion}
-use Rattle.replies.specs.Reply.{Result, refusal, lengthOf}
+use Rattle.replies.specs.Reply.{Result, lengthOf}
 use Rattle.calls.specs.Calls.{checked}
 use Rattle.demands.specs.Demand.{WrittenRecord}
 use Rattle.gathering.proofs.Told.{none-some}
@@ -29,12 +28,7 @@ use Rattle.stored.specs.Theorem.{Versions, Holds}
 use Rattle.stored.proofs.Records.{program-written}
 use Rattle.stored.proofs.Way.{state-long, state-fits}
 use Rattle.stored.proofs.Stops.{way-meets, met-silent}
-use Rattle.stored.proofs.Held.{some-injective, held-sound, held-complete, empty-held}
-
--- A refused put or drop leaves the buffer.
-pub settled-refused : (buffer : List ℕ) (m : Made) (k : ℕ) → refusal (settled buffer m .reply) ≡ some k → settled buffer m .output ≡ buffer
-settled-refused buffer (made state) k e = none-some e
-settled-refused buffer (stopped r) k e = refl
+use Rattle.stored.proofs.Held.{some-injective, held-complete, empty-held}
 
 -- A version that is put or dropped leaves 16 versions, each a written record.
 
@@ -54,21 +48,24 @@ set-versions n ps version o versions one =
     }
 
 module _ (n : ℕ) (t : List ℕ) where
-  module _ (buffer : List ℕ) (ps qs : Programs) (holds : Holds n t buffer ps) (versions : Versions n qs) (s : List ℕ) (reached : way n t (length buffer) qs ≡ made s) where
-    -- the buffer keeps its length
-    pub over-length : length (s ++ drop (length s) buffer) ≡ length buffer
-    over-length =
-        let some-room : 2 ≤ length buffer =
-        omega (
-          arith,
-          state-long n t (length buffer) ps (holds .versions) (holds .state) (holds .reached),
-          ap length (holds .first),
-          length-append (holds .state) (drop (length (holds .state)) buffer),
-        ) in
-        let fits : length s ≤ length buffer = state-fits n t (length buffer) qs versions s reached some-room in
-        length-append s (drop (length s) buffer) ∙ ap (λ (k : ℕ). length s + k) (length-drop (length s) buffer) ∙ omega arith
+  -- a buffer that holds programs has two bytes or more
+  pub holds-long : (buffer : List ℕ) (ps : Programs) → Holds n t buffer ps → 2 ≤ length buffer
+  holds-long buffer ps holds =
+      omega (
+        arith,
+        state-long n t (length buffer) ps (holds .versions) (holds .state) (holds .reached),
+        ap length (holds .first),
+        length-append (holds .state) (drop (length (holds .state)) buffer),
+      )
 
-  -- a buffer that holds programs holds others once their state is written over its first bytes
+  -- and keeps its length where a state is written over its first bytes:
+  pub over-length : (buffer : List ℕ) (ps qs : Programs) → Holds n t buffer ps → Versions n qs → (s : List ℕ) → way n t (length buffer) qs ≡ made s →
+      length (s ++ drop (length s) buffer) ≡ length buffer
+  over-length buffer ps qs holds versions s reached =
+      let fits : length s ≤ length buffer = state-fits n t (length buffer) qs versions s reached (holds-long buffer ps holds) in
+      length-append s (drop (length s) buffer) ∙ ap (λ (k : ℕ). length s + k) (length-drop (length s) buffer) ∙ omega arith
+
+  -- it then holds the programs of that state
   pub written-over : (buffer : List ℕ) (ps qs : Programs) → Holds n t buffer ps → Versions n qs → (s : List ℕ) → way n t (length buffer) qs ≡ made s →
       Holds n t (s ++ drop (length s) buffer) qs
   written-over buffer ps qs holds versions s reached =
@@ -83,7 +80,7 @@ module _ (n : ℕ) (t : List ℕ) where
 
   module _ (opens : opened n t ≡ Accepted) (buffer : List ℕ) (ps : Programs) (holds : Holds n t buffer ps) where
     -- what follows the checks of the table and the buffer
-    pub past-checks : (next : Programs → Made) → inTable n t next buffer ≡ next ps
+    past-checks : (next : Programs → Made) → inTable n t next buffer ≡ next ps
     past-checks next =
         ap₂ (λ (o : Opened) (h : Option Programs). checked stopped o (onHeld h next)) opens (held-complete n t opens buffer ps holds)
 
@@ -99,7 +96,7 @@ module _ (n : ℕ) (t : List ℕ) where
     unfolding fetching
     fetching-is version out = ap (given out) (past-checks (λ ps. onPresent (getD ps version none) made))
 
-    -- what is held after a call that comes to an end of the way
+    -- Once `m` is settled the buffer has its length; it holds `qs` where a length is told, else the programs as they were.
     abbrev After : Made → Programs → Type 0
     After m qs =
         (length (settled buffer m .output) ≡ length buffer) × Holds n t (settled buffer m .output) (whereGiven (lengthOf (settled buffer m .reply)) ps qs)
@@ -184,14 +181,3 @@ module _ (n : ℕ) (t : List ℕ) where
   store-holds opens rest lent cs =
       held-complete n t opens (bufferAfter n t (emptyState ++ rest) cs) (programsAfter n t (emptyState ++ rest) noPrograms cs)
       (calls-hold opens cs (emptyState ++ rest) noPrograms (empty-held n t rest lent) .1)
-
-  -- A refused put or drop leaves the buffer, whatever is handed in.
-  pub putting-refused : (buffer : List ℕ) (version : ℕ) (bytes : List ℕ) (k : ℕ) → refusal (putting n t buffer version bytes .reply) ≡ some k →
-      putting n t buffer version bytes .output ≡ buffer
-  unfolding putting
-  putting-refused buffer version bytes k e = settled-refused buffer (inTable n t (putAmong n t (length buffer) version bytes) buffer) k e
-
-  pub dropping-refused : (buffer : List ℕ) (version : ℕ) (k : ℕ) → refusal (dropping n t buffer version .reply) ≡ some k →
-      dropping n t buffer version .output ≡ buffer
-  unfolding dropping
-  dropping-refused buffer version k e = settled-refused buffer (inTable n t (dropAmong n t (length buffer) version) buffer) k e

@@ -4,7 +4,7 @@ use mathlib.Core.Bool.{Bool, true, false, cond, _&&_}
 use mathlib.Core.List.{List, _++_}
 use mathlib.Core.Logic.{_↔_, _⊎_, inl, inr, ⊎-elim}
 use mathlib.Core.Option.{Option, none, some}
-use Prim.Native.Nat.{ℕ, _≤_, _<_}
+use Prim.Native.Nat.{ℕ, _<_}
 use native.Mathlib.Omega.{arith}
 use borrow.Author.Tests.{lt-ltb, le-ltb, ltb-true, ltb-false, le-leb, lt-leb, leb-true, leb-false}
 use lib.Dec.{ltb, leb}
@@ -19,7 +19,7 @@ use Rattle.encode.specs.Encode.{fitted, yielding}
 use Rattle.record.specs.Read.{Reading, refused, accepted, reading}
 use Rattle.replies.specs.declared.Side.the-variants.{First}
 use Rattle.replies.specs.declared.Reply.{Reply}
-use Rattle.replies.specs.declared.Reply.the-variants.{Length, Table, Graph, NoRoom, WrongVersion}
+use Rattle.replies.specs.declared.Reply.the-variants.{Length, Graph, NoRoom, WrongVersion}
 use Rattle.replies.specs.Reply.{Result, resultOf}
 use Rattle.record.specs.declared.GraphFault.the-variants.{Malformed}
 use Rattle.calls.specs.Calls.{checked}
@@ -27,7 +27,7 @@ use Rattle.demands.specs.Demand.{WrittenRecord}
 use Rattle.gathering.proofs.Told.{none-some}
 use Rattle.versions.specs.State.{Made, made, stopped, Programs, way, held}
 use Rattle.store.specs.Calls.{onHeld, onProgram, onAbsent, onPresent, isNone, writtenRecord, settled, given, putAmong, dropAmong, inTable, putting, dropping, fetching}
-use Rattle.stored.specs.Theorem.{Versions, Holds, HoldsNone, Met, PutChecked, VersionChecked, PutDue, DropDue, ReadDue}
+use Rattle.stored.specs.Theorem.{Versions, Holds, HoldsNone, PutChecked, VersionChecked, PutDue, DropDue, ReadDue}
 use Rattle.stored.specs.Theorem as due
 use Rattle.stored.proofs.Records.{program-written}
 use Rattle.stored.proofs.Held.{some-injective, held-sound, held-complete}
@@ -107,8 +107,8 @@ module _ (n : ℕ) (t : List ℕ) where
           table (Refused fault) e = due.table fault e
           table Accepted e = state e (held n t buffer) refl
 
-      -- past the checks the way is gone
-      put-goes : (ps : Programs) (rows : List (Row Label)) → PutChecked n t buffer version bytes ps rows →
+      -- A put that passes its checks goes the way of the new programs;
+      pub put-goes : (ps : Programs) (rows : List (Row Label)) → PutChecked n t buffer version bytes ps rows →
           putting n t buffer version bytes ≡ settled buffer (way n t (length buffer) (set ps version (some (writtenRecord rows))))
       put-goes ps rows passes =
           putting-is n t (passes .opens) buffer ps (passes .holds) version bytes ∙
@@ -147,9 +147,9 @@ module _ (n : ℕ) (t : List ℕ) where
       pub put-exact : (r : Reply) → (putting n t buffer version bytes .reply ≡ r) ↔ PutDue n t buffer version bytes r
       put-exact r = (λ e. subst (PutDue n t buffer version bytes) e put-due, put-replies)
 
-    -- the way of a drop, and what is read, past the checks
-    present-is : (ps : Programs) → Holds n t buffer ps → (15 < version) ⊎ (getD ps version none ≡ none) → getD ps version none ≡ none
-    present-is ps holds = ⊎-elim (above-absent n ps (holds .versions) version) (λ e. e)
+    -- a version that drop or read refuses by 20 is absent
+    pub wrong-absent : (ps : Programs) → Holds n t buffer ps → (15 < version) ⊎ (getD ps version none ≡ none) → getD ps version none ≡ none
+    wrong-absent ps holds = ⊎-elim (above-absent n ps (holds .versions) version) (λ e. e)
 
     -- Drop.
     drop-due : DropDue n t buffer version (dropping n t buffer version .reply)
@@ -179,7 +179,8 @@ module _ (n : ℕ) (t : List ℕ) where
         table (Refused fault) e = due.table fault e
         table Accepted e = state e (held n t buffer) refl
 
-    drop-goes : (ps : Programs) (p : List ℕ) → VersionChecked n t buffer version ps p →
+    -- so does a drop;
+    pub drop-goes : (ps : Programs) (p : List ℕ) → VersionChecked n t buffer version ps p →
         dropping n t buffer version ≡ settled buffer (way n t (length buffer) (set ps version none))
     drop-goes ps p passes =
         dropping-is n t (passes .opens) buffer ps (passes .holds) version ∙
@@ -193,7 +194,7 @@ module _ (n : ℕ) (t : List ℕ) where
         ap (λ (m : Made). settled buffer m .reply) (stateless opens none-holds (dropAmong n t (length buffer) version))
     drop-replies (due.numbered ps opens holds wrong) =
         ap (λ (x : Result). x .reply) (dropping-is n t opens buffer ps holds version) ∙
-        ap (λ (o : Option (List ℕ)). settled buffer (onPresent o λ p. way n t (length buffer) (set ps version none)) .reply) (present-is ps holds wrong)
+        ap (λ (o : Option (List ℕ)). settled buffer (onPresent o λ p. way n t (length buffer) (set ps version none)) .reply) (wrong-absent ps holds wrong)
     drop-replies (due.met ps p r passes meets) =
         ap (λ (x : Result). x .reply) (drop-goes ps p passes) ∙
         ap (λ (m : Made). settled buffer m .reply)
@@ -234,6 +235,7 @@ module _ (n : ℕ) (t : List ℕ) where
           table (Refused fault) e = due.table fault e
           table Accepted e = state e (held n t buffer) refl
 
+      -- and such a read writes the record.
       pub read-goes : (ps : Programs) (p : List ℕ) → VersionChecked n t buffer version ps p → fetching n t buffer version out ≡ resultOf (fitted p out)
       read-goes ps p passes =
           fetching-is n t (passes .opens) buffer ps (passes .holds) version out ∙
@@ -247,7 +249,7 @@ module _ (n : ℕ) (t : List ℕ) where
           ap (λ (m : Made). given out m .reply) (stateless opens none-holds (λ ps. onPresent (getD ps version none) made))
       read-replies (due.numbered ps opens holds wrong) =
           ap (λ (x : Result). x .reply) (fetching-is n t opens buffer ps holds version out) ∙
-          ap (λ (o : Option (List ℕ)). given out (onPresent o made) .reply) (present-is ps holds wrong)
+          ap (λ (o : Option (List ℕ)). given out (onPresent o made) .reply) (wrong-absent ps holds wrong)
       read-replies (due.shorter ps p passes less) =
           ap (λ (x : Result). x .reply) (read-goes ps p passes) ∙ ap (λ (b : Bool). backBy p b .reply) (lt-leb (length p) (length out) less)
       read-replies (due.fits ps p passes fit) =

@@ -1,14 +1,14 @@
 -- What a buffer holds: programs whose way in its length ends in its first bytes, and no others; what stands behind does not matter.
-use mathlib.Core.Path.{_≡_, refl, sym, _∙_, ap, ap₂, subst}
+use mathlib.Core.Path.{_≡_, refl, sym, _∙_, ap, subst}
 use mathlib.Core.Bool.{Bool, true, false, cond}
 use mathlib.Core.List.{List, [], _∷_, _++_}
 use mathlib.Core.Logic.{_↔_}
 use mathlib.Core.Option.{Option, none, some, Option·map, bind, bind-eq-some-iff, map-eq-some-iff}
-use Prim.Native.Nat.{ℕ, zero, suc, _+_, _*_, _/_, _%_, _≤_, _<_}
+use Prim.Native.Nat.{ℕ, zero, suc, _+_, _*_, _/_, _%_, _≤_}
 use native.Mathlib.Omega.{arith}
 use borrow.Author.Tests.{leb-true}
 use lib.Dec.{eqb, leb}
-use lib.ListN.{length, getD, drop, replicate, length-replicate, length-append}
+use lib.ListN.{length, getD, drop, replicate}
 use Rattle.lattice.specs.declared.Opened.the-variants.{Accepted}
 use Rattle.lattice.specs.Reply.{opened}
 use Rattle.demands.specs.Demand.{WrittenRecord}
@@ -25,16 +25,14 @@ use Rattle.versions.specs.State.{
   wayFrom,
   way,
   takeMeasured,
-  startsWith,
   begins,
   restored,
-  unpackedBy,
   unpacked,
   held,
 }
 use Rattle.stored.specs.Theorem.{Versions, Holds}
 use Rattle.stored.proofs.Bytes.{starts-with}
-use Rattle.stored.proofs.Records.{made-injective, stopped-made, combination-written}
+use Rattle.stored.proofs.Records.{combination-written}
 use Rattle.stored.proofs.Way.{reached-held}
 
 pub some-injective : {A : Type 0} {x y : A} → some x ≡ some y → x ≡ y
@@ -50,7 +48,7 @@ absent-all (suc k) zero = refl
 absent-all (suc k) (suc v) = absent-all k v
 
 -- an empty store has its 16 versions absent
-pub empty-versions : (n : ℕ) → Versions n noPrograms
+empty-versions : (n : ℕ) → Versions n noPrograms
 empty-versions n = record { sixteen = refl; written = λ v p e. none-some (sym (absent-all 16 v) ∙ e) }
 
 -- so many versions, each a written record
@@ -95,7 +93,7 @@ module _ (n : ℕ) (t : List ℕ) where
           subst (Some n (suc count)) {x = none ∷ qs} whole (some-more n count none qs (λ q s. none-some s) (more bytes qs rest))
 
   -- what is unpacked are versions
-  pub unpacked-versions : (bytes : List ℕ) (ps : Programs) → unpacked n t bytes ≡ some ps → Versions n ps
+  unpacked-versions : (bytes : List ℕ) (ps : Programs) → unpacked n t bytes ≡ some ps → Versions n ps
   unfolding unpacked
   unpacked-versions [] ps e = none-some e
   unpacked-versions (low ∷ []) ps e = none-some e
@@ -160,8 +158,12 @@ module _ (n : ℕ) (t : List ℕ) where
           first = first;
         })
 
-  -- An empty store: two zero bytes, whatever the table.
-  pub empty-held : (rest : List ℕ) → length rest ≤ 16382 → Holds n t (emptyState ++ rest) noPrograms
+  -- The way of no programs ends in two zero bytes, whatever the table and the room;
+  pub empty-way : (room : ℕ) → way n t room noPrograms ≡ made emptyState
   unfolding way wayFrom
+  empty-way room = refl
+
+  -- an empty store begins with them.
+  pub empty-held : (rest : List ℕ) → length rest ≤ 16382 → Holds n t (emptyState ++ rest) noPrograms
   empty-held rest h =
-      record { versions = empty-versions n; lent = omega arith; state = emptyState; reached = refl; first = refl }
+      record { versions = empty-versions n; lent = omega arith; state = emptyState; reached = empty-way (length (emptyState ++ rest)); first = refl }

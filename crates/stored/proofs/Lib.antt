@@ -8,3 +8,7 @@ pub mod Stops
 pub mod Calls
 pub mod Puts
 pub mod Exact
+pub mod Numbers
+pub mod Kept
+pub mod Theorems
+pub mod Paper11

@@ -23,9 +23,8 @@ use Rattle.demands.specs.Demand.{WrittenRecord, Leaves}
 use Rattle.demands.proofs.Demands.{generalizing-leaves, unifying-leaves, differing-leaves, difference, written-own-bytes}
 use Rattle.gathering.proofs.Told.{none-some, length-told}
 use Rattle.gathered.specs.Calls.{taken as gatheredTaken, takenBy as gatheredBy}
-
 use Rattle.gathered.proofs.Records.{length-blank, written-short, taken-fitted as gathered-fitted}
-use Rattle.versions.specs.State.{Made, made, stopped, takenBy, taken, blank, commonPart, combination, differenceOf}
+use Rattle.versions.specs.State.{made, stopped, takenBy, taken, blank, commonPart, combination, differenceOf}
 
 pub made-injective : {a b : List ℕ} → made a ≡ made b → a ≡ b
 made-injective e = cc
@@ -55,7 +54,7 @@ taken-some r p e = go (lengthOf (r .reply)) refl e
     go (some l) q d = let i : take l (r .output) ≡ p = cc in ap made i
 
 -- a record is taken again where it fits
-pub taken-fitted : (p out : List ℕ) → length p ≤ length out → taken (resultOf (fitted p out)) ≡ made p
+taken-fitted : (p out : List ℕ) → length p ≤ length out → taken (resultOf (fitted p out)) ≡ made p
 taken-fitted p out h = taken-some (resultOf (fitted p out)) p (gathered-fitted p out h)
 
 -- the written record of a program

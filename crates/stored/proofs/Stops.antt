@@ -19,6 +19,7 @@ use Rattle.graphs.proofs.Difference.ByNumber.{by-number-order}
 use Rattle.lattice.specs.Label.{Label}
 use Rattle.lattice.specs.declared.Opened.the-variants.{Accepted}
 use Rattle.lattice.specs.Reply.{opened}
+use Rattle.lattice.specs.Table.{admits}
 use Rattle.lattice.specs.Labels.{tableLabels, SomeUnwanted}
 use Rattle.lattice.proofs.Acceptance.{opened-accepted}
 use Rattle.lattice.proofs.AnySize.{below-transitive}
@@ -43,6 +44,7 @@ use Rattle.demands.proofs.Demands.{
   difference-not-below,
   difference-not-wanted,
 }
+use Rattle.demands.proofs.Requests.Paper06.{admitted-wanted}
 use Rattle.demands.proofs.Demanded.Difference as Differed
 use Rattle.demands.proofs.Demanded.Difference.{not-below, not-wanted, differs, difference-told, remainder-result, plain-parts}
 use Rattle.gathering.proofs.Told.{none-some}
@@ -73,7 +75,7 @@ use Rattle.stored.specs.Theorem.{Versions, Passed, start, absent, steps,
 use Rattle.stored.proofs.Records.{made-injective, stopped-made, taken-made, common-written}
 use Rattle.stored.proofs.Way.{snoc-first, passed-on}
 
-pub stop-injective : {q r : Reply} → stopped q ≡ stopped r → q ≡ r
+stop-injective : {q r : Reply} → stopped q ≡ stopped r → q ≡ r
 stop-injective e = cc
 
 -- a reply that tells of no length stops, and no other
@@ -362,6 +364,13 @@ module _ (n : ℕ) (t : List ℕ) (opens : opened n t ≡ Accepted) where
           way-halts n t room (step .behind) (step .ahead) (step .part) (step .state) (step .program) c NoStoreRoom is
           (ap (λ (m : Made). andThen m λ ds. within room (stateOf (programsOf step) c ds)) made-is ∙
           within-short room (stateOf (programsOf step) c ds) less)
+
+      -- Over a table that admits differences 13 is never met.
+      pub never-met : admits n t ≡ true → Met n t room ps NoWantedType → ⊥
+      unfolding differenceOf
+      never-met differ (unwanted step c v p g s is at one other lacks) =
+          let stops : differenceOf n t c p ≡ stopped NoWantedType = one-lacks c g one (step-under step c is v p at) (s, other, lacks) in
+          admitted-wanted n t differ c p blank (taken-stopped (differing n t c p blank) NoWantedType stops .0)
 
       pub way-meets : (r : Reply) → (way n t room ps ≡ stopped r) ↔ Met n t room ps r
       unfolding way

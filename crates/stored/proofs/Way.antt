@@ -1,14 +1,14 @@
 -- The way: where it ends, the programs are read back from the state; what a buffer holds is what its first bytes were reached by.
 use mathlib.Core.Path.{_≡_, refl, sym, _∙_, ap, ap₂, subst}
 use mathlib.Core.Bool.{Bool, true, false, cond}
-use mathlib.Core.List.{List, [], _∷_, _++_, append-assoc, append-nil}
-use mathlib.Core.Logic.{_↔_}
-use mathlib.Core.Option.{Option, none, some, Option·map, bind}
-use Prim.Native.Nat.{ℕ, zero, suc, _+_, _*_, _/_, _%_, _≤_, _<_}
+use mathlib.Core.List.{List, [], _∷_, _++_, append-nil}
+use mathlib.Core.Logic.{_↔_, _⊎_, inl, inr}
+use mathlib.Core.Option.{Option, none, some, bind}
+use Prim.Native.Nat.{ℕ, zero, suc, _≤_, _<_}
 use native.Mathlib.Omega.{arith}
-use borrow.Author.Tests.{le-leb, leb-true, eqb-true}
-use lib.Dec.{eqb, leb}
-use lib.ListN.{length, getD, drop, replicate, length-replicate, length-append, getD-replicate, List·getD-eq-default}
+use borrow.Author.Tests.{le-leb, leb-true}
+use lib.Dec.{leb}
+use lib.ListN.{length, getD, replicate}
 use lib.Seq.{append-snoc, getD-append-seam}
 use Rattle.lattice.specs.declared.Opened.the-variants.{Accepted}
 use Rattle.lattice.specs.Reply.{opened}
@@ -20,7 +20,6 @@ use Rattle.versions.specs.State.{
   made,
   stopped,
   andThen,
-  recordIn,
   Programs,
   noPrograms,
   emptyState,
@@ -28,27 +27,21 @@ use Rattle.versions.specs.State.{
   mapOf,
   measured,
   stateOf,
-  combination,
   differenceOf,
-  commonPart,
   differences,
   within,
   stored,
   joined,
   wayFrom,
   way,
-  takeMeasured,
-  startsWith,
   begins,
-  restored,
-  unpackedBy,
   unpacked,
   held,
 }
 use Rattle.versions.proofs.Loops.{way-step}
 use Rattle.stored.specs.Theorem.{Versions, Passed, start, absent, steps}
-use Rattle.stored.proofs.Bytes.{starts-append, starts-with}
-use Rattle.stored.proofs.Records.{made-injective, stopped-made, common-written, combination-written}
+use Rattle.stored.proofs.Bytes.{starts-append}
+use Rattle.stored.proofs.Records.{made-injective, stopped-made, common-written}
 use Rattle.stored.proofs.Restoring.{then-made, map-zero, state-unpacked}
 
 -- what stands before the last stays
@@ -146,7 +139,7 @@ module _ (n : ℕ) (t : List ℕ) where
       ap (way n t room) (append-snoc behind (some program) ahead) ∙ passed-on before (some program ∷ ahead) ∙
       way-step n t room behind ahead part state program c s is reached
 
-  -- and it ends in a state exactly where it passes all versions to it.
+  -- and it ends in a state exactly where it passes all versions and comes to that state.
   pub way-passes : (room : ℕ) (ps : Programs) (b : List ℕ) → (way n t room ps ≡ made b) ↔ ((last : Option (List ℕ)) × Passed n t room ps last b)
   unfolding way wayFrom
   way-passes room ps b = (
@@ -157,6 +150,21 @@ module _ (n : ℕ) (t : List ℕ) where
   way-at : (room : ℕ) (ps : Programs) → Versions n ps → (b : List ℕ) → way n t room ps ≡ made b → (last : Option (List ℕ)) × At room ps last b
   unfolding way-passes
   way-at room ps versions b reached = let (last, there) = way-passes room ps b .0 reached in (last, at-passed there (versions .written))
+
+  -- The bytes of a state: two zero bytes where no version exists, else the map, the common part and the differences.
+  pub state-bytes : (room : ℕ) (ps : Programs) → Versions n ps → (b : List ℕ) → way n t room ps ≡ made b →
+      ((ps ≡ noPrograms) × (b ≡ emptyState)) ⊎
+      ((part : List ℕ) × (ds : List ℕ) × Passed n t room ps (some part) b × (differences n t part ps ≡ made ds) × (b ≡ stateOf ps part ds))
+  unfolding stored way-passes
+  state-bytes room ps versions b reached = let (last, there) = way-passes room ps b .0 reached in go there (at-passed there (versions .written))
+    where
+      go : {last : Option (List ℕ)} {state : List ℕ} → Passed n t room ps last state → At room ps last state →
+          ((ps ≡ noPrograms) × (state ≡ emptyState)) ⊎
+          ((part : List ℕ) × (ds : List ℕ) × Passed n t room ps (some part) state × (differences n t part ps ≡ made ds) × (state ≡ stateOf ps part ds))
+      go there (empty e) = inl (map-zero ps e ∙ ap (λ (k : ℕ). replicate k none) (versions .sixteen), refl)
+      go there (storing part state one more e) =
+          let (ds, is, last) = then-made (differences n t part ps) (λ ds. within room (stateOf ps part ds)) state e in
+          inr (part, ds, there, is, sym (within-made room (stateOf ps part ds) state last .0))
 
   at-long : {room : ℕ} {ps : Programs} {last : Option (List ℕ)} {b : List ℕ} → At room ps last b → 2 ≤ length b
   unfolding stored stateOf twoBytes
@@ -195,7 +203,7 @@ module _ (n : ℕ) (t : List ℕ) where
 
     module _ (room : ℕ) (ps : Programs) (versions : Versions n ps) (b : List ℕ) (reached : way n t room ps ≡ made b) where
       -- A state that is reached gives its programs, whatever stands behind it;
-      pub reached-unpacked : (rest : List ℕ) → unpacked n t (b ++ rest) ≡ some ps
+      reached-unpacked : (rest : List ℕ) → unpacked n t (b ++ rest) ≡ some ps
       reached-unpacked rest = let (last, here) = way-at room ps versions b reached in at-unpacked room ps last b rest versions here
 
       -- a buffer of that length that begins with it holds them.

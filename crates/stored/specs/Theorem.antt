@@ -5,7 +5,7 @@ use mathlib.Core.List.{List, [], _∷_, _++_}
 use mathlib.Core.Logic.{_⊎_}
 use mathlib.Core.Option.{Option, none, some}
 use Prim.Native.Nat.{ℕ, _≤_, _<_}
-use lib.ListN.{length, drop, getD, set}
+use lib.ListN.{length, take, drop, getD, set}
 use Rattle.graphs.specs.Rows.{Row}
 use Rattle.lattice.specs.Label.{Label}
 use Rattle.lattice.specs.Labels.{SomeUnwanted}
@@ -62,16 +62,16 @@ pub record Step (n : ℕ) (t : List ℕ) (room : ℕ) (ps : Programs) : Type 0 w
 abbrev pub programsOf : {n : ℕ} {t : List ℕ} {room : ℕ} {ps : Programs} → Step n t room ps → Programs
 programsOf step = step .behind ++ some (step .program) ∷ []
 
--- "the first number met on that way": at some step, with all steps before it made,
+-- "the first number met on that way": the way passes every step before one, and stops there by
 pub data Met (n : ℕ) (t : List ℕ) (room : ℕ) (ps : Programs) : Reply → Type 0 where
-  -- 11: the common part so far and the step's program have a common part of "over 255 nodes or 2,048 links";
+  -- 11, where the common part so far and the step's program have a common part of "over 255 nodes or 2,048 links",
   too-large : (step : Step n t room ps) (part : List ℕ) (g h : List (Row Label)) → step .part ≡ some part →
       reading n part ≡ accepted g → reading n (step .program) ≡ accepted h → Large (common n t g h) → Met n t room ps TooLarge
-  -- 13: a node of one of the step's programs has no wanted type, beside the step's common part;
+  -- 13, where it is made, and some node of one of the step's programs has no wanted type for the difference from it,
   unwanted : (step : Step n t room ps) (c : List ℕ) (v : ℕ) (p : List ℕ) (g s : List (Row Label)) → joined n t (step .part) (step .program) ≡ made c →
       getD (programsOf step) v none ≡ some p → reading n c ≡ accepted g → reading n p ≡ accepted s →
       SomeUnwanted n t (graphOfRows s) (graphOfRows g) → Met n t room ps NoWantedType
-  -- 21: "after a step's 11 and 13, too few bytes for its state".
+  -- or 21, where all differences are made too: "after a step's 11 and 13, too few bytes for its state is 21".
   short : (step : Step n t room ps) (c ds : List ℕ) → joined n t (step .part) (step .program) ≡ made c →
       differences n t c (programsOf step) ≡ made ds → room < length (stateOf (programsOf step) c ds) → Met n t room ps NoStoreRoom
 
@@ -90,22 +90,37 @@ pub record VersionChecked (n : ℕ) (t buffer : List ℕ) (version : ℕ) (ps : 
   pub holds : Holds n t buffer ps
   pub present : getD ps version none ≡ some p
 
--- When each reply of a call is due.
+-- What a put or drop that is answered by the length l leaves of the buffer: it holds the new programs, the length is that of the used bytes, and
+-- the bytes past them stay.
+pub record Changed (n : ℕ) (t buffer : List ℕ) (l : ℕ) (new : List ℕ) (qs : Programs) : Type 0 where
+  pub holds : Holds n t new qs
+  pub used : length (holds .state) ≡ l
+  pub others : drop l new ≡ drop l buffer
+  pub long : length new ≡ length buffer
+
+-- Two buffers of one length with the same used bytes.
+pub record Alike (n : ℕ) (t buffer other : List ℕ) : Type 0 where
+  pub long : length other ≡ length buffer
+  pub programs : Programs
+  pub holds : Holds n t buffer programs
+  pub same : take (length (holds .state)) other ≡ holds .state
+
+-- When each reply of a call is due: the checks stand in their order.
 
 module _ (n : ℕ) (t buffer : List ℕ) (version : ℕ) where
   -- of put
   pub data PutDue (bytes : List ℕ) : Reply → Type 0 where
-    -- "The table is checked first",
+    -- 1 to 3: "The table is checked first".
     table : (fault : TableFault) → opened n t ≡ Refused fault → PutDue bytes (Table fault)
-    -- "then the buffer, where one holding no state so reached within its length is 4 of the first graph,
+    -- 4: "then the buffer, where one holding no state so reached within its length is 4 of the first graph".
     no-state : opened n t ≡ Accepted → HoldsNone n t buffer → PutDue bytes (Graph Malformed First)
-    -- then the program's 4 to 7, as the second;
+    -- 4 to 7: "then the program's 4 to 7, as the second".
     program : (ps : Programs) (fault : GraphFault) → opened n t ≡ Accepted → Holds n t buffer ps → reading n bytes ≡ refused fault →
         PutDue bytes (Graph fault Second)
-    -- next a version above 15, or [..] present for put, is 20,
+    -- 20: "next a version above 15, or [..] present for put, is 20".
     numbered : (ps : Programs) (rows : List (Row Label)) → opened n t ≡ Accepted → Holds n t buffer ps → reading n bytes ≡ accepted rows →
         (15 < version) ⊎ ((p : List ℕ) × (getD ps version none ≡ some p)) → PutDue bytes WrongVersion
-    -- and on the way" 11, 13 and 21.
+    -- 11, 13 and 21: "refused with the first number met on that way".
     met : (ps : Programs) (rows : List (Row Label)) (r : Reply) → PutChecked n t buffer version bytes ps rows →
         Met n t (length buffer) (set ps version (some (writtenRecord rows))) r → PutDue bytes r
     -- "Put and drop return the used length."
@@ -114,19 +129,27 @@ module _ (n : ℕ) (t buffer : List ℕ) (version : ℕ) where
 
   -- of drop
   pub data DropDue : Reply → Type 0 where
+    -- 1 to 3
     table : (fault : TableFault) → opened n t ≡ Refused fault → DropDue (Table fault)
+    -- 4 of the first graph
     no-state : opened n t ≡ Accepted → HoldsNone n t buffer → DropDue (Graph Malformed First)
-    -- "a version above 15, or absent for read and drop"
+    -- 20: "a version above 15, or absent for read and drop".
     numbered : (ps : Programs) → opened n t ≡ Accepted → Holds n t buffer ps → (15 < version) ⊎ (getD ps version none ≡ none) → DropDue WrongVersion
+    -- 11, 13 and 21
     met : (ps : Programs) (p : List ℕ) (r : Reply) → VersionChecked n t buffer version ps p → Met n t (length buffer) (set ps version none) r → DropDue r
+    -- the used length
     used : (ps : Programs) (p s : List ℕ) → VersionChecked n t buffer version ps p → way n t (length buffer) (set ps version none) ≡ made s →
         DropDue (Length (length s))
 
   -- of read, with an output of so many bytes
   pub data ReadDue (room : ℕ) : Reply → Type 0 where
+    -- 1 to 3
     table : (fault : TableFault) → opened n t ≡ Refused fault → ReadDue room (Table fault)
+    -- 4 of the first graph
     no-state : opened n t ≡ Accepted → HoldsNone n t buffer → ReadDue room (Graph Malformed First)
+    -- 20
     numbered : (ps : Programs) → opened n t ≡ Accepted → Holds n t buffer ps → (15 < version) ⊎ (getD ps version none ≡ none) → ReadDue room WrongVersion
-    -- "the result exists and the output is shorter" (document 01, 8)
+    -- 8: "the result exists and the output is shorter" (document 01).
     shorter : (ps : Programs) (p : List ℕ) → VersionChecked n t buffer version ps p → room < length p → ReadDue room NoRoom
+    -- the record's length
     fits : (ps : Programs) (p : List ℕ) → VersionChecked n t buffer version ps p → length p ≤ room → ReadDue room (Length (length p))

@@ -5,11 +5,13 @@ use mathlib.Core.Option.{Option, none, some}
 use Prim.Native.Nat.{ℕ, suc}
 use lib.ListN.{take, set}
 use Rattle.record.specs.Read.{Reading, refused, accepted, reading}
+use Rattle.replies.specs.declared.Reply.{Reply}
 use Rattle.replies.specs.declared.Reply.the-variants.{Length}
 use Rattle.replies.specs.Reply.{Result, resulting, lengthOf}
 use Rattle.versions.specs.State.{Made, made, stopped, Programs}
 use Rattle.store.specs.Calls.{writtenRecord, putting, dropping, fetching}
 
+-- put, drop and read, each with its version; put has a program, and to read an output is lent
 pub data Call : Type 0 where
   put : ℕ → List ℕ → Call
   remove : ℕ → Call
@@ -20,10 +22,12 @@ abbrev pub writtenIn : Reading → List ℕ
 writtenIn (refused fault) = []
 writtenIn (accepted rows) = writtenRecord rows
 
+-- the first programs, or the second where a reply tells a length
 abbrev pub whereGiven : Option ℕ → Programs → Programs → Programs
 whereGiven none ps qs = ps
 whereGiven (some l) ps qs = qs
 
+-- what follows a reply that tells a length, with the buffer and its used bytes; any other reply stops
 abbrev pub onLength : Option ℕ → Result → (List ℕ → List ℕ → Made) → Made
 onLength none r next = stopped (r .reply)
 onLength (some l) r next = next (r .output) (take l (r .output))
@@ -39,6 +43,11 @@ module _ (n : ℕ) (t : List ℕ) where
   unfoldable pub bufferAfter : List ℕ → List Call → List ℕ
   bufferAfter buffer [] = buffer
   bufferAfter buffer (c ∷ cs) = bufferAfter (called buffer c .output) cs
+
+  -- the replies of all
+  unfoldable pub replies : List ℕ → List Call → List Reply
+  replies buffer [] = []
+  replies buffer (c ∷ cs) = called buffer c .reply ∷ replies (called buffer c .output) cs
 
   -- what a call that is not refused does to the programs
   abbrev pub done : Call → Programs → Programs
