@@ -1,1 +1,2 @@
 -- Proofs about the code of a store.
+pub mod Examples
