@@ -4,3 +4,4 @@ pub mod Settling
 pub mod Programs
 pub mod Among
 pub mod Opening
+pub mod Examples
