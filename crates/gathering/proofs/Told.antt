@@ -39,12 +39,16 @@ length-told r l e = answer-injective r (Length l) (go (answerOf r) e)
 abbrev pub others : List ℕ
 others = 1 ∷ 2 ∷ 3 ∷ 4 ∷ 5 ∷ 6 ∷ 7 ∷ 8 ∷ 9 ∷ 10 ∷ 11 ∷ 12 ∷ 13 ∷ 14 ∷ 15 ∷ 16 ∷ 17 ∷ 18 ∷ 19 ∷ 20 ∷ 21 ∷ 22 ∷ 23 ∷ 24 ∷ []
 
-pub untold : (r : Reply) → OneOf others (tagOf the-type r) → lengthOf r ≡ none
-untold r other = go (lengthOf r) refl
+-- what a match that leaves these tells
+pub not-length : (r : Reply) → OneOf others (tagOf the-type r) → (l : ℕ) → r ≡ Length l → ⊥
+not-length r other l e = miss others 0 tt (subst (λ (q : Reply). OneOf others (tagOf the-type q)) e other)
+
+pub no-length : (r : Reply) → OneOf others (tagOf the-type r) → lengthOf r ≡ none
+no-length r other = go (lengthOf r) refl
   where
-    go : (o : Option ℕ) → lengthOf r ≡ o → o ≡ none
-    go none e = refl
-    go (some l) e = absurd (miss others 0 tt (subst (λ (q : Reply). OneOf others (tagOf the-type q)) (length-told r l e) other))
+    go : (o : Option ℕ) → lengthOf r ≡ o → lengthOf r ≡ none
+    go none e = e
+    go (some l) e = absurd (not-length r other l (length-told r l e))
 
 module _ (at : ℕ) (state : List ℕ) (reply : Reply) where
   -- any other reply leaves the state

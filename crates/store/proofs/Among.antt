@@ -2,8 +2,8 @@
 use mathlib.Core.Path.{_≡_, refl, sym, _∙_, ap, ap₂, subst}
 use mathlib.Core.Bool.{Bool, true, false, cond, _&&_}
 use mathlib.Core.List.{List, [], _∷_, _++_}
-use mathlib.Core.Option.{Option, none, some}
-use Prim.Native.Nat.{ℕ, zero, suc, _+_, _*_, _≤_, _<_}
+use mathlib.Core.Option.{Option, none, some, bind}
+use Prim.Native.Nat.{ℕ, zero, suc, _+_, _-_, _*_, _≤_, _<_}
 use native.Mathlib.Nat.{zero-add}
 use native.Mathlib.Omega.{arith}
 use borrow.Author.Tests.{le-leb, lt-leb, lt-ltb, le-ltb}
@@ -20,19 +20,13 @@ use Rattle.replies.specs.declared.Reply.the-variants.{Length, Graph, NoRoom, Wr
 use Rattle.replies.specs.Reply.{Result, resulting, resultOf, lengthOf, Bounded}
 use Rattle.gathering.specs.Gathering.{lengthAt}
 use Rattle.gathering.proofs.Told.{none-some}
-use Rattle.versions.specs.State.{Made, made, stopped, andThen, takenBy, taken, Programs, emptyState, wayFrom, way, held}
+use Rattle.versions.specs.State.{Made, made, stopped, andThen, takenBy, taken, Programs, emptyState, wayFrom, way, unpacked, held}
 use Rattle.versions.specs.Slots.{measuredIn, programsIn, slotAt, Slotted}
-use Rattle.versions.specs.Promise.{onwardBy, onward, NoneFrom}
-use Rattle.versions.proofs.SlotLaws.{programs-length, program-at, slot-none, slot-some, recordAt, record-length}
+use Rattle.versions.specs.Promise.{onwardBy, onward, NoneFrom, Puts}
+use Rattle.versions.proofs.Lengths.{none-bounded, none-taken}
+use Rattle.versions.proofs.SlotLaws.{programs-length, program-at, slot-none, slot-some, recordAt, record-length, put-slot}
 use Rattle.store.specs.Calls.{onHeld, onProgram, isNone, onAbsent, onPresent, given, putAmong, dropAmong}
 use Rattle.store.specs.Promise.{Led, Steps, Opens, Among, Programmed}
-
--- a reply that tells no length tells none within any bound
-pub untold-bounded : (r : Reply) (most : ℕ) → lengthOf r ≡ none → Bounded r most
-untold-bounded r most e l q = none-some (sym e ∙ ap lengthOf q)
-
-taken-stopped : (r : Reply) (out : List ℕ) → lengthOf r ≡ none → taken (resulting r out) ≡ stopped r
-taken-stopped r out e = ap (λ (o : Option ℕ). takenBy o (resulting r out)) e
 
 -- a program goes on as its record does
 on-program : (o : Reading) (next : List ℕ → Made) → onProgram o next ≡ andThen (onProgram o made) next
@@ -61,12 +55,35 @@ onward-same r {f} {g} same = go (lengthOf r)
     go none = refl
     go (some l) = same l
 
+-- a buffer that holds programs has the two bytes of the map
+held-wide : (n : ℕ) (t buffer : List ℕ) (ps : Programs) → held n t buffer ≡ some ps → 2 ≤ length buffer
+unfolding held unpacked bind
+held-wide n t [] ps e = none-some e
+held-wide n t (low ∷ []) ps e = none-some e
+held-wide n t (low ∷ high ∷ rest) ps e = omega arith
+
+-- a slot in which a record is
+there : (slots : List ℕ) (version : ℕ) (qs : Programs) (p : List ℕ) → version < 16 → length qs ≡ 16 → programsIn slots ≡ set qs version (some p) →
+    1 ≤ lengthAt (drop (version * 4856) slots)
+there slots version qs p low sixteen is = go (lengthAt (drop (version * 4856) slots)) refl
+  where
+    go : (l : ℕ) → lengthAt (drop (version * 4856) slots) ≡ l → 1 ≤ lengthAt (drop (version * 4856) slots)
+    go zero e =
+        none-some (sym (program-at slots version low ∙ slot-none slots version e)
+        ∙ ap (λ (ps : Programs). getD ps version none) is ∙ getD-set-same qs version (some p) none (omega (arith, low, sixteen)))
+    go (suc l) e = omega (arith, e)
+
+pub put-there : {p old new : List ℕ} {v : ℕ} → Slotted old → v < 16 → length p ≤ 4854 → Puts p (v * 4856) old new → 1 ≤ length p →
+    1 ≤ lengthAt (drop (v * 4856) new)
+put-there {p} {old} {new} {v} slotted low short puts some-bytes =
+    there new v (programsIn old) p low (programs-length old) (put-slot slotted low short puts some-bytes .1)
+
 -- what is 4 of the first graph
 pub not-held : {n : ℕ} {t buffer slots part state : List ℕ} {answer : Bool} → Opens n t buffer answer slots part state → answer ≡ false →
     (next : Programs → Made) (old : List ℕ) → length old ≡ length buffer → Among (onHeld (held n t buffer) next) old (Graph Malformed First) state
 not-held opens e next old long = record {
   long = opens .long ∙ sym long;
-  inside = untold-bounded (Graph Malformed First) (length old) refl;
+  inside = none-bounded (Graph Malformed First) refl (length old);
   makes = sym (ap (λ (o : Option Programs). onHeld o next) (opens .fails e));
 }
 
@@ -79,13 +96,16 @@ module _ {n : ℕ} {t buffer slots part state : List ℕ} {answer : Bool} (opens
   is-held : held n t buffer ≡ some ps
   is-held = opens .holds yes-held .0
 
+  pub wide : 2 ≤ length state
+  wide = omega (arith, opens .long, held-wide n t buffer ps is-held)
+
   pub among : (next : Programs → Made) (r : Reply) (new : List ℕ) → length new ≡ length old → Bounded r (length old) → taken (resulting r new) ≡ next ps →
       Among (onHeld (held n t buffer) next) old r new
   among next r new same inside e = record { long = same; inside = inside; makes = e ∙ sym (ap (λ (o : Option Programs). onHeld o next) is-held) }
 
   stops : (next : Programs → Made) (r : Reply) → lengthOf r ≡ none → next ps ≡ stopped r → Among (onHeld (held n t buffer) next) old r state
   stops next r e q =
-      among next r state (opens .long ∙ sym long) (untold-bounded r (length old) e) (taken-stopped r state e ∙ sym q)
+      among next r state (opens .long ∙ sym long) (none-bounded r e (length old)) (none-taken r e state ∙ sym q)
 
   -- Versions.
   module _ (version : ℕ) where
@@ -109,10 +129,10 @@ module _ {n : ℕ} {t buffer slots part state : List ℕ} {answer : Bool} (opens
     drop-absent h e = drop-wrong (absent h e)
 
     -- the way of the others
-    pub drop-goes : version < 16 → (lengthAt (drop (version * 4856) slots) ≡ 0 → ⊥) → (after : List ℕ) {new : List ℕ} {r : Reply} → programsIn after ≡ set ps version none →
+    pub drop-goes : version < 16 → (lengthAt (drop (version * 4856) slots) ≡ 0 → ⊥) → (after : List ℕ) {new : List ℕ} (r : Reply) → programsIn after ≡ set ps version none →
         length new ≡ length state → Bounded r (length state) → taken (resulting r new) ≡ way n t (length state) (programsIn after) →
         Among (onHeld (held n t buffer) (dropAmong n t (length buffer) version)) old r new
-    drop-goes h e after {new} {r} is same inside goes =
+    drop-goes h e after {new} r is same inside goes =
         among (dropAmong n t (length buffer) version) r new (same ∙ opens .long ∙ sym long)
         (subst (Bounded r) (opens .long ∙ sym long) inside)
         (goes ∙ ap₂ (way n t) (opens .long) is
@@ -130,7 +150,7 @@ module _ {n : ℕ} {t buffer slots part state : List ℕ} {answer : Bool} (opens
       put-by = on-program (reading n bytes) behind ∙ ap (λ (m : Made). andThen m behind) (sym (programmed .writes))
 
       pub put-refused : lengthOf reply ≡ none → Among (onHeld (held n t buffer) put) old reply state
-      put-refused e = stops put reply e (put-by ∙ ap (λ (m : Made). andThen m behind) (taken-stopped reply out e))
+      put-refused e = stops put reply e (put-by ∙ ap (λ (m : Made). andThen m behind) (none-taken reply e out))
 
       module _ (l : ℕ) (told : reply ≡ Length l) where
         abbrev p : List ℕ
@@ -157,9 +177,9 @@ module _ {n : ℕ} {t buffer slots part state : List ℕ} {answer : Bool} (opens
             put-way : put ps ≡ way n t (length buffer) (set ps version (some p))
             put-way = free true (ap isNone (absent low e))
 
-            pub put-goes : {new : List ℕ} {r : Reply} → length new ≡ length state → Bounded r (length state) →
+            pub put-goes : {new : List ℕ} (r : Reply) → length new ≡ length state → Bounded r (length state) →
                 taken (resulting r new) ≡ way n t (length state) (programsIn after) → Among (onHeld (held n t buffer) put) old r new
-            put-goes {new} {r} same inside goes =
+            put-goes {new} r same inside goes =
                 among put r new (same ∙ opens .long ∙ sym long) (subst (Bounded r) (opens .long ∙ sym long) inside)
                 (goes ∙ ap₂ (way n t) (opens .long) is ∙ sym put-way)
 
@@ -234,6 +254,15 @@ module _ {n : ℕ} {t buffer slots part state : List ℕ} {answer : Bool} (opens
             ∙ sym (ap (λ (b : Bool). resultOf (cond b (yielding (outcome.Length (length found)) (found ++ drop (length found) out)) (yielding outcome.NoRoom out)))
             (le-leb (length found) (length out) (omega (arith, h, found-length))))
             ∙ read-by (some found) (present version low e)
+
+        -- as it is copied from the slots
+        pub read-copied : (k : ℕ) → k ≡ lengthAt (drop (version * 4856) slots) → k ≤ length out → {new : List ℕ} →
+            new ≡ paste out 0 (take (version * 4856 + 2 + k - (version * 4856 + 2)) (drop (version * 4856 + 2) slots)) (length (take (version * 4856 + 2 + k - (version * 4856 + 2)) (drop (version * 4856 + 2) slots))) →
+            resulting (Length k) new ≡ given out (onHeld (held n t buffer) (λ qs. onPresent (getD qs version none) made))
+        read-copied k is h {new} copied =
+            let same : version * 4856 + 2 + k - (version * 4856 + 2) ≡ lengthAt (drop (version * 4856) slots) = omega (arith, is) in
+            ap (λ (j : ℕ). resulting (Length j) new) is
+            ∙ read-fits (omega (arith, is, h)) (copied ∙ ap (λ (j : ℕ). paste out 0 (take j (drop (version * 4856 + 2) slots)) (length (take j (drop (version * 4856 + 2) slots)))) same)
 
 -- 4 of the first graph, for read
 pub read-not-held : {n : ℕ} {t buffer slots part state : List ℕ} {answer : Bool} → Opens n t buffer answer slots part state → answer ≡ false → (version : ℕ) (out : List ℕ) →

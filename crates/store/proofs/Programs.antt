@@ -3,12 +3,12 @@ use mathlib.Core.Path.{_≡_, refl, sym, _∙_, ap}
 use mathlib.Core.Bool.{Bool, true, cond}
 use mathlib.Core.List.{List, [], _++_}
 use mathlib.Core.Option.{some}
-use Prim.Native.Nat.{ℕ, _≤_}
+use Prim.Native.Nat.{ℕ, _+_, _-_, _≤_}
 use native.Mathlib.Omega.{arith}
 use borrow.Author.Tests.{le-leb}
 use lib.Dec.{eqb, leb}
-use lib.ListN.{length, take, drop}
-use lib.Seq.{take-append-seam}
+use lib.ListN.{length, take, drop, length-append, length-drop}
+use lib.Seq.{take-append-seam, length-take-le}
 use Rattle.graphs.specs.Rows.{Row}
 use Rattle.graphs.specs.Number.{Canonical, canonical, written}
 use Rattle.lattice.specs.Label.{Label}
@@ -34,9 +34,10 @@ use Rattle.store.specs.Calls.{onProgram}
 use Rattle.store.specs.Promise.{Programmed}
 
 -- its 4 to 7
-pub program-refused : {n : ℕ} {bytes ws : List ℕ} {v : Verdict} → Reads n bytes v ws → (fault : GraphFault) → v ≡ Refused fault → (out : List ℕ) →
+pub program-refused : {n : ℕ} {bytes ws : List ℕ} {v : Verdict} → Reads n bytes v ws → (fault : GraphFault) → v ≡ Refused fault → (out : List ℕ) → length out ≡ 4854 →
     Programmed n bytes (Graph fault Second) out
-program-refused reads fault e out = record {
+program-refused reads fault e out room = record {
+  long = room;
   short = λ l q. let z : _≡_ {A = ℕ} 0 1 = cc in absurd (omega arith);
   some-bytes = λ l q. let z : _≡_ {A = ℕ} 0 1 = cc in absurd (omega arith);
   writes = sym (ap (λ (o : Reading). onProgram o made) (told-refused reads fault e));
@@ -74,6 +75,10 @@ module _ (n : ℕ) (bytes : List ℕ) (rows : List (Row Label)) (ok : reading n 
 
   pub program-written : {r : Reply} {new : List ℕ} → resulting r new ≡ rewrittenRows out rows → Programmed n bytes r new
   program-written {r} {new} is = record {
+    long =
+        ap (λ (x : Result). length (x .output)) (is ∙ form-written)
+        ∙ length-append (encoded form) (drop (length (encoded form)) out)
+        ∙ omega (arith, length-drop (length (encoded form)) out, form-short);
     short = λ l q. omega (arith, form-short, same-length (length (encoded form)) l (sym (told is) ∙ q));
     some-bytes = λ l q. omega (arith, form-some, same-length (length (encoded form)) l (sym (told is) ∙ q));
     writes =
@@ -82,3 +87,17 @@ module _ (n : ℕ) (bytes : List ℕ) (rows : List (Row Label)) (ok : reading n 
         ∙ ap (λ (c : Canonical Label). made (encoded (numbered c))) (sym is-form)
         ∙ sym (ap (λ (o : Reading). onProgram o made) ok);
   }
+
+-- the record that is told, in the output
+module _ {n : ℕ} {bytes : List ℕ} {r : Reply} {out : List ℕ} (programmed : Programmed n bytes r out) (l : ℕ) (told : r ≡ Length l) where
+  pub told-inside : l ≤ length out
+  told-inside = omega (arith, programmed .short l told, programmed .long)
+
+  pub told-length : length (take l out) ≡ l
+  told-length = length-take-le l out told-inside
+
+  pub told-short : length (take l out) ≤ 4854
+  told-short = omega (arith, told-length, programmed .short l told)
+
+  pub told-some : 1 ≤ length (take l out)
+  told-some = omega (arith, told-length, programmed .some-bytes l told)

@@ -54,6 +54,7 @@ pub record Among (m : Made) (old : List ℕ) (r : Reply) (new : List ℕ) : Type
 
 -- The written record of a program, or its 4 to 7 as those of the second graph.
 pub record Programmed (n : ℕ) (bytes : List ℕ) (r : Reply) (record₂ : List ℕ) : Type 0 where
+  pub long : length record₂ ≡ 4854
   pub short : Bounded r 4854
   pub some-bytes : (l : ℕ) → r ≡ Length l → 1 ≤ l
   pub writes : taken (resulting r record₂) ≡ onProgram (reading n bytes) made

@@ -13,14 +13,6 @@ use Rattle.replies.proofs.Reply.{the-type}
 use Rattle.gathering.proofs.Told.{none-some, length-told}
 use Rattle.versions.specs.State.{Made, stopped, takenBy, taken}
 use Rattle.versions.specs.Promise.{onwardBy, onward}
-use Rattle.versions.proofs.Written.{otherReplies, not-length}
-
-pub no-length : (r : Reply) → OneOf otherReplies (tagOf the-type r) → lengthOf r ≡ none
-no-length r other = go (lengthOf r) refl
-  where
-    go : (o : Option ℕ) → lengthOf r ≡ o → lengthOf r ≡ none
-    go none e = e
-    go (some l) e = absurd (not-length r other l (length-told r l e))
 
 module _ (r : Reply) (no : lengthOf r ≡ none) where
   pub none-bounded : (most : ℕ) → Bounded r most

@@ -502,3 +502,7 @@ module _ {slots : List ℕ} {count : ℕ} where
 
     pub map-all : v ≡ 0 → (bits ≡ mapOf (take count (programsIn slots))) × (bits < 65536)
     map-all e = (map .is ∙ ap (λ (k : ℕ). mapOf (drop k (take count (programsIn slots)))) e, map-fits)
+
+-- the room of a slot before anything is put there
+pub part-blank : Parted (replicate 4856 0)
+part-blank = record { long = length-replicate {A = ℕ} 4856 0; short = omega (arith, zero-at 4856 0, zero-at 4856 1) }

@@ -40,13 +40,6 @@ use Rattle.calls.specs.Calls.{checked, rewriting, generalizing, unifying, diffe
 use Rattle.gathering.proofs.Told.{none-some, length-told}
 use Rattle.versions.specs.State.{Made, made, stopped, taken, takenBy, blank, commonPart, combination, differenceOf}
 
--- the places of the replies that tell no length, and what a match that leaves these tells
-abbrev pub otherReplies : List ℕ
-otherReplies = 1 ∷ 2 ∷ 3 ∷ 4 ∷ 5 ∷ 6 ∷ 7 ∷ 8 ∷ 9 ∷ 10 ∷ 11 ∷ 12 ∷ 13 ∷ 14 ∷ 15 ∷ 16 ∷ 17 ∷ 18 ∷ 19 ∷ 20 ∷ 21 ∷ 22 ∷ 23 ∷ 24 ∷ []
-
-pub not-length : (r : Reply) → OneOf otherReplies (tagOf the-type r) → (l : ℕ) → r ≡ Length l → ⊥
-not-length r other l e = miss otherReplies 0 tt (subst (λ (q : Reply). OneOf otherReplies (tagOf the-type q)) e other)
-
 pub length-blank : length blank ≡ 4854
 unfolding blank
 length-blank = length-replicate {A = ℕ} 4854 0

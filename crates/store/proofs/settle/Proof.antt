@@ -2,7 +2,7 @@
 use mathlib.Core.Path.{sym}
 use native.Mathlib.Omega.{arith}
 use lib.Seq.{length-take-le}
-use Rattle.gathering.proofs.Told.{untold}
+use Rattle.gathering.proofs.Told.{no-length}
 use Rattle.store.proofs.Settling.{settle-none, settle-some}
 use borrow.Author.Needs.{needs}
 use Rattle.store.proofs.settle.Statement.{statement}
@@ -17,7 +17,7 @@ enum-known-reply c = search needs
 returns : tie.Need-returns
 returns c =
     let a = c .before .before .before .args in
-    settle-none (a .reply) (a .state .now) (a .store .now) (untold (a .reply) (c .match .keys2))
+    settle-none (a .reply) (a .state .now) (a .store .now) (no-length (a .reply) (c .match .keys2))
 
 slice-aggregate-copy : tie.Need-slice-aggregate-copy
 slice-aggregate-copy c = sym (length-take-le _ _ (c .before .before .before .before .before .before .pre .0 _ (c .before .before .reply .given .1)))

@@ -29,7 +29,7 @@ of-graph-requires : tie.Need-of-graph-requires
 of-graph-requires c κs = reads-loaded (c .before .before .before .before .before .before .before .before .args .n) (c .before .before .before .before .before .before .before .before .args .bytes .now) (c .before .before .before .before .read .ensures .0) (c .before .before .enum-told .given .1) .sound
 
 returns : tie.Need-returns
-returns c = program-refused (c .before .before .before .read .ensures .0) _ (c .before .verdict .given .1) (c .before .before .before .before .before .before .before .args .output .now)
+returns c = program-refused (c .before .before .before .read .ensures .0) _ (c .before .verdict .given .1) (c .before .before .before .before .before .before .before .args .output .now) (c .before .before .before .before .before .before .before .pre .1)
 
 same-length : tie.Need-same-length
 same-length c = search needs

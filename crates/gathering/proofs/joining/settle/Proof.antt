@@ -1,5 +1,5 @@
 -- The length that a reply tells is put.
-use Rattle.gathering.proofs.Told.{untold, settled-none, settled-some}
+use Rattle.gathering.proofs.Told.{no-length, settled-none, settled-some}
 use borrow.Author.Needs.{needs}
 use Rattle.gathering.proofs.joining.settle.Statement.{statement}
 use Rattle.gathering.proofs.joining.settle.Tie as tie
@@ -9,7 +9,7 @@ enum-known-reply c = search needs
 
 returns : tie.Need-returns
 returns c =
-    settled-none (c .before .before .args .at) (c .before .before .args .state .now) (c .before .before .args .reply) (untold (c .before .before .args .reply) (c .match .keys2))
+    settled-none (c .before .before .args .at) (c .before .before .args .state .now) (c .before .before .args .reply) (no-length (c .before .before .args .reply) (c .match .keys2))
 
 put-length-requires : tie.Need-put-length-requires
 put-length-requires c κs = c .before .before .before .before .before .pre _ (c .before .before .reply .given .1)

@@ -7,7 +7,8 @@ use Rattle.gathering.proofs.Told.{none-some}
 use Rattle.replies.specs.Reply.{lengthOf}
 use Rattle.versions.specs.State.{stored}
 use Rattle.versions.specs.Slots.{programsIn}
-use Rattle.versions.proofs.Lengths.{no-length, none-bounded, length-bounded}
+use Rattle.gathering.proofs.Told.{no-length}
+use Rattle.versions.proofs.Lengths.{none-bounded, length-bounded}
 use Rattle.versions.proofs.Packs.{Packing, start-long, packing-start, packing-step, packing-stops, packing-fits, packing-over}
 use borrow.Author.Needs.{needs}
 use Rattle.versions.proofs.packing.pack.Statement.{statement}

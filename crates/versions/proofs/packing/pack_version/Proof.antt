@@ -2,7 +2,8 @@
 use mathlib.Core.Path.{refl}
 use native.Mathlib.Omega.{arith}
 use Rattle.versions.specs.Promise.{standing}
-use Rattle.versions.proofs.Lengths.{no-length, none-bounded, length-bounded}
+use Rattle.gathering.proofs.Told.{no-length}
+use Rattle.versions.proofs.Lengths.{none-bounded, length-bounded}
 use Rattle.versions.proofs.Packs.{goes-absent, Differs, differs-in, goes-refused, size-fits, size-is, goes-put}
 use borrow.Author.Needs.{needs}
 use Rattle.versions.proofs.packing.pack_version.Statement.{statement}

@@ -3,7 +3,7 @@ use mathlib.Core.Path.{refl, sym, _∙_}
 use native.Mathlib.Omega.{arith}
 use Rattle.pairs.proofs.Readings.{optional-none}
 use Rattle.versions.proofs.Restoring.{not-restored, is-restored, restored-most, restored-inside, restored-length}
-use Rattle.versions.proofs.Written.{not-length}
+use Rattle.gathering.proofs.Told.{not-length}
 use borrow.Author.Needs.{needs}
 use Rattle.versions.proofs.unpacking.restore.Statement.{statement}
 use Rattle.versions.proofs.unpacking.restore.Tie as tie
