@@ -1,2 +1,3 @@
 -- Proofs about the code of a store.
 pub mod Starts
+pub mod Joined
