@@ -1,3 +1,4 @@
 -- Proofs about the code of a store.
 pub mod Starts
 pub mod Joined
+pub mod Ways
