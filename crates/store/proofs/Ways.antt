@@ -159,6 +159,12 @@ module _ {n : ℕ} {t slots : List ℕ} {room : ℕ} {part state : List ℕ} {us
   abbrev programs : Programs
   programs = programsIn slots
 
+  -- the same by other names
+  pub going-same : {part₂ state₂ : List ℕ} {used₂ : ℕ} → part₂ ≡ part → state₂ ≡ state → used₂ ≡ used → Going n t slots room part₂ state₂ used₂ v
+  going-same {part₂} {state₂} {used₂} d e h =
+      subst (λ (l : List ℕ). Going n t slots room l state₂ used₂ v) (sym d)
+      (subst (λ (l : List ℕ). Going n t slots room part l used₂ v) (sym e) (subst (λ (k : ℕ). Going n t slots room part state k v) (sym h) so))
+
   -- it has led to the versions so far, whatever lies ahead
   here : (ahead : Programs) →
       wayFrom n t room [] none emptyState (take v programs ++ ahead) ≡ wayFrom n t room (take v programs) (measuredIn part) (take used state) ahead
