@@ -2,3 +2,4 @@
 pub mod Starts
 pub mod Joined
 pub mod Ways
+pub mod Opening
