@@ -138,23 +138,27 @@ pub record Packing (n : ℕ) (t slots part : List ℕ) (count room : ℕ) (state
   pub long : length state ≡ room
   pub left : packed n t room (standing at state) part (drop v (take count (programsIn slots))) ≡ stored n t room part (take count (programsIn slots))
 
+-- two bytes are put first
+module _ (bits : ℕ) (old : List ℕ) {state : List ℕ} (is : state ≡ take 0 old ++ (twoBytes bits ++ drop (0 + 2) old)) where
+  pub two-long : 2 ≤ length old → length state ≡ length old
+  two-long two =
+      omega (arith, two, ap length is, length-append (twoBytes bits) (drop (0 + 2) old), length-two-bytes bits, length-drop (0 + 2) old)
+
+  pub two-stand : take 2 state ≡ twoBytes bits
+  two-stand = ap (take 2) is ∙ take-at (twoBytes bits) (drop (0 + 2) old) 2 (length-two-bytes bits)
+
 -- the map and the common part stand
 module _ (bits : ℕ) (old : List ℕ) {part state new : List ℕ} (two : 2 ≤ length old) (is : state ≡ take 0 old ++ (twoBytes bits ++ drop (0 + 2) old))
     (puts : Puts part 2 state new) where
-  state-long : length state ≡ length old
-  state-long =
-      omega (arith, two, ap length is, length-append (twoBytes bits) (drop (0 + 2) old), length-two-bytes bits, length-drop (0 + 2) old)
-
   pub start-long : length new ≡ length old
-  start-long = puts .long ∙ state-long
+  start-long = puts .long ∙ two-long bits old is two
 
   pub packing-start : (n : ℕ) (t slots : List ℕ) (count : ℕ) → count ≤ 16 → length part ≤ 4854 → bits ≡ mapOf (take count (programsIn slots)) →
       Packing n t slots part count (length new) new (4 + length part) 0
   packing-start n t slots count few short e =
       let ps : Programs = take count (programsIn slots) in
       let map-stands : standing 2 state ≡ twoBytes (mapOf ps) =
-      standing-fits 2 state (omega (arith, two, state-long)) ∙ ap (take 2) is ∙
-      take-at (twoBytes bits) (drop (0 + 2) old) 2 (length-two-bytes bits) ∙ ap twoBytes e in
+      standing-fits 2 state (omega (arith, two, two-long bits old is two)) ∙ two-stand bits old is ∙ ap twoBytes e in
       record {
         few = few;
         low = omega arith;

@@ -1,22 +1,21 @@
 -- A program that is restored: the common part combined with a difference, in the slot of its version.
 use mathlib.Core.Path.{_≡_, refl, sym, _∙_, ap}
-use mathlib.Core.Bool.{Bool, true, false, cond}
+use mathlib.Core.Bool.{true, false}
 use mathlib.Core.List.{List}
-use mathlib.Core.Option.{Option, none, some}
 use Prim.Native.Nat.{ℕ, _*_, _≤_, _<_}
 use native.Mathlib.Omega.{arith}
 use lib.ListN.{length, take, replicate}
+use Rattle.graphs.proofs.Search.{true-false}
 use Rattle.lattice.specs.Table.{accepted}
 use Rattle.lattice.specs.declared.Opened.{Opened}
-use Rattle.lattice.specs.Reply.{opened}
 use Rattle.lattice.proofs.Acceptance.{accepted-opened}
 use Rattle.replies.specs.declared.Reply.{Reply}
 use Rattle.replies.specs.declared.Reply.the-variants.{Length}
-use Rattle.replies.specs.Reply.{Result, resulting, refusing}
+use Rattle.replies.specs.Reply.{resulting, refusing}
 use Rattle.engine.specs.Unifying.{unifiedBeside}
 use Rattle.calls.specs.Calls.{checked, unifying}
 use Rattle.calls.proofs.Beside.{unifying-plain}
-use Rattle.versions.specs.State.{Made, made, stopped, recordIn, blank, combination}
+use Rattle.versions.specs.State.{recordIn, blank, combination}
 use Rattle.versions.specs.Slots.{Absent}
 use Rattle.versions.specs.Promise.{Puts, Restores}
 use Rattle.versions.proofs.SlotLaws.{put-slot, put-absent}
@@ -52,7 +51,7 @@ module _ (n : ℕ) (t list a b : List ℕ) {reply : Reply} {new : List ℕ} (ok 
     not-restored other =
         record {
           slotted = absent .slotted;
-          restores = λ e. let z : _≡_ {A = ℕ} 0 1 = cc in absurd (omega arith);
+          restores = λ e. true-false e refl;
           fails = λ e. ap recordIn (taken-stopped combines other);
         }
 
@@ -65,5 +64,5 @@ module _ (n : ℕ) (t list a b : List ℕ) {reply : Reply} {new : List ℕ} (ok 
         record {
           slotted = put .0;
           restores = λ d. (take l new, taken-made combines l e, put .1, put-absent (absent .slotted) inside short puts absent);
-          fails = λ d. let z : _≡_ {A = ℕ} 0 1 = cc in absurd (omega arith);
+          fails = λ d. true-false refl d;
         }

@@ -6,9 +6,10 @@ use mathlib.Core.Option.{Option, none, some, Option·map, bind}
 use Prim.Native.Nat.{ℕ, suc, _+_, _-_, _*_, _/_, _%_, _≤_, _<_}
 use native.Mathlib.Omega.{arith}
 use borrow.Author.Tests.{eq-eqb, ne-eqb, le-leb, lt-leb}
-use lib.Dec.{eqb, leb}
+use lib.Dec.{eqb}
 use lib.ListN.{length, take, drop, set, length-drop}
 use lib.Seq.{take-all, take-suc-set, drop-drop}
+use Rattle.graphs.proofs.Search.{true-false}
 use Rattle.lattice.specs.declared.TableFault.{TableFault}
 use Rattle.lattice.specs.declared.Opened.the-variants.{Accepted, Refused}
 use Rattle.lattice.specs.Table.{accepted}
@@ -18,7 +19,7 @@ use Rattle.replies.specs.declared.Reply.{Reply}
 use Rattle.gathering.specs.Gathering.{lengthAt}
 use Rattle.gathering.proofs.Told.{none-some}
 use Rattle.versions.specs.State.{Made, made, stopped, recordIn, Programs, noPrograms, combination, takeMeasured, restored, unpackedBy, unpacked}
-use Rattle.versions.specs.Slots.{slotAt, programsIn, Slotted, Absent}
+use Rattle.versions.specs.Slots.{programsIn, Slotted, Absent}
 use Rattle.versions.specs.Promise.{EndsAt, Restores, Unpacks}
 use Rattle.versions.proofs.SlotLaws.{programs-length, take-program, slot-none, empty-programs}
 use Rattle.versions.proofs.Loops.{restoredOn, on-end, on-absent, on-short, on-refused, on-present}
@@ -157,9 +158,6 @@ module _ {n : ℕ} {t part : List ℕ} {bits : ℕ} {differences slots : List �
 
 -- A whole buffer.
 
-true-false : {X : Type 0} → true ≡ false → X
-true-false e = let z : _≡_ {A = ℕ} 0 1 = cc in absurd (omega arith)
-
 unpacked-by : (n : ℕ) (t buffer : List ℕ) → 2 ≤ length buffer → unpacked n t buffer ≡ unpackedBy n t (lengthAt buffer) (drop 2 buffer)
 unfolding unpacked
 unpacked-by n t [] h = absurd (omega arith)
@@ -187,7 +185,7 @@ module _ (n : ℕ) (t buffer : List ℕ) (two : 2 ≤ length buffer) {bits : ℕ
       record {
         slotted = absent .slotted;
         unpacks = λ d. tested true (eq-eqb bits 0 e) ∙ ap some (sym (empty-programs absent));
-        fails = λ d. true-false d;
+        fails = λ d. true-false refl d;
       }
 
   module _ (there : bits ≡ 0 → ⊥) {end : ℕ} (ends : EndsAt buffer 2 end) where
@@ -197,7 +195,7 @@ module _ (n : ℕ) (t buffer : List ℕ) (two : 2 ≤ length buffer) {bits : ℕ
     unpacks-short absent e =
         record {
           slotted = absent .slotted;
-          unpacks = λ d. true-false (sym d);
+          unpacks = λ d. true-false d refl;
           fails = λ d.
               tested false (ne-eqb bits 0 there) ∙
               ap (λ (o : Option (List ℕ × List ℕ)). bind o λ part. restored n t (part .0) 16 bits (part .1)) (measured-short buffer 2 end two ends e);

@@ -5,7 +5,7 @@ use mathlib.Core.Bool.{Bool, true, false, cond}
 use mathlib.Core.List.{List, [], _∷_, _++_}
 use mathlib.Core.Logic.{_⊎_}
 use mathlib.Core.Option.{Option, none, some}
-use Prim.Native.Nat.{ℕ, suc, _≤_}
+use Prim.Native.Nat.{ℕ, _≤_}
 use native.Mathlib.Omega.{arith}
 use borrow.Author.Tests.{leb-true}
 use lib.Dec.{eqb, leb}
@@ -38,7 +38,7 @@ use Rattle.engine.specs.Generalizing.{generalized}
 use Rattle.engine.specs.Unifying.{combined, unifiedRows}
 use Rattle.calls.specs.Calls.{checked, rewriting, generalizing, unifying, differing}
 use Rattle.gathering.proofs.Told.{none-some, length-told}
-use Rattle.versions.specs.State.{Made, made, stopped, taken, takenBy, blank, commonPart, combination, differenceOf}
+use Rattle.versions.specs.State.{made, stopped, taken, takenBy, blank}
 
 pub length-blank : length blank ≡ 4854
 unfolding blank
@@ -76,6 +76,10 @@ module _ (out : List ℕ) where
   written-fits manyNodes = refused-fits TooLarge refl
   written-fits manyLinks = refused-fits TooLarge refl
   written-fits (written rows) = fitted-fits rows
+
+  pub rewritten-fits : (i : Reading) → Fitting out (rewritten i out)
+  rewritten-fits (refused fault) = refused-fits (Graph fault First) refl
+  rewritten-fits (accepted rows) = written-fits (canonical eqb (graphOfRows rows))
 
   -- the refusals before
   checked-fits : (o : Opened) (r : Result) → Fitting out r → Fitting out (checked (λ q. refusing q out) o r)
@@ -117,11 +121,7 @@ module _ (out : List ℕ) where
 
     pub rewriting-fits : (bytes : List ℕ) → Fitting out (rewriting n t bytes out)
     unfolding rewriting
-    rewriting-fits bytes = checked-fits (opened n t) (rewritten (reading n bytes) out) (one (reading n bytes))
-      where
-        one : (i : Reading) → Fitting out (rewritten i out)
-        one (refused fault) = refused-fits (Graph fault First) refl
-        one (accepted rows) = written-fits (canonical eqb (graphOfRows rows))
+    rewriting-fits bytes = checked-fits (opened n t) (rewritten (reading n bytes) out) (rewritten-fits (reading n bytes))
 
     module _ (a b : List ℕ) where
       pub generalizing-fits : Fitting out (generalizing n t a b out)

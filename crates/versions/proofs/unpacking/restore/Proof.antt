@@ -1,5 +1,5 @@
 -- `restore` meets its contract.
-use mathlib.Core.Path.{refl, sym, _∙_}
+use mathlib.Core.Path.{refl, sym}
 use native.Mathlib.Omega.{arith}
 use Rattle.pairs.proofs.Readings.{optional-none}
 use Rattle.versions.proofs.Restoring.{not-restored, is-restored, restored-most, restored-inside, restored-length}
