@@ -74,7 +74,7 @@ impl Comparison {
         let any: Vec<usize> = longest.iter().map(|&most| self.random.pick(most)).collect();
         let length = match reply {
             Reply::Length(length) => length,
-            Reply::Order(_) => return reply,
+            Reply::Order(_) | Reply::Counts { .. } => return reply,
             Reply::End | Reply::Refused(_) => {
                 for rooms in [none, any] {
                     assert_eq!(self.make(table, records, &rooms).0, reply);
