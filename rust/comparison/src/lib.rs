@@ -9,6 +9,7 @@ mod counts;
 mod gathering;
 mod lent;
 pub mod program;
+mod rows;
 mod told;
 
 pub use calls::{Call, DIFFERENCE, GENERALIZE, ORDER, REWRITE, UNIFY};
@@ -17,6 +18,7 @@ pub use calls::{GENERALIZE_APPROPRIATE, REWRITE_APPROPRIATE, UNIFY_APPROPRIATE};
 pub use calls::{NEXT, number};
 
 pub use gathering::Gatherings;
+pub use rows::PlanningTables;
 
 use counts::Counts;
 use lent::{Lent, outputs};
