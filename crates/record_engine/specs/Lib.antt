@@ -1,4 +1,5 @@
 -- What the exported functions answer.
 pub mod Code
 pub mod Coded
+pub mod CodedRows
 pub mod House

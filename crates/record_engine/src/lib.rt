@@ -1,21 +1,25 @@
 // The engine's calls for programs in other languages: a static library whose functions take a number of types, a table, one or two records
 // and an output or two, each slice as a pointer and a length, and answer one number. One function goes through all small graphs, four are on
-// the bytes of a gathering, and one gives the table of the house types. It knows the calls, the listing and the gathering, and gives each
-// reply its code.
+// the bytes of a gathering, two take rows as a slice of structs, and one gives the table of the house types. It knows the calls, the
+// listing, the gathering and the planning tables, and gives each reply its code.
 
 use replies::Reply;
 use replies::Side;
 use replies::answers::Answer;
+use rows::Row;
 ghost use mathlib.Core.Path.{_≡_};
-ghost use Prim.Native.Nat.{_<_};
+ghost use Prim.Native.Nat.{_<_, _≤_};
+ghost use lib.ListN.{take};
 ghost use Rattle.encode.specs.Encode.{yielding};
 ghost use Rattle.calls.specs.Calls.{rewriting, ordering, generalizing, unifying, differing, differingBy};
 ghost use Rattle.calls.specs.Appropriate.{rewritingAppropriate, generalizingAppropriate, unifyingAppropriate};
 ghost use Rattle.calls.specs.Explained.{explaining, explainingBy};
 ghost use Rattle.listing.specs.Call.{stepping};
 ghost use Rattle.gathering.specs.Gathering.{begun, adding, comparing, finishing};
+ghost use Rattle.planning.specs.Planning.{importing, importingRows, exporting};
 ghost use Rattle.record_engine.specs.Code.{codeOf, countsCode, refusalCode, sideNumber};
 ghost use Rattle.record_engine.specs.Coded.{coded, codedBoth, yieldingBoth};
+ghost use Rattle.record_engine.specs.CodedRows.{Stores, codedRows, yieldingRows};
 ghost use Rattle.record_engine.specs.House.{tabling};
 
 // A record in written form: the code of the reply, and the output that the engine leaves.
@@ -214,6 +218,73 @@ pub extern "C" fn record_gathering_finish(state: &[u8], out: &mut [u8]) -> u64
     ensures { λ r. ⌜ yielding r (now (out .exit)) ≡ coded (finishing (now (state .entry)) (now (out .entry))) ⌝ }
 {
     code(gathering::finish(state, out))
+}
+
+// Import: the record of the graph that lent rows and node bytes state; the code of the reply, and the output that the engine leaves.
+#[no_mangle]
+pub extern "C" fn record_import(
+    n: usize,
+    table: &[u8],
+    rows: &[Row],
+    nodes: &[u8],
+    out: &mut [u8],
+) -> u64
+    ensures { λ r. ⌜ yielding r (now (out .exit)) ≡ coded (importingRows n (now (table .entry)) (now (rows .entry)) (now (nodes .entry)) (now (out .entry))) ⌝ }
+{
+    let count = rows.len();
+    let all = rows::load_rows(rows);
+    import_coded(n, table, all, count, nodes, out)
+}
+
+// Export: the rows and node bytes of a record's graph; the code of the reply, and the rows and bytes that the engine leaves.
+#[no_mangle]
+pub extern "C" fn record_export(
+    n: usize,
+    table: &[u8],
+    bytes: &[u8],
+    rows: &mut [Row],
+    nodes: &mut [u8],
+) -> u64
+    ensures { λ r. ⌜ yieldingRows r (now (rows .exit)) (now (nodes .exit)) ≡
+        codedRows (exporting n (now (table .entry)) (now (bytes .entry)) (now (rows .entry)) (now (nodes .entry))) ⌝ }
+{
+    let made = export_coded(n, table, bytes, rows.len(), nodes);
+    rows::store_rows(made.at, made.count, rows);
+    made.answer
+}
+
+// Import of rows that are loaded: `all` holds the first 2,048 of `count`.
+fn import_coded(
+    n: usize,
+    table: &[u8],
+    all: [Row; 2048],
+    count: usize,
+    nodes: &[u8],
+    out: &mut [u8],
+) -> u64
+    ensures { λ r. ⌜ yielding r (now (out .exit)) ≡ coded (importing n (now (table .entry)) count (take count all) (now (nodes .entry)) (now (out .entry))) ⌝ }
+{
+    code(planning::importing::import_loaded(n, table, all, count, nodes, out))
+}
+
+// What export makes: the code of its answer, how many rows are to be stored, and these.
+pub struct Made {
+    pub answer: u64,
+    pub count: usize,
+    pub at: [Row; 2048],
+}
+
+// Export, of which the rows are still to be stored in the `room` lent ones.
+fn export_coded(n: usize, table: &[u8], bytes: &[u8], room: usize, nodes: &mut [u8]) -> Made
+    ensures { λ r. ⌜ ((r .count ≤ room) × (r .count ≤ 2048)) ×
+        Stores (λ rows. exporting n (now (table .entry)) (now (bytes .entry)) rows (now (nodes .entry))) room (r .answer) (r .count) (r .at) (now (nodes .exit)) ⌝ }
+{
+    let made = planning::exporting::export_made(n, table, bytes, room, nodes);
+    let at = made.at;
+    let count = made.count;
+    let reply = made.answer;
+    let answer = code(reply);
+    Made { answer, count, at }
 }
 
 // The type table of the house types, for n = 64: the code of the reply, and the output that the engine leaves.
