@@ -1,7 +1,7 @@
-/* The record engine for C: twelve calls on bytes, four on a gathering, and the table of
- * the house types, in the static library librecord_engine.a, which
- * `rt staticlib record_engine` writes to target/staticlib. examples/difference.c is a
- * whole program.
+/* The record engine for C: twelve calls on bytes, two on the planning tool's rows, four on
+ * a gathering, and the table of the house types, in the static library
+ * librecord_engine.a, which `rt staticlib record_engine` writes to target/staticlib.
+ * examples/difference.c and examples/rows.c are whole programs.
  *
  * A type table orders n types, 2 to 64, by a row of 8 bytes for each. In row i, bit
  * j % 8 of byte j / 8 is set exactly when type j is below type i or is type i; bit 0
@@ -51,6 +51,21 @@
  * ranges is the meaning of one of them. With k types that are not 0 there are
  * k + k * k + k * k * k of them for one feature and k + 3 * k * k + 16 * k * k * k for two.
  *
+ * A planning table is a graph as the planning tool holds it: rows, and three bytes for
+ * each node. A row is one link, by the number of its parent, which is the node that the
+ * link leaves, its feature, 0 to 63, and the number of its target, which is the node that
+ * it leads to. No two rows have one parent and feature, and there are at most 2,048. The
+ * node bytes follow each other from node 0, the root, on:
+ *    1 byte   the node's type, 1 to n - 1, without bit 7
+ *    1 byte   its lowest level
+ *    1 byte   its highest level, not below the lowest; 0 and 255 are the full range
+ * The number of nodes, 1 to 255, is that of the node bytes divided by 3. As in a record, no
+ * node reaches itself, and the root reaches every node. Rows may stand in any order, and the
+ * nodes but the root may have any numbers. {0, 9, 1}, {0, 0, 2} and {1, 0, 2} beside
+ * {3, 0, 255, 3, 0, 255, 1, 10, 200} are three nodes: the root's feature 9 leads to node 1,
+ * and its feature 0 and that of node 1 lead to node 2, which has type 1 and the levels 10 to
+ * 200.
+ *
  * A gathering keeps the common part of the records that were added to it so far, over one
  * table. It is bytes that the caller lends:
  *    1 byte       n
@@ -69,24 +84,27 @@
  * 8 where the common part has no room.
  *
  * A record, a list, a gathering or an output is handed in as a pointer to its first byte
- * and a length. A pointer is not null, also where the length is 0. An output, or a
- * gathering that is begun or added to, overlaps nothing else that is handed in. The calls
- * keep no pointer, share no state and may run side by side.
+ * and a length; rows are handed in as a pointer to the first row and the number of rows. A
+ * pointer is not null, also where the length is 0. An output, or a gathering that is begun
+ * or added to, overlaps nothing else that is handed in. The calls keep no pointer, share no
+ * state and may run side by side.
  *
  * A thread that makes a call needs 256 KiB of stack. The largest calls take up to
  * 136 KiB of it; nothing tests for room, and a call that has less overruns the stack.
  *
  * A call that writes a record answers its length, which is at most RECORD_LONGEST; the
  * output's first bytes are then the record and its other bytes are unchanged. On a
- * refusal, and at the end of a listing, no byte of an output or of a gathering is
- * changed. Refusals have the numbers of documents 01 and 02:
+ * refusal, and at the end of a listing, no byte and no row of an output and no byte of a
+ * gathering is changed. Refusals have the numbers of documents 01 and 02:
  *
  *    1  n is not 2 to 64, or the table's length is not 8 times n
  *    2  a bit at n or above; no order; 0 not least; n - 1 not greatest
  *    3  two types without a meet or a join
- *    4  a record with no nodes, too short, with bytes left over, or more than 2,048 links
+ *    4  a record with no nodes, too short, with bytes left over, or more than 2,048 links;
+ *       a planning table with a number of node bytes that is not divisible by 3, with
+ *       nodes that are not 1 to 255, or more than 2,048 rows
  *    5  a type that is 0 or at least n; a target that is no node; a lowest level above
- *       the highest
+ *       the highest; a planning table's type with bit 7
  *    6  a node reaches itself
  *    7  a node that the root does not reach
  *    8  the result exists and the output is shorter
@@ -96,6 +114,8 @@
  *   12  difference: the second graph is not below the first
  *   13  difference: some node of the second graph has no wanted type: among the types
  *       whose meet with the first graph's types over it is its own, none is the greatest
+ *   14  planning table: a row with a feature above 63 or a node number outside the count
+ *   15  planning table: two rows with one parent and feature
  *   16  gathering: an order or a finish before the first addition
  *   17  a list that is not of 64 bytes, or with an entry of n or more
  *   18  a record with a link that the list forbids
@@ -104,8 +124,9 @@
  *   23  listing: the number of features is not 1 or 2
  *   24  listing: the record is read but not listed
  *
- * Checks run in the order 1, 2, 3; 17 or 19; the first record's 4 to 7 and 18; the second's 4
- * to 7 and 18; then 16, 12, 13, 9, 10, 11, 23, 24, 8, 22.
+ * Checks run in the order 1, 2, 3; 17 or 19; the first record's 4 to 7 and 18, or a
+ * planning table's 4, 14, 15, 5, 6, 7; the second's 4 to 7 and 18; then 16, 12, 13, 9, 10,
+ * 11, 23, 24, 8, 22. Each is looked for in the whole record or table before the next.
  */
 #ifndef RECORD_ENGINE_H
 #define RECORD_ENGINE_H
@@ -128,8 +149,12 @@ extern "C" {
 #define RECORD_FEATURES 64
 
 /* A record has at most so many links: so many bytes are never too few for the reasons
- * of `record_difference_explained`. */
+ * of `record_difference_explained`, nor so many rows for `record_export`. */
 #define RECORD_MOST_LINKS 2048
+
+/* A record has at most so many nodes: three bytes for each are never too few for the nodes
+ * of `record_export`. */
+#define RECORD_MOST_NODES 255
 
 /* The number of the house types, and the length of their table. */
 #define RECORD_HOUSE_TYPES 64
@@ -150,8 +175,8 @@ extern "C" {
 /* An output of so many bytes is never too short for `record_next`. */
 #define RECORD_LONGEST_LISTED 32
 
-/* Whether an answer is the counts of nodes and rows that were filled; the count of nodes,
- * 1 to 255; and the count of rows, at most RECORD_MOST_LINKS. */
+/* Whether an answer is the counts of nodes and rows that `record_export` filled; the count
+ * of nodes, 1 to RECORD_MOST_NODES; and the count of rows, at most RECORD_MOST_LINKS. */
 #define RECORD_IS_COUNTS(answer) ((answer) >> 34 == 1)
 #define RECORD_NODES(answer) ((int)((answer) >> 16 & 65535))
 #define RECORD_ROWS(answer) ((int)((answer) & 65535))
@@ -282,6 +307,30 @@ uint64_t record_next(size_t n, const uint8_t *table, size_t table_length,
                      size_t features,
                      const uint8_t *record, size_t record_length,
                      uint8_t *output, size_t output_length);
+
+/* One link of a planning table. */
+typedef struct { uint8_t parent, feature, target; } record_row;
+
+/* Writes the record of a planning table in its one written form, as `record_rewrite` does:
+ * tables of equal meaning, and no others, give equal bytes, whatever the order of their
+ * rows. Answers the length, or refuses by 1 to 3, by 4, by 14, by 15, by 5, 6 and 7, then
+ * by 8; for 4 to 7 the table counts as the first record. */
+uint64_t record_import(size_t n, const uint8_t *table, size_t table_length,
+                       const record_row *rows, size_t row_count,
+                       const uint8_t *nodes, size_t nodes_length,
+                       uint8_t *output, size_t output_length);
+
+/* Fills the first rows and the first node bytes with the planning table of a record. The
+ * nodes have their numbers in the written record, and the rows are sorted by parent, then
+ * by feature. The other rows and bytes are unchanged. Importing what was exported gives
+ * the written record; exporting what was imported gives the rows sorted, with the written
+ * numbers. Answers the counts of nodes and rows, or refuses by 1 to 7, where the record
+ * counts as the first, then by 8 where the rows are fewer than the links or the node bytes
+ * fewer than three for each node. */
+uint64_t record_export(size_t n, const uint8_t *table, size_t table_length,
+                       const uint8_t *record, size_t record_length,
+                       record_row *rows, size_t row_count,
+                       uint8_t *nodes, size_t nodes_length);
 
 /* Begins a gathering over a table, with nothing added yet. Answers how many bytes it uses
  * so far, 3 + 8 * n; the others are unchanged. Refuses by 1 to 3, then by 8 where fewer

@@ -117,6 +117,6 @@ fn length(reply: Reply) -> Option<usize> {
     match reply {
         Reply::Length(length) => Some(length),
         Reply::Order(order) => Some(order as usize),
-        Reply::End | Reply::Refused(_) => None,
+        Reply::End | Reply::Counts { .. } | Reply::Refused(_) => None,
     }
 }

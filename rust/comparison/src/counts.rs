@@ -19,6 +19,8 @@ pub struct Counts {
     answers: [usize; 4],
     /// The number of times that a listing ended.
     ends: usize,
+    /// The number of times that rows and nodes were filled.
+    fills: usize,
 }
 
 impl Counts {
@@ -28,6 +30,7 @@ impl Counts {
             Told::Length(_) => self.replies[0] += 1,
             Told::Order(place) => self.answers[place] += 1,
             Told::End => self.ends += 1,
+            Told::Counts(..) => self.fills += 1,
             Told::Refused(number, side) => {
                 let number = usize::from(number);
                 self.replies[number] += 1;
@@ -83,5 +86,11 @@ impl Counts {
     pub fn assert_ends(&self, least: usize) {
         let enough = self.ends >= least || !random::is_stored();
         assert!(enough, "{} ends", self.ends);
+    }
+
+    /// From the stored seeds, rows and nodes were filled at least so often.
+    pub fn assert_fills(&self, least: usize) {
+        let enough = self.fills >= least || !random::is_stored();
+        assert!(enough, "{} fills", self.fills);
     }
 }

@@ -1,24 +1,22 @@
 //! Outputs that tell a stray write.
 
+use record_engine::Row;
 use reference::random::Xorshift;
 
-/// Bytes on each side of an output, which no call may change.
+/// Elements on each side of an output, which no call may change.
 const MARGIN: usize = 16;
 
-/// An output in the midst of bytes that tell a stray write.
+/// An output of bytes or of rows, in the midst of others that tell a stray write.
 #[derive(Clone, PartialEq, Eq)]
-pub struct Lent {
-    bytes: Vec<u8>,
+pub struct Lent<T = u8> {
+    elements: Vec<T>,
 }
 
 impl Lent {
     /// An output of a given length that holds any bytes.
     pub fn new(random: &mut Xorshift, room: usize) -> Lent {
         let start = random.pick(256);
-        let bytes = (0..MARGIN + room + MARGIN).map(|place| (start + 167 * place) as u8);
-        Lent {
-            bytes: bytes.collect(),
-        }
+        Lent::of(room, |place| any_byte(start, place))
     }
 
     /// The bytes given, in the midst of others.
@@ -27,22 +25,54 @@ impl Lent {
         lent.output().copy_from_slice(bytes);
         lent
     }
+}
 
-    /// The bytes that are lent.
-    pub fn output(&mut self) -> &mut [u8] {
-        let end = self.bytes.len() - MARGIN;
-        &mut self.bytes[MARGIN..end]
+impl Lent<Row> {
+    /// An output of a given length that holds any rows.
+    pub fn rows(random: &mut Xorshift, room: usize) -> Lent<Row> {
+        let start = random.pick(256);
+        Lent::of(room, |place| Row {
+            parent: any_byte(start, 3 * place),
+            feature: any_byte(start, 3 * place + 1),
+            target: any_byte(start, 3 * place + 2),
+        })
+    }
+}
+
+impl<T: Copy> Lent<T> {
+    /// An output of a given length whose elements go by their places.
+    fn of(room: usize, element: impl FnMut(usize) -> T) -> Lent<T> {
+        Lent {
+            elements: (0..MARGIN + room + MARGIN).map(element).collect(),
+        }
+    }
+
+    /// The same with every element changed.
+    pub fn map<U: Copy>(&self, mut change: impl FnMut(T) -> U) -> Lent<U> {
+        let room = self.all().len();
+        Lent::of(room, |place| change(self.elements[place]))
+    }
+
+    /// The elements that are lent.
+    pub fn output(&mut self) -> &mut [T] {
+        let end = self.elements.len() - MARGIN;
+        &mut self.elements[MARGIN..end]
     }
 
     /// All of them, to be read.
-    pub fn all(&self) -> &[u8] {
-        &self.bytes[MARGIN..self.bytes.len() - MARGIN]
+    pub fn all(&self) -> &[T] {
+        &self.elements[MARGIN..self.elements.len() - MARGIN]
     }
 
-    /// The first bytes of the output, so many.
-    pub fn first(&self, count: usize) -> Vec<u8> {
-        self.bytes[MARGIN..MARGIN + count].to_vec()
+    /// The first elements of the output, so many.
+    pub fn first(&self, count: usize) -> Vec<T> {
+        self.all()[..count].to_vec()
     }
+}
+
+/// A byte that goes by its place.
+fn any_byte(start: usize, place: usize) -> u8 {
+    (start + 167 * place) as u8
 }
 
 /// The outputs that a call is lent.

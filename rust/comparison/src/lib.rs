@@ -9,6 +9,7 @@ mod counts;
 mod gathering;
 mod lent;
 pub mod program;
+mod rows;
 mod told;
 
 pub use calls::{Call, DIFFERENCE, GENERALIZE, ORDER, REWRITE, UNIFY};
@@ -17,6 +18,7 @@ pub use calls::{GENERALIZE_APPROPRIATE, REWRITE_APPROPRIATE, UNIFY_APPROPRIATE};
 pub use calls::{NEXT, number};
 
 pub use gathering::Gatherings;
+pub use rows::PlanningTables;
 
 use counts::Counts;
 use lent::{Lent, outputs};
@@ -74,7 +76,7 @@ impl Comparison {
         let any: Vec<usize> = longest.iter().map(|&most| self.random.pick(most)).collect();
         let length = match reply {
             Reply::Length(length) => length,
-            Reply::Order(_) => return reply,
+            Reply::Order(_) | Reply::Counts { .. } => return reply,
             Reply::End | Reply::Refused(_) => {
                 for rooms in [none, any] {
                     assert_eq!(self.make(table, records, &rooms).0, reply);

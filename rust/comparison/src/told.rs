@@ -1,6 +1,6 @@
 //! What a reply tells, whichever engine gives it: the papers' numbers.
 
-use record_engine::{Order, Refusal};
+use record_engine::{Counts, Order, Refusal};
 use reference::reply::Reply;
 
 /// What a reply tells.
@@ -12,6 +12,8 @@ pub enum Told {
     Order(usize),
     /// The end of a listing.
     End,
+    /// The number of nodes that were filled, and that of rows.
+    Counts(usize, usize),
     /// The number of the refusal, and for a graph's its place among first and second.
     Refused(u8, Option<usize>),
 }
@@ -40,12 +42,21 @@ impl From<Result<Option<usize>, Refusal>> for Told {
     }
 }
 
+impl From<Result<Counts, Refusal>> for Told {
+    fn from(result: Result<Counts, Refusal>) -> Told {
+        result.map_or_else(Told::from, |Counts { nodes, rows }| {
+            Told::Counts(nodes, rows)
+        })
+    }
+}
+
 impl From<Reply> for Told {
     fn from(reply: Reply) -> Told {
         match reply {
             Reply::Length(length) => Told::Length(length),
             Reply::Order(order) => Told::Order(order as usize),
             Reply::End => Told::End,
+            Reply::Counts { nodes, rows } => Told::Counts(nodes, rows),
             Reply::Refused(refusal) => {
                 Told::Refused(refusal.number(), refusal.side().map(|side| side as usize))
             }

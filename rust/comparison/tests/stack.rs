@@ -3,8 +3,8 @@
 //! calls with a list are in `appropriate.rs`.
 
 use comparison::on_stated_stack;
-use record_engine::{LONGEST_RECORD, Order, Refusal};
-use record_engine::{difference, generalize, next, order, rewrite, unify};
+use record_engine::{Counts, LONGEST_RECORD, MOST_LINKS, MOST_NODES, Order, Refusal, Row};
+use record_engine::{difference, export, generalize, import, next, order, rewrite, unify};
 use reference::graph::Graph;
 use reference::random;
 use reference::record;
@@ -47,6 +47,17 @@ fn compare(graphs: [Graph; 2]) -> [usize; 2] {
         assert_eq!(order(n, table, &chain, &chain), Ok(Order::Same));
         let unlisted = next(n, table, 2, &ladder, &mut output);
         assert_eq!(unlisted, Err(Refusal::NotListed));
+        let mut rows = vec![Row::default(); MOST_LINKS];
+        let mut nodes = vec![0; 3 * MOST_NODES];
+        let counts = [&chain, &ladder].map(|record| {
+            let counts = export(n, table, record, &mut rows, &mut nodes);
+            let filled = &rows[..counts.map_or(0, |counts| counts.rows)];
+            let length = import(n, table, filled, &nodes, &mut output);
+            assert_eq!(length, Ok(record.len()));
+            counts
+        });
+        let counts_of = |rows| Ok(Counts { nodes: 255, rows });
+        assert_eq!(counts, [254, 8 * 254].map(counts_of));
         [
             rewrite(n, table, &chain, &mut output),
             rewrite(n, table, &ladder, &mut output),

@@ -1,8 +1,8 @@
 //! The number that the static library answers (`crates/record_engine/specs/Code.antt`),
 //! read as an answer.
 
-use crate::Order;
 use crate::refusal::{Refusal, Side};
+use crate::{Counts, Order};
 
 /// What a number stands for.
 #[derive(Clone, Copy, Debug, PartialEq, Eq)]
@@ -10,7 +10,7 @@ pub enum Answer {
     Length(usize),
     Order(Order),
     End,
-    Counts { nodes: usize, rows: usize },
+    Counts(Counts),
     Refused(Refusal),
 }
 
@@ -39,10 +39,10 @@ pub fn answer(code: u64) -> Answer {
         ABOVE => Answer::Order(Order::Above),
         NEITHER => Answer::Order(Order::Neither),
         END => Answer::End,
-        FIRST_COUNTS..=LAST_COUNTS => Answer::Counts {
+        FIRST_COUNTS..=LAST_COUNTS => Answer::Counts(Counts {
             nodes: (code >> 16 & 0xFFFF) as usize,
             rows: (code & 0xFFFF) as usize,
-        },
+        }),
         _ => {
             let refusal = Refusal::ALL
                 .into_iter()
@@ -75,6 +75,15 @@ pub fn order_of(code: u64) -> Result<Order, Refusal> {
         Answer::Order(order) => Ok(order),
         Answer::Refused(refusal) => Err(refusal),
         other => unreachable!("the order gives one of four answers, not {other:?}"),
+    }
+}
+
+/// The answer of a call that fills rows.
+pub fn counts(code: u64) -> Result<Counts, Refusal> {
+    match answer(code) {
+        Answer::Counts(counts) => Ok(counts),
+        Answer::Refused(refusal) => Err(refusal),
+        other => unreachable!("a call that fills rows gives counts, not {other:?}"),
     }
 }
 
@@ -131,7 +140,7 @@ mod tests {
         for (nodes, rows) in [(1, 0), (3, 2), (255, 2048)] {
             let code = (1 << 34) + (nodes << 16) + rows;
             let [nodes, rows] = [nodes, rows].map(|count| count as usize);
-            assert_eq!(answer(code), Answer::Counts { nodes, rows });
+            assert_eq!(answer(code), Answer::Counts(Counts { nodes, rows }));
         }
         for refusal in Refusal::ALL {
             assert_eq!(answer(code_of(refusal)), Answer::Refused(refusal));

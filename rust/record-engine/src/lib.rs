@@ -1,7 +1,8 @@
 //! The record engine for Rust programs. A call takes a type table, one or two
 //! records, some calls a list, and, where it writes a record, an output that the caller
 //! lends; it gives the length of what it wrote, an [`Order`],
-//! or a [`Refusal`]. [`Listing`] goes through all small graphs over a table.
+//! or a [`Refusal`]. [`Listing`] goes through all small graphs over a table. [`import`] and
+//! [`export`] pass between records and the planning tool's tables of rows.
 //!
 //! The functions behind these calls are proved (`crates/engine`); here is only
 //! the passage to them, by the static library `librecord_engine.a`, which
@@ -90,6 +91,22 @@
 //! record and nothing strictly more general does. How records are written does not follow
 //! the list. A list that is anything else is refused by 19.
 //!
+//! # Planning table
+//!
+//! The planning tool holds a graph as a table of rows and three bytes for each node. A
+//! [`Row`] is one link: its parent, which is the number of the node that it leaves, its
+//! feature and its target. No two rows have one parent and feature, and there are at most
+//! 2,048. The node bytes are, from node 0 on, the node's type, 1 to n − 1, its lowest level
+//! and its highest; 0 and 255 are the full range. Node 0 is the root, and the number of
+//! nodes, 1 to 255, is that of the node bytes divided by 3. As in a record, no node reaches
+//! itself, and the root reaches every node.
+//!
+//! [`import`] writes the record of such a table in written form; the rows may stand in any
+//! order. [`export`] fills such a table: the nodes are numbered as in the written record,
+//! and the rows are sorted by parent and then feature. Importing what was exported gives
+//! the written record. Exporting what was imported gives the rows sorted, with the written
+//! numbers.
+//!
 //! # Gathering
 //!
 //! A [`Gathering`] is begun over one table; records are added to it one after another, and
@@ -118,6 +135,7 @@ mod gathering;
 mod listing;
 mod reason;
 mod refusal;
+mod rows;
 mod tables;
 
 pub use appropriate::{generalize_appropriate, rewrite_appropriate, unify_appropriate};
@@ -128,14 +146,19 @@ pub use gathering::{gathering_add, gathering_begin, gathering_finish, gathering_
 pub use listing::{LONGEST_LISTED, Listing, next};
 pub use reason::Reason;
 pub use refusal::{GraphFault, Refusal, Side, TableFault};
+pub use rows::{Counts, Row, export, import};
 pub use tables::{HOUSE_TABLE_LENGTH, HOUSE_TYPES, house_table, table};
 
 /// The length of the longest record: an output of so many bytes is never too short.
 pub const LONGEST_RECORD: usize = 4854;
 
 /// The most links that a record has: so many bytes are never too few for the reasons of
-/// [`difference_explained`].
+/// [`difference_explained`], nor so many rows for [`export`].
 pub const MOST_LINKS: usize = 2048;
+
+/// The most nodes that a record has: three bytes for each are never too few for the nodes
+/// of [`export`].
+pub const MOST_NODES: usize = 255;
 
 /// The number of features: the length of a list.
 pub const FEATURES: usize = 64;

@@ -14,13 +14,15 @@ pub enum TableFault {
     Bounds,
 }
 
-/// Why a record is refused.
+/// Why a record or a planning table is refused.
 #[derive(Clone, Copy, Debug, PartialEq, Eq, Hash)]
 pub enum GraphFault {
-    /// 4: no nodes, too short, bytes left over, or more than 2,048 links.
+    /// 4: no nodes, too short, bytes left over, or more than 2,048 links. A planning table:
+    /// node bytes not divisible by 3, nodes not 1 to 255, or more than 2,048 rows.
     Malformed,
     /// 5: a type that is 0 or at least n, a target that is no node, or a lowest level
-    /// above the highest.
+    /// above the highest. A planning table: a type with bit 7 too; a target that is no
+    /// node is 14.
     OutOfRange,
     /// 6: a node reaches itself.
     Cyclic,

@@ -1,10 +1,11 @@
 //! The calls on bytes: rewriting, order, common part, combination, difference, and the
 //! difference with its reasons (Paper 13); the first, third and fourth also with a list
 //! of types for features (Paper 9), the differences also with a list of all features
-//! (Paper 10); and a step through all small graphs (Paper 14). Checks run in the papers' order: the table (1, 2, 3), the list (17, 19),
-//! the first graph and then the second (4 to 7, and 18 by the list of types), then
-//! 12, 13, 9, 10, 11, 23, 24, 8 and 22. An output changes only where a length is returned, and
-//! then only its first bytes.
+//! (Paper 10); a step through all small graphs (Paper 14); and import and export of the
+//! planning tool's rows (Paper 2). Checks run in the papers' order: the table (1, 2, 3), the
+//! list (17, 19), the first graph and then the second (4 to 7, with 14 and 15 behind 4 for
+//! rows, and 18 by the list of types), then 12, 13, 9, 10, 11, 23, 24, 8 and 22. An output
+//! changes only where a length or counts are returned, and then only in its first places.
 
 use crate::appropriateness::Appropriateness;
 use crate::canonical::canonical;
@@ -16,6 +17,7 @@ use crate::listing::Listing;
 use crate::order;
 use crate::record::{self, GraphFault, LONGEST_RECORD, MOST_LINKS, MOST_NODES};
 use crate::reply::{Refusal, Reply, Side};
+use crate::rows::{self, PlanningTable, Row};
 use crate::table::Table;
 use crate::unify;
 
@@ -46,7 +48,7 @@ pub fn written_by(call: impl FnOnce(&mut [u8]) -> Reply) -> Result<Vec<u8>, Refu
             Ok(output)
         }
         Reply::Refused(refusal) => Err(refusal),
-        Reply::Order(_) | Reply::End => unreachable!("a call that writes gives a length"),
+        _ => unreachable!("a call that writes gives a length"),
     }
 }
 
@@ -173,6 +175,24 @@ pub fn next(n: usize, table: &[u8], features: usize, record: &[u8], output: &mut
         None => Ok(Reply::End),
         Some(next) => deliver_record(next, output),
     });
+    reply(result)
+}
+
+/// "Import writes the written record of that graph."
+pub fn import(n: usize, table: &[u8], rows: &[Row], nodes: &[u8], output: &mut [u8]) -> Reply {
+    let result = accept_table(n, table)
+        .and_then(|table| rows::read(&table, rows, nodes))
+        .and_then(|graph| deliver(&graph, output));
+    reply(result)
+}
+
+/// "Export fills such rows sorted by parent and then feature and returns the counts of nodes
+/// and rows. Export numbers the nodes as the written record does and does not touch rows and
+/// types past those it fills."
+pub fn export(n: usize, table: &[u8], graph: &[u8], rows: &mut [Row], nodes: &mut [u8]) -> Reply {
+    let result = accept_table(n, table)
+        .and_then(|table| accept_graph(&table, graph, Side::First))
+        .and_then(|graph| deliver_rows(&graph, rows, nodes));
     reply(result)
 }
 
@@ -317,6 +337,21 @@ fn deliver_explained(
     Ok(Reply::Length(record.len()))
 }
 
+/// Fills rows and node bytes with a graph in canonical form. "Too few rows or types lent to
+/// export is 8, both unchanged."
+fn deliver_rows(graph: &Graph, rows: &mut [Row], nodes: &mut [u8]) -> Result<Reply, Refusal> {
+    let filled = PlanningTable::of(&canonical(graph));
+    if filled.rows.len() > rows.len() || filled.nodes.len() > nodes.len() {
+        return Err(Refusal::NoRoom);
+    }
+    put(&filled.rows, rows);
+    put(&filled.nodes, nodes);
+    Ok(Reply::Counts {
+        nodes: graph.nodes.len(),
+        rows: graph.link_count(),
+    })
+}
+
 /// The record of a result, where it is not too large for one and the output has
 /// room for it.
 fn fitting_record(graph: &Graph, output: &[u8]) -> Result<Vec<u8>, Refusal> {
@@ -330,9 +365,9 @@ fn fitting_record(graph: &Graph, output: &[u8]) -> Result<Vec<u8>, Refusal> {
     Ok(record)
 }
 
-/// Puts the bytes in the first places of an output that has room for them.
-fn put(bytes: &[u8], output: &mut [u8]) {
-    output[..bytes.len()].copy_from_slice(bytes);
+/// Puts bytes or rows in the first places of an output that has room for them.
+fn put<T: Copy>(filled: &[T], output: &mut [T]) {
+    output[..filled.len()].copy_from_slice(filled);
 }
 
 fn reply(result: Result<Reply, Refusal>) -> Reply {

@@ -26,5 +26,6 @@ pub mod random;
 pub mod reader;
 pub mod record;
 pub mod reply;
+pub mod rows;
 pub mod table;
 pub mod unify;

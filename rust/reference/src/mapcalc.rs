@@ -81,7 +81,9 @@ pub fn line(input: &[u8]) -> String {
     match reply {
         Reply::Length(length) => format!("ok {length} {}", hexadecimal(&output[..length])),
         Reply::Order(order) => order.word().to_string(),
-        Reply::End => unreachable!("no operation goes through a listing"),
+        Reply::End | Reply::Counts { .. } => {
+            unreachable!("no operation goes through a listing or fills rows")
+        }
         Reply::Refused(Refusal::Graph(fault, side)) => {
             let side = match side {
                 Side::First => "first",

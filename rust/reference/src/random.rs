@@ -1,19 +1,21 @@
 //! A deterministic generator of inputs: type tables, graphs, records, pairs of
-//! graphs that are related, lists of types for features and of all features, whole
-//! `mapcalc` inputs, valid and damaged, with level ranges and without. The same seed gives
-//! the same inputs on every machine. Nothing here uses the operations on graphs: a graph above another is
-//! made by steps that plainly weaken it.
+//! graphs that are related, lists of types for features and of all features, planning
+//! tables, whole `mapcalc` inputs, valid and damaged, with level ranges and without. The
+//! same seed gives the same inputs on every machine. Nothing here uses the operations on
+//! graphs: a graph above another is made by steps that plainly weaken it.
 
 mod graphs;
 mod inputs;
 mod lists;
 mod reading_orders;
+mod rows;
 mod tables;
 
 pub use graphs::*;
 pub use inputs::*;
 pub use lists::*;
 pub use reading_orders::*;
+pub use rows::*;
 pub use tables::*;
 
 use std::env;

@@ -59,6 +59,11 @@ pub fn read(table: &Table, record: &[u8]) -> Result<Graph, GraphFault> {
     if graph.link_count() > MOST_LINKS {
         return Err(GraphFault::Malformed);
     }
+    judged(table, graph)
+}
+
+/// A graph that none of 5, 6 and 7 applies to.
+pub(crate) fn judged(table: &Table, graph: Graph) -> Result<Graph, GraphFault> {
     let label_stands = |node: &Node| {
         !node.label.is_contradiction() && usize::from(node.label.node_type) < table.n()
     };

@@ -1,6 +1,6 @@
 //! What a call gives back: a length, one of the order's four answers, the end of a
-//! listing, or a refusal with the number it has in the papers. A refusal of a graph tells the kind and
-//! which graph.
+//! listing, the counts of nodes and rows, or a refusal with the number it has in the papers.
+//! A refusal of a graph tells the kind and which graph.
 
 use crate::order::Order;
 use crate::record::GraphFault;
@@ -34,6 +34,10 @@ pub enum Refusal {
     NotBelow,
     /// 13: difference, some node of s has no wanted type.
     NoWantedType,
+    /// 14: "a row with a feature above 63 or a node number outside the count".
+    RowOutOfRange,
+    /// 15: "two rows with one parent and feature".
+    RowTwice,
     /// 16: an order or a finish "before the first addition".
     NothingGathered,
     /// 17: the list is not of 64 bytes or has an entry of n or more.
@@ -60,6 +64,8 @@ impl Refusal {
             Refusal::TooLarge => 11,
             Refusal::NotBelow => 12,
             Refusal::NoWantedType => 13,
+            Refusal::RowOutOfRange => 14,
+            Refusal::RowTwice => 15,
             Refusal::NothingGathered => 16,
             Refusal::TypeList => 17,
             Refusal::ReadingOrder => 19,
@@ -87,17 +93,23 @@ pub enum Reply {
     Order(Order),
     /// No listed record follows, and the output is unchanged.
     End,
+    /// The first rows and the first node bytes are the graph's.
+    Counts {
+        /// How many nodes it has.
+        nodes: usize,
+        /// How many rows.
+        rows: usize,
+    },
     /// There is no result, and every output is unchanged.
     Refused(Refusal),
 }
 
 impl Reply {
-    /// The number of the refusal in the papers; none for a length, for the order's answers
-    /// and for the end of a listing.
+    /// The number of the refusal in the papers; none for any other reply.
     pub fn number(self) -> Option<u8> {
         match self {
-            Reply::Length(_) | Reply::Order(_) | Reply::End => None,
             Reply::Refused(refusal) => Some(refusal.number()),
+            _ => None,
         }
     }
 }
