@@ -10,7 +10,7 @@ use crate::input::{self, Input};
 use crate::overlay::{Named, image};
 use crate::table::Table;
 use crate::why::{self, Kept};
-use crate::{draw, help, notation, picture, reading};
+use crate::{draw, help, notation, picture, planning, reading};
 use arguments::Arguments;
 use record_engine::Order;
 use std::io::{ErrorKind, Write};
@@ -75,6 +75,8 @@ fn told(arguments: &[String]) -> Result<Told, Failure> {
         "combine" => operate(Operation::Unify, &table, &arguments),
         "difference" => operate(Operation::Difference, &table, &arguments),
         "list" => list(table, &arguments),
+        "import" => import(&table, &arguments),
+        "export" => export(&table, &arguments),
         _ => unreachable!("the help has no further commands"),
     }
 }
@@ -211,11 +213,48 @@ fn operate(operation: Operation, table: &Table, arguments: &Arguments) -> Result
             (explained.difference, why)
         }
     };
-    let told = match &arguments.output {
-        Some(file) => put(file, result)?,
-        None => text(notation::write(table, &Graph::of_written(&result))),
-    };
+    let told = give(table, arguments, result)?;
     Ok(Box::new(told.chain(iter::once(Ok(why.into_bytes())))))
+}
+
+/// Writes a record to the file that `-o` names, or tells it as text.
+fn give(table: &Table, arguments: &Arguments, record: Vec<u8>) -> Result<Told, Failure> {
+    match &arguments.output {
+        Some(file) => put(file, record),
+        None => Ok(text(notation::write(table, &Graph::of_written(&record)))),
+    }
+}
+
+/// The record of a planning table.
+fn import(table: &Table, arguments: &Arguments) -> Result<Told, Failure> {
+    let files = arguments.operands[1..].iter().map(|file| input::csv(file));
+    let files = files.collect::<Result<Vec<_>, _>>()?;
+    let planning = planning::read(table, files).map_err(Failure::Refused)?;
+    let record = engine::import(table, &planning.rows, &planning.nodes)
+        .map_err(|refusal| explain::planning_refused(refusal, table, &planning))?;
+    give(table, arguments, record)
+}
+
+/// The planning table of a record, its nodes before its links where both go to one file.
+fn export(table: &Table, arguments: &Arguments) -> Result<Told, Failure> {
+    let Arguments { nodes, links, .. } = arguments;
+    if nodes.is_some() && links.is_some() && arguments.output.is_some() {
+        return Err(arguments.misused("`--nodes` and `--links` leave nothing for `-o`"));
+    }
+    let rest = arguments.output.as_deref().unwrap_or("-");
+    let [nodes_file, links_file] = [nodes, links].map(|file| file.as_deref().unwrap_or(rest));
+    let input = Input::read(table, &arguments.operands[1])?;
+    let (rows, nodes) = engine::export(table, &input.record)
+        .map_err(|refusal| explain::refused(refusal, None, table, &[&input]))?;
+    let (nodes, links) = (
+        planning::nodes(table, &nodes),
+        planning::links(table, &rows),
+    );
+    if nodes_file == links_file {
+        return put(nodes_file, format!("{nodes}\n{links}").into_bytes());
+    }
+    let told = put(nodes_file, nodes.into_bytes())?;
+    Ok(Box::new(told.chain(put(links_file, links.into_bytes())?)))
 }
 
 /// Every small graph, in order.

@@ -1,9 +1,10 @@
 //! The engine's calls over a table, each with an output that is long enough for any record.
 //! All that the tool tells as a result comes from here.
 
+use crate::planning::NodeBytes;
 use crate::table::Table;
-use record_engine::{LONGEST_LISTED, LONGEST_RECORD, MOST_LINKS, Order, Reason, Refusal};
-use record_engine::{difference_explained, difference_explained_by};
+use record_engine::{LONGEST_LISTED, LONGEST_RECORD, MOST_LINKS, MOST_NODES};
+use record_engine::{Order, Reason, Refusal, Row, difference_explained, difference_explained_by};
 
 /// An operation on two records that gives a third.
 #[derive(Clone, Copy, Debug, PartialEq, Eq)]
@@ -74,6 +75,23 @@ pub fn next(table: &Table, features: usize, record: &[u8]) -> Result<Option<Vec<
     let mut output = [0; LONGEST_LISTED];
     let length = record_engine::next(table.n, &table.bytes, features, record, &mut output)?;
     Ok(length.map(|length| output[..length].to_vec()))
+}
+
+/// The record of a planning table.
+pub fn import(table: &Table, rows: &[Row], nodes: &[NodeBytes]) -> Result<Vec<u8>, Refusal> {
+    let nodes = nodes.concat();
+    written(|output| record_engine::import(table.n, &table.bytes, rows, &nodes, output))
+}
+
+/// The planning table of a record: its rows and its nodes.
+pub fn export(table: &Table, record: &[u8]) -> Result<(Vec<Row>, Vec<NodeBytes>), Refusal> {
+    let mut rows = vec![Row::default(); MOST_LINKS];
+    let mut nodes = vec![[0; 3]; MOST_NODES];
+    let lent = nodes.as_flattened_mut();
+    let counts = record_engine::export(table.n, &table.bytes, record, &mut rows, lent)?;
+    rows.truncate(counts.rows);
+    nodes.truncate(counts.nodes);
+    Ok((rows, nodes))
 }
 
 /// What a call writes.

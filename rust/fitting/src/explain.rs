@@ -2,6 +2,7 @@
 //! finds out itself about the cause, and what to do.
 
 mod pair;
+mod planning;
 mod record;
 mod table;
 mod unify;
@@ -9,6 +10,7 @@ mod unify;
 use crate::engine::Operation;
 use crate::failure::Failure;
 use crate::input::Input;
+use crate::planning::Planning;
 use crate::source::pointed;
 use crate::table::Table;
 use record_engine::{Refusal, Side};
@@ -64,6 +66,14 @@ pub fn refused(
     })
 }
 
+/// The message of a refused planning table.
+pub fn planning_refused(refusal: Refusal, table: &Table, planning: &Planning) -> Failure {
+    Failure::Refused(match planning::cause(refusal.number(), table, planning) {
+        Some(cause) => format!("{refusal}\n{cause}"),
+        None => refusal.to_string(),
+    })
+}
+
 /// The message of a refused table.
 pub fn table_refused(refusal: Refusal, table: &Table, name: &str) -> Failure {
     Failure::Refused(match table::cause(refusal.number(), table) {
@@ -106,7 +116,7 @@ mod tests {
     /// features, so no session comes to these.
     #[test]
     fn refusals_that_no_command_meets_have_words_too() {
-        let is_met = |refusal: &Refusal| matches!(refusal.number(), 1..=7 | 9..=13);
+        let is_met = |refusal: &Refusal| matches!(refusal.number(), 1..=7 | 9..=15);
         let unmet = Refusal::ALL.into_iter().filter(|refusal| !is_met(refusal));
         let words: Vec<String> = unmet.map(|refusal| refusal.to_string()).collect();
         assert_eq!(
@@ -115,8 +125,6 @@ mod tests {
                 "refused 18 first: a node has a feature that the list does not allow its type",
                 "refused 18 second: a node has a feature that the list does not allow its type",
                 "refused 8: the output is shorter than the result",
-                "refused 14: a row's feature is above 63 or a node number is out of range",
-                "refused 15: two rows have one parent and feature",
                 "refused 16: nothing has been added to the gathering",
                 "refused 17: the list has not one type for each of the 64 features",
                 "refused 19: the list has not each of the 64 features once",

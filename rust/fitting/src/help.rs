@@ -15,7 +15,7 @@ pub struct Command {
 }
 
 /// Every command.
-pub const COMMANDS: [Command; 9] = [
+pub const COMMANDS: [Command; 11] = [
     Command {
         name: "check",
         usage: "fitting check TABLE [FILE..]",
@@ -87,6 +87,22 @@ pub const COMMANDS: [Command; 9] = [
         takes_more: false,
         options: &["--features"],
         help: include_str!("help/list.txt"),
+    },
+    Command {
+        name: "import",
+        usage: "fitting import TABLE CSV.. [-o FILE]",
+        operands: &["TABLE", "CSV"],
+        takes_more: true,
+        options: &["-o"],
+        help: include_str!("help/import.txt"),
+    },
+    Command {
+        name: "export",
+        usage: "fitting export TABLE FILE [--nodes CSV] [--links CSV] [-o CSV]",
+        operands: &["TABLE", "FILE"],
+        takes_more: false,
+        options: &["--nodes", "--links", "-o"],
+        help: include_str!("help/export.txt"),
     },
 ];
 

@@ -5,6 +5,7 @@
 use crate::explain;
 use crate::failure::Failure;
 use crate::notation::{self, Text};
+use crate::planning::File as Csv;
 use crate::source::Fault;
 use crate::table::Table;
 use crate::{engine, graph::Graph};
@@ -92,10 +93,28 @@ pub fn table(argument: &str) -> Result<Table, Failure> {
     }
 }
 
+/// Reads a file of CSV; what it says is not asked here.
+pub fn csv(argument: &str) -> Result<Csv, Failure> {
+    let (name, bytes) = contents(argument)?;
+    if let Some(at) = bytes.iter().position(is_control) {
+        let line = bytes[..at].iter().filter(|&&byte| byte == b'\n').count() + 1;
+        return Err(Failure::Refused(format!(
+            "{name}:{line}: byte {:#04x} is no text\n  \
+             hand in CSV, as spreadsheets and `fitting export` write it",
+            bytes[at]
+        )));
+    }
+    decoded(&name, &bytes).map(|text| Csv::new(&name, &text))
+}
+
 /// Whether bytes are meant as text.
 fn is_text(bytes: &[u8]) -> bool {
-    let control = |byte: &u8| byte.is_ascii_control() && !byte.is_ascii_whitespace();
-    !bytes.iter().any(control)
+    !bytes.iter().any(is_control)
+}
+
+/// Whether a byte is a control character but white space.
+fn is_control(byte: &u8) -> bool {
+    byte.is_ascii_control() && !byte.is_ascii_whitespace()
 }
 
 /// The text of bytes; a mark of the byte order before it is left out.

@@ -16,6 +16,7 @@ mod input;
 pub mod notation;
 mod overlay;
 mod picture;
+pub mod planning;
 mod reading;
 mod source;
 pub mod table;

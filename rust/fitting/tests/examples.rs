@@ -7,7 +7,7 @@ use std::fs;
 use std::path::Path;
 use tool::{folder, output, tool};
 
-const SUBJECTS: [&str; 12] = [
+const SUBJECTS: [&str; 14] = [
     "",
     "text",
     "table",
@@ -20,6 +20,8 @@ const SUBJECTS: [&str; 12] = [
     "combine",
     "difference",
     "list",
+    "import",
+    "export",
 ];
 
 #[test]
@@ -79,4 +81,26 @@ fn the_lines_of_the_readme_work() {
         commands.push(arguments[0].to_string());
     }
     assert_eq!(commands, ["make", "difference", "draw", "draw"]);
+}
+
+#[test]
+fn the_planning_table_of_the_program_is_stored() {
+    let folder = folder("planning");
+    let table = "examples/fitting/device.table";
+    let program = "examples/fitting/program.txt";
+    let files = ["nodes", "links"].map(|part| format!("examples/fitting/program-{part}.csv"));
+    let told = |arguments: &[&str]| {
+        let told = output(tool(&folder, arguments), b"");
+        let error = String::from_utf8_lossy(&told.stderr);
+        assert!(told.status.success(), "{arguments:?}\n{error}");
+        told.stdout
+    };
+    let [nodes, links] = files
+        .clone()
+        .map(|file| fs::read_to_string(folder.join(file)));
+    let stored = format!("{}\n{}", nodes.expect("nodes"), links.expect("links"));
+    assert_eq!(told(&["export", table, program]), stored.as_bytes());
+    let made = told(&["make", table, program, "-o", "-"]);
+    let [nodes, links] = &files;
+    assert_eq!(told(&["import", table, nodes, links, "-o", "-"]), made);
 }

@@ -34,18 +34,33 @@ fn listings() {
 }
 
 #[test]
+fn planning_tables_to_records() {
+    assert_eq!(session::run("import"), 29);
+}
+
+#[test]
+fn records_to_planning_tables() {
+    assert_eq!(session::run("export"), 25);
+}
+
+#[test]
+fn malformed_planning_tables() {
+    assert_eq!(session::run("csv"), 50);
+}
+
+#[test]
 fn pictures() {
     assert_eq!(session::run("draw"), 8);
 }
 
 #[test]
 fn help() {
-    assert_eq!(session::run("help"), 12);
+    assert_eq!(session::run("help"), 14);
 }
 
 #[test]
 fn wrong_use() {
-    assert_eq!(session::run("usage"), 21);
+    assert_eq!(session::run("usage"), 27);
 }
 
 #[test]

@@ -1,5 +1,5 @@
-//! The largest records: shown, read again and drawn in under a second each, and results
-//! that no record can hold.
+//! The largest records: shown, read again and drawn in under a second each, to planning tables
+//! and back too, and results that no record can hold.
 
 mod tool;
 
@@ -91,6 +91,58 @@ fn the_largest_difference_is_told_and_drawn() {
     let dot = quickly(&folder, &["draw", TABLE, "-", "--over", "top"], &record);
     let dot = String::from_utf8(dot).expect("text");
     assert_eq!(dot.matches("\\nnew\", penwidth=2.5];\n").count(), 2048);
+}
+
+#[test]
+fn the_largest_record_is_exported_and_imported() {
+    let folder = folder("largest-planning");
+    let record = largest();
+    let written = quickly(&folder, &["make", TABLE, "-", "-o", "-"], &record);
+    let planning = quickly(&folder, &["export", TABLE, "-"], &record);
+    assert_eq!(
+        planning.iter().filter(|&&b| b == b'\n').count(),
+        255 + 2048 + 3
+    );
+    let imported = quickly(&folder, &["import", TABLE, "-", "-o", "-"], &planning);
+    assert_eq!(imported, written);
+}
+
+/// What the tool tells of a planning table that it refuses.
+fn refused(folder: &Path, planning: &str) -> String {
+    let told = output(tool(folder, &["import", TABLE, "-"]), planning.as_bytes());
+    assert_eq!(told.status.code(), Some(1));
+    String::from_utf8(told.stderr).expect("text")
+}
+
+#[test]
+fn a_planning_table_of_too_many_parts_is_refused() {
+    let folder = folder("too-many-rows");
+    // 33 nodes with 64 links each, each link of a node to the next.
+    let nodes: String = (0..34).map(|node| format!("{node},top\n")).collect();
+    let link = |node: usize, feature: usize| format!("{node},{feature},{}\n", node + 1);
+    let links = (0..33).flat_map(|node| (0..64).map(move |feature| link(node, feature)));
+    let links: String = links.collect();
+    assert_eq!(
+        refused(
+            &folder,
+            &format!("node,type\n{nodes}parent,feature,target\n{links}")
+        ),
+        "refused 4 first: the record is malformed\n\
+         standard input:2085:1: here begins link 2049 of 2112\n    \
+         32,0,33\n    ^\n  \
+         leave links out: a record has at most 2,048\n"
+    );
+    let nodes: String = (0..256).map(|node| format!("{node},top\n")).collect();
+    assert_eq!(
+        refused(
+            &folder,
+            &format!("parent,feature,target\nnode,type\n{nodes}")
+        ),
+        "refused 4 first: the record is malformed\n\
+         standard input:258:1: there are 256 nodes\n    \
+         255,top\n    ^\n  \
+         leave nodes out: a record has at most 255\n"
+    );
 }
 
 /// A chain of nodes on one feature, as text.

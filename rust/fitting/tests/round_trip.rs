@@ -1,12 +1,18 @@
 //! Random records to text and back: the text of a written record is read as that record,
-//! and what is printed of it is the same text.
+//! and what is printed of it is the same text. Random records to planning tables and back:
+//! what is exported is imported as the written record, and what is imported is exported
+//! sorted.
+
+mod rows;
 
 use fitting::graph::{Graph, Levels};
 use fitting::notation;
+use fitting::planning::{self, File};
 use fitting::table::Table;
-use record_engine::{LONGEST_RECORD, rewrite};
+use record_engine::{LONGEST_RECORD, Row, import, rewrite};
 use reference::random::{self, Ranges, Shape, Xorshift};
 use reference::record;
+use rows::exported;
 
 /// The written form of a record.
 fn written(table: &Table, record: &[u8]) -> Vec<u8> {
@@ -75,4 +81,105 @@ fn records_in_any_numbering_have_one_text() {
         });
         assert_eq!(one, two);
     }
+}
+
+/// The record of a planning table as CSV.
+fn imported(table: &Table, files: &[String]) -> Vec<u8> {
+    let files = files.iter().map(|text| File::new("f", text)).collect();
+    let read = planning::read(table, files).unwrap_or_else(|message| panic!("{message}"));
+    let mut output = vec![0; LONGEST_RECORD];
+    let nodes = read.nodes.concat();
+    let length = import(table.n, &table.bytes, &read.rows, &nodes, &mut output).expect("accepted");
+    output.truncate(length);
+    output
+}
+
+/// CSV as another program may write it: other separators and line ends, quotation marks,
+/// blanks, empty cells and lines, a full range left out, and the last line open.
+fn spelled(random: &mut Xorshift, csv: &str) -> String {
+    let separator = *random.choose(&[",", ";", "\t", " , "]);
+    let end = *random.choose(&["\n", "\r\n", "\r", ",,\n\n"]);
+    let shorter = csv.replace(",0,255\n", "\n");
+    let csv = *random.choose(&[csv, &shorter]);
+    let mut lines = Vec::new();
+    for line in csv.lines() {
+        let cells = line.split(',').map(|cell| match random.chance(1, 4) {
+            true => format!("\"{cell}\""),
+            false => cell.to_string(),
+        });
+        lines.push(cells.collect::<Vec<_>>().join(separator));
+    }
+    lines.join(&end.replace(',', separator))
+}
+
+#[test]
+fn ten_thousand_random_records_to_planning_tables_and_back() {
+    let mut random = Xorshift::stored(34);
+    let tables = [
+        Table::from_bytes(&random::diamond().bytes),
+        Table::house(),
+        named(),
+    ];
+    let (mut rows, mut ranges) = (0, 0);
+    for number in 0..10_000 {
+        let table = &tables[number % tables.len()];
+        let shape = Shape::any(&mut random).ranged(&mut random, Ranges::Present);
+        let record = record::write(&random::graph(&mut random, table.n, &shape));
+        let (links, nodes) = exported(table, &record);
+        rows += links.len();
+        ranges += nodes.iter().filter(|node| node[1..] != [0, 255]).count();
+        let (links, nodes) = (
+            planning::links(table, &links),
+            planning::nodes(table, &nodes),
+        );
+        let mut files = match random.pick(3) {
+            0 => vec![format!("{nodes}\n{links}")],
+            1 => vec![nodes, links],
+            _ => vec![links, nodes],
+        };
+        if random.chance(1, 2) {
+            files = files.iter().map(|csv| spelled(&mut random, csv)).collect();
+        }
+        assert_eq!(
+            imported(table, &files),
+            written(table, &record),
+            "{files:?}"
+        );
+    }
+    let enough = rows > 100_000 && ranges > 50_000;
+    assert!(enough || !random::is_stored(), "{rows} {ranges}");
+}
+
+#[test]
+fn planning_tables_in_any_order_are_exported_sorted() {
+    let mut random = Xorshift::stored(35);
+    let table = named();
+    let (mut unsorted, mut renumbered) = (0, 0);
+    for _ in 0..2_000 {
+        let shape = Shape::small(&mut random, 12, 4).ranged(&mut random, Ranges::Present);
+        let graph = random::graph(&mut random, table.n, &shape);
+        let sorted = exported(&table, &record::write(&graph));
+        let other = random::renumbered(&mut random, &graph);
+        let other = Graph::decode(&record::write(&other)).expect("a record");
+        let (mut rows, mut nodes) = (Vec::new(), Vec::new());
+        for (parent, node) in other.nodes.iter().enumerate() {
+            nodes.push([node.node_type, node.levels.lowest, node.levels.highest]);
+            rows.extend(node.links.iter().map(|link| Row {
+                parent: parent as u8,
+                feature: link.feature,
+                target: link.target as u8,
+            }));
+        }
+        random.shuffle(&mut rows);
+        unsorted += usize::from(!rows.is_sorted());
+        renumbered += usize::from(nodes != sorted.1);
+        let nodes = planning::nodes(&table, &nodes);
+        let mut lines: Vec<&str> = nodes.lines().collect();
+        random.shuffle(&mut lines[1..]);
+        let files = [planning::links(&table, &rows), lines.join("\n")];
+        assert_eq!(exported(&table, &imported(&table, &files)), sorted);
+        assert!(sorted.0.is_sorted_by_key(|row| (row.parent, row.feature)));
+    }
+    let enough = unsorted > 1_000 && renumbered > 1_000;
+    assert!(enough || !random::is_stored(), "{unsorted} {renumbered}");
 }

@@ -17,6 +17,10 @@ pub struct Arguments {
     pub by: Option<String>,
     /// `--features F`
     pub features: Option<String>,
+    /// `--nodes CSV`
+    pub nodes: Option<String>,
+    /// `--links CSV`
+    pub links: Option<String>,
 }
 
 impl Arguments {
@@ -30,6 +34,8 @@ impl Arguments {
             why: false,
             by: None,
             features: None,
+            nodes: None,
+            links: None,
         };
         let mut waiting = arguments.iter();
         let mut options_end = false;
@@ -68,6 +74,8 @@ impl Arguments {
             "--over" => self.over = value("a file")?,
             "--by" => self.by = value("features")?,
             "--features" => self.features = value("a number")?,
+            "--nodes" => self.nodes = value("a file")?,
+            "--links" => self.links = value("a file")?,
             _ => self.why = true,
         }
         Ok(())

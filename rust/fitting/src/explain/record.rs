@@ -11,9 +11,17 @@ use record_engine::MOST_LINKS;
 pub fn cause(number: u8, table: &Table, input: &Input) -> Option<Cause> {
     match (number, Graph::decode(&input.record)) {
         (4, graph) => malformed(input.record.len(), graph),
-        (5, Ok(graph)) => out_of_range(table, &graph),
-        (6, Ok(graph)) => cycle(table, &graph),
-        (7, Ok(graph)) => unreached(table, &graph),
+        (_, Ok(graph)) => cause_in(number, table, &graph),
+        _ => None,
+    }
+}
+
+/// What was found out about a refusal of a graph by its number, 5 to 7.
+pub fn cause_in(number: u8, table: &Table, graph: &Graph) -> Option<Cause> {
+    match number {
+        5 => out_of_range(table, graph),
+        6 => cycle(table, graph),
+        7 => unreached(table, graph),
         _ => None,
     }
 }
@@ -108,7 +116,7 @@ fn unreached(table: &Table, graph: &Graph) -> Option<Cause> {
         shown.push(format!("{} more", alone.len() - SHOWN));
     }
     Some(Cause::new(
-        Place::Whole,
+        Place::Node(*alone.first()?),
         format!("no path from the root leads to {}", listed(&shown)),
         "add links to what is meant to stand there, or leave the nodes out",
     ))

@@ -1,0 +1,30 @@
+//! A planning table to CSV, by the names that the table gives to types and features. A name
+//! has no comma and no quotation mark, so no cell needs them.
+
+use super::{LINKS, NODES, NodeBytes};
+use crate::table::Table;
+use record_engine::Row;
+
+/// The nodes by their numbers, below their header.
+pub fn nodes(table: &Table, nodes: &[NodeBytes]) -> String {
+    let mut text = header(&NODES);
+    for (number, &[node_type, lowest, highest]) in nodes.iter().enumerate() {
+        let name = table.type_name(node_type);
+        text += &format!("{number},{name},{lowest},{highest}\n");
+    }
+    text
+}
+
+/// The links in the order of the rows, below their header.
+pub fn links(table: &Table, rows: &[Row]) -> String {
+    let mut text = header(&LINKS);
+    for row in rows {
+        let name = table.feature_name(row.feature);
+        text += &format!("{},{name},{}\n", row.parent, row.target);
+    }
+    text
+}
+
+fn header(columns: &[&str]) -> String {
+    format!("{}\n", columns.join(","))
+}
