@@ -10,6 +10,7 @@ mod gathering;
 mod lent;
 pub mod program;
 mod rows;
+mod store;
 mod told;
 
 pub use calls::{Call, DIFFERENCE, GENERALIZE, ORDER, REWRITE, UNIFY};
@@ -19,6 +20,7 @@ pub use calls::{NEXT, number};
 
 pub use gathering::Gatherings;
 pub use rows::PlanningTables;
+pub use store::Stores;
 
 use counts::Counts;
 use lent::{Lent, outputs};

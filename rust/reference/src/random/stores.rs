@@ -29,6 +29,9 @@ pub struct Template {
     ranges: Ranges,
     /// Versions are mostly below this number, so that one that is there is often named.
     versions: usize,
+    /// In one of five templates most programs are strides of so many nodes, whose common part
+    /// is larger than they are or too large, or lone tops.
+    strides: Option<usize>,
 }
 
 impl Template {
@@ -45,6 +48,10 @@ impl Template {
             shape,
             ranges,
             versions: *random.choose(&[1, 3, 6, VERSIONS]),
+            strides: match random.chance(1, 5) {
+                true => Some(*random.choose(&[12, 25, 45, 45])),
+                false => None,
+            },
         }
     }
 
@@ -52,12 +59,20 @@ impl Template {
     /// itself, a graph of its shape, or a lone top; sometimes damaged.
     pub fn program(&self, random: &mut Xorshift) -> Vec<u8> {
         let (table, first) = (&self.table, &self.first);
+        if let Some(nodes) = self.strides.filter(|_| random.chance(5, 6)) {
+            let [one, two] = strides(nodes, table.top());
+            let lone = Graph::lone(table.top());
+            let graph = random
+                .choose(&[one.clone(), one, two.clone(), two, lone])
+                .clone();
+            return record_of(random, &graph, self.ranges);
+        }
         let graph = match random.pick(16) {
-            0 => return damaged_record(random, table.n(), self.ranges),
-            1 => graph(random, table.n(), &self.shape),
-            2 => first.clone(),
-            3 => Graph::lone(table.top()),
-            4..10 => graph_well_above(random, table, first),
+            0 | 1 => return damaged_record(random, table.n(), self.ranges),
+            2 => graph(random, table.n(), &self.shape),
+            3 => first.clone(),
+            4 => Graph::lone(table.top()),
+            5..10 => graph_well_above(random, table, first),
             _ => graph_above(random, table, first),
         };
         record_of(random, &graph, self.ranges)
@@ -97,7 +112,7 @@ pub fn store_length(random: &mut Xorshift) -> usize {
 
 /// Two graphs of so many nodes in a row whose common part has about a sixth of the square of
 /// that number: by feature 0 one goes on to the next node and the other to the next but one,
-/// and by feature 1 the other way round. From 40 nodes on it has more than 255.
+/// and by feature 1 the other way round. From 39 nodes on it has more than 255.
 pub fn strides(nodes: usize, node_type: Type) -> [Graph; 2] {
     [[1, 2], [2, 1]].map(|[zero, one]| {
         let node = |number: usize| {
