@@ -128,25 +128,26 @@ pub fn strides(nodes: usize, node_type: Type) -> [Graph; 2] {
 /// A buffer made from one that may hold a state over a table: another map, a part changed in
 /// its bytes or in its meaning, a part left out or doubled, another length.
 pub fn damaged_store(random: &mut Xorshift, table: &TableBytes, store: &[u8]) -> Vec<u8> {
-    let mut damaged = match parts_of(store) {
-        Some((mut map, mut parts, rest)) if random.chance(2, 3) => {
+    let mut damaged = match Parts::of(store) {
+        Some(mut state) if random.chance(2, 3) => {
+            let parts = &mut state.parts;
             let place = random.pick(parts.len().max(1));
             match random.pick(6) {
-                0 => map ^= 1 << random.pick(VERSIONS),
+                0 => state.map ^= 1 << random.pick(VERSIONS),
                 1 if !parts.is_empty() => {
                     parts.remove(place);
                 }
                 2 if !parts.is_empty() => {
-                    let part = random.choose(&parts).clone();
+                    let part = random.choose(parts).clone();
                     parts.insert(place, part);
                 }
                 3 => parts.reverse(),
                 _ if !parts.is_empty() => {
                     parts[place] = changed_part(random, table, &parts[place]);
                 }
-                _ => map = random.pick(1 << VERSIONS),
+                _ => state.map = random.pick(1 << VERSIONS),
             }
-            joined(map, &parts, rest)
+            state.bytes()
         }
         _ => store.to_vec(),
     };
@@ -183,33 +184,46 @@ fn changed_part(random: &mut Xorshift, table: &TableBytes, part: &[u8]) -> Vec<u
     }
 }
 
-/// The map, the parts behind it, and what follows them, if the lengths lead so far.
-fn parts_of(store: &[u8]) -> Option<(usize, Vec<Vec<u8>>, &[u8])> {
-    let (map, mut rest) = number(store)?;
-    let mut parts = Vec::new();
-    let count = match map.count_ones() {
-        0 => 0,
-        versions => 1 + versions,
-    };
-    for _ in 0..count {
-        let (length, behind) = number(rest)?;
-        let (part, behind) = behind.split_at_checked(length)?;
-        parts.push(part.to_vec());
-        rest = behind;
-    }
-    Some((map, parts, rest))
+/// A buffer by its parts: the map, the records behind it, and what follows them.
+struct Parts {
+    map: usize,
+    parts: Vec<Vec<u8>>,
+    rest: Vec<u8>,
 }
 
-/// The bytes of a map and of parts with their lengths, and what follows them.
-fn joined(map: usize, parts: &[Vec<u8>], rest: &[u8]) -> Vec<u8> {
-    let two = |number: usize| [number as u8, (number >> 8) as u8];
-    let mut store = two(map).to_vec();
-    for part in parts {
-        store.extend(two(part.len()));
-        store.extend(part);
+impl Parts {
+    /// The parts of a buffer, if its lengths lead so far.
+    fn of(store: &[u8]) -> Option<Parts> {
+        let (map, mut rest) = number(store)?;
+        let count = match map.count_ones() {
+            0 => 0,
+            versions => 1 + versions,
+        };
+        let mut parts = Vec::new();
+        for _ in 0..count {
+            let (length, behind) = number(rest)?;
+            let (part, behind) = behind.split_at_checked(length)?;
+            parts.push(part.to_vec());
+            rest = behind;
+        }
+        Some(Parts {
+            map,
+            parts,
+            rest: rest.to_vec(),
+        })
     }
-    store.extend(rest);
-    store
+
+    /// The buffer, each part behind its length.
+    fn bytes(&self) -> Vec<u8> {
+        let two = |number: usize| [number as u8, (number >> 8) as u8];
+        let mut store = two(self.map).to_vec();
+        for part in &self.parts {
+            store.extend(two(part.len()));
+            store.extend(part);
+        }
+        store.extend(&self.rest);
+        store
+    }
 }
 
 /// The number of the first two bytes, low byte first, and the others.
