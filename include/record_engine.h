@@ -59,11 +59,12 @@
  *    1 byte   the node's type, 1 to n - 1, without bit 7
  *    1 byte   its lowest level
  *    1 byte   its highest level, not below the lowest; 0 and 255 are the full range
- * The number of nodes, 1 to 255, is that of the node bytes divided by 3. Rows may stand in
- * any order, and the nodes but the root may have any numbers. {0, 9, 1}, {0, 0, 2} and
- * {1, 0, 2} beside {3, 0, 255, 3, 0, 255, 1, 10, 200} are three nodes: the root's feature 9
- * leads to node 1, and its feature 0 and that of node 1 lead to node 2, which has type 1
- * and the levels 10 to 200.
+ * The number of nodes, 1 to 255, is that of the node bytes divided by 3. As in a record, no
+ * node reaches itself, and the root reaches every node. Rows may stand in any order, and the
+ * nodes but the root may have any numbers. {0, 9, 1}, {0, 0, 2} and {1, 0, 2} beside
+ * {3, 0, 255, 3, 0, 255, 1, 10, 200} are three nodes: the root's feature 9 leads to node 1,
+ * and its feature 0 and that of node 1 lead to node 2, which has type 1 and the levels 10 to
+ * 200.
  *
  * A gathering keeps the common part of the records that were added to it so far, over one
  * table. It is bytes that the caller lends:

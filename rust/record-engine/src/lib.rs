@@ -96,9 +96,11 @@
 //!
 //! The planning tool holds a graph as a table of rows and three bytes for each node. A
 //! [`Row`] is one link: its parent, which is the number of the node that it leaves, its
-//! feature and its target. The node bytes are, from node 0 on, the node's type, 1 to
-//! n − 1, its lowest level and its highest; 0 and 255 are the full range. Node 0 is the
-//! root, and the number of nodes is that of the node bytes divided by 3.
+//! feature and its target. No two rows have one parent and feature, and there are at most
+//! 2,048. The node bytes are, from node 0 on, the node's type, 1 to n − 1, its lowest level
+//! and its highest; 0 and 255 are the full range. Node 0 is the root, and the number of
+//! nodes, 1 to 255, is that of the node bytes divided by 3. As in a record, no node reaches
+//! itself, and the root reaches every node.
 //!
 //! [`import`] writes the record of such a table in written form; the rows may stand in any
 //! order. [`export`] fills such a table: the nodes are numbered as in the written record,

@@ -22,8 +22,8 @@ pub enum GraphFault {
     /// bytes that hold none.
     Malformed,
     /// 5: a type that is 0 or at least n, a target that is no node, or a lowest level
-    /// above the highest. A planning table: a type with bit 7 set too; its targets are
-    /// under 14.
+    /// above the highest. A planning table: a type with bit 7 too; a target that is no
+    /// node is 14.
     OutOfRange,
     /// 6: a node reaches itself.
     Cyclic,

@@ -32,8 +32,8 @@ pub struct Counts {
 /// Refused by 1 to 3; by 4 where the number of node bytes is not divisible by 3, the nodes
 /// are not 1 to 255 or the rows are more than 2,048; by 14 where a row has a feature above
 /// 63 or a node number outside the count; by 15 where two rows have one parent and feature;
-/// by 5 where a type is 0 or at least n, with bit 7 set too, or a lowest level is above the
-/// highest; by 6, 7 and 8. The table counts as the first graph.
+/// by 5 where a type is 0 or at least n, as every type with bit 7 is, or a lowest level is
+/// above the highest; by 6, 7 and 8. The planning table counts as the first record.
 ///
 /// ```
 /// use record_engine::{Refusal, Row};
