@@ -118,8 +118,9 @@
  * begun or added to, or a store that is put into or dropped from, overlaps nothing else that
  * is handed in. The calls keep no pointer, share no state and may run side by side.
  *
- * A thread that makes a call needs 256 KiB of stack. The largest calls take up to
- * 136 KiB of it; nothing tests for room, and a call that has less overruns the stack.
+ * A thread that makes a call needs 384 KiB of stack. The calls on a store take up to
+ * 256 KiB of it, the others up to 136; nothing tests for room, and a call that has less
+ * overruns the stack.
  *
  * A call that writes a record answers its length, which is at most RECORD_LONGEST; the
  * output's first bytes are then the record and its other bytes are unchanged. On a

@@ -30,7 +30,7 @@ use reference::reply::Reply;
 use std::thread;
 
 /// The stack that the header, the wrapper and the README state for a call.
-const STACK: usize = 256 << 10;
+const STACK: usize = 384 << 10;
 
 /// What some calls give on a thread that has the stated stack and no more.
 pub fn on_stated_stack<T: Send>(calls: impl FnOnce() -> T + Send) -> T {

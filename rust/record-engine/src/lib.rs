@@ -147,9 +147,9 @@
 //!
 //! # Stack
 //!
-//! A thread that makes a call needs 256 KiB of stack; the largest calls take up to
-//! 136 KiB of it. A thread of the standard library has 2 MiB unless it is told
-//! otherwise.
+//! A thread that makes a call needs 384 KiB of stack; the calls on a store take up to
+//! 256 KiB of it, the others up to 136. A thread of the standard library has 2 MiB unless it
+//! is told otherwise.
 
 #![deny(unsafe_code)]
 #![warn(missing_docs)]
