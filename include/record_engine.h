@@ -1,7 +1,7 @@
 /* The record engine for C: twelve calls on bytes, two on the planning tool's rows, four on
- * a gathering, and the table of the house types, in the static library
+ * a gathering, three on a store, and the table of the house types, in the static library
  * librecord_engine.a, which `rt staticlib record_engine` writes to target/staticlib.
- * examples/difference.c and examples/rows.c are whole programs.
+ * examples/difference.c, examples/rows.c and examples/export.c are whole programs.
  *
  * A type table orders n types, 2 to 64, by a row of 8 bytes for each. In row i, bit
  * j % 8 of byte j / 8 is set exactly when type j is below type i or is type i; bit 0
@@ -83,26 +83,57 @@
  * its length; a byte of the length that is missing counts as 0. Adding is then refused by
  * 8 where the common part has no room.
  *
- * A record, a list, a gathering or an output is handed in as a pointer to its first byte
- * and a length; rows are handed in as a pointer to the first row and the number of rows. A
- * pointer is not null, also where the length is 0. An output, or a gathering that is begun
- * or added to, overlaps nothing else that is handed in. The calls keep no pointer, share no
- * state and may run side by side.
+ * A store keeps up to 16 versions of a program over one table: what the programs have in
+ * common once, and for each program its difference from that. It is bytes that the caller
+ * lends, 2 to RECORD_STORE of them:
+ *    2 bytes   the map, low byte first: bit v is set when version v exists, v being 0 to 15
+ *    and where some version exists
+ *    2 bytes   the length of the common part, low byte first
+ *    so many   the common part in written form
+ *    and for each version that exists, the lowest first
+ *    2 bytes   the length of its difference from the common part, low byte first
+ *    so many   the difference in written form
+ * The bytes behind hold anything. An empty store is two zero bytes. A put names a version
+ * that is absent, a read gives back the written record that was put, and a drop removes a
+ * version. Two versions read as equal bytes exactly when what was put means the same: no
+ * program opens as another.
+ * The way of some programs begins with an empty store and puts them in the order of their
+ * numbers. A step of the way stores the common part of the programs so far, and the
+ * difference of each from it; it is refused by 11 where the common part is too large, then
+ * by 13 where a program has no difference from it, then by 21 where the bytes are fewer
+ * than it takes. Bytes hold a store when the way of some programs, in as many bytes, ends in
+ * the first of them; there is at most one such list of programs. Every call goes that way to
+ * know it, and a put or a drop then goes the way of the programs that are to be there after
+ * it. So with one table, and with nobody else writing the bytes, the used bytes after any
+ * calls are those of an empty store of that length into which the programs that were put
+ * and not dropped are put in the order of their numbers. A way may take more room than its
+ * end: used bytes that are saved are put back at the beginning of as many bytes as before or
+ * more. A drop may be refused, and fewer programs may need more room: their common part may
+ * be larger. A store that somebody else changed may hold other programs; with another
+ * map it may hold other versions.
  *
- * A thread that makes a call needs 256 KiB of stack. The largest calls take up to
- * 136 KiB of it; nothing tests for room, and a call that has less overruns the stack.
+ * A record, a list, a gathering, a store or an output is handed in as a pointer to its first
+ * byte and a length; rows are handed in as a pointer to the first row and the number of
+ * rows. A pointer is not null, also where the length is 0. An output, a gathering that is
+ * begun or added to, or a store that is put into or dropped from, overlaps nothing else that
+ * is handed in. The calls keep no pointer, share no state and may run side by side.
+ *
+ * A thread that makes a call needs 384 KiB of stack. The calls on a store take up to
+ * 256 KiB of it, the others up to 136; nothing tests for room, and a call that has less
+ * overruns the stack.
  *
  * A call that writes a record answers its length, which is at most RECORD_LONGEST; the
  * output's first bytes are then the record and its other bytes are unchanged. On a
  * refusal, and at the end of a listing, no byte and no row of an output and no byte of a
- * gathering is changed. Refusals have the numbers of documents 01 and 02:
+ * gathering or a store is changed. Refusals have the numbers of documents 01 and 02:
  *
  *    1  n is not 2 to 64, or the table's length is not 8 times n
  *    2  a bit at n or above; no order; 0 not least; n - 1 not greatest
  *    3  two types without a meet or a join
  *    4  a record with no nodes, too short, with bytes left over, or more than 2,048 links;
  *       a planning table with a number of node bytes that is not divisible by 3, with
- *       nodes that are not 1 to 255, or more than 2,048 rows
+ *       nodes that are not 1 to 255, or more than 2,048 rows; bytes that hold no store, or
+ *       fewer than 2 or more than RECORD_STORE
  *    5  a type that is 0 or at least n; a target that is no node; a lowest level above
  *       the highest; a planning table's type with bit 7
  *    6  a node reaches itself
@@ -110,23 +141,28 @@
  *    8  the result exists and the output is shorter
  *    9  combination: a loop
  *   10  combination: a clash, by type 0 or by ranges that do not overlap, and no loop
- *   11  a result of more than 255 nodes or 2,048 links
+ *   11  a result of more than 255 nodes or 2,048 links; store: a common part on the way
  *   12  difference: the second graph is not below the first
  *   13  difference: some node of the second graph has no wanted type: among the types
- *       whose meet with the first graph's types over it is its own, none is the greatest
+ *       whose meet with the first graph's types over it is its own, none is the greatest;
+ *       store: a program on the way has no difference from the common part for that reason
  *   14  planning table: a row with a feature above 63 or a node number outside the count
  *   15  planning table: two rows with one parent and feature
  *   16  gathering: an order or a finish before the first addition
  *   17  a list that is not of 64 bytes, or with an entry of n or more
  *   18  a record with a link that the list forbids
  *   19  a reading order that is not a list of all 64 features, each once
+ *   20  store: a version above 15, or absent for a read or a drop, or present for a put
+ *   21  store: fewer bytes than a step of the way takes
  *   22  difference with reasons: it has more links than bytes are lent for the reasons
  *   23  listing: the number of features is not 1 or 2
  *   24  listing: the record is read but not listed
  *
  * Checks run in the order 1, 2, 3; 17 or 19; the first record's 4 to 7 and 18, or a
- * planning table's 4, 14, 15, 5, 6, 7; the second's 4 to 7 and 18; then 16, 12, 13, 9, 10,
- * 11, 23, 24, 8, 22. Each is looked for in the whole record or table before the next.
+ * planning table's 4, 14, 15, 5, 6, 7, or a store's 4; the second's 4 to 7 and 18; then 16,
+ * 12, 13, 9, 10, 11, 23, 24, 8, 22. Each is looked for in the whole record or table before
+ * the next. On a store, 20 comes after the second's 7; then at each step of the way 11, 13
+ * and 21; and for a read 8.
  */
 #ifndef RECORD_ENGINE_H
 #define RECORD_ENGINE_H
@@ -144,6 +180,10 @@ extern "C" {
 /* So many bytes are enough for a gathering over every table; 1 + 8 * n + 2 +
  * RECORD_LONGEST are for a table of n types. */
 #define RECORD_GATHERING (1 + 8 * 64 + 2 + RECORD_LONGEST)
+
+/* The most bytes of a store, and the number of versions that it can keep. */
+#define RECORD_STORE 16384
+#define RECORD_VERSIONS 16
 
 /* The number of features, and so the length of a list. */
 #define RECORD_FEATURES 64
@@ -354,6 +394,32 @@ uint64_t record_gathering_order(const uint8_t *gathering, size_t gathering_lengt
  * by 16, then by 8. */
 uint64_t record_gathering_finish(const uint8_t *gathering, size_t gathering_length,
                                  uint8_t *output, size_t output_length);
+
+/* Puts a record into a store as the version of a number, 0 to 15, that is absent. Answers how
+ * many bytes the store uses; the others are unchanged. Refuses by 1 to 3, by 4 as the first
+ * where the bytes hold no store, by 4 to 7 of the record, which counts as the second, by 20
+ * where the version is above 15 or present, then by the first of 11, 13 and 21 on the way of
+ * all programs. Where the version is the last, what was gone to know the store is the
+ * beginning of that way and is gone once. */
+uint64_t record_store_put(size_t n, const uint8_t *table, size_t table_length,
+                          uint8_t *store, size_t store_length,
+                          size_t version,
+                          const uint8_t *record, size_t record_length);
+
+/* Writes the written record that was put as a version. Answers the record's length, or refuses
+ * by 1 to 3, by 4 as the first where the bytes hold no store, by 20 where the version is
+ * above 15 or absent, then by 8. */
+uint64_t record_store_read(size_t n, const uint8_t *table, size_t table_length,
+                           const uint8_t *store, size_t store_length,
+                           size_t version,
+                           uint8_t *output, size_t output_length);
+
+/* Drops a version. Answers how many bytes the store uses then; the others are unchanged.
+ * Refuses by 1 to 3, by 4 as the first where the bytes hold no store, by 20 where the version
+ * is above 15 or absent, then by the first of 11, 13 and 21 on the way of the others. */
+uint64_t record_store_drop(size_t n, const uint8_t *table, size_t table_length,
+                           uint8_t *store, size_t store_length,
+                           size_t version);
 
 /* Writes the type table of the house types, for n = RECORD_HOUSE_TYPES, into the
  * output's first RECORD_HOUSE_TABLE bytes; its other bytes are unchanged. A house

@@ -138,7 +138,8 @@ module _ (n : ℕ) (t : List ℕ) where
 
 -- 4. "an addition is refused by 4 to 7 or 11 alone"
 
-reading-number : (n : ℕ) (bytes : List ℕ) (fault : GraphFault) → reading n bytes ≡ refused fault → (4 ≤ graphNumber fault) × (graphNumber fault ≤ 7)
+-- the numbers of a record that is refused
+pub reading-number : (n : ℕ) (bytes : List ℕ) (fault : GraphFault) → reading n bytes ≡ refused fault → (4 ≤ graphNumber fault) × (graphNumber fault ≤ 7)
 unfolding reading
 reading-number n bytes fault e = go (decoded bytes) e
   where

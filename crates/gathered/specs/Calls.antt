@@ -2,8 +2,9 @@
 use mathlib.Core.List.{List, [], _∷_, map}
 use mathlib.Core.Option.{Option, none, some}
 use Prim.Native.Nat.{ℕ}
-use lib.ListN.{take, replicate}
+use lib.ListN.{take}
 use Rattle.replies.specs.Reply.{Result, resulting, lengthOf}
+unfoldable pub use Rattle.gathering.specs.Gathering.{blank}
 use Rattle.gathering.specs.Gathering.{joining, adding, comparing, finishing}
 
 pub data Call : Type 0 where
@@ -37,10 +38,7 @@ additions state (finish out ∷ cs) = additions state cs
 abbrev pub alone : List (List ℕ) → List Call
 alone programs = map add programs
 
--- The record that a call writes, whatever its length: "The longest record becomes 4,854 bytes" (Paper 7).
-unfoldable pub blank : List ℕ
-blank = replicate 4854 0
-
+-- the record that a call writes, whatever its length
 abbrev pub takenBy : Option ℕ → Result → Option (List ℕ)
 takenBy none r = none
 takenBy (some l) r = some (take l (r .output))

@@ -1,15 +1,18 @@
 -- The length that a reply tells, and what settling it leaves.
-use mathlib.Core.Path.{_≡_, refl, sym, _∙_, ap}
-use mathlib.Core.List.{List, _++_}
+use mathlib.Core.Path.{_≡_, refl, sym, _∙_, ap, subst}
+use mathlib.Core.List.{List, [], _∷_, _++_}
 use mathlib.Core.Option.{Option, none, some}
 use Prim.Native.Nat.{ℕ, _+_}
 use native.Mathlib.Omega.{arith}
+use denote.Enum.Declared.{tagOf}
+use types.Run.{OneOf, miss}
 use lib.ListN.{take, drop}
 use Rattle.replies.specs.declared.answers.Answer.{Answer}
 use Rattle.replies.specs.declared.answers.Answer.the-variants as answer
 use Rattle.replies.specs.declared.Reply.{Reply}
 use Rattle.replies.specs.declared.Reply.the-variants.{Length}
 use Rattle.replies.specs.Reply.{resulting, answerOf, lengthOf, lengthIn}
+use Rattle.replies.proofs.Reply.{the-type}
 use Rattle.replies.proofs.Numbers.{answer-injective}
 use Rattle.gathering.specs.Gathering.{twoBytes}
 use Rattle.gathering.specs.Joined.{settledFor, settledAt}
@@ -32,14 +35,25 @@ length-told r l e = answer-injective r (Length l) (go (answerOf r) e)
     go (answer.Refused number) q = none-some q
     go (answer.RefusedGraph number side) q = none-some q
 
+-- the places of the replies that tell no length
+abbrev pub others : List ℕ
+others = 1 ∷ 2 ∷ 3 ∷ 4 ∷ 5 ∷ 6 ∷ 7 ∷ 8 ∷ 9 ∷ 10 ∷ 11 ∷ 12 ∷ 13 ∷ 14 ∷ 15 ∷ 16 ∷ 17 ∷ 18 ∷ 19 ∷ 20 ∷ 21 ∷ 22 ∷ 23 ∷ 24 ∷ []
+
+-- what a match that leaves these tells
+pub not-length : (r : Reply) → OneOf others (tagOf the-type r) → (l : ℕ) → r ≡ Length l → ⊥
+not-length r other l e = miss others 0 tt (subst (λ (q : Reply). OneOf others (tagOf the-type q)) e other)
+
+pub no-length : (r : Reply) → OneOf others (tagOf the-type r) → lengthOf r ≡ none
+no-length r other = go (lengthOf r) refl
+  where
+    go : (o : Option ℕ) → lengthOf r ≡ o → lengthOf r ≡ none
+    go none e = e
+    go (some l) e = absurd (not-length r other l (length-told r l e))
+
 module _ (at : ℕ) (state : List ℕ) (reply : Reply) where
   -- any other reply leaves the state
-  pub settled-none : ((l : ℕ) → reply ≡ Length l → ⊥) → resulting reply state ≡ settledAt at state reply
-  settled-none other = go (lengthOf reply) refl
-    where
-      go : (o : Option ℕ) → lengthOf reply ≡ o → resulting reply state ≡ settledFor at state reply (lengthOf reply)
-      go none e = sym (ap (settledFor at state reply) e)
-      go (some l) e = absurd (other l (length-told reply l e))
+  pub settled-none : lengthOf reply ≡ none → resulting reply state ≡ settledAt at state reply
+  settled-none e = sym (ap (settledFor at state reply) e)
 
   -- a length is put
   pub settled-some : (l : ℕ) {new : List ℕ} → reply ≡ Length l → new ≡ take at state ++ (twoBytes l ++ drop (at + 2) state) →

@@ -6,7 +6,7 @@ use mathlib.Core.List.{List, [], _∷_, _++_}
 use mathlib.Core.Option.{Option, none, some}
 use Prim.Native.Nat.{ℕ, _+_, _*_, _/_, _%_}
 use lib.Dec.{eqb, leb}
-use lib.ListN.{length, take, drop, getD}
+use lib.ListN.{length, take, drop, getD, replicate}
 use Rattle.lattice.specs.Reply.{opened}
 use Rattle.record.specs.Read.{Reading, refused, accepted, reading}
 use Rattle.replies.specs.declared.Side.the-variants.{First, Second}
@@ -19,6 +19,10 @@ use Rattle.calls.specs.Calls.{checked, rewriting, ordering, generalizing}
 -- 2 bytes, low byte first
 unfoldable pub twoBytes : ℕ → List ℕ
 twoBytes x = x % 256 ∷ x / 256 % 256 ∷ []
+
+-- Room for the longest record: "The longest record becomes 4,854 bytes" (Paper 7).
+unfoldable pub blank : List ℕ
+blank = replicate 4854 0
 
 -- the state over a table that holds these bytes as its common part, none before the first addition, with what stands behind
 unfoldable pub stateOf : ℕ → List ℕ → List ℕ → List ℕ → List ℕ

@@ -13,10 +13,10 @@ ghost use Rattle.replies.specs.Reply.{resulting};
 ghost use Rattle.gathering.specs.Gathering.{adding, begun, comparing, finishing, nothingAfter, writtenFrom};
 
 mod joining;
-mod parts;
+pub mod parts;
 
 // The most bytes of a written record.
-const LONGEST: usize = 4854;
+pub const LONGEST: usize = 4854;
 
 // Begins a gathering over a table in lent bytes. The answer tells how many bytes are used.
 pub fn begin(n: usize, table: &[u8], state: &mut [u8]) -> Reply

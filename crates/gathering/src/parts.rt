@@ -41,7 +41,7 @@ fn byte_at(bytes: &[u8], at: usize) -> usize
 }
 
 // The length that stands in two bytes, low byte first.
-fn length_at(bytes: &[u8], at: usize) -> usize
+pub fn length_at(bytes: &[u8], at: usize) -> usize
     requires { ⌜ at ≤ length (now bytes) ⌝ }
     ensures { λ r. ⌜ r ≡ lengthAt (drop at (now (bytes .entry))) ⌝ }
 {

@@ -71,7 +71,7 @@ counts-apart : (nodes rows : ℕ) → nodes ≤ 255 → rows ≤ 2048 →
 counts-apart nodes rows most many = (omega arith, omega arith)
 
 -- the code of a short length, of small counts or of a refusal by a small number tells which it is
-code-told : (k : Answer) → ((l : ℕ) → k ≡ Length l → l ≤ 4854) →
+code-told : (k : Answer) → ((l : ℕ) → k ≡ Length l → l ≤ 16384) →
     ((nodes rows : ℕ) → k ≡ Counts nodes rows → (nodes ≤ 255) × (rows ≤ 2048)) → numberIn k < 256 → told (codeFor k) ≡ k
 code-told (Length l) short few small =
     ap (λ (b : Bool). cond b (Length l) (fromNumber l)) (lt-ltb l 4294967296 (omega (arith, short l refl)))
@@ -91,8 +91,8 @@ code-told (RefusedGraph number First) short few small =
 code-told (RefusedGraph number Second) short few small =
     second-told (codeFor (RefusedGraph number Second)) (omega arith) (omega arith) ∙ ap (λ (m : ℕ). RefusedGraph m Second) (omega arith)
 
--- two replies with one code are one reply, if their lengths are at most that of the longest record and their counts those of the largest
-pub codes-differ : (r q : Reply) → Bounded r 4854 → Bounded q 4854 → Counted r 255 2048 → Counted q 255 2048 → codeOf r ≡ codeOf q → r ≡ q
+-- two replies with one code are one reply, if their lengths are at most those of the longest record and the largest store and their counts those of the largest
+pub codes-differ : (r q : Reply) → Bounded r 16384 → Bounded q 16384 → Counted r 255 2048 → Counted q 255 2048 → codeOf r ≡ codeOf q → r ≡ q
 codes-differ r q short brief few scarce e =
     answer-injective r q
     (sym (code-told (answerOf r) (answer-bounded r short) (answer-counted r few) (number-small r refl))

@@ -15,6 +15,7 @@ ghost use Rattle.calls.specs.Calls.{rewriting, ordering, generalizing, unifying
 ghost use Rattle.calls.specs.Appropriate.{rewritingAppropriate, generalizingAppropriate, unifyingAppropriate};
 ghost use Rattle.calls.specs.Explained.{explaining, explainingBy};
 ghost use Rattle.listing.specs.Call.{stepping};
+ghost use Rattle.store.specs.Calls.{dropping, fetching, putting};
 ghost use Rattle.gathering.specs.Gathering.{begun, adding, comparing, finishing};
 ghost use Rattle.planning.specs.Planning.{importing, importingRows, exporting};
 ghost use Rattle.record_engine.specs.Code.{codeOf, countsCode, refusalCode, sideNumber};
@@ -218,6 +219,47 @@ pub extern "C" fn record_gathering_finish(state: &[u8], out: &mut [u8]) -> u64
     ensures { λ r. ⌜ yielding r (now (out .exit)) ≡ coded (finishing (now (state .entry)) (now (out .entry))) ⌝ }
 {
     code(gathering::finish(state, out))
+}
+
+// Puts a program into a store as a version that is absent: the code of the reply, and the store that the engine leaves.
+#[no_mangle]
+pub extern "C" fn record_store_put(
+    n: usize,
+    table: &[u8],
+    buffer: &mut [u8],
+    version: usize,
+    bytes: &[u8],
+) -> u64
+    ensures { λ r. ⌜ yielding r (now (buffer .exit)) ≡ coded (putting n (now (table .entry)) (now (buffer .entry)) version (now (bytes .entry))) ⌝ }
+{
+    code(store::put(n, table, buffer, version, bytes))
+}
+
+// The record of a version of a store: the code of the reply, and the output that the engine leaves.
+#[no_mangle]
+pub extern "C" fn record_store_read(
+    n: usize,
+    table: &[u8],
+    buffer: &[u8],
+    version: usize,
+    out: &mut [u8],
+) -> u64
+    ensures { λ r. ⌜ yielding r (now (out .exit)) ≡ coded (fetching n (now (table .entry)) (now (buffer .entry)) version (now (out .entry))) ⌝ }
+{
+    code(store::read(n, table, buffer, version, out))
+}
+
+// Drops a version of a store: the code of the reply, and the store that the engine leaves.
+#[no_mangle]
+pub extern "C" fn record_store_drop(
+    n: usize,
+    table: &[u8],
+    buffer: &mut [u8],
+    version: usize,
+) -> u64
+    ensures { λ r. ⌜ yielding r (now (buffer .exit)) ≡ coded (dropping n (now (table .entry)) (now (buffer .entry)) version) ⌝ }
+{
+    code(store::drop(n, table, buffer, version))
 }
 
 // Import: the record of the graph that lent rows and node bytes state; the code of the reply, and the output that the engine leaves.

@@ -19,18 +19,18 @@ impl Worker {
 
 /// Work on an input; gives the length of what it wrote, and for the order the place
 /// of its answer among the four.
-pub type Work = fn(&Input, &mut [u8]) -> Option<usize>;
+pub type Work<I> = fn(&I, &mut [u8]) -> Option<usize>;
 
 /// One call by each of the three.
-pub struct Call {
+pub struct Call<I> {
     pub name: &'static str,
-    engine: Work,
-    peer: Work,
-    reference: Work,
+    pub engine: Work<I>,
+    pub peer: Work<I>,
+    pub reference: Work<I>,
 }
 
-impl Call {
-    pub fn work(&self, worker: Worker) -> Work {
+impl<I> Call<I> {
+    pub fn work(&self, worker: Worker) -> Work<I> {
         match worker {
             Worker::Engine => self.engine,
             Worker::Peer => self.peer,
@@ -38,8 +38,10 @@ impl Call {
         }
     }
 
-    pub fn answer(&self, worker: Worker, input: &Input) -> Option<usize> {
-        self.work(worker)(input, &mut [0; LONGEST_RECORD])
+    /// The answer of all three, which is the same; none where it is not.
+    pub fn answer(&self, input: &I) -> Option<usize> {
+        let answers = Worker::ALL.map(|worker| self.work(worker)(input, &mut [0; LONGEST_RECORD]));
+        answers[0].filter(|_| answers == [answers[0]; 3])
     }
 }
 
@@ -47,7 +49,7 @@ impl Call {
 pub const COMMON_PART: usize = 2;
 pub const ADDITION: usize = 3;
 
-pub const CALLS: [Call; 6] = [
+pub const CALLS: [Call<Input>; 6] = [
     Call {
         name: "rewrite",
         engine: |x, out| record_engine::rewrite(x.n, &x.table, &x.specific, out).ok(),
@@ -113,7 +115,8 @@ pub const CALLS: [Call; 6] = [
     },
 ];
 
-fn length(reply: Reply) -> Option<usize> {
+/// What a reply tells, as a number.
+pub fn length(reply: Reply) -> Option<usize> {
     match reply {
         Reply::Length(length) => Some(length),
         Reply::Order(order) => Some(order as usize),

@@ -1,18 +1,21 @@
 //! Prints what a call takes, at graphs of 8, 40 and 255 nodes and tables of 4 types, of
 //! the 64 subsets of six atoms, of the 64 house types, and of 64 rivals, which do not admit
-//! differences, without level ranges and with them: where valgrind is there, the
-//! instructions that a call of the engine and of the peer runs, which repeat; then the
-//! times by the engine, by the peer and by the reference, which do so only on a machine
-//! that has nothing else to do.
+//! differences, without level ranges and with them; and at stores of 1, 4 and 16 versions
+//! of graphs as large, over the house types: where valgrind is there, the instructions that
+//! a call of the engine and of the peer runs, which repeat; then the times by the engine, by
+//! the peer and, but for stores, by the reference, which do so only on a machine that has
+//! nothing else to do.
 
 mod calls;
 mod inputs;
 mod instructions;
+mod stores;
 mod times;
 
-use calls::{CALLS, Worker};
+use calls::CALLS;
 use inputs::inputs;
 use std::env;
+use stores::{STORE_CALLS, store_inputs};
 
 fn main() {
     let words: Vec<String> = env::args().skip(1).collect();
@@ -29,13 +32,19 @@ fn main() {
 fn check_agreement() {
     for call in CALLS {
         for input in inputs() {
-            let answers = Worker::ALL.map(|worker| call.answer(worker, &input));
+            let (nodes, labels) = (input.nodes, input.labels());
+            let answer = call.answer(&input);
+            assert!(answer.is_some(), "{} of {nodes} nodes, {labels}", call.name);
+        }
+    }
+    for call in STORE_CALLS {
+        for input in store_inputs() {
+            let (versions, nodes) = (input.versions, input.nodes);
+            let answer = call.answer(&input);
             assert!(
-                answers[0].is_some() && answers == [answers[0]; 3],
-                "{} of {} nodes, {}: {answers:?}",
-                call.name,
-                input.nodes,
-                input.labels()
+                answer.is_some(),
+                "{}, {versions} versions of {nodes} nodes",
+                call.name
             );
         }
     }
@@ -48,10 +57,15 @@ fn print_means(ratios: &[(bool, f64)]) {
     for (has_ranges, name) in [(false, "without ranges"), (true, "with ranges")] {
         let some = ratios.iter().filter(|(ranged, _)| *ranged == has_ranges);
         let some: Vec<f64> = some.map(|(_, ratio)| *ratio).collect();
-        let logarithms: f64 = some.iter().map(|ratio| ratio.ln()).sum();
-        let mean = (logarithms / some.len() as f64).exp();
-        let worst = some.iter().copied().fold(0.0, f64::max);
-        println!("engine / peer {name}: geometric mean {mean:.2}, worst {worst:.2}");
+        print_mean(name, &some);
     }
     println!();
+}
+
+/// Prints the geometric mean and the greatest of some ratios.
+fn print_mean(name: &str, ratios: &[f64]) {
+    let logarithms: f64 = ratios.iter().map(|ratio| ratio.ln()).sum();
+    let mean = (logarithms / ratios.len() as f64).exp();
+    let worst = ratios.iter().copied().fold(0.0, f64::max);
+    println!("engine / peer {name}: geometric mean {mean:.2}, worst {worst:.2}");
 }

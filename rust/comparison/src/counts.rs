@@ -44,10 +44,15 @@ impl Counts {
     /// From the stored seeds, each of these replies came at least so often, and no other
     /// at all; 0 is a length.
     pub fn assert_replies(&self, numbers: &[usize], least: usize) {
+        self.assert_replies_beside(numbers, least, &[]);
+    }
+
+    /// The same where some others may have come too.
+    pub fn assert_replies_beside(&self, numbers: &[usize], least: usize, others: &[usize]) {
         for (number, &count) in self.replies.iter().enumerate() {
             let enough = match numbers.contains(&number) {
                 true => count >= least,
-                false => count == 0,
+                false => count == 0 || others.contains(&number),
             };
             let enough = enough || !random::is_stored();
             assert!(enough, "reply {number}: {:?}", self.replies);
@@ -61,6 +66,17 @@ impl Counts {
             let [first, second] = self.sides[number];
             let enough = first.min(second) >= least || !random::is_stored();
             assert!(enough, "reply {number}: {first} first, {second} second");
+        }
+    }
+
+    /// From the stored seeds, each of these refusals came at least so often of the second
+    /// graph, and none of the first.
+    pub fn assert_second(&self, numbers: &[usize], least: usize) {
+        for &number in numbers {
+            let [first, second] = self.sides[number];
+            assert_eq!(first, 0, "reply {number}");
+            let enough = second >= least || !random::is_stored();
+            assert!(enough, "reply {number}: {second} second");
         }
     }
 

@@ -10,6 +10,7 @@ mod gathering;
 mod lent;
 pub mod program;
 mod rows;
+mod store;
 mod told;
 
 pub use calls::{Call, DIFFERENCE, GENERALIZE, ORDER, REWRITE, UNIFY};
@@ -19,6 +20,7 @@ pub use calls::{NEXT, number};
 
 pub use gathering::Gatherings;
 pub use rows::PlanningTables;
+pub use store::Stores;
 
 use counts::Counts;
 use lent::{Lent, outputs};
@@ -28,7 +30,7 @@ use reference::reply::Reply;
 use std::thread;
 
 /// The stack that the header, the wrapper and the README state for a call.
-const STACK: usize = 256 << 10;
+const STACK: usize = 384 << 10;
 
 /// What some calls give on a thread that has the stated stack and no more.
 pub fn on_stated_stack<T: Send>(calls: impl FnOnce() -> T + Send) -> T {

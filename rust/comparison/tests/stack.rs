@@ -4,6 +4,7 @@
 
 use comparison::on_stated_stack;
 use record_engine::{Counts, LONGEST_RECORD, MOST_LINKS, MOST_NODES, Order, Refusal, Row};
+use record_engine::{Store, VERSIONS};
 use record_engine::{difference, export, generalize, import, next, order, rewrite, unify};
 use reference::graph::Graph;
 use reference::random;
@@ -73,4 +74,72 @@ fn compare(graphs: [Graph; 2]) -> [usize; 2] {
     // chain has too need not be said.
     assert_eq!(lengths[5], Ok(1 + 9 * 255 + 8 * 254));
     [chain_length, ladder_length]
+}
+
+/// A store of a chain and a ladder below it, so that the programs, their common part and a
+/// difference are all of the largest.
+#[test]
+fn a_store_of_the_largest_records_needs_little_stack() {
+    let table = random::diamond();
+    let [chain, ladder] = largest().map(|mut graph| {
+        for node in &mut graph.nodes {
+            node.label.range.highest = 100;
+        }
+        record::write(&graph)
+    });
+    let (used, read) = on_stated_stack(|| {
+        let (n, table) = (table.n, &table.bytes);
+        let mut store = Store::new();
+        let mut output = vec![0; LONGEST_RECORD];
+        let used = [
+            store.put(n, table, 1, &ladder),
+            store.put(n, table, 0, &chain),
+            store.put(n, table, 2, &ladder),
+            store.drop(n, table, 2),
+        ];
+        let length = store.read(n, table, 1, &mut output).expect("a version");
+        output.truncate(length);
+        (used, output)
+    });
+    assert_eq!(read, ladder);
+    // The chain is the common part, and the ladder's links stand in its difference.
+    let difference = 1 + 9 * 255 + 8 * 254;
+    let alone = 2 + 2 + ladder.len() + 12;
+    let both = 2 + 2 + chain.len() + 12 + 2 + difference;
+    let three = both + 2 + difference;
+    assert_eq!(used, [alone, both, three, both].map(Ok));
+}
+
+/// A store of 16 versions of the largest record, each with another type at one node.
+#[test]
+fn sixteen_versions_of_the_largest_record_need_little_stack() {
+    let table = random::diamond();
+    let [_, ladder] = largest();
+    let programs: Vec<Vec<u8>> = (0..VERSIONS)
+        .map(|version| {
+            let mut graph = ladder.clone();
+            graph.nodes[version].label.node_type = 1;
+            record::write(&graph)
+        })
+        .collect();
+    let mut read = on_stated_stack(|| {
+        let (n, table) = (table.n, &table.bytes);
+        let mut store = Store::new();
+        for version in (0..VERSIONS).rev() {
+            let used = store.put(n, table, version, &programs[version]);
+            assert!(used.is_ok(), "{version}: {used:?}");
+        }
+        let dropped = store.drop(n, table, 15);
+        assert_eq!(dropped, Ok(store.used().len()));
+        let mut output = vec![0; LONGEST_RECORD];
+        let mut read = |version| {
+            let length = store.read(n, table, version, &mut output)?;
+            Ok(output[..length].to_vec())
+        };
+        (0..VERSIONS).map(&mut read).collect::<Vec<_>>()
+    });
+    assert_eq!(read.pop(), Some(Err(Refusal::WrongVersion)));
+    for (read, program) in read.into_iter().zip(programs) {
+        assert_eq!(read, Ok(program));
+    }
 }

@@ -6,6 +6,7 @@ use crate::range::Range;
 pub const HAS_RANGE: u8 = 0x80;
 
 /// Node v's links are the places `first[v]` to `first[v + 1]`, features ascending.
+#[derive(Clone)]
 pub struct Graph {
     pub nodes: usize,
     pub types: [u8; 255],

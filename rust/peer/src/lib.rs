@@ -12,6 +12,7 @@ mod generalize;
 mod graph;
 mod order;
 mod range;
+mod store;
 mod table;
 mod unify;
 mod write;
@@ -19,12 +20,13 @@ mod write;
 pub use order::Order;
 
 use graph::Graph;
+use store::Store;
 use table::{Bounds, Table};
 
-/// Why a call has no result: document 01's number, and for 4 to 7 which record.
+/// Why a call has no result: the papers' number, and for 4 to 7 which record.
 #[derive(Clone, Copy, Debug, PartialEq, Eq)]
 pub struct Refusal {
-    /// The number, 1 to 13.
+    /// The number, 1 to 13, 20 or 21.
     pub number: u8,
     /// Whether it tells of the second record.
     pub second: bool,
@@ -132,6 +134,52 @@ pub fn difference(
     let mut rest = Graph::empty();
     difference::difference(&types, &meets, &general, &written, &map, &mut rest)?;
     write::write(&rest, output)
+}
+
+/// Puts a record, the second, into a store under the number of a version, and gives the used
+/// length.
+pub fn store_put(
+    n: usize,
+    table: &[u8],
+    store: &mut [u8],
+    version: usize,
+    record: &[u8],
+) -> Result<usize, Refusal> {
+    let mut opened = Store::empty();
+    opened.open(n, table, store)?;
+    opened.put(version, record, store.len())?;
+    Ok(settle(opened.used(), store))
+}
+
+/// Writes the record of a version.
+pub fn store_read(
+    n: usize,
+    table: &[u8],
+    store: &[u8],
+    version: usize,
+    output: &mut [u8],
+) -> Result<usize, Refusal> {
+    let mut opened = Store::empty();
+    opened.open(n, table, store)?;
+    write::write(opened.program(version)?, output)
+}
+
+/// Drops a version, and gives the used length.
+pub fn store_drop(
+    n: usize,
+    table: &[u8],
+    store: &mut [u8],
+    version: usize,
+) -> Result<usize, Refusal> {
+    let mut opened = Store::empty();
+    opened.open(n, table, store)?;
+    opened.drop(version, store.len())?;
+    Ok(settle(opened.used(), store))
+}
+
+fn settle(state: &[u8], store: &mut [u8]) -> usize {
+    store[..state.len()].copy_from_slice(state);
+    state.len()
 }
 
 fn read_both(n: usize, records: [&[u8]; 2], graphs: [&mut Graph; 2]) -> Result<(), Refusal> {

@@ -67,6 +67,18 @@ impl Table {
         fill(n, &self.up, End::Low, joins).ok_or(Refusal::of(3))
     }
 
+    /// The same, with both.
+    pub fn open_both(
+        &mut self,
+        n: usize,
+        bytes: &[u8],
+        meets: &mut Bounds,
+        joins: &mut Bounds,
+    ) -> Result<(), Refusal> {
+        self.open_meets(n, bytes, meets)?;
+        fill(n, &self.up, End::Low, joins).ok_or(Refusal::of(3))
+    }
+
     pub fn is_below(&self, lower: u8, upper: u8) -> bool {
         self.down[usize::from(upper)] >> lower & 1 == 1
     }

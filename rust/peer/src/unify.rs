@@ -5,6 +5,7 @@ use crate::classes::Classes;
 use crate::graph::Graph;
 use crate::range::Range;
 use crate::table::Bounds;
+use crate::write::{renumber, write};
 
 /// Up to 255 nodes of each graph, and their links.
 const NODES: usize = 510;
@@ -24,21 +25,39 @@ struct Rows<const ROOM: usize> {
 
 /// Writes the combination, or 9, 10, 11, 8.
 pub fn unify(meets: &Bounds, a: &Graph, b: &Graph, output: &mut [u8]) -> Result<usize, Refusal> {
+    unify_with(meets, a, b, |graph| write(graph, output))
+}
+
+/// Makes the combination in written numbering, or gives 9, 10, 11.
+pub fn combine(meets: &Bounds, a: &Graph, b: &Graph, written: &mut Graph) -> Result<(), Refusal> {
+    unify_with(meets, a, b, |graph| {
+        renumber(graph, written);
+        Ok(())
+    })
+}
+
+/// What becomes of the combination, or 9, 10, 11.
+fn unify_with<T>(
+    meets: &Bounds,
+    a: &Graph,
+    b: &Graph,
+    finish: impl FnOnce(&Graph) -> Result<T, Refusal>,
+) -> Result<T, Refusal> {
     let most = a.links() + b.links() + 64 * (a.nodes + b.nodes - 1);
     if most <= SMALL {
-        unify_within::<SMALL>(meets, a, b, output)
+        unify_within::<SMALL, T>(meets, a, b, finish)
     } else {
-        unify_within::<LARGE>(meets, a, b, output)
+        unify_within::<LARGE, T>(meets, a, b, finish)
     }
 }
 
 /// The same with room for so many links.
-fn unify_within<const ROOM: usize>(
+fn unify_within<const ROOM: usize, T>(
     meets: &Bounds,
     a: &Graph,
     b: &Graph,
-    output: &mut [u8],
-) -> Result<usize, Refusal> {
+    finish: impl FnOnce(&Graph) -> Result<T, Refusal>,
+) -> Result<T, Refusal> {
     let mut rows: Rows<ROOM> = Rows {
         span: [(0, 0); NODES],
         features: [0; ROOM],
@@ -122,7 +141,7 @@ fn unify_within<const ROOM: usize>(
         }
         graph.first[node + 1] = place as u16;
     }
-    crate::write::write(&graph, output)
+    finish(&graph)
 }
 
 /// Whether some classes stay when those are taken away whose incoming links all are.

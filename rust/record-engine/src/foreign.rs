@@ -13,64 +13,67 @@ macro_rules! element {
     };
 }
 
-/// Declares functions of the library by their parameters: numbers, then slices that are
-/// read and written, then slices that are read, each behind a number in brackets where it
-/// has one, then slices that are written. A slice holds bytes, or what its name is followed
+/// Declares functions of the library by their parameters in C's order, each a number, a slice
+/// that is read or a slice that is written. A slice holds bytes, or what its name is followed
 /// by. In C it is a pointer to its first element and the number of its elements.
 macro_rules! functions {
-    ($($name:ident($($number:ident),*; $($state:ident),*; $($([$count:ident])? $input:ident $(as $read:ident)?),*; $($output:ident $(as $written:ident)?),*);)*) => {
+    ($($name:ident($(
+        $(number $number:ident)?
+        $(read $input:ident $(as $read:ident)?)?
+        $(write $output:ident $(as $written:ident)?)?
+    ),*);)*) => {
         mod library {
             use super::Row;
 
             unsafe extern "C" {
-                $(pub fn $name(
-                    $($number: usize,)*
-                    $($state: *mut u8, _: usize,)*
-                    $($($count: usize,)? $input: *const element!($($read)?), _: usize,)*
-                    $($output: *mut element!($($written)?), _: usize,)*
-                ) -> u64;)*
+                $(pub fn $name($(
+                    $($number: usize,)?
+                    $($input: *const element!($($read)?), _: usize,)?
+                    $($output: *mut element!($($written)?), _: usize,)?
+                )*) -> u64;)*
             }
         }
 
-        $(pub fn $name(
-            $($number: usize,)*
-            $($state: &mut [u8],)*
-            $($($count: usize,)? $input: &[element!($($read)?)],)*
-            $($output: &mut [element!($($written)?)],)*
-        ) -> u64 {
+        $(pub fn $name($(
+            $($number: usize,)?
+            $($input: &[element!($($read)?)],)?
+            $($output: &mut [element!($($written)?)],)?
+        )*) -> u64 {
             // SAFETY: the pointers and lengths are those of slices that live through the
             // call, those that are written are borrowed apart from all else, and the function is
             // proved to stay inside the slices and to keep none. Rows have the layout of C.
             unsafe {
-                library::$name(
-                    $($number,)*
-                    $($state.as_mut_ptr(), $state.len(),)*
-                    $($($count,)? $input.as_ptr(), $input.len(),)*
-                    $($output.as_mut_ptr(), $output.len(),)*
-                )
+                library::$name($(
+                    $($number,)?
+                    $($input.as_ptr(), $input.len(),)?
+                    $($output.as_mut_ptr(), $output.len(),)?
+                )*)
             }
         })*
     };
 }
 
 functions! {
-    record_rewrite(n;; table, bytes; output);
-    record_order(n;; table, first, second;);
-    record_generalize(n;; table, first, second; output);
-    record_unify(n;; table, first, second; output);
-    record_difference(n;; table, general, specific; output);
-    record_rewrite_appropriate(n;; table, list, bytes; output);
-    record_generalize_appropriate(n;; table, list, first, second; output);
-    record_unify_appropriate(n;; table, list, first, second; output);
-    record_difference_explained(n;; table, general, specific; output, reasons);
-    record_difference_by(n;; table, list, general, specific; output);
-    record_difference_explained_by(n;; table, list, general, specific; output, reasons);
-    record_next(n;; table, [features] record; output);
-    record_import(n;; table, rows as Row, nodes; output);
-    record_export(n;; table, bytes; rows as Row, nodes);
-    record_gathering_begin(n;; table; gathering);
-    record_gathering_add(; gathering; bytes;);
-    record_gathering_order(;; gathering, bytes;);
-    record_gathering_finish(;; gathering; output);
-    record_house_table(;;; output);
+    record_rewrite(number n, read table, read bytes, write output);
+    record_order(number n, read table, read first, read second);
+    record_generalize(number n, read table, read first, read second, write output);
+    record_unify(number n, read table, read first, read second, write output);
+    record_difference(number n, read table, read general, read specific, write output);
+    record_rewrite_appropriate(number n, read table, read list, read bytes, write output);
+    record_generalize_appropriate(number n, read table, read list, read first, read second, write output);
+    record_unify_appropriate(number n, read table, read list, read first, read second, write output);
+    record_difference_explained(number n, read table, read general, read specific, write output, write reasons);
+    record_difference_by(number n, read table, read list, read general, read specific, write output);
+    record_difference_explained_by(number n, read table, read list, read general, read specific, write output, write reasons);
+    record_next(number n, read table, number features, read record, write output);
+    record_import(number n, read table, read rows as Row, read nodes, write output);
+    record_export(number n, read table, read bytes, write rows as Row, write nodes);
+    record_gathering_begin(number n, read table, write gathering);
+    record_gathering_add(write gathering, read bytes);
+    record_gathering_order(read gathering, read bytes);
+    record_gathering_finish(read gathering, write output);
+    record_store_put(number n, read table, write store, number version, read record);
+    record_store_read(number n, read table, read store, number version, write output);
+    record_store_drop(number n, read table, write store, number version);
+    record_house_table(write output);
 }

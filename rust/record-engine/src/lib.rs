@@ -2,7 +2,8 @@
 //! records, some calls a list, and, where it writes a record, an output that the caller
 //! lends; it gives the length of what it wrote, an [`Order`],
 //! or a [`Refusal`]. [`Listing`] goes through all small graphs over a table. [`import`] and
-//! [`export`] pass between records and the planning tool's tables of rows.
+//! [`export`] pass between records and the planning tool's tables of rows. A [`Store`] keeps
+//! the versions of a program in one buffer.
 //!
 //! The functions behind these calls are proved (`crates/engine`); here is only
 //! the passage to them, by the static library `librecord_engine.a`, which
@@ -116,11 +117,39 @@
 //! [`gathering_add`], [`gathering_order`] and [`gathering_finish`] do the same in bytes that
 //! the caller lends. An order or a finish before the first addition is refused by 16.
 //!
+//! # Store
+//!
+//! A [`Store`] keeps up to 16 versions of a program over one table in at most
+//! [`STORE_LENGTH`] bytes: what the programs have in common once, and for each program its
+//! difference from that. Its bytes are
+//!
+//! - 2 bytes: the map, low byte first; bit v is set when version v exists, v being 0 to 15;
+//! - where some version exists, the length of the common part, 2 bytes, low byte first, and
+//!   the common part as a written record;
+//! - for each version that exists, the lowest first: the length of its difference from the
+//!   common part, 2 bytes, low byte first, and the difference as a written record;
+//!
+//! and then bytes that hold anything. An empty store is two zero bytes. [`Store::put`] names
+//! a version that is absent, [`Store::read`] gives back the written record that was put, and
+//! [`Store::drop`] removes a version. Two versions read as equal bytes exactly when what was
+//! put means the same: no program opens as another.
+//!
+//! The way of some programs begins with an empty store and puts them in the order of their
+//! numbers. A step of the way stores the common part of the programs so far and the
+//! difference of each from it. Where the common part has more than 255 nodes or 2,048 links
+//! it is refused by 11, where a program has no difference from it by 13, and where there are
+//! fewer bytes than the step takes by 21. Bytes hold a store when the way of some programs, in
+//! as many bytes, ends in the first of them. Every call goes that way to know it, and bytes
+//! that hold no store are refused by 4 of the first graph; so are fewer than 2 bytes and
+//! more than [`STORE_LENGTH`]. A put or a drop then goes the way of the programs that are to
+//! be there after it, and is refused by the first number met on it. All this holds while
+//! nobody else writes the bytes: with another map they may hold other versions.
+//!
 //! # Stack
 //!
-//! A thread that makes a call needs 256 KiB of stack; the largest calls take up to
-//! 136 KiB of it. A thread of the standard library has 2 MiB unless it is told
-//! otherwise.
+//! A thread that makes a call needs 384 KiB of stack; the calls on a store take up to
+//! 256 KiB of it, the others up to 136. A thread of the standard library has 2 MiB unless it
+//! is told otherwise.
 
 #![deny(unsafe_code)]
 #![warn(missing_docs)]
@@ -136,6 +165,7 @@ mod listing;
 mod reason;
 mod refusal;
 mod rows;
+mod store;
 mod tables;
 
 pub use appropriate::{generalize_appropriate, rewrite_appropriate, unify_appropriate};
@@ -147,6 +177,7 @@ pub use listing::{LONGEST_LISTED, Listing, next};
 pub use reason::Reason;
 pub use refusal::{GraphFault, Refusal, Side, TableFault};
 pub use rows::{Counts, Row, export, import};
+pub use store::{STORE_LENGTH, Store, VERSIONS, store_drop, store_put, store_read};
 pub use tables::{HOUSE_TABLE_LENGTH, HOUSE_TYPES, house_table, table};
 
 /// The length of the longest record: an output of so many bytes is never too short.

@@ -18,7 +18,8 @@ pub enum TableFault {
 #[derive(Clone, Copy, Debug, PartialEq, Eq, Hash)]
 pub enum GraphFault {
     /// 4: no nodes, too short, bytes left over, or more than 2,048 links. A planning table:
-    /// node bytes not divisible by 3, nodes not 1 to 255, or more than 2,048 rows.
+    /// node bytes not divisible by 3, nodes not 1 to 255, or more than 2,048 rows. A store:
+    /// bytes that hold none.
     Malformed,
     /// 5: a type that is 0 or at least n, a target that is no node, or a lowest level
     /// above the highest. A planning table: a type with bit 7 too; a target that is no
@@ -74,7 +75,7 @@ pub enum Refusal {
     ReadingOrder,
     /// 20: the version is above 15, or absent for a read or a drop, or present for a put.
     WrongVersion,
-    /// 21: the store has too few bytes.
+    /// 21: the store has too few bytes for a step of the way.
     NoStoreRoom,
     /// 22: difference with reasons, it has more links than bytes are lent for the reasons.
     NoReasonRoom,

@@ -15,7 +15,7 @@ use crate::graph::Graph;
 use crate::link_order::LinkOrder;
 use crate::listing::Listing;
 use crate::order;
-use crate::record::{self, GraphFault, LONGEST_RECORD, MOST_LINKS, MOST_NODES};
+use crate::record::{self, GraphFault, LONGEST_RECORD};
 use crate::reply::{Refusal, Reply, Side};
 use crate::rows::{self, PlanningTable, Row};
 use crate::table::Table;
@@ -253,7 +253,7 @@ fn accept_both_obeying(
     Ok((table, first, second))
 }
 
-fn accept_table(n: usize, bytes: &[u8]) -> Result<Table, Refusal> {
+pub(crate) fn accept_table(n: usize, bytes: &[u8]) -> Result<Table, Refusal> {
     Table::accept(n, bytes).map_err(Refusal::Table)
 }
 
@@ -263,7 +263,7 @@ fn accept_graphs(table: &Table, first: &[u8], second: &[u8]) -> Result<(Graph, G
     Ok((first, second))
 }
 
-fn accept_graph(table: &Table, bytes: &[u8], side: Side) -> Result<Graph, Refusal> {
+pub(crate) fn accept_graph(table: &Table, bytes: &[u8], side: Side) -> Result<Graph, Refusal> {
     record::read(table, bytes).map_err(|fault| Refusal::Graph(fault, side))
 }
 
@@ -305,7 +305,7 @@ fn deliver_unification(accepted: Accepted, output: &mut [u8]) -> Reply {
 
 /// Writes a result in canonical form: 11 if it is too large for a record, 8 if
 /// the output is too short, else its bytes and its length.
-fn deliver(graph: &Graph, output: &mut [u8]) -> Result<Reply, Refusal> {
+pub(crate) fn deliver(graph: &Graph, output: &mut [u8]) -> Result<Reply, Refusal> {
     let record = fitting_record(graph, output)?;
     put(&record, output);
     Ok(Reply::Length(record.len()))
@@ -355,7 +355,7 @@ fn deliver_rows(graph: &Graph, rows: &mut [Row], nodes: &mut [u8]) -> Result<Rep
 /// The record of a result, where it is not too large for one and the output has
 /// room for it.
 fn fitting_record(graph: &Graph, output: &[u8]) -> Result<Vec<u8>, Refusal> {
-    if graph.nodes.len() > MOST_NODES || graph.link_count() > MOST_LINKS {
+    if !record::can_hold(graph) {
         return Err(Refusal::TooLarge);
     }
     let record = record::write(&canonical(graph));
@@ -370,6 +370,6 @@ fn put<T: Copy>(filled: &[T], output: &mut [T]) {
     output[..filled.len()].copy_from_slice(filled);
 }
 
-fn reply(result: Result<Reply, Refusal>) -> Reply {
+pub(crate) fn reply(result: Result<Reply, Refusal>) -> Reply {
     result.unwrap_or_else(Reply::Refused)
 }

@@ -27,5 +27,6 @@ pub mod reader;
 pub mod record;
 pub mod reply;
 pub mod rows;
+pub mod store;
 pub mod table;
 pub mod unify;

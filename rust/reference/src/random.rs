@@ -1,6 +1,6 @@
 //! A deterministic generator of inputs: type tables, graphs, records, pairs of
 //! graphs that are related, lists of types for features and of all features, planning
-//! tables, whole `mapcalc` inputs, valid and damaged, with level ranges and without. The
+//! tables, stores, whole `mapcalc` inputs, valid and damaged, with level ranges and without. The
 //! same seed gives the same inputs on every machine. Nothing here uses the operations on
 //! graphs: a graph above another is made by steps that plainly weaken it.
 
@@ -9,6 +9,7 @@ mod inputs;
 mod lists;
 mod reading_orders;
 mod rows;
+mod stores;
 mod tables;
 
 pub use graphs::*;
@@ -16,6 +17,7 @@ pub use inputs::*;
 pub use lists::*;
 pub use reading_orders::*;
 pub use rows::*;
+pub use stores::*;
 pub use tables::*;
 
 use std::env;

@@ -18,6 +18,11 @@ pub const MOST_LINKS: usize = 2048;
 /// The longest record: the count, 255 nodes of 11 bytes, 2,048 targets.
 pub const LONGEST_RECORD: usize = 1 + 11 * MOST_NODES + MOST_LINKS;
 
+/// Whether a graph has no more nodes and links than a record; else it is 11 as a result.
+pub fn can_hold(graph: &Graph) -> bool {
+    graph.nodes.len() <= MOST_NODES && graph.link_count() <= MOST_LINKS
+}
+
 /// Bit 7 of the type byte: the two bytes of a range follow it. The other bits are
 /// the type.
 pub const HAS_RANGE: u8 = 1 << 7;

@@ -44,6 +44,10 @@ pub enum Refusal {
     TypeList,
     /// 19: difference, the list is not one "of all 64 features, each once".
     ReadingOrder,
+    /// 20: "a version above 15, or absent for read and drop, or present for put".
+    WrongVersion,
+    /// 21: "too few bytes for its state".
+    NoStoreRoom,
     /// 22: difference, "too few bytes lent for the reasons".
     NoReasonRoom,
     /// 23: "F outside 1 and 2".
@@ -69,6 +73,8 @@ impl Refusal {
             Refusal::NothingGathered => 16,
             Refusal::TypeList => 17,
             Refusal::ReadingOrder => 19,
+            Refusal::WrongVersion => 20,
+            Refusal::NoStoreRoom => 21,
             Refusal::NoReasonRoom => 22,
             Refusal::FeatureCount => 23,
             Refusal::NotListed => 24,

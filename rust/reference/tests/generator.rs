@@ -2,12 +2,14 @@
 //! and broken in all the ways there are.
 
 use reference::appropriateness::Appropriateness;
+use reference::generalize::generalize;
 use reference::graph::Graph;
 use reference::label::Range;
 use reference::mapcalc;
 use reference::order::below;
 use reference::random::{self, Ranges, Shape, Xorshift};
 use reference::record::{self, HAS_RANGE};
+use reference::store;
 use reference::table::Table;
 use std::collections::{BTreeMap, BTreeSet};
 
@@ -296,6 +298,45 @@ fn ladders_and_chains_have_their_links() {
     let chain = random::chain_graph(7, 4, 3);
     assert_eq!((chain.nodes.len(), chain.link_count()), (7, 6));
     assert_eq!(random::chain_graph(1, 0, 2), Graph::lone(2));
+}
+
+/// The common part of strides has more nodes than both from 5 nodes on, and more than a record
+/// from 39 on.
+#[test]
+fn strides_have_large_common_parts() {
+    let table = random::diamond().accepted();
+    for (nodes, expected) in [(1, 1), (4, 4), (5, 6), (38, 253), (39, 267)] {
+        let [first, second] = random::strides(nodes, 3);
+        assert_eq!([first.nodes.len(), second.nodes.len()], [nodes; 2]);
+        let common = generalize(&table, &first, &second);
+        assert_eq!(common.nodes.len(), expected, "{nodes}");
+        assert_eq!(record::can_hold(&common), nodes < 39);
+    }
+}
+
+/// Damaged stores mostly hold nothing, and some hold programs, other ones too.
+#[test]
+fn damaged_stores_hold_nothing_or_other_programs() {
+    let random = &mut Xorshift::stored(167);
+    let table = random::diamond();
+    let accepted = table.accepted();
+    let [mut none, mut same, mut other] = [0; 3];
+    for _ in 0..500 {
+        let shape = Shape::small(random, 5, 2);
+        let graphs = (0..3).map(|_| random::graph(random, table.n, &shape));
+        let programs = graphs.enumerate().collect();
+        let mut store = store::way(&accepted, &programs, usize::MAX).expect("a state");
+        store.resize(store.len() + 20, 7);
+        let damaged = random::damaged_store(random, &table, &store);
+        match store::held(&accepted, &damaged) {
+            None => none += 1,
+            held if held == store::held(&accepted, &store) => same += 1,
+            _ => other += 1,
+        }
+    }
+    let counts = [none, same, other];
+    let enough = counts.iter().all(|&count| count >= 20) || !random::is_stored();
+    assert!(enough, "{counts:?}");
 }
 
 #[test]

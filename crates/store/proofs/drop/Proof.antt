@@ -1,0 +1,78 @@
+-- The table is opened; then the buffer.
+use mathlib.Core.Path.{refl, sym, _∙_}
+use native.Mathlib.Omega.{arith}
+use lib.ListN.{length}
+use Rattle.lattice.proofs.Acceptance.{opened-accepted}
+use Rattle.store.proofs.Settling.{blank-room, front-inside, front-length, front-bounded, front-made}
+use Rattle.store.proofs.Opening.{drop-table, drop-long, drop-made}
+use borrow.Author.Needs.{needs}
+use Rattle.store.proofs.drop.Statement.{statement}
+use Rattle.store.proofs.drop.Tie as tie
+
+open-requires : tie.Need-open-requires
+open-requires c κs = search needs
+
+enum-known-opened : tie.Need-enum-known-opened
+enum-known-opened c = search needs
+
+enum-told : tie.Need-enum-told
+enum-told c = search needs
+
+returns : tie.Need-returns
+returns c =
+    let a = c .before .before .before .before .before .before .before .before .args in
+    drop-long (a .n) (a .table .now) (c .before .before .before .«open» .ensures .answers) (a .store .now) (a .version) (c .before .enum-told .given .1) (c .if1 .taken)
+
+array-borrow-prefix-state : tie.Need-array-borrow-prefix-state
+array-borrow-prefix-state c = search needs
+
+slice-aggregate-drop-among : tie.Need-slice-aggregate-drop-among
+slice-aggregate-drop-among c = sym (blank-room _ (omega (arith, c .before .before .before .before .if1 .left)))
+
+drop-among-requires : tie.Need-drop-among-requires
+drop-among-requires c κs =
+    let a = c .before .before .before .before .before .before .before .before .before .before .before .before .args in
+    let ok = opened-accepted (a .n) (a .table .now) _ (c .before .before .before .before .before .before .before .«open» .ensures .answers) (c .before .before .before .before .before .enum-told .given .1) in
+    (record { ok = ok; lent = _; long = refl; holding = c .before .before .before .before .before .before .before .«open» .ensures .holds ok }, blank-room _ (omega (arith, c .before .before .before .before .if1 .left)), omega (arith, c .before .before .before .before .if1 .left))
+
+array-share-prefix-state : tie.Need-array-share-prefix-state
+array-share-prefix-state c = front-inside (length (c .before .before .before .before .before .before .before .before .before .before .before .before .before .before .args .store .now)) (omega (arith, c .before .before .before .before .before .before .if1 .left)) (c .before .drop-among .ensures)
+
+slice-aggregate-settle : tie.Need-slice-aggregate-settle
+slice-aggregate-settle c = sym (front-length (length (c .before .before .before .before .before .before .before .before .before .before .before .before .before .before .before .args .store .now)) (omega (arith, c .before .before .before .before .before .before .before .if1 .left)) (c .before .before .drop-among .ensures))
+
+settle-requires : tie.Need-settle-requires
+settle-requires c κs = (front-bounded (length (c .before .before .before .before .before .before .before .before .before .before .before .before .before .before .before .before .args .store .now)) (omega (arith, c .before .before .before .before .before .before .before .before .if1 .left)) (c .before .before .before .drop-among .ensures), front-length (length (c .before .before .before .before .before .before .before .before .before .before .before .before .before .before .before .before .args .store .now)) (omega (arith, c .before .before .before .before .before .before .before .before .if1 .left)) (c .before .before .before .drop-among .ensures))
+
+returns-2 : tie.Need-returns-2
+returns-2 c =
+    let a = c .before .before .before .before .before .before .before .before .args in
+    drop-table (a .n) (a .table .now) (c .before .before .before .«open» .ensures .answers) (a .store .now) (a .version) _ (c .before .opened .given .1)
+
+same-length : tie.Need-same-length
+same-length c = search needs
+
+returns-3 : tie.Need-returns-3
+returns-3 c =
+    let a = c .before .before .before .before .before .before .before .before .before .before .before .before .before .before .before .before .before .before .before .args in
+    c .before .before .settle .ensures
+    ∙ drop-made (a .n) (a .table .now) (c .before .before .before .before .before .before .before .before .before .before .before .before .before .before .«open» .ensures .answers) (a .store .now) (a .version) (c .before .before .before .before .before .before .before .before .before .before .before .before .enum-told .given .1)
+    (front-made (length (c .before .before .before .before .before .before .before .before .before .before .before .before .before .before .before .before .before .before .before .args .store .now)) (omega (arith, c .before .before .before .before .before .before .before .before .before .before .before .if1 .left)) (c .before .before .before .before .before .before .drop-among .ensures))
+
+pub drop-spec : {M : Type 1} → statement M
+drop-spec =
+    tie.close
+    (tie.spec
+    open-requires
+    enum-known-opened
+    enum-told
+    returns
+    array-borrow-prefix-state
+    slice-aggregate-drop-among
+    drop-among-requires
+    array-share-prefix-state
+    slice-aggregate-settle
+    settle-requires
+    returns-2
+    same-length
+    returns-3)

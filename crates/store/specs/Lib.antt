@@ -1,0 +1,4 @@
+-- What the calls of a store reply and leave.
+pub mod Calls
+pub mod Promise
+pub mod Examples

@@ -1,0 +1,32 @@
+-- The replies that tell no length stop what follows; any other tells one length.
+use mathlib.Core.Path.{_≡_, refl, sym, _∙_, ap}
+use mathlib.Core.List.{List}
+use mathlib.Core.Option.{Option, none, some}
+use Prim.Native.Nat.{ℕ, _≤_}
+use native.Mathlib.Omega.{arith}
+use denote.Enum.Declared.{tagOf}
+use types.Run.{OneOf}
+use Rattle.replies.specs.declared.Reply.{Reply}
+use Rattle.replies.specs.declared.Reply.the-variants.{Length}
+use Rattle.replies.specs.Reply.{resulting, lengthOf, Bounded}
+use Rattle.replies.proofs.Reply.{the-type}
+use Rattle.gathering.proofs.Told.{none-some, length-told}
+use Rattle.versions.specs.State.{Made, stopped, takenBy, taken}
+use Rattle.versions.specs.Promise.{onwardBy, onward}
+
+module _ (r : Reply) (no : lengthOf r ≡ none) where
+  pub none-bounded : (most : ℕ) → Bounded r most
+  none-bounded most l e = none-some (sym no ∙ ap lengthOf e)
+
+  pub none-taken : (out : List ℕ) → taken (resulting r out) ≡ stopped r
+  none-taken out = ap (λ (o : Option ℕ). takenBy o (resulting r out)) no
+
+  pub none-onward : (next : ℕ → Made) → onward r next ≡ stopped r
+  none-onward next = ap (λ (o : Option ℕ). onwardBy o r next) no
+
+-- the length that a reply tells
+pub length-same : {l k : ℕ} → Length l ≡ Length k → l ≡ k
+length-same e = cc
+
+pub length-bounded : (l most : ℕ) → l ≤ most → Bounded (Length l) most
+length-bounded l most h k e = omega (arith, h, length-same e)

@@ -1,0 +1,182 @@
+//! Up to 16 programs in one buffer: a map of those that exist, their common part, and each
+//! one's difference from it, each behind its length in two bytes. A buffer is believed only
+//! after the way to its state has been gone again.
+
+use crate::Refusal;
+use crate::difference::difference;
+use crate::generalize::generalize;
+use crate::graph::Graph;
+use crate::order::node_map;
+use crate::table::{Bounds, Table};
+use crate::unify::combine;
+use crate::write::{renumber, write};
+
+const LONGEST: usize = 16_384;
+const VERSIONS: usize = 16;
+/// The bytes of the map, which are all that an empty store uses.
+const MAP: usize = 2;
+
+/// The programs by version, numbered as they are written.
+type Programs = [Option<Graph>; VERSIONS];
+
+/// A store that is taken in: its table, its programs and its state.
+pub struct Store {
+    table: Table,
+    meets: Bounds,
+    joins: Bounds,
+    programs: Programs,
+    state: State,
+}
+
+/// The state after some steps: its bytes, how many are used, and the common part.
+struct State {
+    bytes: [u8; LONGEST],
+    used: usize,
+    common: Graph,
+}
+
+impl Store {
+    pub fn empty() -> Store {
+        Store {
+            table: Table::empty(),
+            meets: [[0; 64]; 64],
+            joins: [[0; 64]; 64],
+            programs: [const { None }; VERSIONS],
+            state: State {
+                bytes: [0; LONGEST],
+                used: MAP,
+                common: Graph::empty(),
+            },
+        }
+    }
+
+    /// Takes in a table and a buffer, or gives 1 to 3, or 4 where it holds no state; this one
+    /// is empty.
+    pub fn open(&mut self, n: usize, table: &[u8], buffer: &[u8]) -> Result<(), Refusal> {
+        self.table
+            .open_both(n, table, &mut self.meets, &mut self.joins)?;
+        let is_held = buffer.len() <= LONGEST
+            && self.restore(buffer).is_some()
+            && self.go(buffer.len()).is_ok()
+            && buffer.starts_with(self.used());
+        if is_held { Ok(()) } else { Err(Refusal::of(4)) }
+    }
+
+    /// Takes in what the common part and each difference combine to, if the buffer has them.
+    fn restore(&mut self, buffer: &[u8]) -> Option<()> {
+        let (&map, mut rest) = buffer.split_first_chunk::<MAP>()?;
+        let map = u16::from_le_bytes(map);
+        if map == 0 {
+            return Some(());
+        }
+        let n = self.table.n;
+        let mut common = Graph::empty();
+        rest = read_part(n, rest, &mut common)?;
+        for (version, program) in self.programs.iter_mut().enumerate() {
+            if map >> version & 1 == 1 {
+                let mut part = Graph::empty();
+                rest = read_part(n, rest, &mut part)?;
+                let program = program.insert(Graph::empty());
+                combine(&self.meets, &common, &part, program).ok()?;
+            }
+        }
+        Some(())
+    }
+
+    /// Puts a record, the second, under the number of a version that is absent.
+    pub fn put(&mut self, version: usize, record: &[u8], room: usize) -> Result<(), Refusal> {
+        let mut graph = Graph::empty();
+        let second = |number| Refusal {
+            number,
+            second: true,
+        };
+        graph.read(self.table.n, record).map_err(second)?;
+        let place = self.programs.get_mut(version);
+        let place = place.filter(|program| program.is_none());
+        renumber(&graph, place.ok_or(Refusal::of(20))?.insert(Graph::empty()));
+        if self.programs[version + 1..].iter().all(Option::is_none) {
+            // The way so far is the beginning of this one.
+            self.step(version, room)
+        } else {
+            self.go(room)
+        }
+    }
+
+    /// Drops a version that exists.
+    pub fn drop(&mut self, version: usize, room: usize) -> Result<(), Refusal> {
+        let place = self.programs.get_mut(version);
+        let place = place.filter(|program| program.is_some());
+        *place.ok_or(Refusal::of(20))? = None;
+        self.go(room)
+    }
+
+    /// The program of a version that exists.
+    pub fn program(&self, version: usize) -> Result<&Graph, Refusal> {
+        let program = self.programs.get(version).and_then(Option::as_ref);
+        program.ok_or(Refusal::of(20))
+    }
+
+    /// The bytes of the state.
+    pub fn used(&self) -> &[u8] {
+        &self.state.bytes[..self.state.used]
+    }
+
+    /// Goes the way of the programs in so many bytes, or gives the first of 11, 13 and 21.
+    fn go(&mut self, room: usize) -> Result<(), Refusal> {
+        self.state.bytes[..MAP].fill(0);
+        self.state.used = MAP;
+        for version in 0..VERSIONS {
+            if self.programs[version].is_some() {
+                self.step(version, room)?;
+            }
+        }
+        Ok(())
+    }
+
+    /// Goes one step further, to the program of a version.
+    fn step(&mut self, version: usize, room: usize) -> Result<(), Refusal> {
+        let Store {
+            table,
+            meets,
+            joins,
+            programs,
+            state,
+        } = self;
+        let program = programs[version].as_ref().expect("a program");
+        if state.used == MAP {
+            state.common = program.clone();
+        } else {
+            let mut common = Graph::empty();
+            generalize(joins, &state.common, program, &mut common)?;
+            state.common = common;
+        }
+        let common = &state.common;
+        let output = &mut state.bytes[..room];
+        let mut end = write_part(common, output, MAP);
+        for program in programs[..=version].iter().flatten() {
+            let below = node_map(table, program, common).expect("below the common part");
+            let mut rest = Graph::empty();
+            difference(table, meets, common, program, &below, &mut rest)?;
+            end = end.and_then(|place| write_part(&rest, output, place));
+        }
+        state.used = end.ok_or(Refusal::of(21))?;
+        state.bytes[version / 8] |= 1 << (version % 8);
+        Ok(())
+    }
+}
+
+/// Takes in a record behind its length, and gives what follows it.
+fn read_part<'a>(n: usize, bytes: &'a [u8], graph: &mut Graph) -> Option<&'a [u8]> {
+    let (&length, rest) = bytes.split_first_chunk::<2>()?;
+    let (record, rest) = rest.split_at_checked(u16::from_le_bytes(length).into())?;
+    graph.read(n, record).ok()?;
+    Some(rest)
+}
+
+/// Writes a graph behind its length, if there is room, and gives the place behind it.
+fn write_part(graph: &Graph, output: &mut [u8], place: usize) -> Option<usize> {
+    let (count, rest) = output[place..].split_first_chunk_mut::<2>()?;
+    let length = write(graph, rest).ok()?;
+    *count = (length as u16).to_le_bytes();
+    Some(place + 2 + length)
+}

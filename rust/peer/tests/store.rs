@@ -1,0 +1,99 @@
+//! The peer keeps a store as the reference does: the same replies and the same bytes on
+//! random calls, in buffers that hold a state and in damaged ones.
+
+use peer::Refusal;
+use reference::random::{self, Ranges, Shape, StoreCall, TableBytes, Template, Xorshift};
+use reference::record;
+use reference::reply::{self, Reply, Side};
+use reference::store::{self, EMPTY, LONGEST_STORE};
+
+/// One call by both: the same reply, and the same bytes in the store and the output. Gives
+/// the number of the refusal, 0 for a length.
+fn check(table: &TableBytes, stored: &mut Vec<u8>, call: &StoreCall) -> usize {
+    let (n, bytes) = (table.n, &table.bytes[..]);
+    let room = match call {
+        StoreCall::Read(_, room) => *room,
+        _ => 0,
+    };
+    let (mut ours, mut output) = (stored.clone(), vec![7; room]);
+    let (mut theirs, mut judged) = (stored.clone(), vec![7; room]);
+    let (told, reply) = match call {
+        StoreCall::Put(version, record) => (
+            peer::store_put(n, bytes, &mut ours, *version, record),
+            store::put(n, bytes, &mut theirs, *version, record),
+        ),
+        StoreCall::Read(version, _) => (
+            peer::store_read(n, bytes, &ours, *version, &mut output),
+            store::read(n, bytes, &theirs, *version, &mut judged),
+        ),
+        StoreCall::Drop(version) => (
+            peer::store_drop(n, bytes, &mut ours, *version),
+            store::drop(n, bytes, &mut theirs, *version),
+        ),
+    };
+    let expected = match reply {
+        Reply::Length(length) => Ok(length),
+        Reply::Refused(refusal) => Err(Refusal {
+            number: refusal.number(),
+            second: matches!(refusal, reply::Refusal::Graph(_, Side::Second)),
+        }),
+        other => panic!("{other:?}"),
+    };
+    assert_eq!(told, expected, "{call:?} {table:?} {stored:?}");
+    assert!(ours == theirs, "{call:?} {table:?} {stored:?}");
+    assert!(output == judged, "{call:?} {table:?} {stored:?}");
+    *stored = ours;
+    usize::from(reply.number().unwrap_or(0))
+}
+
+#[test]
+fn the_peer_keeps_a_store_as_the_reference() {
+    let random = &mut Xorshift::stored(165);
+    let mut counts = [0; 25];
+    for round in 0..600 {
+        let ranges = [Ranges::Absent, Ranges::Present][round % 2];
+        let table = match random.chance(1, 3) {
+            true => random::rival_table(random),
+            false => random::valid_table(random),
+        };
+        let shape = Shape::small(random, 7, 3).ranged(random, ranges);
+        let template = Template::new(random, &table, shape, ranges);
+        let damaged_table = random::damaged_table(random);
+        let length = random::store_length(random);
+        let mut stored: Vec<u8> = (0..length).map(|_| random.byte()).collect();
+        stored[..2].copy_from_slice(&EMPTY);
+        for _ in 0..12 {
+            let call = template.call(random);
+            counts[check(&table, &mut stored, &call)] += 1;
+            let mut damaged = random::damaged_store(random, &table, &stored);
+            counts[check(&table, &mut damaged, &template.call(random))] += 1;
+        }
+        counts[check(&damaged_table, &mut stored, &template.call(random))] += 1;
+    }
+    for number in [0, 1, 2, 3, 4, 5, 6, 7, 8, 13, 20, 21] {
+        let enough = counts[number] >= 5 || !random::is_stored();
+        assert!(enough, "{number}: {counts:?}");
+    }
+}
+
+/// Common parts that are too large on the way, and a drop that is refused for one.
+#[test]
+fn large_common_parts() {
+    let table = random::diamond();
+    let [one, two] = random::strides(40, 3).map(|graph| record::write(&graph));
+    let lone = vec![1, 3, 0, 0, 0, 0, 0, 0, 0, 0];
+    let mut stored = vec![0; LONGEST_STORE];
+    let calls = [
+        (StoreCall::Put(5, one.clone()), 0),
+        (StoreCall::Put(3, two.clone()), 11),
+        (StoreCall::Put(0, lone), 0),
+        (StoreCall::Put(3, two), 0),
+        (StoreCall::Drop(0), 11),
+        (StoreCall::Drop(3), 0),
+        (StoreCall::Drop(0), 0),
+    ];
+    for (call, number) in calls {
+        assert_eq!(check(&table, &mut stored, &call), number, "{call:?}");
+    }
+    assert!(stored.starts_with(&[1 << 5, 0]));
+}
