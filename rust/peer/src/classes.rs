@@ -12,6 +12,7 @@ impl<const N: usize> Classes<N> {
     }
 
     /// The least number of the class.
+    #[inline(always)]
     pub fn find(&mut self, mut number: u16) -> u16 {
         loop {
             let parent = self.parent[usize::from(number)];

@@ -36,7 +36,8 @@ pub fn combine(meets: &Bounds, a: &Graph, b: &Graph, written: &mut Graph) -> Res
     })
 }
 
-/// What becomes of the combination, or 9, 10, 11.
+/// What becomes of the combination, or 9, 10, 11. Two functions call it, and all that it rests on
+/// is inlined in each.
 fn unify_with<T>(
     meets: &Bounds,
     a: &Graph,
@@ -145,6 +146,7 @@ fn unify_within<const ROOM: usize, T>(
 }
 
 /// Whether some classes stay when those are taken away whose incoming links all are.
+#[inline(always)]
 fn has_cycle<const ROOM: usize>(
     rows: &Rows<ROOM>,
     representative: &[u16],
@@ -175,6 +177,7 @@ fn has_cycle<const ROOM: usize>(
 
 impl<const ROOM: usize> Rows<ROOM> {
     /// The links of a graph whose node 0 has this number.
+    #[inline(always)]
     fn place(&mut self, graph: &Graph, root: usize) {
         for node in 0..graph.nodes {
             let start = self.end;
@@ -189,6 +192,7 @@ impl<const ROOM: usize> Rows<ROOM> {
 
     /// Appends the links of two classes as those of the lower. Two links by one
     /// feature become one, and their targets are to be merged.
+    #[inline(always)]
     fn merge(
         &mut self,
         lower: u16,
