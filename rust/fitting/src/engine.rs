@@ -66,8 +66,10 @@ pub fn explain(
         }
     })?;
     // Behind the last link's the bytes are as they were lent, and 0 is no reason.
-    let reasons = reasons.into_iter().map_while(Reason::of).collect();
-    Ok((difference, reasons))
+    let reasons = reasons
+        .into_iter()
+        .map_while(|byte| Reason::try_from(byte).ok());
+    Ok((difference, reasons.collect()))
 }
 
 /// The listed record after another, or the first after no bytes; none at the end.

@@ -26,7 +26,7 @@ use crate::{Refusal, foreign};
 /// // Why does the shared node stand in the difference? Its two links are the only ones.
 /// assert_eq!(output[..length], specific);
 /// for (feature, &byte) in reasons[..2].iter().enumerate() {
-///     let reason = Reason::of(byte).expect("a reason for each link");
+///     let reason = Reason::try_from(byte).expect("a reason for each link");
 ///     println!("feature {feature} leads to the shared node: {reason}");
 ///     assert_eq!(reason, Reason::Groups);
 /// }
@@ -106,7 +106,7 @@ pub fn difference_by(
 /// )?;
 /// // Feature 1 alone, which is kept for the type of its node.
 /// assert_eq!(output[..length], [2, 3, 2, 0, 0, 0, 0, 0, 0, 0, 1, 1, 0, 0, 0, 0, 0, 0, 0, 0]);
-/// assert_eq!(Reason::of(reasons[0]), Some(Reason::Wanted));
+/// assert_eq!(Reason::try_from(reasons[0]), Ok(Reason::Wanted));
 /// # Ok::<(), record_engine::Refusal>(())
 /// ```
 pub fn difference_explained_by(

@@ -144,7 +144,7 @@ pub use differences::{difference_by, difference_explained, difference_explained_
 pub use gathering::{GATHERING_LENGTH, Gathering};
 pub use gathering::{gathering_add, gathering_begin, gathering_finish, gathering_order};
 pub use listing::{LONGEST_LISTED, Listing, next};
-pub use reason::Reason;
+pub use reason::{NoReason, Reason};
 pub use refusal::{GraphFault, Refusal, Side, TableFault};
 pub use rows::{Counts, Row, export, import};
 pub use tables::{HOUSE_TABLE_LENGTH, HOUSE_TYPES, house_table, table};
