@@ -73,8 +73,8 @@
 //! list of 64 bytes that says which features belong to which types. Byte f is the
 //! broadest type, 0 to n − 1, that may have feature f: a node may have it when its type
 //! is below or equal to that one. So 0 forbids the feature and n − 1 allows it to all.
-//! A record with a link that the list forbids is refused by 18; otherwise these calls
-//! reply as [`rewrite`], [`generalize`] and [`unify`] do.
+//! A record with a link that the list forbids is refused by [`GraphFault::Inappropriate`]
+//! (18); otherwise these calls reply as [`rewrite`], [`generalize`] and [`unify`] do.
 //!
 //! Common parts and combinations of records that obey a list obey it. A difference need
 //! not obey it and is combined by [`unify`]: the general record and the difference give
@@ -89,7 +89,7 @@
 //! specific record is written, then by feature; with a list by the feature's place in it,
 //! then by that number. Whichever list is given, the difference restores the specific
 //! record and nothing strictly more general does. How records are written does not follow
-//! the list. A list that is anything else is refused by 19.
+//! the list. A list that is anything else is refused by [`Refusal::ReadingOrder`] (19).
 //!
 //! # Planning table
 //!
@@ -114,13 +114,15 @@
 //! order learned; this changes nothing, and a refused addition changes nothing. Finishing
 //! writes the common part and leaves the gathering open. The calls [`gathering_begin`],
 //! [`gathering_add`], [`gathering_order`] and [`gathering_finish`] do the same in bytes that
-//! the caller lends. An order or a finish before the first addition is refused by 16.
+//! the caller lends. An order or a finish before the first addition is refused by
+//! [`Refusal::NothingGathered`] (16).
 //!
 //! # Stack
 //!
-//! A thread that makes a call needs 256 KiB of stack; the largest calls take up to
-//! 136 KiB of it. A thread of the standard library has 2 MiB unless it is told
-//! otherwise.
+//! The documentation of a call tells the stack that it takes, as measured on the largest
+//! records, with 4 KiB to spare and rounded up. A thread that makes calls needs [`STACK`]
+//! bytes of stack; nothing tests for room, and a call that has less overruns the stack. A
+//! thread of the standard library has 2 MiB unless it is told otherwise.
 
 #![deny(unsafe_code)]
 #![warn(missing_docs)]
@@ -132,6 +134,8 @@ mod differences;
 #[allow(unsafe_code)]
 mod foreign;
 mod gathering;
+#[cfg(test)]
+mod header;
 mod listing;
 mod reason;
 mod refusal;
@@ -148,6 +152,32 @@ pub use reason::{NoReason, Reason};
 pub use refusal::{GraphFault, Refusal, Side, TableFault};
 pub use rows::{Counts, Row, export, import};
 pub use tables::{HOUSE_TABLE_LENGTH, HOUSE_TYPES, house_table, table};
+
+/// The version of this package and of its library as a text; [`VERSION`] is the number.
+///
+/// ```
+/// println!("record_engine {}", record_engine::VERSION_TEXT);
+/// assert!(record_engine::VERSION >= 1_000, "0.1.0 or later");
+/// ```
+pub const VERSION_TEXT: &str = env!("CARGO_PKG_VERSION");
+
+/// The version as a number: 1,000,000 times the first number of [`VERSION_TEXT`], 1,000 times
+/// the second and the third.
+pub const VERSION: u64 = 1_000;
+
+/// A thread with a stack of so many bytes has room for every call.
+///
+/// ```
+/// use std::thread;
+/// let small = thread::Builder::new().stack_size(record_engine::STACK);
+/// let calls = small.spawn(|| {
+///     let mut table = [0; record_engine::HOUSE_TABLE_LENGTH];
+///     record_engine::house_table(&mut table)
+/// })?;
+/// assert_eq!(calls.join().expect("no panic"), Ok(record_engine::HOUSE_TABLE_LENGTH));
+/// # Ok::<(), std::io::Error>(())
+/// ```
+pub const STACK: usize = 262_144;
 
 /// The length of the longest record: an output of so many bytes is never too short.
 pub const LONGEST_RECORD: usize = 4854;

@@ -13,9 +13,7 @@ pub const HOUSE_TABLE_LENGTH: usize = 8 * HOUSE_TYPES;
 /// types, for n = [`HOUSE_TYPES`], and gives their number; its other bytes are
 /// unchanged. A house type has three grades of 0 to 3 and is numbered
 /// 16 × first + 4 × second + third; it is below another when each grade is at most
-/// the other's, and 3 tells nothing.
-///
-/// Refused by 8.
+/// the other's, and 3 tells nothing. Takes 8 KiB of stack.
 ///
 /// ```
 /// use record_engine::{HOUSE_TABLE_LENGTH, HOUSE_TYPES};
@@ -29,6 +27,10 @@ pub const HOUSE_TABLE_LENGTH: usize = 8 * HOUSE_TYPES;
 /// assert_eq!(output[..length], [1, 16 + 3, 0, 0, 0, 0, 0, 0, 0, 0]);
 /// # Ok::<(), record_engine::Refusal>(())
 /// ```
+///
+/// # Errors
+///
+/// Refused by [`Refusal::NoRoom`] (8).
 pub fn house_table(output: &mut [u8]) -> Result<usize, Refusal> {
     length(foreign::record_house_table(output))
 }
