@@ -1,13 +1,151 @@
-//! A call gets by with the stack that the header, the wrapper and the README state:
-//! every call on the deepest and on the largest records, on a thread with no more. The
-//! calls with a list are in `appropriate.rs`.
+//! A call gets by with the stack that the header, the wrapper and the README state: every
+//! call on the deepest and on the largest records takes what its comment in the header
+//! tells, and runs on a thread that has no more than is stated for all. The calls with a
+//! list are run on such a thread in `appropriate.rs`.
 
-use comparison::on_stated_stack;
-use record_engine::{Counts, LONGEST_RECORD, MOST_LINKS, MOST_NODES, Order, Refusal, Row};
-use record_engine::{difference, export, generalize, import, next, order, rewrite, unify};
+use comparison::{on_stated_stack, stack_taken};
+use record_engine::{Counts, FEATURES, GATHERING_LENGTH, Order, Refusal, Row};
+use record_engine::{LONGEST_RECORD, MOST_LINKS, MOST_NODES};
+use record_engine::{difference, difference_by, difference_explained, difference_explained_by};
+use record_engine::{export, generalize, house_table, import, next, order, rewrite, unify};
+use record_engine::{gathering_add, gathering_begin, gathering_finish, gathering_order};
+use record_engine::{generalize_appropriate, rewrite_appropriate, unify_appropriate};
 use reference::graph::Graph;
-use reference::random;
+use reference::house;
+use reference::random::{self, TableBytes};
 use reference::record;
+use std::collections::BTreeMap;
+
+const HEADER: &str = include_str!("../../../include/record_engine.h");
+
+/// The bytes of stack that the header states for each call.
+fn stated() -> BTreeMap<String, usize> {
+    let mut stated = BTreeMap::new();
+    let parts: Vec<&str> = HEADER.split("uint64_t record_").collect();
+    for pair in parts.windows(2) {
+        let words = pair[0].split_whitespace().filter(|&word| word != "*");
+        let comment = words.collect::<Vec<&str>>().join(" ");
+        let (_, stack) = comment.rsplit_once("Takes ").expect("the stack");
+        let (kib, _) = stack.split_once(" KiB of stack.").expect("a number of KiB");
+        let (call, _) = pair[1].split_once('(').expect("parameters");
+        let kib: usize = kib.parse().expect("a number");
+        stated.insert(call.to_string(), 1024 * kib);
+    }
+    stated
+}
+
+/// The bytes of stack that each call takes at most on two records over a table.
+fn taken(table: &TableBytes, first: &[u8], second: &[u8]) -> [(&'static str, usize); 19] {
+    let (n, table) = (table.n, &table.bytes[..]);
+    let types = [(n - 1) as u8; FEATURES];
+    let reading: Vec<u8> = (0..FEATURES as u8).rev().collect();
+    let mut output = vec![0; LONGEST_RECORD];
+    let mut reasons = vec![0; MOST_LINKS];
+    let (mut rows, mut nodes) = (vec![Row::default(); MOST_LINKS], vec![0; 3 * MOST_NODES]);
+    let mut gathering = vec![0; GATHERING_LENGTH];
+    let (out, why) = (&mut output[..], &mut reasons[..]);
+    let held = &mut gathering[..];
+    macro_rules! take {
+        ($call:expr) => {
+            stack_taken(|| assert!(!matches!($call, Err(Refusal::Table(_)))))
+        };
+    }
+    [
+        ("rewrite", take!(rewrite(n, table, first, out))),
+        ("order", take!(order(n, table, first, second))),
+        (
+            "generalize",
+            take!(generalize(n, table, first, second, out)),
+        ),
+        ("unify", take!(unify(n, table, first, second, out))),
+        (
+            "difference",
+            take!(difference(n, table, first, second, out)),
+        ),
+        (
+            "rewrite_appropriate",
+            take!(rewrite_appropriate(n, table, &types, first, out)),
+        ),
+        (
+            "generalize_appropriate",
+            take!(generalize_appropriate(n, table, &types, first, second, out)),
+        ),
+        (
+            "unify_appropriate",
+            take!(unify_appropriate(n, table, &types, first, second, out)),
+        ),
+        (
+            "difference_explained",
+            take!(difference_explained(n, table, first, second, out, why)),
+        ),
+        (
+            "difference_by",
+            take!(difference_by(n, table, &reading, first, second, out)),
+        ),
+        (
+            "difference_explained_by",
+            take!(difference_explained_by(
+                n, table, &reading, first, second, out, why
+            )),
+        ),
+        ("next", take!(next(n, table, 2, first, out))),
+        (
+            "export",
+            take!(export(n, table, first, &mut rows, &mut nodes)),
+        ),
+        ("import", {
+            let counts = export(n, table, first, &mut rows, &mut nodes).expect("a planning table");
+            let (rows, nodes) = (&rows[..counts.rows], &nodes[..3 * counts.nodes]);
+            take!(import(n, table, rows, nodes, out))
+        }),
+        ("gathering_begin", take!(gathering_begin(n, table, held))),
+        ("gathering_add", {
+            gathering_add(held, first).expect("a first addition");
+            take!(gathering_add(held, second))
+        }),
+        ("gathering_order", take!(gathering_order(held, first))),
+        ("gathering_finish", take!(gathering_finish(held, out))),
+        ("house_table", take!(house_table(out))),
+    ]
+}
+
+/// A chain of 255 nodes whose root has a link to the last of them, and a root with a link
+/// to a chain of 254. Combined, the one chain goes on where the other ends: no combination
+/// has a longer path.
+fn longest_path() -> [Graph; 2] {
+    let [mut first, mut second] = [0, 0].map(|feature| random::ladder(255, &[feature], 3));
+    first.nodes[0].links.insert(1, 254);
+    second.nodes[0].links = [(1, 1)].into();
+    [first, second]
+}
+
+#[test]
+fn a_call_takes_the_stack_that_is_stated() {
+    let graphs = [largest(), longest_path()].concat();
+    let ranged = graphs.clone().into_iter().map(with_ranges);
+    let graphs = graphs.into_iter().chain(ranged);
+    let records: Vec<Vec<u8>> = graphs.map(|graph| record::write(&graph)).collect();
+    let mut most: BTreeMap<String, usize> = BTreeMap::new();
+    for table in [random::diamond(), house::table(), random::middles(62)] {
+        for first in &records {
+            for second in &records {
+                for (call, bytes) in taken(&table, first, second) {
+                    let most = most.entry(call.to_string()).or_default();
+                    *most = bytes.max(*most);
+                }
+            }
+        }
+    }
+    let stated = stated();
+    assert!(most.keys().eq(stated.keys()), "{most:?} {stated:?}");
+    for (call, bytes) in &most {
+        // Some 4 KiB are to spare, which a dynamic linker takes that binds `memcpy` at its
+        // first call, and less than 4 more by rounding up.
+        let spare = stated[call].checked_sub(*bytes);
+        let is_enough = spare.is_some_and(|spare| (3 << 10..=8 << 10).contains(&spare));
+        assert!(is_enough, "{call} takes {bytes} bytes: {stated:?}");
+    }
+}
 
 #[test]
 fn the_largest_records_need_little_stack() {
@@ -18,16 +156,19 @@ fn the_largest_records_need_little_stack() {
 /// The same with a range at every node, so that the records are longer.
 #[test]
 fn the_largest_records_with_ranges_need_little_stack() {
-    let [chain, ladder] = compare(largest().map(|mut graph| {
-        for node in &mut graph.nodes {
-            node.label.range.highest = 100;
-        }
-        graph
-    }));
+    let [chain, ladder] = compare(largest().map(with_ranges));
     assert_eq!(
         [chain, ladder],
         [1 + 11 * 255 + 254, 1 + 11 * 255 + 8 * 254]
     );
+}
+
+/// The graph with a range at every node.
+fn with_ranges(mut graph: Graph) -> Graph {
+    for node in &mut graph.nodes {
+        node.label.range.highest = 100;
+    }
+    graph
 }
 
 /// A chain of 255 nodes, and 255 nodes with 8 links from each to the next.
