@@ -4,7 +4,7 @@
 //! list are run on such a thread in `appropriate.rs`.
 
 use comparison::{on_stated_stack, stack_taken};
-use record_engine::{Counts, FEATURES, GATHERING_LENGTH, Order, Refusal, Row};
+use record_engine::{Counts, FEATURES, GATHERING_LENGTH, Order, Refusal, Row, Table};
 use record_engine::{LONGEST_RECORD, MOST_LINKS, MOST_NODES};
 use record_engine::{difference, difference_by, difference_explained, difference_explained_by};
 use record_engine::{export, generalize, house_table, import, next, order, rewrite, unify};
@@ -144,6 +144,50 @@ fn a_call_takes_the_stack_that_is_stated() {
         let spare = stated[call].checked_sub(*bytes);
         let is_enough = spare.is_some_and(|spare| (3 << 10..=8 << 10).contains(&spare));
         assert!(is_enough, "{call} takes {bytes} bytes: {stated:?}");
+    }
+}
+
+#[test]
+fn a_method_takes_little_more_than_its_call() {
+    let table = random::diamond();
+    let made = Table::from_bytes(&table.bytes).expect("an accepted table");
+    let [chain, _] = largest().map(|graph| record::write(&graph));
+    let [first, second] = longest_path().map(|graph| record::write(&graph));
+    let (rows, nodes) = made.export(&chain).expect("a planning table");
+    let mut gathering = made.gathering();
+    gathering.add(&chain).expect("a first addition");
+    let by_methods = [
+        ("rewrite", stack_taken(|| drop(made.rewrite(&chain)))),
+        (
+            "generalize",
+            stack_taken(|| drop(made.generalize(&chain, &chain))),
+        ),
+        ("unify", stack_taken(|| drop(made.unify(&first, &second)))),
+        (
+            "difference",
+            stack_taken(|| drop(made.difference(&chain, &chain))),
+        ),
+        (
+            "difference_explained",
+            stack_taken(|| drop(made.explained(&chain, &chain))),
+        ),
+        ("import", stack_taken(|| drop(made.import(&rows, &nodes)))),
+        ("export", stack_taken(|| drop(made.export(&chain)))),
+        (
+            "gathering_finish",
+            stack_taken(|| drop(gathering.common_part())),
+        ),
+        (
+            "gathering_add",
+            stack_taken(|| drop(made.generalize_all([&chain, &chain]))),
+        ),
+    ];
+    let pairs = [(&chain, &chain), (&first, &second)];
+    let by_calls: Vec<_> = pairs.map(|(a, b)| taken(&table, a, b)).concat();
+    for (name, bytes) in by_methods {
+        let of_call = by_calls.iter().filter(|(call, _)| *call == name);
+        let most = of_call.map(|&(_, bytes)| bytes).max().expect("a call");
+        assert!(bytes <= most + (8 << 10), "{name}: {bytes} and {most}");
     }
 }
 

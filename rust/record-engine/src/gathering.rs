@@ -1,6 +1,7 @@
 //! Gathering: programs are added one after another, and their common part is kept.
 
 use crate::code::{length, order_of};
+use crate::options::written;
 use crate::{LONGEST_RECORD, Order, Refusal, foreign};
 
 /// So many bytes are enough for a gathering over every table: the number of types, the
@@ -73,6 +74,26 @@ impl Gathering {
     /// the first addition by [`Refusal::NothingGathered`] (16).
     pub fn order(&self, record: &[u8]) -> Result<Order, Refusal> {
         gathering_order(&self.bytes, record)
+    }
+
+    /// The common part so far in written form. The gathering stays open.
+    ///
+    /// ```
+    /// use record_engine::{Refusal, Table};
+    /// let mut gathering = Table::from_order(4, &[])?.gathering();
+    /// assert_eq!(gathering.common_part(), Err(Refusal::NothingGathered));
+    /// let lone = |node_type| [1, node_type, 0, 0, 0, 0, 0, 0, 0, 0];
+    /// gathering.add(&lone(1))?;
+    /// gathering.add(&lone(2))?;
+    /// assert_eq!(gathering.common_part()?, lone(3));
+    /// # Ok::<(), Refusal>(())
+    /// ```
+    ///
+    /// # Errors
+    ///
+    /// Refused by [`Refusal::NothingGathered`] (16) before the first addition.
+    pub fn common_part(&self) -> Result<Vec<u8>, Refusal> {
+        written(|output| self.finish(output))
     }
 
     /// Writes the common part so far in written form. The gathering stays open.

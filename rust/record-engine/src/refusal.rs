@@ -50,20 +50,20 @@ pub enum Side {
 /// tells of, and a sentence. The calls in C have the same numbers and sentences.
 ///
 /// ```
-/// use record_engine::{GraphFault, Refusal, Side, unify};
-/// let diamond = record_engine::table(&[0x01, 0x03, 0x05, 0x0F]).expect("at most 8 types");
+/// use record_engine::{GraphFault, Refusal, Side, Table};
+/// let diamond = Table::from_order(4, &[])?;
 /// let lone = |node_type| [1, node_type, 0, 0, 0, 0, 0, 0, 0, 0];
-/// let mut output = [0; record_engine::LONGEST_RECORD];
 /// // The diamond has no type 4.
-/// let refusal = unify(4, &diamond, &lone(1), &lone(4), &mut output).unwrap_err();
+/// let refusal = diamond.unify(&lone(1), &lone(4)).unwrap_err();
 /// assert_eq!(refusal, Refusal::Graph(GraphFault::OutOfRange, Side::Second));
 /// assert_eq!((refusal.number(), refusal.side()), (5, Some(Side::Second)));
 /// // Whichever refusals come later, the last arm tells their number and sentence.
-/// match unify(4, &diamond, &lone(1), &lone(2), &mut output) {
-///     Ok(length) => println!("{:?}", &output[..length]),
+/// match diamond.unify(&lone(1), &lone(2)) {
+///     Ok(record) => println!("{record:?}"),
 ///     Err(Refusal::Clash) => println!("nothing is below both"),
 ///     Err(other) => println!("{other}"),
 /// }
+/// # Ok::<(), Box<dyn std::error::Error>>(())
 /// ```
 #[derive(Clone, Copy, Debug, PartialEq, Eq, Hash)]
 #[non_exhaustive]
@@ -198,7 +198,8 @@ impl Refusal {
     ///
     /// ```
     /// use record_engine::Refusal;
-    /// assert_eq!(Refusal::Clash.text(), "a class of shared paths has no type or no level in common");
+    /// let sentence = "a class of shared paths has no type or no level in common";
+    /// assert_eq!(Refusal::Clash.text(), sentence);
     /// ```
     pub fn text(self) -> &'static str {
         match self {
