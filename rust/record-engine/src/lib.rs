@@ -155,6 +155,8 @@ mod gathering;
 #[cfg(test)]
 mod header;
 mod listing;
+#[cfg(archive_missing)]
+mod missing;
 mod options;
 mod reason;
 mod refusal;
