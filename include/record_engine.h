@@ -1,7 +1,8 @@
-/* The record engine for C: twelve calls on bytes, two on the planning tool's rows, four on
+/* The record engine for C: thirteen calls on bytes, two on the planning tool's rows, four on
  * a gathering, and the table of the house types, in the static library
  * librecord_engine.a, which `rt staticlib record_engine` writes to target/staticlib.
- * examples/difference.c, examples/rows.c and examples/thread.c are whole programs.
+ * examples/difference.c, examples/rows.c, examples/table.c and examples/thread.c are whole
+ * programs.
  *
  * A type table orders n types, 2 to 64, by a row of 8 bytes for each. In row i, bit
  * j % 8 of byte j / 8 is set exactly when type j is below type i or is type i; bit 0
@@ -257,6 +258,10 @@ RECORD_INLINE const char *record_refusal_text(uint64_t answer) {
 }
 
 #undef RECORD_INLINE
+
+/* Whether a table is accepted, so that no call over it is refused by 1 to 3. Answers 0, or
+ * refuses by 1 to 3. Takes 8 KiB of stack. */
+uint64_t record_check_table(size_t n, const uint8_t *table, size_t table_length);
 
 /* Writes a record in its one written form: records of equal meaning, and no others,
  * give equal bytes. Answers the length, or refuses by 1 to 8; the record counts as

@@ -6,7 +6,8 @@
 use comparison::{on_stated_stack, stack_taken};
 use record_engine::{Counts, FEATURES, GATHERING_LENGTH, Order, Refusal, Row, Table};
 use record_engine::{LONGEST_RECORD, MOST_LINKS, MOST_NODES};
-use record_engine::{difference, difference_by, difference_explained, difference_explained_by};
+use record_engine::{check_table, difference, difference_by};
+use record_engine::{difference_explained, difference_explained_by};
 use record_engine::{export, generalize, house_table, import, next, order, rewrite, unify};
 use record_engine::{gathering_add, gathering_begin, gathering_finish, gathering_order};
 use record_engine::{generalize_appropriate, rewrite_appropriate, unify_appropriate};
@@ -35,7 +36,7 @@ fn stated() -> BTreeMap<String, usize> {
 }
 
 /// The bytes of stack that each call takes at most on two records over a table.
-fn taken(table: &TableBytes, first: &[u8], second: &[u8]) -> [(&'static str, usize); 19] {
+fn taken(table: &TableBytes, first: &[u8], second: &[u8]) -> [(&'static str, usize); 20] {
     let (n, table) = (table.n, &table.bytes[..]);
     let types = [(n - 1) as u8; FEATURES];
     let reading: Vec<u8> = (0..FEATURES as u8).rev().collect();
@@ -51,6 +52,7 @@ fn taken(table: &TableBytes, first: &[u8], second: &[u8]) -> [(&'static str, usi
         };
     }
     [
+        ("check_table", take!(check_table(n, table))),
         ("rewrite", take!(rewrite(n, table, first, out))),
         ("order", take!(order(n, table, first, second))),
         (

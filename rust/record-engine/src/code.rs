@@ -53,6 +53,15 @@ pub fn answer(code: u64) -> Answer {
     }
 }
 
+/// The answer of a call that writes nothing.
+pub fn nothing(code: u64) -> Result<(), Refusal> {
+    match answer(code) {
+        Answer::Length(0) => Ok(()),
+        Answer::Refused(refusal) => Err(refusal),
+        other => unreachable!("a call that writes nothing gives 0, not {other:?}"),
+    }
+}
+
 /// The answer of a call that writes.
 pub fn length(code: u64) -> Result<usize, Refusal> {
     match answer(code) {

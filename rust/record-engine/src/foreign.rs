@@ -54,6 +54,7 @@ macro_rules! functions {
 }
 
 functions! {
+    record_check_table(n;; table;);
     record_rewrite(n;; table, bytes; output);
     record_order(n;; table, first, second;);
     record_generalize(n;; table, first, second; output);

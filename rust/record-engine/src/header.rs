@@ -115,7 +115,7 @@ fn a_refusal_is_explained_as_in_the_header() {
 #[test]
 fn a_call_has_the_refusals_and_the_stack_of_the_header() {
     let stated = header_calls();
-    assert!(stated.len() >= 19, "{stated:?}");
+    assert!(stated.len() >= 20, "{stated:?}");
     let documented = wrapper_calls();
     for (name, comment) in &stated {
         assert_eq!(documented.get(name), Some(comment), "{name}");

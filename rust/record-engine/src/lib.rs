@@ -175,7 +175,7 @@ pub use reason::{NoReason, Reason};
 pub use refusal::{GraphFault, Refusal, Side, TableFault};
 pub use rows::{Counts, Row, export, import};
 pub use table::Table;
-pub use tables::{HOUSE_TABLE_LENGTH, HOUSE_TYPES, house_table, table};
+pub use tables::{HOUSE_TABLE_LENGTH, HOUSE_TYPES, check_table, house_table, table};
 
 /// The version of this package and of its library as a text; [`VERSION`] is the number.
 ///

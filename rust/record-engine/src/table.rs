@@ -49,10 +49,7 @@ impl Table {
     ///
     /// Refused by [`Refusal::Table`] (1 to 3).
     pub fn from_bytes(bytes: &[u8]) -> Result<Table, Refusal> {
-        let n = bytes.len() / 8;
-        // The lone top is a record over every table that is accepted.
-        let lone_top = [1, n.wrapping_sub(1) as u8, 0, 0, 0, 0, 0, 0, 0, 0];
-        written(|output| crate::rewrite(n, bytes, &lone_top, output))?;
+        crate::check_table(bytes.len() / 8, bytes)?;
         Ok(Table {
             bytes: bytes.to_vec(),
         })
