@@ -11,3 +11,4 @@ pub mod Output
 pub mod Meaning
 pub mod Appropriate
 pub mod Reasons
+pub mod Imported

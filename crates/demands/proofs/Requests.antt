@@ -2,6 +2,7 @@
 -- to. Those stand in `engine`, the words that only the statements use in specs/; the proofs are cited. n and t are the table, out and out′
 -- are the outputs lent; a, b, c and d are the records.
 pub mod Paper01
+pub mod Paper02
 pub mod Paper03
 pub mod Paper06
 pub mod Paper07

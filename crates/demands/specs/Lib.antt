@@ -4,3 +4,4 @@ pub mod Before
 pub mod Unranged
 pub mod Appropriate
 pub mod Explained
+pub mod Lent

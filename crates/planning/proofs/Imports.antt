@@ -1,42 +1,43 @@
 -- What import does in each case: the counts, the tests of rows, and the graph of placed rows.
 use mathlib.Core.Path.{_≡_, refl, sym, _∙_, ap, subst}
-use mathlib.Core.Bool.{Bool, true, false, cond, not, _&&_}
+use mathlib.Core.Bool.{Bool, true, false, cond, not}
 use mathlib.Core.List.{List, List·Memᴰ, Memᴰ·map}
+use mathlib.Core.Logic.{inr}
 use mathlib.Core.Option.{some}
-use Prim.Native.Nat.{ℕ, zero, suc, _+_, _*_, _/_, _%_, _≤_, _<_}
-use native.Mathlib.Decide.{decLt}
+use Prim.Native.Nat.{ℕ, _%_, _≤_, _<_}
+use native.Mathlib.Decide.{decLe, decLt}
 use native.Mathlib.Omega.{arith}
-use borrow.Author.Tests.{eq-eqb, ne-eqb, le-leb, lt-leb, leb-true}
-use lib.Dec.{eqb, leb}
+use borrow.Author.Tests.{eq-eqb, ne-eqb, le-leb, lt-leb}
+use lib.Dec.{leb}
 use lib.ListN.{length, getD, take, replicate, getD-replicate, length-replicate, List·getD-eq-default}
-use lib.Seq.{length-take-le}
-use Rattle.graphs.specs.Rows.{Row, from}
+use lib.Seq.{length-take-le, take-all}
+use Rattle.graphs.specs.Rows.{Row}
 use Rattle.graphs.specs.Large.{linksIn}
 use Rattle.graphs.proofs.Lists.{from-member}
-use Rattle.graphs.proofs.Order.{and-true}
 use Rattle.graphs.proofs.Search.{not-true}
 use Rattle.lattice.specs.Label.{Label}
 use Rattle.lattice.specs.declared.TableFault.{TableFault}
 use Rattle.lattice.specs.declared.Opened.the-variants as opened
 use Rattle.lattice.specs.Reply as table
 use Rattle.layout.specs.Layout.{rowsOf}
-use Rattle.record.specs.declared.GraphFault.{GraphFault}
 use Rattle.record.specs.declared.GraphFault.the-variants.{Malformed, OutOfRange, Cyclic, Unreached}
 use Rattle.record.specs.declared.reading.Verdict.{Verdict}
-use Rattle.record.specs.Read.{Reading, refused, accepted, inRange, cyclic, reachesAll, judged}
+use Rattle.record.specs.Read.{refused, accepted, inRange, cyclic, reachesAll, judged}
 use Rattle.record.specs.Reads.{ReadsAs}
 use Rattle.record.proofs.Readings.{in-range}
 use Rattle.rows.specs.declared.Row as lent
-use Rattle.rows.specs.Rows.{labelIn, nodesIn, tableRows, isSized, allKnown, hasTwice}
+use Rattle.rows.specs.Rows.{nodesIn, tableRows, isSized, allKnown, hasTwice}
 use Rattle.rows.specs.Placing.{Placed}
 use Rattle.rows.specs.Filling.{placedRow, placedRows, Labelled, Fillable, Filled}
 use Rattle.rows.proofs.Tables.{placed-table, table-links}
+use Rattle.rows.proofs.Tests.{sized-exact, unsized-exact}
 use Rattle.replies.specs.declared.Side.the-variants.{First}
 use Rattle.replies.specs.declared.Reply.the-variants.{Table, Graph, RowOutOfRange, RowTwice}
 use Rattle.replies.specs.Reply.{Result, resulting, refusing}
 use Rattle.engine.specs.Rewriting.{rewritten}
+use Rattle.calls.specs.Calls.{checked}
 use Rattle.calls.proofs.Tables.{table-refused, table-accepted}
-use Rattle.planning.specs.Planning.{imported, importing, Placeable}
+use Rattle.planning.specs.Planning.{imported, importing, importingRows, Placeable}
 
 -- The counts.
 module _ (nodes : List ℕ) (count : ℕ) where
@@ -57,12 +58,7 @@ module _ (nodes : List ℕ) (count : ℕ) where
   sized-rows e h k = simp (eq-eqb (length nodes % 3) 0 e, le-leb 1 (nodesIn nodes) h, le-leb (nodesIn nodes) 255 k)
 
   pub sized-parts : isSized nodes count ≡ true → (1 ≤ nodesIn nodes) × (nodesIn nodes ≤ 255) × (count ≤ 2048)
-  unfolding isSized
-  sized-parts e =
-      let (more, rows) = and-true (eqb (length nodes % 3) 0 && leb 1 (nodesIn nodes) && leb (nodesIn nodes) 255) (leb count 2048) e in
-      let (rest, few) = and-true (eqb (length nodes % 3) 0 && leb 1 (nodesIn nodes)) (leb (nodesIn nodes) 255) more in
-      let (whole, some-nodes) = and-true (eqb (length nodes % 3) 0) (leb 1 (nodesIn nodes)) rest in
-      (leb-true 1 (nodesIn nodes) some-nodes, leb-true (nodesIn nodes) 255 few, leb-true count 2048 rows)
+  sized-parts e = let (whole, some-nodes, few, rows) = sized-exact nodes count .0 e in (some-nodes, few, rows)
 
 -- The graph of placed rows.
 module _ (n : ℕ) (nodes targets : List ℕ) where
@@ -163,3 +159,15 @@ module _ (n : ℕ) (t : List ℕ) (count : ℕ) (rows : List lent.Row) (nodes ou
   pub importing-accepted : table.opened n t ≡ opened.Accepted → imported n count rows nodes out ≡ importing n t count rows nodes out
   unfolding importing
   importing-accepted e = sym (table-accepted (λ r. refusing r out) (imported n count rows nodes out) e)
+
+-- Of more than 2,048 rows, which are not read, none matters.
+pub import-whole : (n : ℕ) (t : List ℕ) (rows : List lent.Row) (nodes out : List ℕ) →
+    importingRows n t rows nodes out ≡ importing n t (length rows) rows nodes out
+unfolding importing
+import-whole n t rows nodes out = ap (checked (λ r. refusing r out) (table.opened n t)) (go (decLe (length rows) 2048))
+  where
+    go : Dec (length rows ≤ 2048) → imported n (length rows) (take 2048 rows) nodes out ≡ imported n (length rows) rows nodes out
+    go (yes h) = ap (λ (xs : List lent.Row). imported n (length rows) xs nodes out) (take-all 2048 rows h)
+    go (no h) =
+        let many : isSized nodes (length rows) ≡ false = unsized-exact nodes (length rows) .1 (inr (inr (inr (omega arith)))) in
+        sym (import-size n (length rows) (take 2048 rows) nodes out many) ∙ import-size n (length rows) rows nodes out many

@@ -2,5 +2,8 @@
 pub mod Imports
 pub mod Exports
 pub mod Theorems
-pub mod RoundTrips
 pub mod TableGraph
+pub mod Due
+pub mod ImportDue
+pub mod ExportDue
+pub mod RoundTrips

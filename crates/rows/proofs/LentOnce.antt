@@ -3,22 +3,22 @@ use mathlib.Core.Path.{_≡_, refl, sym, _∙_, ap, ap₂, subst}
 use mathlib.Core.Bool.{Bool, true, false, cond}
 use mathlib.Core.List.{List, [], _∷_, map, List·Memᴰ, List·Memᴰ·head, List·Memᴰ·tail, List·Memᴰ·not-nil, Memᴰ·map}
 use mathlib.Core.Option.{Option, none, some}
-use Prim.Native.Nat.{ℕ, zero, suc, _+_, _*_, _/_, _≤_, _<_}
+use Prim.Native.Nat.{ℕ, zero, suc, _+_, _/_, _≤_, _<_}
 use native.Mathlib.Decide.{ℕ-discrete}
 use native.Mathlib.Nat.{mul-div-cancel}
 use native.Mathlib.Omega.{arith}
-use borrow.Author.Tests.{eq-eqb, ne-eqb, le-ltb, lt-ltb}
-use lib.Dec.{eqb, ltb}
+use borrow.Author.Tests.{eq-eqb, ne-eqb}
 use lib.ListN.{length, getD}
-use Rattle.graphs.specs.Rows.{Row, features, from, target, linksOf, addLink}
+use Rattle.graphs.specs.Rows.{Row, from, target, linksOf, addLink}
 use Rattle.graphs.specs.Large.{Ascending, Distinct}
 use Rattle.graphs.proofs.Lists.{from-member, from-range, mem-features}
 use Rattle.graphs.proofs.Rows.{linksOf-member}
 use Rattle.lattice.specs.Label.{Label, noLabel}
 use Rattle.rows.specs.declared.Row as lent
-use Rattle.rows.specs.Rows.{isOf, targetIn, someOf, isKnown, allKnown, hasTwice, nodesIn, tableRows, lentRows, lentNodes}
+use Rattle.rows.specs.Rows.{targetIn, someOf, allKnown, hasTwice, nodesIn, tableRows, lentRows, lentNodes}
 use Rattle.rows.proofs.LentRows.{nodes-length}
-use Rattle.rows.proofs.Tables.{is-of, row-is, lent-said, lent-distinct, linksOf-same, stated}
+use Rattle.rows.proofs.Tests.{all-known-exact, some-source}
+use Rattle.rows.proofs.Tables.{row-is, lent-said, lent-distinct, linksOf-same, stated}
 use Rattle.rows.proofs.RoundTrip.{table-of-lent}
 
 -- Links that ascend are those by feature.
@@ -66,17 +66,6 @@ tidy (suc n) k (l ∷ ls) a h = go (ℕ-discrete (l .0) k) (tidy n (suc k))
 
 -- Rows that are different and agree on targets have no parent and feature twice.
 
-some-source : (p f : ℕ) (rs : List lent.Row) → someOf p f rs ≡ true → (r : lent.Row) × List·Memᴰ r rs × (r .parent ≡ p) × (r .feature ≡ f)
-unfolding someOf
-some-source p f [] e = let z : _≡_ {A = ℕ} 0 1 = cc in absurd (omega arith)
-some-source p f (r ∷ rs) e = go (isOf p f r) refl e (some-source p f rs)
-  where
-    go : (b : Bool) → isOf p f r ≡ b → cond b true (someOf p f rs) ≡ true →
-        (someOf p f rs ≡ true → (x : lent.Row) × List·Memᴰ x rs × (x .parent ≡ p) × (x .feature ≡ f)) →
-        (x : lent.Row) × List·Memᴰ x (r ∷ rs) × (x .parent ≡ p) × (x .feature ≡ f)
-    go true is h later = let own = is-of p f r is in (r, List·Memᴰ·head refl, own .0, own .1)
-    go false is h later = let (x, m, a, b) = later h in (x, List·Memᴰ·tail m, a, b)
-
 once-from : (next : ℕ → ℕ → Option ℕ) (rs : List lent.Row) → Distinct rs → ((r : lent.Row) → List·Memᴰ r rs → next (r .parent) (r .feature) ≡ some (r .target)) → hasTwice rs ≡ false
 unfolding hasTwice
 once-from next [] d h = refl
@@ -92,16 +81,6 @@ once-from next (r ∷ rs) d h = go (someOf (r .parent) (r .feature) rs) refl (on
     go : (b : Bool) → someOf (r .parent) (r .feature) rs ≡ b → hasTwice rs ≡ false → cond (someOf (r .parent) (r .feature) rs) true (hasTwice rs) ≡ false
     go true e later = absurd (clash e)
     go false e later = ap (λ (b : Bool). cond b true (hasTwice rs)) e ∙ later
-
-known-all : (n : ℕ) (rs : List lent.Row) → ((r : lent.Row) → List·Memᴰ r rs → (r .parent < n) × (r .feature < 64) × (r .target < n)) → allKnown n rs ≡ true
-unfolding allKnown isKnown
-known-all n [] h = refl
-known-all n (r ∷ rs) h =
-    let (p, f, t) = h r (List·Memᴰ·head refl) in
-    let low : ltb 63 (r .feature) ≡ false = le-ltb 63 (r .feature) (omega arith) in
-    ap (λ (b : Bool). cond (cond b false (cond (ltb (r .parent) n) (ltb (r .target) n) false)) (allKnown n rs) false) low
-    ∙ ap₂ (λ (b c : Bool). cond (cond b c false) (allKnown n rs) false) (lt-ltb (r .parent) n p) (lt-ltb (r .target) n t)
-    ∙ known-all n rs (λ x m. h x (List·Memᴰ·tail m))
 
 -- The rows of a graph.
 module _ (form : List (Row Label)) (proper : (r : Row Label) → List·Memᴰ r form → Ascending (r .1) × ((l : ℕ × ℕ) → List·Memᴰ l (r .1) → l .0 < 64)) where
@@ -137,10 +116,10 @@ module _ (form : List (Row Label)) (proper : (r : Row Label) → List·Memᴰ r 
   pub lent-known : ((r : Row Label) → List·Memᴰ r form → (l : ℕ × ℕ) → List·Memᴰ l (r .1) → l .1 < length form) → allKnown (nodesIn (lentNodes form)) (lentRows form) ≡ true
   unfolding tableRows
   lent-known targets =
-      known-all (nodesIn (lentNodes form)) (lentRows form) (λ r m.
+      all-known-exact (nodesIn (lentNodes form)) (lentRows form) .1 (λ r m.
       let (low, high, f, e) = said r m in
       let row : List·Memᴰ (stated (lentNodes form) (lentRows form) (r .parent)) (map (stated (lentNodes form) (lentRows form)) (from 0 (nodesIn (lentNodes form)))) =
       Memᴰ·map (stated (lentNodes form) (lentRows form)) (from-member 0 (nodesIn (lentNodes form)) (r .parent) low high) in
       let t = targets (stated (lentNodes form) (lentRows form) (r .parent)) (subst (λ (x : List (Row Label)). List·Memᴰ (stated (lentNodes form) (lentRows form) (r .parent)) x) lent-table row) (r .feature, r .target)
       (linksOf-member (targetIn (lentRows form) (r .parent)) (mem-features (r .feature) f) e) in
-      (omega arith, f, omega (arith, t, nodes-are)))
+      (f, omega arith, omega (arith, t, nodes-are)))

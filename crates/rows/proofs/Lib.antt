@@ -7,6 +7,8 @@ pub mod Placed
 pub mod FilledRows
 pub mod LentRows
 pub mod Tables
+pub mod Tests
 pub mod AnyOrder
 pub mod RoundTrip
 pub mod LentOnce
+pub mod Sorted

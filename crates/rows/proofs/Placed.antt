@@ -81,7 +81,7 @@ eqb-sym a b = go (ℕ-discrete a b)
     go (yes e) = eq-eqb a b e ∙ sym (eq-eqb b a (sym e))
     go (no n) = ne-eqb a b n ∙ sym (ne-eqb b a (λ e. n (sym e)))
 
-pub is-sym : (x r : Row) → isOf (x .parent) (x .feature) r ≡ isOf (r .parent) (r .feature) x
+is-sym : (x r : Row) → isOf (x .parent) (x .feature) r ≡ isOf (r .parent) (r .feature) x
 unfolding isOf
 is-sym x r = ap₂ (λ (t u : Bool). cond t u false) (eqb-sym (r .parent) (x .parent)) (eqb-sym (r .feature) (x .feature))
 

@@ -80,7 +80,7 @@ targets f (r ∷ rs) v (suc i) h =
 past : (a b c : ℕ) (ts : List ℕ) (m k : ℕ) → m ≡ suc (suc (suc k)) → getD (a ∷ b ∷ c ∷ ts) m 0 ≡ getD ts k 0
 past a b c ts m k e = ap (λ (n : ℕ). getD (a ∷ b ∷ c ∷ ts) n 0) e
 
-label-of : {t t′ l l′ h h′ : ℕ} → t ≡ t′ → l ≡ l′ → h ≡ h′ → _≡_ {A = Label} (record { type = t; lowest = l; highest = h }) (record { type = t′; lowest = l′; highest = h′ })
+pub label-of : {t t′ l l′ h h′ : ℕ} → t ≡ t′ → l ≡ l′ → h ≡ h′ → _≡_ {A = Label} (record { type = t; lowest = l; highest = h }) (record { type = t′; lowest = l′; highest = h′ })
 label-of a b c = λ j. record { type = a j; lowest = b j; highest = c j }
 
 labels : (rs : List (Row Label)) (i : ℕ) → i < length rs → labelIn (lentNodes rs) i ≡ getD rs i noRow .0

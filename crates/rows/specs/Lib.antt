@@ -4,3 +4,4 @@ pub mod Placing
 pub mod Filling
 pub mod Lending
 pub mod Reordered
+pub mod Faults

@@ -1,5 +1,5 @@
 -- Rows "in any order" (document 02, Paper 2).
-use mathlib.Core.List.{List, _∷_}
+use mathlib.Core.List.{List, _∷_, List·Memᴰ}
 
 -- one list is another in another order: two neighbours change places, as often as it takes
 pub data Reordered {A : Type 0} : List A → List A → Type 0 where
@@ -7,3 +7,7 @@ pub data Reordered {A : Type 0} : List A → List A → Type 0 where
   kept : (x : A) {xs ys : List A} → Reordered xs ys → Reordered (x ∷ xs) (x ∷ ys)
   swapped : (x y : A) (xs : List A) → Reordered (x ∷ y ∷ xs) (y ∷ x ∷ xs)
   again : {xs ys zs : List A} → Reordered xs ys → Reordered ys zs → Reordered xs zs
+
+-- two lists have the same members
+abbrev pub SameMembers : {A : Type 0} → List A → List A → Type 0
+SameMembers {A} xs ys = ((x : A) → List·Memᴰ x xs → List·Memᴰ x ys) × ((x : A) → List·Memᴰ x ys → List·Memᴰ x xs)

@@ -18,8 +18,6 @@ ghost use Rattle.versions.specs.State.{taken, held, made};
 ghost use Rattle.store.specs.Calls.{dropAmong, dropping, fetching, given, onHeld, onPresent, putAmong, putting, settled};
 ghost use Rattle.store.specs.Promise.{Among, Programmed};
 
-mod going;
-
 // The most bytes of a store.
 const MOST: usize = 16384;
 
@@ -108,7 +106,7 @@ fn put_among<'a>(
 {
     let mut slots = [0u8; versions::slots::SLOTS];
     let mut part = [0u8; versions::slots::SLOT];
-    if !going::is_held(n, table, sets, cells, store, &mut slots, &mut part, state) {
+    if !way::is_held(n, table, sets, cells, store, &mut slots, &mut part, state) {
         return Reply::Graph(GraphFault::Malformed, Side::First);
     }
     let mut record = [0u8; gathering::LONGEST];
@@ -129,9 +127,9 @@ fn put_among<'a>(
         &mut slots,
     );
     if last {
-        return going::step(n, table, sets, cells, &slots, version, &mut part, state);
+        return way::step(n, table, sets, cells, &slots, version, &mut part, state);
     }
-    going::go(n, table, sets, cells, &slots, &mut part, state)
+    way::go(n, table, sets, cells, &slots, &mut part, state)
 }
 
 // Makes the state of a store with one version less.
@@ -149,7 +147,7 @@ fn drop_among<'a>(
 {
     let mut slots = [0u8; versions::slots::SLOTS];
     let mut part = [0u8; versions::slots::SLOT];
-    if !going::is_held(n, table, sets, cells, store, &mut slots, &mut part, state) {
+    if !way::is_held(n, table, sets, cells, store, &mut slots, &mut part, state) {
         return Reply::Graph(GraphFault::Malformed, Side::First);
     }
     if version >= versions::slots::VERSIONS {
@@ -159,7 +157,7 @@ fn drop_among<'a>(
         return Reply::WrongVersion;
     }
     gathering::parts::put_length(version * versions::slots::SLOT, 0, &mut slots);
-    going::go(n, table, sets, cells, &slots, &mut part, state)
+    way::go(n, table, sets, cells, &slots, &mut part, state)
 }
 
 // Writes the record of a version among the programs of a store.
@@ -179,7 +177,7 @@ fn read_among<'a>(
     let mut part = [0u8; versions::slots::SLOT];
     let mut state = [0u8; MOST];
     let room = store.len();
-    if !going::is_held(
+    if !way::is_held(
         n,
         table,
         sets,

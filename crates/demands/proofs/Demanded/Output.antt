@@ -69,7 +69,7 @@ module _ (n : ℕ) (out : List ℕ) where
       let rules = accepted-rules n (take l (r .output)) (record-is .form) (record-is .reads) in
       omega (arith, leaves .length-is l q, ap length (record-is .bytes-are), longest (record-is .form) (rules .short) (rules .links))
 
-  refusing-leaves : (r : Reply) (k : ℕ) → refusal r ≡ some k → Leaves n out (refusing r out)
+  pub refusing-leaves : (r : Reply) (k : ℕ) → refusal r ≡ some k → Leaves n out (refusing r out)
   refusing-leaves r k e =
       record {
         refused = λ _ _. refl;

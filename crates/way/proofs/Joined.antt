@@ -23,7 +23,7 @@ use Rattle.versions.specs.Promise.{Puts}
 use Rattle.versions.proofs.SlotLaws.{measured-none, measured-some, part-length, part-parted, part-measured}
 use Rattle.versions.proofs.Written.{Fitting, generalizing-fits, taken-least, taken-most, taken-long, taken-length}
 use Rattle.versions.proofs.Lengths.{none-taken, length-same}
-use Rattle.store.specs.Promise.{Joins}
+use Rattle.way.specs.Promise.{Joins}
 
 -- A record is put: its length and its bytes are read again.
 module _ {p old new : List ℕ} (parted : Parted old) (short : length p ≤ 4854) (some-bytes : 1 ≤ length p) (puts : Puts p 0 old new) where

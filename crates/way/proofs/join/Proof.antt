@@ -3,12 +3,12 @@ use mathlib.Core.Path.{refl, sym}
 use native.Mathlib.Omega.{arith}
 use Rattle.pairs.proofs.Readings.{optional-none}
 use Rattle.gathering.proofs.Told.{no-length}
-use Rattle.store.proofs.Joined.{joins-first, Common, common-part, joins-refused, common-fits, common-short, joins-common}
+use Rattle.way.proofs.Joined.{joins-first, Common, common-part, joins-refused, common-fits, common-short, joins-common}
 use borrow.Author.Needs.{needs}
-use Rattle.store.proofs.going.join.Statement.{statement}
-use Rattle.store.proofs.going.join.Tie as tie
-use Rattle.store.proofs.going.join.Reads as reads
-use Rattle.store.proofs.going.join.Lts as lts
+use Rattle.way.proofs.join.Statement.{statement}
+use Rattle.way.proofs.join.Tie as tie
+use Rattle.way.proofs.join.Reads as reads
+use Rattle.way.proofs.join.Lts as lts
 use Rattle.engine.proofs.generalizing.of_records.Reads as of-records-reads
 use Rattle.gathering.proofs.parts.length_at.Reads as length-at-reads
 use Rattle.versions.proofs.slots.put_measured.Reads as put-measured-reads

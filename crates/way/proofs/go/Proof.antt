@@ -11,15 +11,15 @@ use Rattle.versions.specs.Slots.{programsIn}
 use Rattle.gathering.proofs.Told.{no-length}
 use Rattle.versions.proofs.Lengths.{none-bounded, length-bounded}
 use Rattle.versions.proofs.Packs.{two-long}
-use Rattle.store.specs.Promise.{Led}
-use Rattle.store.proofs.Ways.{Going, going-start, going-same, going-absent, going-step, going-stops, going-ends, going-led}
+use Rattle.way.specs.Promise.{Led}
+use Rattle.way.proofs.Ways.{Going, going-start, going-same, going-absent, going-step, going-stops, going-ends, going-led}
 use borrow.Author.Needs.{needs}
-use Rattle.store.proofs.going.go.Statement.{statement}
-use Rattle.store.proofs.going.go.Tie as tie
-use Rattle.store.proofs.going.go.Reads as reads
-use Rattle.store.proofs.going.go.Lts as lts
+use Rattle.way.proofs.go.Statement.{statement}
+use Rattle.way.proofs.go.Tie as tie
+use Rattle.way.proofs.go.Reads as reads
+use Rattle.way.proofs.go.Lts as lts
 use Rattle.gathering.proofs.parts.put_length.Reads as put-length-reads
-use Rattle.store.proofs.going.step.Reads as step-reads
+use Rattle.way.proofs.step.Reads as step-reads
 use Rattle.versions.proofs.slots.length_in.Reads as length-in-reads
 
 abbrev Inv-loop : tie.InvT-loop

@@ -1,4 +1,5 @@
-// The way: an empty store into which the programs are put in version order.
+// The way of a store's programs (document 02, Paper 11): an empty store into which they are put in version order; and opening a buffer, which
+// holds the programs whose way ends in its first bytes. It knows tables, records, the operations on them and the state of a store.
 
 use replies::Reply;
 ghost use mathlib.Core.Path.{_≡_};
@@ -11,7 +12,7 @@ ghost use Rattle.replies.specs.Reply.{Bounded, resulting};
 ghost use Rattle.gathering.specs.Gathering.{lengthAt};
 ghost use Rattle.versions.specs.State.{joined, startsWith, taken, way};
 ghost use Rattle.versions.specs.Slots.{Absent, Parted, Slotted, measuredIn, programsIn};
-ghost use Rattle.store.specs.Promise.{Joins, Led, Opens, Steps};
+ghost use Rattle.way.specs.Promise.{Joins, Led, Opens, Steps};
 
 // Opens a buffer: fills the slots with its programs, goes their way, and answers whether it ends in the first bytes of the buffer.
 pub fn is_held<'a>(

@@ -15,7 +15,7 @@ use Rattle.versions.specs.State.{Made, made, stopped, taken, Programs, way, sta
 use Rattle.versions.specs.Slots.{programsIn, Slotted, Parted}
 use Rattle.versions.specs.Promise.{Unpacks}
 use Rattle.versions.proofs.Lengths.{none-taken}
-use Rattle.store.specs.Promise.{Led, Opens}
+use Rattle.way.specs.Promise.{Led, Opens}
 
 true-false : {X : Type 0} → true ≡ false → X
 true-false e = let z : _≡_ {A = ℕ} 0 1 = cc in absurd (omega arith)

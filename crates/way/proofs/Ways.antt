@@ -19,7 +19,7 @@ use Rattle.versions.proofs.SlotLaws.{programs-length, program-at, take-program,
 use Rattle.versions.proofs.Loops.{way-step, way-large, way-halts}
 use Rattle.versions.proofs.Lengths.{none-bounded, none-taken, none-onward, length-same}
 use Rattle.versions.proofs.Packs.{two-long, two-stand}
-use Rattle.store.specs.Promise.{Led, Joins, Steps}
+use Rattle.way.specs.Promise.{Led, Joins, Steps}
 
 -- One step: the program of a version has joined the common part.
 pub record Entered (n : ℕ) (t slots part : List ℕ) (v : ℕ) (r : Reply) (new : List ℕ) : Type 0 where

@@ -4,10 +4,10 @@ use native.Mathlib.Omega.{arith}
 use borrow.Author.Tests.{not-true, not-false}
 use lib.Seq.{length-take-le}
 use Rattle.gathering.proofs.Told.{no-length}
-use Rattle.store.proofs.Holding.{opens-short, opens-not, opens-stops, opens-by}
+use Rattle.way.proofs.Holding.{opens-short, opens-not, opens-stops, opens-by}
 use borrow.Author.Needs.{needs}
-use Rattle.store.proofs.going.is_held.Statement.{statement}
-use Rattle.store.proofs.going.is_held.Tie as tie
+use Rattle.way.proofs.is_held.Statement.{statement}
+use Rattle.way.proofs.is_held.Tie as tie
 
 returns : tie.Need-returns
 returns c =

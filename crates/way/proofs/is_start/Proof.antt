@@ -2,10 +2,10 @@
 use Prim.Native.Nat.{_-_}
 use mathlib.Core.Path.{sym}
 use lib.ListN.{length}
-use Rattle.store.proofs.Starts.{Begun, starts-short, begun-start, begun-all, begun-other, begun-next}
+use Rattle.way.proofs.Starts.{Begun, starts-short, begun-start, begun-all, begun-other, begun-next}
 use borrow.Author.Needs.{needs}
-use Rattle.store.proofs.going.is_start.Statement.{statement}
-use Rattle.store.proofs.going.is_start.Tie as tie
+use Rattle.way.proofs.is_start.Statement.{statement}
+use Rattle.way.proofs.is_start.Tie as tie
 
 abbrev Inv-loop : tie.InvT-loop
 Inv-loop start bytes i₀ i = Begun start bytes i

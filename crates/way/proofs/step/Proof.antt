@@ -1,13 +1,13 @@
 -- The program joins the common part; then the state is packed anew.
 use native.Mathlib.Omega.{arith}
 use Rattle.gathering.proofs.Told.{no-length}
-use Rattle.store.proofs.Ways.{Entered, entered, steps-large, size-short, part-short, steps-on}
+use Rattle.way.proofs.Ways.{Entered, entered, steps-large, size-short, part-short, steps-on}
 use borrow.Author.Needs.{needs}
-use Rattle.store.proofs.going.step.Statement.{statement}
-use Rattle.store.proofs.going.step.Tie as tie
-use Rattle.store.proofs.going.step.Reads as reads
-use Rattle.store.proofs.going.step.Lts as lts
-use Rattle.store.proofs.going.join.Reads as join-reads
+use Rattle.way.proofs.step.Statement.{statement}
+use Rattle.way.proofs.step.Tie as tie
+use Rattle.way.proofs.step.Reads as reads
+use Rattle.way.proofs.step.Lts as lts
+use Rattle.way.proofs.join.Reads as join-reads
 use Rattle.versions.proofs.packing.pack.Reads as pack-reads
 use Rattle.versions.proofs.slots.length_in.Reads as length-in-reads
 

@@ -1,0 +1,129 @@
+-- What import writes is what rewriting writes of a record with the rows of the table's graph, so what is demanded of rewriting holds of it.
+use mathlib.Core.Path.{_≡_, refl, sym, _∙_, ap, subst}
+use mathlib.Core.List.{List}
+use mathlib.Core.Logic.{_↔_, ⊎-elim}
+use Prim.Native.Nat.{ℕ}
+use lib.Dec.{eqb}
+use lib.ListN.{take}
+use Rattle.graphs.specs.Graph.{SameMeaning}
+use Rattle.graphs.specs.Rows.{Row}
+use Rattle.lattice.specs.Label.{Label}
+use Rattle.lattice.specs.Reply.{opened}
+use Rattle.lattice.specs.Labels.{tableLabels}
+use Rattle.encode.specs.Encode.{encoded}
+use Rattle.record.specs.Read.{reading, accepted, graphOfRows}
+use Rattle.record.proofs.Rewritten.{rules-read}
+use Rattle.rows.specs.declared.Row as lent
+use Rattle.rows.specs.Rows.{tableRows}
+use Rattle.replies.specs.declared.Reply.the-variants.{Length}
+use Rattle.replies.specs.Reply.{Result}
+use Rattle.engine.proofs.Tables.{few-types}
+use Rattle.calls.specs.Calls.{rewriting}
+use Rattle.planning.specs.Planning.{importingRows}
+use Rattle.planning.specs.Importable.{tableGraph}
+use Rattle.planning.proofs.TableGraph.{importable-rules}
+use Rattle.planning.proofs.ImportDue as due
+use Rattle.demands.specs.Lent.{Lent}
+use Rattle.demands.specs.Demand.{Given, WrittenRecord, Leaves, Writes, Rewritten}
+use Rattle.demands.proofs.Results.{rewriting-is}
+use Rattle.demands.proofs.Demanded.Output as Output
+use Rattle.demands.proofs.Demanded.Meaning as Meaning
+
+-- a record with the rows of its graph
+abbrev recordOf : List ℕ → List lent.Row → List ℕ
+recordOf nodes rows = encoded (tableRows nodes rows)
+
+module _ (n : ℕ) (t nodes : List ℕ) (rows : List lent.Row) (lends : Lent n t nodes rows) where
+  reads : reading n (recordOf nodes rows) ≡ accepted (tableRows nodes rows)
+  reads = rules-read n (tableRows nodes rows) (importable-rules nodes rows n (few-types n t (opened n t) refl (lends .opens)) (lends .importable))
+
+  as-rewriting : (out : List ℕ) → importingRows n t rows nodes out ≡ rewriting n t (recordOf nodes rows) out
+  as-rewriting out =
+      due.import-is n t rows nodes out (lends .opens) (lends .importable) ∙ sym (rewriting-is n t (recordOf nodes rows) (tableRows nodes rows) (lends .opens) reads out)
+
+  -- 8 and a length, each exactly where it is due
+  pub import-writes : (out : List ℕ) → Writes n t eqb (tableGraph nodes rows) out (importingRows n t rows nodes out)
+  import-writes out =
+      subst (Writes n t eqb (tableGraph nodes rows) out) (sym (as-rewriting out))
+      (Meaning.rewriting-writes n t (recordOf nodes rows) (tableRows nodes rows) (lends .opens) reads out)
+
+-- a length is answered of such a table alone
+pub length-lent : (n : ℕ) (t nodes : List ℕ) (rows : List lent.Row) (out : List ℕ) (l : ℕ) → importingRows n t rows nodes out .reply ≡ Length l → Lent n t nodes rows
+length-lent n t nodes rows out l q =
+    let (opens, importable, _) = due.length-exact n t rows nodes out l .0 q in record { opens = opens; importable = importable }
+
+-- what stands in the output, whatever is lent
+pub import-leaves : (n : ℕ) (t nodes : List ℕ) (rows : List lent.Row) (out : List ℕ) → Leaves n out (importingRows n t rows nodes out)
+import-leaves n t nodes rows out =
+    ⊎-elim (λ (r, k, e, is). subst (Leaves n out) (sym is) (Output.refusing-leaves n out r k e))
+    (λ (opens, importable).
+    subst (Leaves n out) (sym (as-rewriting n t nodes rows (record { opens = opens; importable = importable }) out)) (Output.rewriting-leaves n t out (recordOf nodes rows)))
+    (due.refused-or-written n t rows nodes out)
+
+-- the record beside a length
+module _ (n : ℕ) (t nodes : List ℕ) (rows : List lent.Row) (out : List ℕ) (l : ℕ) (q : importingRows n t rows nodes out .reply ≡ Length l) where
+  lends : Lent n t nodes rows
+  lends = length-lent n t nodes rows out l q
+
+  is : importingRows n t rows nodes out ≡ rewriting n t (recordOf nodes rows) out
+  is = as-rewriting n t nodes rows lends out
+
+  rewritten : Rewritten n t (recordOf nodes rows) (tableRows nodes rows) (take l (importingRows n t rows nodes out .output))
+  rewritten =
+      subst (λ (r : Result). Rewritten n t (recordOf nodes rows) (tableRows nodes rows) (take l (r .output))) (sym is)
+      (Meaning.written-again n t (recordOf nodes rows) (tableRows nodes rows) (lends .opens) (reads n t nodes rows lends) out l
+      (sym (ap (λ (r : Result). r .reply) is) ∙ q))
+
+  pub import-means : (one : WrittenRecord n (take l (importingRows n t rows nodes out .output))) ×
+      SameMeaning (tableLabels n t) (tableGraph nodes rows) (graphOfRows (one .form)) ×
+      ((room : List ℕ) → rewriting n t (take l (importingRows n t rows nodes out .output)) room ≡ importingRows n t rows nodes room)
+  import-means = (
+    rewritten .is-written,
+    rewritten .means,
+    λ room. rewritten .again room ∙ sym (as-rewriting n t nodes rows lends room),
+  )
+
+-- A table and an accepted record.
+module _ (n : ℕ) (t nodes : List ℕ) (rows : List lent.Row) (lends : Lent n t nodes rows) (a : List ℕ) (g : List (Row Label)) (reads-a : reading n a ≡ accepted g) where
+  given : Given n t (recordOf nodes rows) a (tableRows nodes rows) g
+  given = record { opens = lends .opens; first = reads n t nodes rows lends; second = reads-a }
+
+  pub record-bytes : (out : List ℕ) (l m : ℕ) → importingRows n t rows nodes out .reply ≡ Length l → rewriting n t a out .reply ≡ Length m →
+      SameMeaning (tableLabels n t) (tableGraph nodes rows) (graphOfRows g) ↔
+      (take l (importingRows n t rows nodes out .output) ≡ take m (rewriting n t a out .output))
+  record-bytes out l m p q =
+      let e = as-rewriting n t nodes rows lends out in
+      subst
+      (λ (r : Result).
+      SameMeaning (tableLabels n t) (tableGraph nodes rows) (graphOfRows g) ↔ (take l (r .output) ≡ take m (rewriting n t a out .output)))
+      (sym e) (Meaning.bytes-exact n t (recordOf nodes rows) a (tableRows nodes rows) g given out l m (sym (ap (λ (r : Result). r .reply) e) ∙ p) q)
+
+  pub record-meaning : SameMeaning (tableLabels n t) (tableGraph nodes rows) (graphOfRows g) ↔
+      ((out : List ℕ) → importingRows n t rows nodes out ≡ rewriting n t a out)
+  record-meaning =
+      let (there, back) = Meaning.meaning-exact n t (recordOf nodes rows) a (tableRows nodes rows) g given in (
+        λ m out. as-rewriting n t nodes rows lends out ∙ there m out,
+        λ all. back (λ out. sym (as-rewriting n t nodes rows lends out) ∙ all out),
+      )
+
+-- Two tables.
+module _ (n : ℕ) (t nodes nodes′ : List ℕ) (rows rows′ : List lent.Row) (lends : Lent n t nodes rows) (lends′ : Lent n t nodes′ rows′) where
+  pub table-bytes : (out : List ℕ) (l m : ℕ) → importingRows n t rows nodes out .reply ≡ Length l → importingRows n t rows′ nodes′ out .reply ≡ Length m →
+      SameMeaning (tableLabels n t) (tableGraph nodes rows) (tableGraph nodes′ rows′) ↔
+      (take l (importingRows n t rows nodes out .output) ≡ take m (importingRows n t rows′ nodes′ out .output))
+  table-bytes out l m p q =
+      let e = as-rewriting n t nodes′ rows′ lends′ out in
+      subst
+      (λ (r : Result).
+      SameMeaning (tableLabels n t) (tableGraph nodes rows) (tableGraph nodes′ rows′) ↔ (take l (importingRows n t rows nodes out .output) ≡ take m (r .output)))
+      (sym e)
+      (record-bytes n t nodes rows lends (recordOf nodes′ rows′) (tableRows nodes′ rows′) (reads n t nodes′ rows′ lends′) out l m p
+      (sym (ap (λ (r : Result). r .reply) e) ∙ q))
+
+  pub table-meaning : SameMeaning (tableLabels n t) (tableGraph nodes rows) (tableGraph nodes′ rows′) ↔
+      ((out : List ℕ) → importingRows n t rows nodes out ≡ importingRows n t rows′ nodes′ out)
+  table-meaning =
+      let (there, back) = record-meaning n t nodes rows lends (recordOf nodes′ rows′) (tableRows nodes′ rows′) (reads n t nodes′ rows′ lends′) in (
+        λ m out. there m out ∙ sym (as-rewriting n t nodes′ rows′ lends′ out),
+        λ all. back (λ out. all out ∙ as-rewriting n t nodes′ rows′ lends′ out),
+      )
