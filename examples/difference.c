@@ -17,12 +17,13 @@ static const uint8_t p[] = {2, 3, 3, 0, 0, 0, 0, 0, 0, 0, 1, 1, 3, 0, 0, 0, 0, 0
 static const uint8_t r[] = {2, 3, 3, 0, 0, 0, 0, 0, 0, 0, 1, 1, 1, 0, 0, 0, 0, 0, 0, 0, 0};
 
 /* Prints what a call answered: a length, the order's answer, or a refusal with the
- * record that it tells of. */
+ * record that it tells of and its sentence. */
 static void print_answer(const char *call, uint64_t answer) {
     static const char *const side[] = {"", " first", " second"};
     static const char *const order[] = {"same", "under", "above", "neither"};
     if (RECORD_IS_REFUSED(answer))
-        printf("%s: refused %d%s\n", call, RECORD_REFUSAL(answer), side[RECORD_SIDE(answer)]);
+        printf("%s: refused %d%s: %s\n", call, RECORD_REFUSAL(answer), side[RECORD_SIDE(answer)],
+               record_refusal_text(answer));
     else if (answer >= RECORD_SAME)
         printf("%s: %s\n", call, order[answer - RECORD_SAME]);
     else

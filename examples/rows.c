@@ -19,11 +19,12 @@ static const uint8_t types[] = {3, 0, 255, 3, 0, 255, 1, 10, 200};
 enum { LINKS = sizeof links / sizeof links[0] };
 
 /* Prints what a call answered: a length, counts, or a refusal with the record that it
- * tells of. */
+ * tells of and its sentence. */
 static void print_answer(const char *call, uint64_t answer) {
     static const char *const side[] = {"", " first", " second"};
     if (RECORD_IS_REFUSED(answer))
-        printf("%s: refused %d%s\n", call, RECORD_REFUSAL(answer), side[RECORD_SIDE(answer)]);
+        printf("%s: refused %d%s: %s\n", call, RECORD_REFUSAL(answer), side[RECORD_SIDE(answer)],
+               record_refusal_text(answer));
     else if (RECORD_IS_COUNTS(answer))
         printf("%s: %d nodes, %d rows\n", call, RECORD_NODES(answer), RECORD_ROWS(answer));
     else

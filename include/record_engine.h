@@ -1,7 +1,8 @@
-/* The record engine for C: twelve calls on bytes, two on the planning tool's rows, four on
+/* The record engine for C: thirteen calls on bytes, two on the planning tool's rows, four on
  * a gathering, three on a store, and the table of the house types, in the static library
  * librecord_engine.a, which `rt staticlib record_engine` writes to target/staticlib.
- * examples/difference.c, examples/rows.c and examples/export.c are whole programs.
+ * examples/difference.c, examples/rows.c, examples/table.c, examples/export.c and
+ * examples/thread.c are whole programs.
  *
  * A type table orders n types, 2 to 64, by a row of 8 bytes for each. In row i, bit
  * j % 8 of byte j / 8 is set exactly when type j is below type i or is type i; bit 0
@@ -118,9 +119,9 @@
  * begun or added to, or a store that is put into or dropped from, overlaps nothing else that
  * is handed in. The calls keep no pointer, share no state and may run side by side.
  *
- * A thread that makes a call needs 384 KiB of stack. The calls on a store take up to
- * 256 KiB of it, the others up to 136; nothing tests for room, and a call that has less
- * overruns the stack.
+ * The comment of a call ends with the stack that it takes, as measured on the largest
+ * records, with 4 KiB to spare and rounded up. A thread that makes calls needs RECORD_STACK
+ * bytes of stack; nothing tests for room, and a call that has less overruns the stack.
  *
  * A call that writes a record answers its length, which is at most RECORD_LONGEST; the
  * output's first bytes are then the record and its other bytes are unchanged. On a
@@ -128,29 +129,32 @@
  * gathering or a store is changed. Refusals have the numbers of documents 01 and 02:
  *
  *    1  n is not 2 to 64, or the table's length is not 8 times n
- *    2  a bit at n or above; no order; 0 not least; n - 1 not greatest
+ *    2  a bit at n or above, no order, 0 not least, or n - 1 not greatest
  *    3  two types without a meet or a join
- *    4  a record with no nodes, too short, with bytes left over, or more than 2,048 links;
- *       a planning table with a number of node bytes that is not divisible by 3, with
- *       nodes that are not 1 to 255, or more than 2,048 rows; bytes that hold no store, or
- *       fewer than 2 or more than RECORD_STORE
- *    5  a type that is 0 or at least n; a target that is no node; a lowest level above
- *       the highest; a planning table's type with bit 7
+ *    4  a record with no nodes, too short, with bytes left over, or with more than 2,048
+ *       links; a planning table with a number of node bytes that is not divisible by 3,
+ *       with nodes that are not 1 to 255, or with more than 2,048 rows; bytes that hold no
+ *       store, fewer than 2 or more than 16,384
+ *    5  a type that is 0 or at least n, a target that is no node, or a lowest level above
+ *       the highest; a planning table's type with bit 7, while its target that is no node
+ *       is 14
  *    6  a node reaches itself
  *    7  a node that the root does not reach
  *    8  the result exists and the output is shorter
- *    9  combination: a loop
- *   10  combination: a clash, by type 0 or by ranges that do not overlap, and no loop
- *   11  a result of more than 255 nodes or 2,048 links; store: a common part on the way
- *   12  difference: the second graph is not below the first
- *   13  difference: some node of the second graph has no wanted type: among the types
- *       whose meet with the first graph's types over it is its own, none is the greatest;
+ *    9  combination: a class of shared paths reaches itself
+ *   10  combination: a class of shared paths has no type or no level in common, and none
+ *       reaches itself
+ *   11  the result, or a store's common part at a step of the way, has more than 255 nodes
+ *       or 2,048 links
+ *   12  difference: the second record is not below the first
+ *   13  difference: some node of the second record has no wanted type: among the types
+ *       whose meet with the first record's types over it is its own, none is the greatest;
  *       store: a program on the way has no difference from the common part for that reason
  *   14  planning table: a row with a feature above 63 or a node number outside the count
  *   15  planning table: two rows with one parent and feature
  *   16  gathering: an order or a finish before the first addition
- *   17  a list that is not of 64 bytes, or with an entry of n or more
- *   18  a record with a link that the list forbids
+ *   17  an appropriateness list that is not of 64 bytes, or with an entry of n or more
+ *   18  a record with a link that the appropriateness list forbids
  *   19  a reading order that is not a list of all 64 features, each once
  *   20  store: a version above 15, or absent for a read or a drop, or present for a put
  *   21  store: fewer bytes than a step of the way takes
@@ -173,6 +177,14 @@
 #ifdef __cplusplus
 extern "C" {
 #endif
+
+/* The version of this header and of its library, as a number and as a text. The number is
+ * 1,000,000 times the first number of the text, 1,000 times the second and the third. */
+#define RECORD_VERSION 1000
+#define RECORD_VERSION_TEXT "0.1.0"
+
+/* A thread with a stack of so many bytes has room for every call. */
+#define RECORD_STACK 393216
 
 /* An output of so many bytes is never too short. */
 #define RECORD_LONGEST 4854
@@ -238,9 +250,62 @@ extern "C" {
 #define RECORD_REFUSAL(answer) ((int)((answer) & 255))
 #define RECORD_SIDE(answer) ((int)((answer) >> 8 & 255))
 
+/* C89 has no word `inline`. */
+#if defined(__cplusplus) || (defined(__STDC_VERSION__) && __STDC_VERSION__ >= 199901L)
+#define RECORD_INLINE static inline
+#elif defined(__GNUC__)
+#define RECORD_INLINE static __inline__
+#else
+#define RECORD_INLINE static
+#endif
+
+/* The refusal as a sentence, which has neither its number nor its side; "no refusal" for
+ * an answer that is none:
+ *
+ *    if (RECORD_IS_REFUSED(answer))
+ *        printf("refused %d: %s\n", RECORD_REFUSAL(answer), record_refusal_text(answer));
+ */
+RECORD_INLINE const char *record_refusal_text(uint64_t answer) {
+    if (!RECORD_IS_REFUSED(answer))
+        return "no refusal";
+    switch (answer & 255) {
+    case 1: return "the table's size does not fit its types";
+    case 2: return "the table is not an order of its types";
+    case 3: return "two types have no meet or no join";
+    case 4: return "the record is malformed";
+    case 5: return "a type or a target is out of range, or a lowest level is above the highest";
+    case 6: return "a node reaches itself";
+    case 7: return "the root does not reach a node";
+    case 8: return "the output is shorter than the result";
+    case 9: return "a class of shared paths reaches itself";
+    case 10: return "a class of shared paths has no type or no level in common";
+    case 11: return "the result has more than 255 nodes or 2,048 links";
+    case 12: return "the second record is not below the first";
+    case 13: return "a node of the second record has no wanted type";
+    case 14: return "a row's feature is above 63 or a node number is out of range";
+    case 15: return "two rows have one parent and feature";
+    case 16: return "nothing has been added to the gathering";
+    case 17: return "the list has not one type for each of the 64 features";
+    case 18: return "a node has a feature that the list does not allow its type";
+    case 19: return "the list has not each of the 64 features once";
+    case 20: return "the version is above 15, or absent, or present already";
+    case 21: return "the store has too few bytes";
+    case 22: return "fewer bytes are lent for reasons than there are links";
+    case 23: return "the number of features is not 1 or 2";
+    case 24: return "the record is not one of those listed";
+    default: return "a refusal that this header does not know";
+    }
+}
+
+#undef RECORD_INLINE
+
+/* Whether a table is accepted, so that no call over it is refused by 1 to 3. Answers 0, or
+ * refuses by 1 to 3. Takes 8 KiB of stack. */
+uint64_t record_check_table(size_t n, const uint8_t *table, size_t table_length);
+
 /* Writes a record in its one written form: records of equal meaning, and no others,
  * give equal bytes. Answers the length, or refuses by 1 to 8; the record counts as
- * the first. */
+ * the first. Takes 36 KiB of stack. */
 uint64_t record_rewrite(size_t n, const uint8_t *table, size_t table_length,
                         const uint8_t *record, size_t record_length,
                         uint8_t *output, size_t output_length);
@@ -248,7 +313,7 @@ uint64_t record_rewrite(size_t n, const uint8_t *table, size_t table_length,
 /* Which of two records is the broader. A graph is below another when every path of the
  * other is one of its own, with a type below or equal and a range inside, and paths that
  * share in the other share in it. Answers RECORD_SAME, RECORD_UNDER, RECORD_ABOVE or
- * RECORD_NEITHER, or refuses by 1 to 7. */
+ * RECORD_NEITHER, or refuses by 1 to 7. Takes 20 KiB of stack. */
 uint64_t record_order(size_t n, const uint8_t *table, size_t table_length,
                       const uint8_t *first, size_t first_length,
                       const uint8_t *second, size_t second_length);
@@ -256,7 +321,7 @@ uint64_t record_order(size_t n, const uint8_t *table, size_t table_length,
 /* Writes the common part of two records: the paths in both, each with the join of
  * its two types and the smallest range holding both its ranges, two sharing exactly
  * when they share in both. It is the least graph above both. Answers the length, or
- * refuses by 1 to 7, 11 and 8. */
+ * refuses by 1 to 7, 11 and 8. Takes 116 KiB of stack. */
 uint64_t record_generalize(size_t n, const uint8_t *table, size_t table_length,
                            const uint8_t *first, size_t first_length,
                            const uint8_t *second, size_t second_length,
@@ -264,7 +329,7 @@ uint64_t record_generalize(size_t n, const uint8_t *table, size_t table_length,
 
 /* Writes the combination of two records, the greatest graph below both. Answers the
  * length, or refuses by 1 to 7, by 9 or 10 where no graph is below both, then by 11
- * and 8. */
+ * and 8. Takes 164 KiB of stack. */
 uint64_t record_unify(size_t n, const uint8_t *table, size_t table_length,
                       const uint8_t *first, size_t first_length,
                       const uint8_t *second, size_t second_length,
@@ -273,14 +338,15 @@ uint64_t record_unify(size_t n, const uint8_t *table, size_t table_length,
 /* Writes the difference of a general record, the first, and a specific one below it,
  * the second: combined with the general one it gives the specific one again, byte
  * for byte in written form, and nothing strictly more general does. Answers the
- * length, or refuses by 1 to 7, 12, 13 and 8. */
+ * length, or refuses by 1 to 7, 12, 13 and 8. Takes 64 KiB of stack. */
 uint64_t record_difference(size_t n, const uint8_t *table, size_t table_length,
                            const uint8_t *general, size_t general_length,
                            const uint8_t *specific, size_t specific_length,
                            uint8_t *output, size_t output_length);
 
 /* As `record_rewrite`, of a record that obeys an appropriateness list. Answers the
- * length, or refuses by 1 to 3, by 17, by 4 to 7 and 18, then by 8. */
+ * length, or refuses by 1 to 3, by 17, by 4 to 7 and 18, then by 8; the record counts as
+ * the first. Takes 36 KiB of stack. */
 uint64_t record_rewrite_appropriate(size_t n, const uint8_t *table, size_t table_length,
                                     const uint8_t *list, size_t list_length,
                                     const uint8_t *record, size_t record_length,
@@ -288,7 +354,7 @@ uint64_t record_rewrite_appropriate(size_t n, const uint8_t *table, size_t table
 
 /* As `record_generalize`, of two records that obey an appropriateness list. The common
  * part obeys it too. Answers the length, or refuses by 1 to 3, by 17, by the first
- * record's 4 to 7 and 18, by the second's, then by 11 and 8. */
+ * record's 4 to 7 and 18, by the second's, then by 11 and 8. Takes 116 KiB of stack. */
 uint64_t record_generalize_appropriate(size_t n, const uint8_t *table, size_t table_length,
                                        const uint8_t *list, size_t list_length,
                                        const uint8_t *first, size_t first_length,
@@ -297,7 +363,7 @@ uint64_t record_generalize_appropriate(size_t n, const uint8_t *table, size_t ta
 
 /* As `record_unify`, of two records that obey an appropriateness list. The combination
  * obeys it too. Answers the length, or refuses by 1 to 3, by 17, by the first record's 4
- * to 7 and 18, by the second's, then by 9, 10, 11 and 8. */
+ * to 7 and 18, by the second's, then by 9, 10, 11 and 8. Takes 164 KiB of stack. */
 uint64_t record_unify_appropriate(size_t n, const uint8_t *table, size_t table_length,
                                   const uint8_t *list, size_t list_length,
                                   const uint8_t *first, size_t first_length,
@@ -308,7 +374,7 @@ uint64_t record_unify_appropriate(size_t n, const uint8_t *table, size_t table_l
  * reasons one byte for each of its links, RECORD_REASON_BARE, RECORD_REASON_GROUPS or
  * RECORD_REASON_WANTED, in the order of the links in the written record: node by node,
  * and for each node by feature. The other bytes of the reasons are unchanged. Answers
- * the record's length, or refuses by 1 to 7, 12, 13, 8 and 22. */
+ * the record's length, or refuses by 1 to 7, 12, 13, 8 and 22. Takes 64 KiB of stack. */
 uint64_t record_difference_explained(size_t n, const uint8_t *table, size_t table_length,
                                      const uint8_t *general, size_t general_length,
                                      const uint8_t *specific, size_t specific_length,
@@ -319,7 +385,7 @@ uint64_t record_difference_explained(size_t n, const uint8_t *table, size_t tabl
  * feature's place in a reading order, then by the number of the node that they leave.
  * Whichever list is given, it restores the specific record, and nothing strictly more
  * general does. Answers the length, or refuses by 1 to 3, by 19, by 4 to 7, then by 12,
- * 13 and 8. */
+ * 13 and 8. Takes 64 KiB of stack. */
 uint64_t record_difference_by(size_t n, const uint8_t *table, size_t table_length,
                               const uint8_t *list, size_t list_length,
                               const uint8_t *general, size_t general_length,
@@ -328,7 +394,7 @@ uint64_t record_difference_by(size_t n, const uint8_t *table, size_t table_lengt
 
 /* Writes the difference as `record_difference_by` does, and its reasons as
  * `record_difference_explained` does. Answers the record's length, or refuses by 1 to 3,
- * by 19, by 4 to 7, then by 12, 13, 8 and 22. */
+ * by 19, by 4 to 7, then by 12, 13, 8 and 22. Takes 64 KiB of stack. */
 uint64_t record_difference_explained_by(size_t n, const uint8_t *table, size_t table_length,
                                         const uint8_t *list, size_t list_length,
                                         const uint8_t *general, size_t general_length,
@@ -342,7 +408,7 @@ uint64_t record_difference_explained_by(size_t n, const uint8_t *table, size_t t
  * once. Answers the length, or RECORD_END where the record is the last; or refuses by 1
  * to 3, by 4 to 7 where the record has bytes, which counts as the first, then by 23, by
  * 24 where the record is read but not listed, and by 8. The cost of a call does not grow
- * with the number of listed records. */
+ * with the number of listed records. Takes 12 KiB of stack. */
 uint64_t record_next(size_t n, const uint8_t *table, size_t table_length,
                      size_t features,
                      const uint8_t *record, size_t record_length,
@@ -354,7 +420,7 @@ typedef struct { uint8_t parent, feature, target; } record_row;
 /* Writes the record of a planning table in its one written form, as `record_rewrite` does:
  * tables of equal meaning, and no others, give equal bytes, whatever the order of their
  * rows. Answers the length, or refuses by 1 to 3, by 4, by 14, by 15, by 5, 6 and 7, then
- * by 8; for 4 to 7 the table counts as the first record. */
+ * by 8; the planning table counts as the first record. Takes 76 KiB of stack. */
 uint64_t record_import(size_t n, const uint8_t *table, size_t table_length,
                        const record_row *rows, size_t row_count,
                        const uint8_t *nodes, size_t nodes_length,
@@ -366,57 +432,57 @@ uint64_t record_import(size_t n, const uint8_t *table, size_t table_length,
  * the written record; exporting what was imported gives the rows sorted, with the written
  * numbers. Answers the counts of nodes and rows, or refuses by 1 to 7, where the record
  * counts as the first, then by 8 where the rows are fewer than the links or the node bytes
- * fewer than three for each node. */
+ * fewer than three for each node. Takes 48 KiB of stack. */
 uint64_t record_export(size_t n, const uint8_t *table, size_t table_length,
                        const uint8_t *record, size_t record_length,
                        record_row *rows, size_t row_count,
                        uint8_t *nodes, size_t nodes_length);
 
 /* Begins a gathering over a table, with nothing added yet. Answers how many bytes it uses
- * so far, 3 + 8 * n; the others are unchanged. Refuses by 1 to 3, then by 8 where fewer
- * than 1 + 8 * n + 2 + RECORD_LONGEST bytes are lent. */
+ * so far, 3 + 8 * n, or refuses by 1 to 3, then by 8; the other bytes are unchanged. It
+ * asks for at least 1 + 8 * n + 2 + RECORD_LONGEST bytes. Takes 8 KiB of stack. */
 uint64_t record_gathering_begin(size_t n, const uint8_t *table, size_t table_length,
                                 uint8_t *gathering, size_t gathering_length);
 
 /* Adds a record. Answers the length of the common part, or refuses by 4 to 7 of the
  * record, which counts as the first, and by 11, and by nothing else on bytes that hold a
- * gathering; a refused addition changes nothing. */
+ * gathering; a refused addition changes nothing. Takes 116 KiB of stack. */
 uint64_t record_gathering_add(uint8_t *gathering, size_t gathering_length,
                               const uint8_t *record, size_t record_length);
 
 /* Which is the broader, seen from the record: the order, as `record_order` gives it, of
  * the record and the common part so far. Answers one of its four, or refuses by 4 to 7 of
- * the record, which counts as the first, then by 16. */
+ * the record, which counts as the first, then by 16. Takes 24 KiB of stack. */
 uint64_t record_gathering_order(const uint8_t *gathering, size_t gathering_length,
                                 const uint8_t *record, size_t record_length);
 
 /* Writes the common part so far. The gathering stays open. Answers the length, or refuses
- * by 16, then by 8. */
+ * by 16, then by 8. Takes 36 KiB of stack. */
 uint64_t record_gathering_finish(const uint8_t *gathering, size_t gathering_length,
                                  uint8_t *output, size_t output_length);
 
 /* Puts a record into a store as the version of a number, 0 to 15, that is absent. Answers how
  * many bytes the store uses; the others are unchanged. Refuses by 1 to 3, by 4 as the first
  * where the bytes hold no store, by 4 to 7 of the record, which counts as the second, by 20
- * where the version is above 15 or present, then by the first of 11, 13 and 21 on the way of
- * all programs. Where the version is the last, what was gone to know the store is the
- * beginning of that way and is gone once. */
+ * for the version, then on the way of all programs by the first of 11, 13 and 21. Where the
+ * version is the last, what was gone to know the store is the beginning of that way and is
+ * gone once. Takes 280 KiB of stack. */
 uint64_t record_store_put(size_t n, const uint8_t *table, size_t table_length,
                           uint8_t *store, size_t store_length,
                           size_t version,
                           const uint8_t *record, size_t record_length);
 
 /* Writes the written record that was put as a version. Answers the record's length, or refuses
- * by 1 to 3, by 4 as the first where the bytes hold no store, by 20 where the version is
- * above 15 or absent, then by 8. */
+ * by 1 to 3, by 4 as the first where the bytes hold no store, by 20 for the version, then by
+ * 8. Takes 272 KiB of stack. */
 uint64_t record_store_read(size_t n, const uint8_t *table, size_t table_length,
                            const uint8_t *store, size_t store_length,
                            size_t version,
                            uint8_t *output, size_t output_length);
 
 /* Drops a version. Answers how many bytes the store uses then; the others are unchanged.
- * Refuses by 1 to 3, by 4 as the first where the bytes hold no store, by 20 where the version
- * is above 15 or absent, then by the first of 11, 13 and 21 on the way of the others. */
+ * Refuses by 1 to 3, by 4 as the first where the bytes hold no store, by 20 for the version,
+ * then on the way of the others by the first of 11, 13 and 21. Takes 272 KiB of stack. */
 uint64_t record_store_drop(size_t n, const uint8_t *table, size_t table_length,
                            uint8_t *store, size_t store_length,
                            size_t version);
@@ -425,7 +491,7 @@ uint64_t record_store_drop(size_t n, const uint8_t *table, size_t table_length,
  * output's first RECORD_HOUSE_TABLE bytes; its other bytes are unchanged. A house
  * type has three grades of 0 to 3 and is numbered 16 * first + 4 * second + third; it
  * is below another when each grade is at most the other's, and 3 tells nothing.
- * Answers RECORD_HOUSE_TABLE, or refuses by 8. */
+ * Answers RECORD_HOUSE_TABLE, or refuses by 8. Takes 8 KiB of stack. */
 uint64_t record_house_table(uint8_t *output, size_t output_length);
 
 #ifdef __cplusplus

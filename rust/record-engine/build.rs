@@ -1,6 +1,7 @@
 //! Links the engine's static library, `librecord_engine.a`, which `rt staticlib
 //! record_engine` writes to the repository's `target/staticlib`. The environment
-//! variable `RECORD_ENGINE_LIB_DIR` has the absolute path of another folder with it.
+//! variable `RECORD_ENGINE_LIB_DIR` has the absolute path of another folder with it. Where
+//! it is missing, `src/missing.rs` stops what would be linked.
 
 use std::env;
 use std::path::{Path, PathBuf};
@@ -10,17 +11,20 @@ const FOLDER: &str = "RECORD_ENGINE_LIB_DIR";
 fn main() {
     let folder = env::var_os(FOLDER).map_or_else(in_repository, PathBuf::from);
     let archive = folder.join("librecord_engine.a");
-    if !archive.exists() {
-        println!(
-            "cargo::warning={} is missing; run `rt staticlib record_engine` in the repository's root, or set {FOLDER} to its folder",
-            archive.display()
-        );
-    }
     println!("cargo::rerun-if-changed=build.rs");
     println!("cargo::rerun-if-changed={}", archive.display());
     println!("cargo::rerun-if-env-changed={FOLDER}");
-    println!("cargo::rustc-link-search=native={}", folder.display());
-    println!("cargo::rustc-link-lib=static=record_engine");
+    println!("cargo::rustc-check-cfg=cfg(archive_missing)");
+    if archive.exists() {
+        println!("cargo::rustc-link-search=native={}", folder.display());
+        println!("cargo::rustc-link-lib=static=record_engine");
+    } else {
+        println!("cargo::rustc-cfg=archive_missing");
+        println!(
+            "cargo::rustc-env=ARCHIVE_MISSING={} is missing: run `rt staticlib record_engine` in the repository's root, or set {FOLDER} to the folder that has it",
+            archive.display()
+        );
+    }
 }
 
 fn in_repository() -> PathBuf {

@@ -8,10 +8,10 @@ use Rattle.lattice.specs.declared.Opened.the-variants as opened
 use Rattle.lattice.specs.Reply as table
 use Rattle.record.specs.Read.{reading}
 use Rattle.replies.specs.declared.Reply.{Reply}
-use Rattle.replies.specs.declared.Reply.the-variants.{Table}
+use Rattle.replies.specs.declared.Reply.the-variants.{Length, Table}
 use Rattle.pairs.specs.Pair.{readBoth}
 use Rattle.engine.specs.Ordering.{ordered}
-use Rattle.calls.specs.Calls.{checked, ordering}
+use Rattle.calls.specs.Calls.{checked, checking, ordering}
 
 module _ {X : Type 0} (refuse : Reply → X) (next : X) {o : Opened} where
   -- 1 to 3
@@ -33,3 +33,13 @@ module _ (n : ℕ) (t a b : List ℕ) where
   unfolding ordering
   ordering-accepted e h =
       h ∙ sym (table-accepted (λ r. r) (readBoth (λ r. r) (reading n a) (reading n b) (ordered n t)) e)
+
+-- a table alone
+module _ (n : ℕ) (t : List ℕ) where
+  pub checking-refused : (fault : TableFault) → table.opened n t ≡ opened.Refused fault → Table fault ≡ checking n t
+  unfolding checking
+  checking-refused fault e = sym (ap (λ (o : Opened). checked (λ r. r) o (Length 0)) e)
+
+  pub checking-accepted : table.opened n t ≡ opened.Accepted → Length 0 ≡ checking n t
+  unfolding checking
+  checking-accepted e = sym (ap (λ (o : Opened). checked (λ r. r) o (Length 0)) e)

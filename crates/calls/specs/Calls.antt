@@ -10,7 +10,7 @@ use Rattle.record.specs.Read.{reading}
 use Rattle.groups.specs.LinkOrders.{isReadingOrder}
 use Rattle.difference.specs.Difference.{differedRows}
 use Rattle.replies.specs.declared.Reply.{Reply}
-use Rattle.replies.specs.declared.Reply.the-variants.{Table, ReadingOrder}
+use Rattle.replies.specs.declared.Reply.the-variants.{Length, Table, ReadingOrder}
 use Rattle.replies.specs.Reply.{Result, refusing}
 use Rattle.pairs.specs.Pair.{readBoth}
 use Rattle.engine.specs.Rewriting.{rewritten}
@@ -27,6 +27,10 @@ checked refuse opened.Accepted next = next
 abbrev pub checkedList : ℕ → List ℕ → Bool → Reply → List ℕ → Result → Result
 checkedList n t listed fault out next =
     checked (λ r. refusing r out) (table.opened n t) (cond listed next (refusing fault out))
+
+-- a table alone: 1 to 3, else a length of 0. "A table is accepted when none of 1 to 3 applies to it"
+unfoldable pub checking : ℕ → List ℕ → Reply
+checking n t = checked (λ r. r) (table.opened n t) (Length 0)
 
 -- "Rewriting one record in written form is a call too": the table's 1 to 3, the graph's 4 to 7, then 8
 unfoldable pub rewriting : ℕ → List ℕ → List ℕ → List ℕ → Result

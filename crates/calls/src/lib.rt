@@ -2,6 +2,7 @@
 // the table, tests a list where it has one, and goes on in `engine`. Every call answers a `Reply`; on a refusal no byte of an output is
 // written. It knows tables and lists; it conducts no operation.
 
+pub mod checking;
 pub mod differing;
 pub mod generalizing;
 pub mod ordering;

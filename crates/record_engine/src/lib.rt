@@ -11,7 +11,7 @@ ghost use mathlib.Core.Path.{_≡_};
 ghost use Prim.Native.Nat.{_<_, _≤_};
 ghost use lib.ListN.{take};
 ghost use Rattle.encode.specs.Encode.{yielding};
-ghost use Rattle.calls.specs.Calls.{rewriting, ordering, generalizing, unifying, differing, differingBy};
+ghost use Rattle.calls.specs.Calls.{checking, rewriting, ordering, generalizing, unifying, differing, differingBy};
 ghost use Rattle.calls.specs.Appropriate.{rewritingAppropriate, generalizingAppropriate, unifyingAppropriate};
 ghost use Rattle.calls.specs.Explained.{explaining, explainingBy};
 ghost use Rattle.listing.specs.Call.{stepping};
@@ -327,6 +327,14 @@ fn export_coded(n: usize, table: &[u8], bytes: &[u8], room: usize, nodes: &mut [
     let reply = made.answer;
     let answer = code(reply);
     Made { answer, count, at }
+}
+
+// Whether a table is accepted: the code of the reply, 0 where it is.
+#[no_mangle]
+pub extern "C" fn record_check_table(n: usize, table: &[u8]) -> u64
+    ensures { λ r. ⌜ r ≡ codeOf (checking n (now (table .entry))) ⌝ }
+{
+    code(calls::checking::check(n, table))
 }
 
 // The type table of the house types, for n = 64: the code of the reply, and the output that the engine leaves.

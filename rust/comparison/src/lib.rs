@@ -10,6 +10,7 @@ mod gathering;
 mod lent;
 pub mod program;
 mod rows;
+mod stack;
 mod store;
 mod told;
 
@@ -20,6 +21,7 @@ pub use calls::{NEXT, number};
 
 pub use gathering::Gatherings;
 pub use rows::PlanningTables;
+pub use stack::{on_stated_stack, stack_taken};
 pub use store::Stores;
 
 use counts::Counts;
@@ -27,20 +29,6 @@ use lent::{Lent, outputs};
 use reference::random::{self, Ranges, Shape, TableBytes, Xorshift};
 use reference::record;
 use reference::reply::Reply;
-use std::thread;
-
-/// The stack that the header, the wrapper and the README state for a call.
-const STACK: usize = 384 << 10;
-
-/// What some calls give on a thread that has the stated stack and no more.
-pub fn on_stated_stack<T: Send>(calls: impl FnOnce() -> T + Send) -> T {
-    thread::scope(|scope| {
-        let thread = thread::Builder::new()
-            .stack_size(STACK)
-            .spawn_scoped(scope, calls);
-        thread.expect("a thread").join().expect("no panic")
-    })
-}
 
 /// Both engines at one call, and how often each reply came.
 pub struct Comparison {

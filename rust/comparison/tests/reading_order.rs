@@ -93,7 +93,8 @@ fn differences_by_hand() {
             difference_explained_by(n, table, &list, &general, &specific, &mut again, &mut bytes);
         assert_eq!(length, Ok(rest.len()), "{first:?}");
         assert_eq!(again, output);
-        let found: Vec<Reason> = bytes.into_iter().map_while(Reason::of).collect();
+        let reason = |byte| Reason::try_from(byte).ok();
+        let found: Vec<Reason> = bytes.into_iter().map_while(reason).collect();
         assert_eq!(found, reasons, "{first:?}");
     }
     assert_eq!(Refusal::ReadingOrder.number(), 19);

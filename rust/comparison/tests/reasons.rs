@@ -27,7 +27,9 @@ fn explained(general: &str, specific: &str) -> (Vec<u8>, Vec<Reason>) {
         &mut reasons,
     );
     output.truncate(length.expect("a difference"));
-    let reasons = reasons.into_iter().map_while(Reason::of);
+    let reasons = reasons
+        .into_iter()
+        .map_while(|byte| Reason::try_from(byte).ok());
     (output, reasons.collect())
 }
 

@@ -4,7 +4,7 @@
 //! and stored cases.
 
 use comparison::Stores;
-use record_engine::{LONGEST_RECORD, Refusal, STORE_LENGTH, Store, VERSIONS};
+use record_engine::{LONGEST_RECORD, Refusal, STORE_LENGTH, Store, Table, VERSIONS};
 use reference::canonical::canonical;
 use reference::graph::Graph;
 use reference::notation::{self, bytes};
@@ -651,41 +651,35 @@ fn bytes_behind_the_used_ones_do_not_matter() {
 /// The type that owns its bytes, and the one over lent bytes, give what the calls give.
 #[test]
 fn a_store_of_its_own() {
-    let (n, table) = (4, &random::diamond().bytes);
+    let table = &Table::from_bytes(&random::diamond().bytes).expect("an accepted table");
     let [p, r] = ["top[0: X top, 1: X]", "top[0: X a, 1: X]"].map(record_of);
-    let mut output = [0; LONGEST_RECORD];
     let mut store = Store::new();
     assert_eq!(store, Store::default());
     assert_eq!(store.bytes().len(), STORE_LENGTH);
     assert_eq!((store.used(), store.versions().count()), (&[0, 0][..], 0));
-    assert_eq!(store.put(n, table, 3, &p), Ok(37));
-    assert_eq!(store.put(n, table, 15, &r), Ok(59));
+    assert_eq!(store.put(table, 3, &p), Ok(37));
+    assert_eq!(store.put(table, 15, &r), Ok(59));
     assert_eq!(store.used().len(), 59);
     assert!(store.versions().eq([3, 15]));
     let before = store.clone();
-    assert_eq!(store.put(n, table, 3, &r), Err(Refusal::WrongVersion));
-    assert_eq!(store.drop(n, table, 4), Err(Refusal::WrongVersion));
+    assert_eq!(store.put(table, 3, &r), Err(Refusal::WrongVersion));
+    assert_eq!(store.drop(table, 4), Err(Refusal::WrongVersion));
     assert_eq!(store, before);
-    assert_eq!(store.read(n, table, 15, &mut output), Ok(21));
-    assert_eq!(output[..21], r);
-    assert_eq!(
-        store.read(n, table, 15, &mut output[..20]),
-        Err(Refusal::NoRoom)
-    );
+    assert_eq!(store.read(table, 15), Ok(r.clone()));
     // Saved and opened again.
     let mut opened = Store::holding(store.used());
     assert_eq!(opened.bytes()[..59], store.bytes()[..59]);
-    assert_eq!(opened.drop(n, table, 3), Ok(37));
+    assert_eq!(opened.drop(table, 3), Ok(37));
     assert!(opened.versions().eq([15]));
     // Over lent bytes.
     let mut bytes = [7; 58];
     let mut lent = Store::empty_in(&mut bytes);
-    assert_eq!(lent.put(n, table, 0, &p), Ok(37));
-    assert_eq!(lent.put(n, table, 1, &r), Err(Refusal::NoStoreRoom));
+    assert_eq!(lent.put(table, 0, &p), Ok(37));
+    assert_eq!(lent.put(table, 1, &r), Err(Refusal::NoStoreRoom));
     assert_eq!(lent.used().len(), 37);
     assert_eq!(bytes[37..], [7; 21]);
     let read_only = Store::over(&bytes[..]);
-    assert_eq!(read_only.read(n, table, 0, &mut output), Ok(21));
+    assert_eq!(read_only.read(table, 0), Ok(p));
     // Bytes that hold no store are refused by 4 of the first graph, and told as far as they go.
     for (bytes, used) in [
         (vec![], 0),
@@ -695,7 +689,7 @@ fn a_store_of_its_own() {
     ] {
         let store = Store::over(bytes);
         assert_eq!(store.used().len(), used);
-        let refused = store.read(n, table, 0, &mut output).expect_err("no store");
+        let refused = store.read(table, 0).expect_err("no store");
         assert_eq!((refused.number(), refused.side().is_some()), (4, true));
     }
     let longer = Store::holding(&[0; STORE_LENGTH + 1]);

@@ -19,9 +19,7 @@ pub enum Operation {
 
 /// Whether the engine accepts a table.
 pub fn accept(table: &Table) -> Result<(), Refusal> {
-    // The lone top is accepted over every table that is.
-    let lone_top = [1, table.n.wrapping_sub(1) as u8, 0, 0, 0, 0, 0, 0, 0, 0];
-    rewrite(table, &lone_top).map(|_| ())
+    record_engine::check_table(table.n, &table.bytes)
 }
 
 /// The written form of a record.
@@ -66,8 +64,10 @@ pub fn explain(
         }
     })?;
     // Behind the last link's the bytes are as they were lent, and 0 is no reason.
-    let reasons = reasons.into_iter().map_while(Reason::of).collect();
-    Ok((difference, reasons))
+    let reasons = reasons
+        .into_iter()
+        .map_while(|byte| Reason::try_from(byte).ok());
+    Ok((difference, reasons.collect()))
 }
 
 /// The listed record after another, or the first after no bytes; none at the end.

@@ -117,7 +117,7 @@ mod tests {
     #[test]
     fn refusals_that_no_command_meets_have_words_too() {
         let is_met = |refusal: &Refusal| matches!(refusal.number(), 1..=7 | 9..=15);
-        let unmet = Refusal::ALL.into_iter().filter(|refusal| !is_met(refusal));
+        let unmet = Refusal::ALL.iter().filter(|refusal| !is_met(refusal));
         let words: Vec<String> = unmet.map(|refusal| refusal.to_string()).collect();
         assert_eq!(
             words,

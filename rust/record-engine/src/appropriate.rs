@@ -4,10 +4,7 @@ use crate::code::length;
 use crate::{Refusal, foreign};
 
 /// Writes a record that obeys an appropriateness list in its one written form, as
-/// [`rewrite`](crate::rewrite) does.
-///
-/// Refused by 1 to 3, then by 17, by 4 to 7 and 18, the record counting as the first,
-/// and by 8.
+/// [`rewrite`](crate::rewrite) does. Takes 36 KiB of stack.
 ///
 /// ```
 /// use record_engine::{FEATURES, GraphFault, Refusal, Side, rewrite_appropriate};
@@ -28,6 +25,12 @@ use crate::{Refusal, foreign};
 /// assert_eq!(refused, Err(Refusal::TypeList));
 /// # Ok::<(), record_engine::Refusal>(())
 /// ```
+///
+/// # Errors
+///
+/// Refused by [`Refusal::Table`] (1 to 3), [`Refusal::TypeList`] (17), [`Refusal::Graph`]
+/// (4 to 7 and 18), the record counting as the first, and [`Refusal::NoRoom`] (8), looked for
+/// in this order.
 pub fn rewrite_appropriate(
     n: usize,
     table: &[u8],
@@ -41,10 +44,7 @@ pub fn rewrite_appropriate(
 }
 
 /// Writes the common part of two records that obey an appropriateness list, as
-/// [`generalize`](crate::generalize) does. It obeys the list too.
-///
-/// Refused by 1 to 3, then by 17, by the first record's 4 to 7 and 18, by the second's,
-/// then by 11 and 8.
+/// [`generalize`](crate::generalize) does. It obeys the list too. Takes 116 KiB of stack.
 ///
 /// ```
 /// use record_engine::{FEATURES, GraphFault, Refusal, Side, generalize_appropriate};
@@ -63,6 +63,12 @@ pub fn rewrite_appropriate(
 /// assert_eq!(refused, Err(Refusal::Graph(GraphFault::Inappropriate, Side::Second)));
 /// # Ok::<(), record_engine::Refusal>(())
 /// ```
+///
+/// # Errors
+///
+/// Refused by [`Refusal::Table`] (1 to 3), [`Refusal::TypeList`] (17), [`Refusal::Graph`]
+/// (4 to 7 and 18), the first record's before the second's, [`Refusal::TooLarge`] (11) and
+/// [`Refusal::NoRoom`] (8), looked for in this order.
 pub fn generalize_appropriate(
     n: usize,
     table: &[u8],
@@ -76,11 +82,8 @@ pub fn generalize_appropriate(
     ))
 }
 
-/// Writes the combination of two records that obey an appropriateness list, as [`unify`](crate::unify)
-/// does. It obeys the list too.
-///
-/// Refused by 1 to 3, then by 17, by the first record's 4 to 7 and 18, by the second's,
-/// then by 9, 10, 11 and 8.
+/// Writes the combination of two records that obey an appropriateness list, as
+/// [`unify`](crate::unify) does. It obeys the list too. Takes 164 KiB of stack.
 ///
 /// A difference need not obey the list and is combined by [`unify`](crate::unify):
 ///
@@ -106,6 +109,13 @@ pub fn generalize_appropriate(
 /// assert_eq!(output[..length], specific);
 /// # Ok::<(), record_engine::Refusal>(())
 /// ```
+///
+/// # Errors
+///
+/// Refused by [`Refusal::Table`] (1 to 3), [`Refusal::TypeList`] (17), [`Refusal::Graph`]
+/// (4 to 7 and 18), the first record's before the second's, where no graph is below both by
+/// [`Refusal::Cycle`] (9) or [`Refusal::Clash`] (10), then by [`Refusal::TooLarge`] (11) and
+/// [`Refusal::NoRoom`] (8), looked for in this order.
 pub fn unify_appropriate(
     n: usize,
     table: &[u8],

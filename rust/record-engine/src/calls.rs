@@ -3,9 +3,8 @@
 use crate::code::{length, order_of};
 use crate::{Order, Refusal, foreign};
 
-/// Writes a record in its one written form: equal meaning gives equal bytes.
-///
-/// Refused by 1 to 7, the record counting as the first, and by 8.
+/// Writes a record in its one written form: equal meaning gives equal bytes. Takes 36 KiB of
+/// stack.
 ///
 /// ```
 /// let diamond = record_engine::table(&[0x01, 0x03, 0x05, 0x0F]).expect("at most 8 types");
@@ -16,15 +15,19 @@ use crate::{Order, Refusal, foreign};
 /// assert_eq!(output[..length], record);
 /// # Ok::<(), record_engine::Refusal>(())
 /// ```
+///
+/// # Errors
+///
+/// Refused by [`Refusal::Table`] (1 to 3), [`Refusal::Graph`] (4 to 7), the record counting
+/// as the first, and [`Refusal::NoRoom`] (8), looked for in this order.
 pub fn rewrite(n: usize, table: &[u8], record: &[u8], output: &mut [u8]) -> Result<usize, Refusal> {
     length(foreign::record_rewrite(n, table, record, output))
 }
 
 /// Which of two records is the broader, seen from the first. A graph is below
 /// another when every path of the other is a path of it, with a type below or
-/// equal and a range inside, and paths that share in the other share in it.
-///
-/// Refused by 1 to 7.
+/// equal and a range inside, and paths that share in the other share in it. Takes 20 KiB of
+/// stack.
 ///
 /// ```
 /// use record_engine::Order;
@@ -38,15 +41,19 @@ pub fn rewrite(n: usize, table: &[u8], record: &[u8], output: &mut [u8]) -> Resu
 /// assert_eq!(record_engine::order(4, &diamond, &a, &b)?, Order::Neither);
 /// # Ok::<(), record_engine::Refusal>(())
 /// ```
+///
+/// # Errors
+///
+/// Refused by [`Refusal::Table`] (1 to 3) and [`Refusal::Graph`] (4 to 7), the first record's
+/// before the second's.
 pub fn order(n: usize, table: &[u8], first: &[u8], second: &[u8]) -> Result<Order, Refusal> {
     order_of(foreign::record_order(n, table, first, second))
 }
 
 /// Writes the common part of two records, their generalization: the paths in
 /// both, each with the join of its two types and the smallest range holding both
-/// its ranges, two sharing exactly when they share in both.
-///
-/// Refused by 1 to 7, then by 11 and 8.
+/// its ranges, two sharing exactly when they share in both. It is the least graph above
+/// both. Takes 116 KiB of stack.
 ///
 /// ```
 /// let diamond = record_engine::table(&[0x01, 0x03, 0x05, 0x0F]).expect("at most 8 types");
@@ -57,6 +64,12 @@ pub fn order(n: usize, table: &[u8], first: &[u8], second: &[u8]) -> Result<Orde
 /// assert_eq!(output[..length], [1, 3, 0, 0, 0, 0, 0, 0, 0, 0]);
 /// # Ok::<(), record_engine::Refusal>(())
 /// ```
+///
+/// # Errors
+///
+/// Refused by [`Refusal::Table`] (1 to 3), [`Refusal::Graph`] (4 to 7), the first record's
+/// before the second's, [`Refusal::TooLarge`] (11) and [`Refusal::NoRoom`] (8), looked for in
+/// this order.
 pub fn generalize(
     n: usize,
     table: &[u8],
@@ -70,9 +83,7 @@ pub fn generalize(
 /// Writes the combination of two records, their unification: sharing is the
 /// smallest equivalence that holds both records' sharing and passes down equal
 /// features, and each class has the meet of its types and the overlap of its
-/// ranges. It is the greatest graph below both.
-///
-/// Refused by 1 to 7, then by 9, 10, 11 and 8.
+/// ranges. It is the greatest graph below both. Takes 164 KiB of stack.
 ///
 /// ```
 /// use record_engine::Refusal;
@@ -102,6 +113,13 @@ pub fn generalize(
 /// assert_eq!(clash, Err(Refusal::Clash));
 /// # Ok::<(), record_engine::Refusal>(())
 /// ```
+///
+/// # Errors
+///
+/// Refused by [`Refusal::Table`] (1 to 3) and [`Refusal::Graph`] (4 to 7), the first record's
+/// before the second's, where no graph is below both by [`Refusal::Cycle`] (9) or
+/// [`Refusal::Clash`] (10), then by [`Refusal::TooLarge`] (11) and [`Refusal::NoRoom`] (8),
+/// looked for in this order.
 pub fn unify(
     n: usize,
     table: &[u8],
@@ -113,10 +131,8 @@ pub fn unify(
 }
 
 /// Writes the difference of a general record and a specific one below it: combined
-/// with the general record it gives the specific one again, and nothing strictly
-/// more general does.
-///
-/// Refused by 1 to 7, then by 12, 13 and 8.
+/// with the general record it gives the specific one again, byte for byte in written
+/// form, and nothing strictly more general does. Takes 64 KiB of stack.
 ///
 /// ```
 /// let diamond = record_engine::table(&[0x01, 0x03, 0x05, 0x0F]).expect("at most 8 types");
@@ -132,6 +148,12 @@ pub fn unify(
 /// assert_eq!(output[..length], specific);
 /// # Ok::<(), record_engine::Refusal>(())
 /// ```
+///
+/// # Errors
+///
+/// Refused by [`Refusal::Table`] (1 to 3), [`Refusal::Graph`] (4 to 7), the general record's
+/// before the specific one's, [`Refusal::NotBelow`] (12), [`Refusal::NoWantedType`] (13) and
+/// [`Refusal::NoRoom`] (8), looked for in this order.
 pub fn difference(
     n: usize,
     table: &[u8],

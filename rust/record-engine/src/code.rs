@@ -44,11 +44,21 @@ pub fn answer(code: u64) -> Answer {
             rows: (code & 0xFFFF) as usize,
         }),
         _ => {
-            let refusal = Refusal::ALL
-                .into_iter()
-                .find(|&known| code_of(known) == code);
-            Answer::Refused(refusal.unwrap_or_else(|| panic!("{code} is the number of no answer")))
+            let known = |&&refusal: &&Refusal| code_of(refusal) == code;
+            match Refusal::ALL.iter().find(known) {
+                Some(&refusal) => Answer::Refused(refusal),
+                None => panic!("{code} is the number of no answer"),
+            }
         }
+    }
+}
+
+/// The answer of a call that writes nothing.
+pub fn nothing(code: u64) -> Result<(), Refusal> {
+    match answer(code) {
+        Answer::Length(0) => Ok(()),
+        Answer::Refused(refusal) => Err(refusal),
+        other => unreachable!("a call that writes nothing gives 0, not {other:?}"),
     }
 }
 
@@ -142,7 +152,7 @@ mod tests {
             let [nodes, rows] = [nodes, rows].map(|count| count as usize);
             assert_eq!(answer(code), Answer::Counts(Counts { nodes, rows }));
         }
-        for refusal in Refusal::ALL {
+        for &refusal in Refusal::ALL {
             assert_eq!(answer(code_of(refusal)), Answer::Refused(refusal));
         }
     }

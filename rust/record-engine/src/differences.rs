@@ -3,12 +3,11 @@
 use crate::code::length;
 use crate::{Refusal, foreign};
 
-/// Writes the difference of two records as [`difference`](crate::difference) does, and beside it one byte
-/// for each of its links: the [`Reason`](crate::Reason) for which it is kept. The bytes stand first in
-/// `reasons`, in the order of the links in the written record, node by node and for each
-/// node by feature; the others are unchanged. Gives the length of the record.
-///
-/// Refused by 1 to 7, then by 12, 13, 8 and 22.
+/// Writes the difference of two records as [`difference`](crate::difference) does, and
+/// beside it one byte for each of its links: the [`Reason`](crate::Reason) for which it is
+/// kept. The bytes stand first in `reasons`, in the order of the links in the written
+/// record, node by node and for each node by feature; the others are unchanged. Gives the
+/// length of the record. Takes 64 KiB of stack.
 ///
 /// ```
 /// use record_engine::{LONGEST_RECORD, MOST_LINKS, Reason};
@@ -26,12 +25,18 @@ use crate::{Refusal, foreign};
 /// // Why does the shared node stand in the difference? Its two links are the only ones.
 /// assert_eq!(output[..length], specific);
 /// for (feature, &byte) in reasons[..2].iter().enumerate() {
-///     let reason = Reason::of(byte).expect("a reason for each link");
+///     let reason = Reason::try_from(byte).expect("a reason for each link");
 ///     println!("feature {feature} leads to the shared node: {reason}");
 ///     assert_eq!(reason, Reason::Groups);
 /// }
 /// # Ok::<(), record_engine::Refusal>(())
 /// ```
+///
+/// # Errors
+///
+/// Refused by [`Refusal::Table`] (1 to 3), [`Refusal::Graph`] (4 to 7), the general record's
+/// before the specific one's, [`Refusal::NotBelow`] (12), [`Refusal::NoWantedType`] (13),
+/// [`Refusal::NoRoom`] (8) and [`Refusal::NoReasonRoom`] (22), looked for in this order.
 pub fn difference_explained(
     n: usize,
     table: &[u8],
@@ -45,11 +50,9 @@ pub fn difference_explained(
     ))
 }
 
-/// Writes the difference of two records as [`difference`](crate::difference) does, where links are ordered by
-/// their feature's place in a list of all features, then by the number of the node that
-/// they leave.
-///
-/// Refused by 1 to 3, then by 19, by 4 to 7, 12, 13 and 8.
+/// Writes the difference of two records as [`difference`](crate::difference) does, where
+/// links are ordered by their feature's place in a reading order, then by the number of the
+/// node that they leave. Takes 64 KiB of stack.
 ///
 /// ```
 /// use record_engine::{FEATURES, LONGEST_RECORD, Refusal, difference_by, unify};
@@ -75,6 +78,12 @@ pub fn difference_explained(
 /// assert_eq!(refused, Err(Refusal::ReadingOrder));
 /// # Ok::<(), record_engine::Refusal>(())
 /// ```
+///
+/// # Errors
+///
+/// Refused by [`Refusal::Table`] (1 to 3), [`Refusal::ReadingOrder`] (19), [`Refusal::Graph`]
+/// (4 to 7), the general record's before the specific one's, [`Refusal::NotBelow`] (12),
+/// [`Refusal::NoWantedType`] (13) and [`Refusal::NoRoom`] (8), looked for in this order.
 pub fn difference_by(
     n: usize,
     table: &[u8],
@@ -88,10 +97,9 @@ pub fn difference_by(
     ))
 }
 
-/// Writes the difference of two records as [`difference_by`](crate::difference_by) does, and beside it the
-/// [`Reason`](crate::Reason) of each of its links, as [`difference_explained`](crate::difference_explained) does.
-///
-/// Refused by 1 to 3, then by 19, by 4 to 7, 12, 13, 8 and 22.
+/// Writes the difference of two records as [`difference_by`] does, and beside it the
+/// [`Reason`](crate::Reason) of each of its links, as [`difference_explained`] does. Takes
+/// 64 KiB of stack.
 ///
 /// ```
 /// use record_engine::{FEATURES, LONGEST_RECORD, MOST_LINKS, Reason, difference_explained_by};
@@ -106,9 +114,16 @@ pub fn difference_by(
 /// )?;
 /// // Feature 1 alone, which is kept for the type of its node.
 /// assert_eq!(output[..length], [2, 3, 2, 0, 0, 0, 0, 0, 0, 0, 1, 1, 0, 0, 0, 0, 0, 0, 0, 0]);
-/// assert_eq!(Reason::of(reasons[0]), Some(Reason::Wanted));
+/// assert_eq!(Reason::try_from(reasons[0]), Ok(Reason::Wanted));
 /// # Ok::<(), record_engine::Refusal>(())
 /// ```
+///
+/// # Errors
+///
+/// Refused by [`Refusal::Table`] (1 to 3), [`Refusal::ReadingOrder`] (19), [`Refusal::Graph`]
+/// (4 to 7), the general record's before the specific one's, [`Refusal::NotBelow`] (12),
+/// [`Refusal::NoWantedType`] (13), [`Refusal::NoRoom`] (8) and [`Refusal::NoReasonRoom`] (22),
+/// looked for in this order.
 pub fn difference_explained_by(
     n: usize,
     table: &[u8],

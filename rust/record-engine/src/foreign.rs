@@ -54,6 +54,7 @@ macro_rules! functions {
 }
 
 functions! {
+    record_check_table(number n, read table);
     record_rewrite(number n, read table, read bytes, write output);
     record_order(number n, read table, read first, read second);
     record_generalize(number n, read table, read first, read second, write output);

@@ -1,6 +1,7 @@
 //! Gathering: programs are added one after another, and their common part is kept.
 
 use crate::code::{length, order_of};
+use crate::options::written;
 use crate::{LONGEST_RECORD, Order, Refusal, foreign};
 
 /// So many bytes are enough for a gathering over every table: the number of types, the
@@ -46,7 +47,9 @@ pub struct Gathering {
 impl Gathering {
     /// A gathering over a table, with nothing added yet.
     ///
-    /// Refused by 1 to 3.
+    /// # Errors
+    ///
+    /// Refused by [`Refusal::Table`] (1 to 3).
     pub fn begin(n: usize, table: &[u8]) -> Result<Gathering, Refusal> {
         let mut bytes = vec![0; GATHERING_LENGTH];
         gathering_begin(n, table, &mut bytes)?;
@@ -55,23 +58,50 @@ impl Gathering {
 
     /// Adds a record, and gives the length of the common part.
     ///
-    /// Refused by 4 to 7, the record counting as the first, and by 11; the gathering is
-    /// then as it was.
+    /// # Errors
+    ///
+    /// Refused by [`Refusal::Graph`] (4 to 7), the record counting as the first, and
+    /// [`Refusal::TooLarge`] (11). The gathering is then as it was.
     pub fn add(&mut self, record: &[u8]) -> Result<usize, Refusal> {
         gathering_add(&mut self.bytes, record)
     }
 
     /// Which is the broader, seen from the record, beside the common part so far.
     ///
-    /// Refused by 4 to 7, the record counting as the first, and by 16 before the first
-    /// addition.
+    /// # Errors
+    ///
+    /// Refused by [`Refusal::Graph`] (4 to 7), the record counting as the first, and before
+    /// the first addition by [`Refusal::NothingGathered`] (16).
     pub fn order(&self, record: &[u8]) -> Result<Order, Refusal> {
         gathering_order(&self.bytes, record)
     }
 
+    /// The common part so far in written form. The gathering stays open.
+    ///
+    /// ```
+    /// use record_engine::{Refusal, Table};
+    /// let mut gathering = Table::from_order(4, &[])?.gathering();
+    /// assert_eq!(gathering.common_part(), Err(Refusal::NothingGathered));
+    /// let lone = |node_type| [1, node_type, 0, 0, 0, 0, 0, 0, 0, 0];
+    /// gathering.add(&lone(1))?;
+    /// gathering.add(&lone(2))?;
+    /// assert_eq!(gathering.common_part()?, lone(3));
+    /// # Ok::<(), Refusal>(())
+    /// ```
+    ///
+    /// # Errors
+    ///
+    /// Refused by [`Refusal::NothingGathered`] (16) before the first addition.
+    pub fn common_part(&self) -> Result<Vec<u8>, Refusal> {
+        written(|output| self.finish(output))
+    }
+
     /// Writes the common part so far in written form. The gathering stays open.
     ///
-    /// Refused by 16 before the first addition, and by 8.
+    /// # Errors
+    ///
+    /// Refused by [`Refusal::NothingGathered`] (16) before the first addition, and by
+    /// [`Refusal::NoRoom`] (8).
     pub fn finish(&self, output: &mut [u8]) -> Result<usize, Refusal> {
         gathering_finish(&self.bytes, output)
     }
@@ -80,10 +110,8 @@ impl Gathering {
 /// Begins a gathering over a table in bytes that the caller lends, and gives the number of
 /// bytes that it uses so far, 3 + 8 × n; the others are unchanged. The bytes are n (1), the
 /// table (8 × n), the length of the common part (2, low byte first, 0 before the first
-/// addition), its record in written form, and room up to [`LONGEST_RECORD`].
-///
-/// Refused by 1 to 3, and by 8 where fewer than 1 + 8 × n + 2 + [`LONGEST_RECORD`] bytes
-/// are lent; [`GATHERING_LENGTH`] are enough for every table.
+/// addition), its record in written form, and room up to [`LONGEST_RECORD`]. Takes 8 KiB of
+/// stack.
 ///
 /// ```
 /// use record_engine::{GATHERING_LENGTH, gathering_add, gathering_begin, gathering_finish};
@@ -98,33 +126,51 @@ impl Gathering {
 /// assert_eq!(output[..length], lone(3));
 /// # Ok::<(), record_engine::Refusal>(())
 /// ```
+///
+/// # Errors
+///
+/// Refused by [`Refusal::Table`] (1 to 3), and by [`Refusal::NoRoom`] (8) where fewer than
+/// 1 + 8 × n + 2 + [`LONGEST_RECORD`] bytes are lent. [`GATHERING_LENGTH`] are enough for every
+/// table.
 pub fn gathering_begin(n: usize, table: &[u8], gathering: &mut [u8]) -> Result<usize, Refusal> {
     length(foreign::record_gathering_begin(n, table, gathering))
 }
 
 /// Adds a record to a gathering in lent bytes, and gives the length of the common part.
+/// Takes 116 KiB of stack.
 ///
-/// Refused by 4 to 7, the record counting as the first, and by 11; no byte is then
-/// changed. Bytes that hold no gathering are refused by what is wrong with them: by 1 to 3
-/// for the table, after the record's 4 to 7 by those of what was gathered, which counts as
-/// the second, and by 8 where the common part has no room.
+/// # Errors
+///
+/// Refused by [`Refusal::Graph`] (4 to 7), the record counting as the first, and
+/// [`Refusal::TooLarge`] (11); no byte is then changed. Bytes that hold no gathering are
+/// refused by what is wrong with them: by [`Refusal::Table`] for the table, after the
+/// record's [`Refusal::Graph`] by that of what was gathered, which counts as the second, and
+/// by [`Refusal::NoRoom`] where the common part has no room.
 pub fn gathering_add(gathering: &mut [u8], record: &[u8]) -> Result<usize, Refusal> {
     length(foreign::record_gathering_add(gathering, record))
 }
 
-/// Which is the broader, seen from a record, beside what is gathered in lent bytes.
+/// Which is the broader, seen from a record, beside what is gathered in lent bytes. Takes
+/// 24 KiB of stack.
 ///
-/// Refused by 4 to 7, the record counting as the first, and by 16 before the first
-/// addition. Bytes that hold no gathering are refused as by [`gathering_add`].
+/// # Errors
+///
+/// Refused by [`Refusal::Graph`] (4 to 7), the record counting as the first, and before the
+/// first addition by [`Refusal::NothingGathered`] (16). Bytes that hold no gathering are
+/// refused as by [`gathering_add`].
 pub fn gathering_order(gathering: &[u8], record: &[u8]) -> Result<Order, Refusal> {
     order_of(foreign::record_gathering_order(gathering, record))
 }
 
-/// Writes what is gathered in lent bytes in written form. The gathering stays open.
+/// Writes what is gathered in lent bytes in written form. The gathering stays open. Takes
+/// 36 KiB of stack.
 ///
-/// Refused by 16 before the first addition, and by 8. Bytes that hold no gathering are
-/// refused by 1 to 3 for the table, and by 4 to 7 for what was gathered, which counts as
-/// the second.
+/// # Errors
+///
+/// Refused by [`Refusal::NothingGathered`] (16) before the first addition, and by
+/// [`Refusal::NoRoom`] (8). Bytes that hold no gathering are refused by [`Refusal::Table`]
+/// for the table, and by [`Refusal::Graph`] for what was gathered, which counts as the
+/// second.
 pub fn gathering_finish(gathering: &[u8], output: &mut [u8]) -> Result<usize, Refusal> {
     length(foreign::record_gathering_finish(gathering, output))
 }

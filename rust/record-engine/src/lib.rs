@@ -1,17 +1,35 @@
-//! The record engine for Rust programs. A call takes a type table, one or two
-//! records, some calls a list, and, where it writes a record, an output that the caller
-//! lends; it gives the length of what it wrote, an [`Order`],
-//! or a [`Refusal`]. [`Listing`] goes through all small graphs over a table. [`import`] and
-//! [`export`] pass between records and the planning tool's tables of rows. A [`Store`] keeps
-//! the versions of a program in one buffer.
+//! The record engine for Rust programs. It compares and combines records, small graphs in
+//! bytes, over a table of types.
+//!
+//! A [`Table`] is accepted when it is made. Its methods are the calls over it: they take
+//! records and give records, an [`Order`], or a [`Refusal`] that tells why there is no
+//! result. [`Options`] adds a reading order or an appropriateness list, [`Gathering`] keeps
+//! the common part of records that come one after another, [`Listing`] goes through all
+//! small graphs over a table, and a [`Store`] keeps the versions of a program in one buffer.
+//!
+//! ```
+//! use record_engine::{Order, Refusal, Table};
+//! // Between the types 0 and 3 are 1 and 2, neither below the other.
+//! let diamond = Table::from_order(4, &[(0, 1), (0, 2), (1, 3), (2, 3)])?;
+//! // Records of a lone node, of the type given.
+//! let lone = |node_type| [1, node_type, 0, 0, 0, 0, 0, 0, 0, 0];
+//! assert_eq!(diamond.order(&lone(1), &lone(3))?, Order::Under);
+//! assert_eq!(diamond.generalize(&lone(1), &lone(2))?, lone(3));
+//! assert_eq!(diamond.unify(&lone(1), &lone(2)), Err(Refusal::Clash));
+//! # Ok::<(), Refusal>(())
+//! ```
+//!
+//! The functions of this package are the same calls on bytes that the caller lends: a type
+//! table, one or two records, some a list, and, where a record is written, an output. They
+//! give the length of what they wrote. On a refusal no byte of an output is changed; on
+//! success the output's first bytes are the record and its other bytes are unchanged. The
+//! calls for C, in `include/record_engine.h`, have the same names behind `record_`.
 //!
 //! The functions behind these calls are proved (`crates/engine`); here is only
 //! the passage to them, by the static library `librecord_engine.a`, which
 //! `rt staticlib record_engine` writes to the repository's `target/staticlib`. The
 //! environment variable `RECORD_ENGINE_LIB_DIR` has the absolute path of another
 //! folder with it.
-//! On a refusal no byte of an output is changed. On success the output's first
-//! bytes are the record and its other bytes are unchanged.
 //!
 //! # Type table
 //!
@@ -20,10 +38,10 @@
 //! value 1, and bits for j from n on are 0. Type 0 is the contradiction and is below
 //! every type; type n − 1 is top, which says nothing, and every type is below it. The
 //! rows are an order, and every two types have a meet (the greatest type below both) and
-//! a join (the least above both). [`table`] makes a small one and [`house_table`] that of
-//! the house types. The examples use the diamond: n = 4, and between 0 and 3 are 1 and
-//! 2, neither below the other; the first bytes of its rows are 0x01, 0x03, 0x05 and
-//! 0x0F, and the others are 0.
+//! a join (the least above both). [`Table::from_order`] makes one from pairs of types and
+//! [`Table::house`] that of the house types; [`table`] and [`house_table`] give bytes. The
+//! examples use the diamond: n = 4, and between 0 and 3 are 1 and 2, neither below the
+//! other; the first bytes of its rows are 0x01, 0x03, 0x05 and 0x0F, and the others are 0.
 //!
 //! # Record
 //!
@@ -45,37 +63,34 @@
 //! next link, and spells out no full range.
 //!
 //! ```
-//! let diamond = record_engine::table(&[0x01, 0x03, 0x05, 0x0F]).expect("at most 8 types");
+//! let diamond = record_engine::Table::from_order(4, &[(1, 3), (2, 3)])?;
 //! // A root of type 3, top, whose feature 0 leads to a node of type 1.
 //! let record = [2, 3, 1, 0, 0, 0, 0, 0, 0, 0, 1, 1, 0, 0, 0, 0, 0, 0, 0, 0];
-//! let mut output = [0; record_engine::LONGEST_RECORD];
-//! let length = record_engine::rewrite(4, &diamond, &record, &mut output)?;
-//! assert_eq!(output[..length], record);
+//! assert_eq!(diamond.rewrite(&record)?, record);
 //! # Ok::<(), record_engine::Refusal>(())
 //! ```
 //!
 //! The same with the levels 10 to 200 at the root, and a full range spelled out:
 //!
 //! ```
-//! let diamond = record_engine::table(&[0x01, 0x03, 0x05, 0x0F]).expect("at most 8 types");
+//! let diamond = record_engine::Table::from_order(4, &[(1, 3), (2, 3)])?;
 //! let given = [
 //!     2, 0x80 + 3, 10, 200, 1, 0, 0, 0, 0, 0, 0, 0, 1, 0x80 + 1, 0, 255, 0, 0, 0, 0, 0, 0, 0, 0,
 //! ];
 //! let written = [2, 0x80 + 3, 10, 200, 1, 0, 0, 0, 0, 0, 0, 0, 1, 1, 0, 0, 0, 0, 0, 0, 0, 0];
-//! let mut output = [0; record_engine::LONGEST_RECORD];
-//! let length = record_engine::rewrite(4, &diamond, &given, &mut output)?;
-//! assert_eq!(output[..length], written);
+//! assert_eq!(diamond.rewrite(&given)?, written);
 //! # Ok::<(), record_engine::Refusal>(())
 //! ```
 //!
 //! # Appropriateness list
 //!
-//! [`rewrite_appropriate`], [`generalize_appropriate`] and [`unify_appropriate`] go by a
-//! list of 64 bytes that says which features belong to which types. Byte f is the
-//! broadest type, 0 to n − 1, that may have feature f: a node may have it when its type
-//! is below or equal to that one. So 0 forbids the feature and n − 1 allows it to all.
-//! A record with a link that the list forbids is refused by 18; otherwise these calls
-//! reply as [`rewrite`], [`generalize`] and [`unify`] do.
+//! [`Options::appropriateness`], and [`rewrite_appropriate`], [`generalize_appropriate`] and
+//! [`unify_appropriate`], go by a list of 64 bytes that says which features belong to which
+//! types. Byte f is the broadest type, 0 to n − 1, that may have feature f: a node may have
+//! it when its type is below or equal to that one. So 0 forbids the feature and n − 1 allows
+//! it to all. A record with a link that the list forbids is refused by
+//! [`GraphFault::Inappropriate`] (18); otherwise these calls reply as [`rewrite`],
+//! [`generalize`] and [`unify`] do.
 //!
 //! Common parts and combinations of records that obey a list obey it. A difference need
 //! not obey it and is combined by [`unify`]: the general record and the difference give
@@ -83,14 +98,15 @@
 //!
 //! # Reading order
 //!
-//! [`difference_by`] and [`difference_explained_by`] go by a list of all 64 features, each
-//! once, in the order in which they are read: 64 bytes, the feature that is read first
-//! before the others. Where links say the same, a difference keeps the least of them.
-//! Without a list, links are ordered by the number of the node that they leave, as the
-//! specific record is written, then by feature; with a list by the feature's place in it,
-//! then by that number. Whichever list is given, the difference restores the specific
-//! record and nothing strictly more general does. How records are written does not follow
-//! the list. A list that is anything else is refused by 19.
+//! [`Options::reading_order`], and [`difference_by`] and [`difference_explained_by`], go by a
+//! list of all 64 features, each once, in the order in which they are read: 64 bytes, the
+//! feature that is read first before the others. Where links say the same, a difference
+//! keeps the least of them. Without a list, links are ordered by the number of the node that
+//! they leave, as the specific record is written, then by feature; with a list by the
+//! feature's place in it, then by that number. Whichever list is given, the difference
+//! restores the specific record and nothing strictly more general does. How records are
+//! written does not follow the list. A list that is anything else is refused by
+//! [`Refusal::ReadingOrder`] (19).
 //!
 //! # Planning table
 //!
@@ -115,7 +131,8 @@
 //! order learned; this changes nothing, and a refused addition changes nothing. Finishing
 //! writes the common part and leaves the gathering open. The calls [`gathering_begin`],
 //! [`gathering_add`], [`gathering_order`] and [`gathering_finish`] do the same in bytes that
-//! the caller lends. An order or a finish before the first addition is refused by 16.
+//! the caller lends. An order or a finish before the first addition is refused by
+//! [`Refusal::NothingGathered`] (16).
 //!
 //! # Store
 //!
@@ -147,9 +164,11 @@
 //!
 //! # Stack
 //!
-//! A thread that makes a call needs 384 KiB of stack; the calls on a store take up to
-//! 256 KiB of it, the others up to 136. A thread of the standard library has 2 MiB unless it
-//! is told otherwise.
+//! The documentation of a call tells the stack that it takes, as measured on the largest
+//! records, with 4 KiB to spare and rounded up. A thread that makes calls needs [`STACK`]
+//! bytes of stack; nothing tests for room, and a call that has less overruns the stack. The
+//! methods of [`Table`], [`Options`], [`Gathering`] and [`Store`] take up to 8 KiB more than
+//! the calls behind them. A thread of the standard library has 2 MiB unless it is told otherwise.
 
 #![deny(unsafe_code)]
 #![warn(missing_docs)]
@@ -161,11 +180,17 @@ mod differences;
 #[allow(unsafe_code)]
 mod foreign;
 mod gathering;
+#[cfg(test)]
+mod header;
 mod listing;
+#[cfg(archive_missing)]
+mod missing;
+mod options;
 mod reason;
 mod refusal;
 mod rows;
 mod store;
+mod table;
 mod tables;
 
 pub use appropriate::{generalize_appropriate, rewrite_appropriate, unify_appropriate};
@@ -174,11 +199,39 @@ pub use differences::{difference_by, difference_explained, difference_explained_
 pub use gathering::{GATHERING_LENGTH, Gathering};
 pub use gathering::{gathering_add, gathering_begin, gathering_finish, gathering_order};
 pub use listing::{LONGEST_LISTED, Listing, next};
-pub use reason::Reason;
+pub use options::Options;
+pub use reason::{NoReason, Reason};
 pub use refusal::{GraphFault, Refusal, Side, TableFault};
 pub use rows::{Counts, Row, export, import};
 pub use store::{STORE_LENGTH, Store, VERSIONS, store_drop, store_put, store_read};
-pub use tables::{HOUSE_TABLE_LENGTH, HOUSE_TYPES, house_table, table};
+pub use table::Table;
+pub use tables::{HOUSE_TABLE_LENGTH, HOUSE_TYPES, check_table, house_table, table};
+
+/// The version of this package and of its library as a text; [`VERSION`] is the number.
+///
+/// ```
+/// println!("record_engine {}", record_engine::VERSION_TEXT);
+/// assert!(record_engine::VERSION >= 1_000, "0.1.0 or later");
+/// ```
+pub const VERSION_TEXT: &str = env!("CARGO_PKG_VERSION");
+
+/// The version as a number: 1,000,000 times the first number of [`VERSION_TEXT`], 1,000 times
+/// the second and the third.
+pub const VERSION: u64 = 1_000;
+
+/// A thread with a stack of so many bytes has room for every call.
+///
+/// ```
+/// use std::thread;
+/// let small = thread::Builder::new().stack_size(record_engine::STACK);
+/// let calls = small.spawn(|| {
+///     let mut table = [0; record_engine::HOUSE_TABLE_LENGTH];
+///     record_engine::house_table(&mut table)
+/// })?;
+/// assert_eq!(calls.join().expect("no panic"), Ok(record_engine::HOUSE_TABLE_LENGTH));
+/// # Ok::<(), std::io::Error>(())
+/// ```
+pub const STACK: usize = 393_216;
 
 /// The length of the longest record: an output of so many bytes is never too short.
 pub const LONGEST_RECORD: usize = 4854;

@@ -12,10 +12,8 @@ pub const LONGEST_LISTED: usize = 32;
 /// given one is the last; the output is then unchanged. A record of no bytes asks for the
 /// first. Listed are the written records of at most 3 nodes that have no range and use
 /// features below `features`, which is 1 or 2, in the order of their bytes: by the first
-/// byte in which two differ.
-///
-/// Refused by 1 to 3; by 4 to 7 where the record has bytes, as the first; then by 23 where
-/// `features` is not 1 or 2, by 24 where the record is not listed, and by 8.
+/// byte in which two differ. The cost of a call does not grow with the number of listed
+/// records. Takes 12 KiB of stack.
 ///
 /// ```
 /// use record_engine::Refusal;
@@ -48,6 +46,12 @@ pub const LONGEST_LISTED: usize = 32;
 /// assert_eq!(record_engine::next(2, &two, 1, &chain, &mut output), Ok(None));
 /// assert_eq!(output, [0; record_engine::LONGEST_LISTED]);
 /// ```
+///
+/// # Errors
+///
+/// Refused by [`Refusal::Table`] (1 to 3), where the record has bytes by [`Refusal::Graph`]
+/// (4 to 7), the record counting as the first, then by [`Refusal::FeatureCount`] (23),
+/// [`Refusal::NotListed`] (24) and [`Refusal::NoRoom`] (8), looked for in this order.
 pub fn next(
     n: usize,
     table: &[u8],
@@ -84,14 +88,16 @@ impl<'a> Listing<'a> {
     /// The listing over a table of n types and a number of features, before its first
     /// record.
     ///
-    /// Refused by 1 to 3 and by 23.
-    ///
     /// ```
     /// use record_engine::{Listing, Refusal};
     /// let two = record_engine::table(&[0x01, 0x03]).expect("at most 8 types");
     /// let refused = Listing::new(2, &two, 3).err();
     /// assert_eq!(refused, Some(Refusal::FeatureCount));
     /// ```
+    ///
+    /// # Errors
+    ///
+    /// Refused by [`Refusal::Table`] (1 to 3) and [`Refusal::FeatureCount`] (23).
     pub fn new(n: usize, table: &'a [u8], features: usize) -> Result<Listing<'a>, Refusal> {
         let upcoming = after(n, table, features, &[])?;
         Ok(Listing {

@@ -1,5 +1,6 @@
 //! Why a difference keeps a link, as the byte that stands beside it.
 
+use std::error::Error;
 use std::fmt;
 
 /// Why a difference keeps a link: the first of the three that holds. A link of the
@@ -19,23 +20,42 @@ pub enum Reason {
     Wanted,
 }
 
-impl Reason {
-    /// The reason that a byte stands for; none for a byte that is not 1, 2 or 3.
-    ///
-    /// ```
-    /// use record_engine::Reason;
-    /// assert_eq!(Reason::of(2), Some(Reason::Groups));
-    /// assert_eq!(Reason::of(0), None);
-    /// ```
-    pub fn of(byte: u8) -> Option<Reason> {
+/// The reason that a byte stands for.
+///
+/// ```
+/// use record_engine::{NoReason, Reason};
+/// assert_eq!(Reason::try_from(2), Ok(Reason::Groups));
+/// assert_eq!(Reason::try_from(0), Err(NoReason(0)));
+/// assert_eq!(NoReason(7).to_string(), "7 is no reason: reasons are 1, 2 and 3");
+/// ```
+impl TryFrom<u8> for Reason {
+    type Error = NoReason;
+
+    fn try_from(byte: u8) -> Result<Reason, NoReason> {
         match byte {
-            1 => Some(Reason::Bare),
-            2 => Some(Reason::Groups),
-            3 => Some(Reason::Wanted),
-            _ => None,
+            1 => Ok(Reason::Bare),
+            2 => Ok(Reason::Groups),
+            3 => Ok(Reason::Wanted),
+            _ => Err(NoReason(byte)),
         }
     }
 }
+
+/// A byte that stands for no [`Reason`].
+#[derive(Clone, Copy, Debug, PartialEq, Eq, Hash)]
+pub struct NoReason(
+    /// The byte.
+    pub u8,
+);
+
+impl fmt::Display for NoReason {
+    fn fmt(&self, formatter: &mut fmt::Formatter<'_>) -> fmt::Result {
+        let NoReason(byte) = self;
+        write!(formatter, "{byte} is no reason: reasons are 1, 2 and 3")
+    }
+}
+
+impl Error for NoReason {}
 
 impl fmt::Display for Reason {
     fn fmt(&self, formatter: &mut fmt::Formatter<'_>) -> fmt::Result {
@@ -55,9 +75,13 @@ mod tests {
 
     #[test]
     fn three_bytes_are_reasons() {
-        let all: Vec<Reason> = (0..=255).filter_map(Reason::of).collect();
-        assert_eq!(all, [Reason::Bare, Reason::Groups, Reason::Wanted]);
-        assert_eq!(Reason::of(1), Some(Reason::Bare));
-        assert_eq!(Reason::of(3), Some(Reason::Wanted));
+        let known = [Reason::Bare, Reason::Groups, Reason::Wanted];
+        for byte in 0..=255 {
+            let reason = match byte {
+                1..=3 => Ok(known[usize::from(byte) - 1]),
+                _ => Err(NoReason(byte)),
+            };
+            assert_eq!(Reason::try_from(byte), reason);
+        }
     }
 }

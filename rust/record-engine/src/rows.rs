@@ -27,13 +27,7 @@ pub struct Counts {
 
 /// Writes the record of a planning table in written form, and gives its length. The rows
 /// may stand in any order, and the nodes may have any numbers as long as the root is node
-/// 0; equal meaning gives equal bytes.
-///
-/// Refused by 1 to 3; by 4 where the number of node bytes is not divisible by 3, the nodes
-/// are not 1 to 255 or the rows are more than 2,048; by 14 where a row has a feature above
-/// 63 or a node number outside the count; by 15 where two rows have one parent and feature;
-/// by 5 where a type is 0 or at least n, as every type with bit 7 is, or a lowest level is
-/// above the highest; by 6, 7 and 8. The planning table counts as the first record.
+/// 0; equal meaning gives equal bytes. Takes 76 KiB of stack.
 ///
 /// ```
 /// use record_engine::{Refusal, Row};
@@ -56,6 +50,19 @@ pub struct Counts {
 /// assert_eq!(refused, Err(Refusal::RowTwice));
 /// # Ok::<(), Refusal>(())
 /// ```
+///
+/// # Errors
+///
+/// Refused by [`Refusal::Table`] (1 to 3), by [`GraphFault::Malformed`] (4),
+/// [`Refusal::RowOutOfRange`] (14), [`Refusal::RowTwice`] (15), [`GraphFault::OutOfRange`]
+/// (5), [`GraphFault::Cyclic`] (6) and [`GraphFault::Unreached`] (7), then by
+/// [`Refusal::NoRoom`] (8); the planning table counts as the first record. Each is looked
+/// for in the whole planning table before the next.
+///
+/// [`GraphFault::Malformed`]: crate::GraphFault::Malformed
+/// [`GraphFault::OutOfRange`]: crate::GraphFault::OutOfRange
+/// [`GraphFault::Cyclic`]: crate::GraphFault::Cyclic
+/// [`GraphFault::Unreached`]: crate::GraphFault::Unreached
 pub fn import(
     n: usize,
     table: &[u8],
@@ -70,12 +77,8 @@ pub fn import(
 /// The first rows are the links, sorted by parent and then feature; the first three bytes
 /// for each node are its type, lowest and highest level, 0 and 255 for the full range. The
 /// nodes are numbered as [`rewrite`](crate::rewrite) numbers them. The other rows and bytes
-/// are unchanged. Importing what was exported gives the written record.
-///
-/// Refused by 1 to 7, the record counting as the first; then by 8 where the rows are fewer
-/// than the links, or the node bytes fewer than three for each node. No row and no byte is
-/// then changed. [`MOST_LINKS`](crate::MOST_LINKS) rows and three bytes for each of
-/// [`MOST_NODES`](crate::MOST_NODES) nodes are never too few.
+/// are unchanged. Importing what was exported gives the written record. Takes 48 KiB of
+/// stack.
 ///
 /// ```
 /// use record_engine::{Counts, MOST_LINKS, MOST_NODES, Refusal, Row};
@@ -97,6 +100,14 @@ pub fn import(
 /// assert_eq!(refused, Err(Refusal::NoRoom));
 /// # Ok::<(), Refusal>(())
 /// ```
+///
+/// # Errors
+///
+/// Refused by [`Refusal::Table`] (1 to 3) and [`Refusal::Graph`] (4 to 7), the record counting
+/// as the first, then by [`Refusal::NoRoom`] (8) where the rows are fewer than the links or
+/// the node bytes fewer than three for each node. No row and no byte is then changed.
+/// [`MOST_LINKS`](crate::MOST_LINKS) rows and three bytes for each of
+/// [`MOST_NODES`](crate::MOST_NODES) nodes are never too few.
 pub fn export(
     n: usize,
     table: &[u8],

@@ -2,7 +2,8 @@
 //! version's difference from it.
 
 use crate::code::length;
-use crate::{Refusal, foreign};
+use crate::options::written;
+use crate::{Refusal, Table, foreign};
 
 /// The most bytes that a store has.
 pub const STORE_LENGTH: usize = 16_384;
@@ -14,51 +15,48 @@ pub const VERSIONS: usize = 16;
 /// What their programs have in common stands there once, and of each program its difference
 /// from that.
 ///
-/// Every call takes the table again, and a store is used with one table alone. After any
+/// Every call takes the [`Table`] again, and a store is used with one table alone. After any
 /// calls the used bytes are those of an empty store of the same length into which the
 /// programs that were put and not dropped are put in the order of their numbers. A refused
 /// call changes no byte.
 ///
 /// ```
-/// use record_engine::{LONGEST_RECORD, Refusal, Store};
-/// let diamond = record_engine::table(&[0x01, 0x03, 0x05, 0x0F]).expect("at most 8 types");
+/// use record_engine::{Refusal, Store, Table};
+/// let diamond = Table::from_order(4, &[])?;
 /// // A root of type 3 whose features 0 and 1 lead to one node, of the type given.
 /// let program = |leaf| [2, 3, 3, 0, 0, 0, 0, 0, 0, 0, 1, 1, leaf, 0, 0, 0, 0, 0, 0, 0, 0];
 /// let mut store = Store::new();
 /// assert_eq!(store.used(), [0, 0]);
 /// // A put and a drop give the number of used bytes.
-/// assert_eq!(store.put(4, &diamond, 0, &program(3))?, 37);
+/// assert_eq!(store.put(&diamond, 0, &program(3))?, 37);
 /// // The second program costs what it says beyond the first, and its length.
-/// assert_eq!(store.put(4, &diamond, 7, &program(1))?, 37 + 22);
+/// assert_eq!(store.put(&diamond, 7, &program(1))?, 37 + 22);
 /// assert!(store.versions().eq([0, 7]));
-/// let mut output = [0; LONGEST_RECORD];
-/// let length = store.read(4, &diamond, 7, &mut output)?;
-/// assert_eq!(output[..length], program(1));
+/// assert_eq!(store.read(&diamond, 7)?, program(1));
 /// // Version 7 is there, and version 1 is not.
-/// let present = store.put(4, &diamond, 7, &program(2));
+/// let present = store.put(&diamond, 7, &program(2));
 /// assert_eq!(present, Err(Refusal::WrongVersion));
-/// assert_eq!(store.drop(4, &diamond, 1), Err(Refusal::WrongVersion));
+/// assert_eq!(store.drop(&diamond, 1), Err(Refusal::WrongVersion));
 /// // The used bytes are all that has to be saved.
 /// let saved = store.used().to_vec();
 /// let mut opened = Store::holding(&saved);
-/// assert_eq!(opened.drop(4, &diamond, 0)?, 37);
-/// let length = opened.read(4, &diamond, 7, &mut output)?;
-/// assert_eq!(output[..length], program(1));
+/// assert_eq!(opened.drop(&diamond, 0)?, 37);
+/// assert_eq!(opened.read(&diamond, 7)?, program(1));
 /// # Ok::<(), Refusal>(())
 /// ```
 ///
 /// Over bytes that the caller lends:
 ///
 /// ```
-/// use record_engine::{Refusal, Store};
-/// let diamond = record_engine::table(&[0x01, 0x03, 0x05, 0x0F]).expect("at most 8 types");
+/// use record_engine::{Refusal, Store, Table};
+/// let diamond = Table::from_order(4, &[])?;
 /// let lone = |node_type| [1, node_type, 0, 0, 0, 0, 0, 0, 0, 0];
 /// let mut bytes = [7; 40];
 /// let mut store = Store::empty_in(&mut bytes);
-/// store.put(4, &diamond, 0, &lone(1))?;
-/// store.put(4, &diamond, 1, &lone(2))?;
+/// store.put(&diamond, 0, &lone(1))?;
+/// store.put(&diamond, 1, &lone(2))?;
 /// // A third program has no room.
-/// let refused = store.put(4, &diamond, 2, &lone(3));
+/// let refused = store.put(&diamond, 2, &lone(3));
 /// assert_eq!(refused, Err(Refusal::NoStoreRoom));
 /// assert_eq!(store.used().len(), 38);
 /// assert_eq!(bytes[38..], [7, 7]);
@@ -105,17 +103,25 @@ impl<B> Store<B> {
 }
 
 impl<B: AsRef<[u8]>> Store<B> {
-    /// Writes a version's program as its written record, and gives its length.
+    /// A version's program, as the written record that was put.
     ///
-    /// Refused as by [`store_read`].
-    pub fn read(
-        &self,
-        n: usize,
-        table: &[u8],
-        version: usize,
-        output: &mut [u8],
-    ) -> Result<usize, Refusal> {
-        store_read(n, table, self.bytes(), version, output)
+    /// ```
+    /// use record_engine::{Refusal, Store, Table};
+    /// let diamond = Table::from_order(4, &[])?;
+    /// let lone = |node_type| [1, node_type, 0, 0, 0, 0, 0, 0, 0, 0];
+    /// let mut store = Store::new();
+    /// store.put(&diamond, 2, &lone(1))?;
+    /// assert_eq!(store.read(&diamond, 2)?, lone(1));
+    /// assert_eq!(store.read(&diamond, 3), Err(Refusal::WrongVersion));
+    /// # Ok::<(), Refusal>(())
+    /// ```
+    ///
+    /// # Errors
+    ///
+    /// Refused as by [`store_read`], but for 1 to 3 and 8.
+    pub fn read(&self, table: &Table, version: usize) -> Result<Vec<u8>, Refusal> {
+        let (n, table) = (table.n(), table.as_bytes());
+        written(|output| store_read(n, table, self.bytes(), version, output))
     }
 
     /// The versions that exist, as the map says: the first two bytes. A byte that is missing
@@ -159,21 +165,44 @@ impl<B: AsRef<[u8]> + AsMut<[u8]>> Store<B> {
     /// Stores a program under the number of a version that is absent, and gives the number
     /// of used bytes.
     ///
-    /// Refused as by [`store_put`].
-    pub fn put(
-        &mut self,
-        n: usize,
-        table: &[u8],
-        version: usize,
-        record: &[u8],
-    ) -> Result<usize, Refusal> {
+    /// ```
+    /// use record_engine::{Refusal, Store, Table};
+    /// let diamond = Table::from_order(4, &[])?;
+    /// let lone = |node_type| [1, node_type, 0, 0, 0, 0, 0, 0, 0, 0];
+    /// let mut store = Store::new();
+    /// assert_eq!(store.put(&diamond, 0, &lone(1))?, store.used().len());
+    /// // The last version is 15.
+    /// let above = store.put(&diamond, 16, &lone(1));
+    /// assert_eq!(above, Err(Refusal::WrongVersion));
+    /// # Ok::<(), Refusal>(())
+    /// ```
+    ///
+    /// # Errors
+    ///
+    /// Refused as by [`store_put`], but for 1 to 3.
+    pub fn put(&mut self, table: &Table, version: usize, record: &[u8]) -> Result<usize, Refusal> {
+        let (n, table) = (table.n(), table.as_bytes());
         store_put(n, table, self.bytes.as_mut(), version, record)
     }
 
     /// Removes a version that exists, and gives the number of used bytes.
     ///
-    /// Refused as by [`store_drop`].
-    pub fn drop(&mut self, n: usize, table: &[u8], version: usize) -> Result<usize, Refusal> {
+    /// ```
+    /// use record_engine::{Refusal, Store, Table};
+    /// let diamond = Table::from_order(4, &[])?;
+    /// let mut store = Store::new();
+    /// store.put(&diamond, 9, &[1, 3, 0, 0, 0, 0, 0, 0, 0, 0])?;
+    /// store.drop(&diamond, 9)?;
+    /// assert_eq!(store.used(), Store::new().used());
+    /// assert_eq!(store.drop(&diamond, 9), Err(Refusal::WrongVersion));
+    /// # Ok::<(), Refusal>(())
+    /// ```
+    ///
+    /// # Errors
+    ///
+    /// Refused as by [`store_drop`], but for 1 to 3.
+    pub fn drop(&mut self, table: &Table, version: usize) -> Result<usize, Refusal> {
+        let (n, table) = (table.n(), table.as_bytes());
         store_drop(n, table, self.bytes.as_mut(), version)
     }
 }
@@ -186,12 +215,7 @@ fn number(bytes: &[u8]) -> usize {
 
 /// Stores a program under the number of a version, 0 to 15, that is absent, in bytes that the
 /// caller lends, and gives the number of used bytes; the others are unchanged. Two zero bytes
-/// are an empty store.
-///
-/// Refused by 1 to 3; by 4 of the first graph where the bytes hold no store; by the
-/// program's 4 to 7, as the second; by 20 where the version is above 15 or present; then on
-/// the way of an empty store into which all programs are put in the order of their numbers,
-/// at each step by 11, by 13 and by 21. No byte is then changed.
+/// are an empty store. Takes 280 KiB of stack.
 ///
 /// ```
 /// use record_engine::{LONGEST_RECORD, Refusal, STORE_LENGTH, store_drop, store_put, store_read};
@@ -210,6 +234,16 @@ fn number(bytes: &[u8]) -> usize {
 /// assert_eq!(absent, Err(Refusal::WrongVersion));
 /// # Ok::<(), Refusal>(())
 /// ```
+///
+/// # Errors
+///
+/// Refused by [`Refusal::Table`] (1 to 3), by [`GraphFault::Malformed`] (4), as the first,
+/// where the bytes hold no store, by [`Refusal::Graph`] (4 to 7) of the record, which counts
+/// as the second, by [`Refusal::WrongVersion`] (20) where the version is above 15 or present,
+/// then on the way of all programs by the first of [`Refusal::TooLarge`] (11),
+/// [`Refusal::NoWantedType`] (13) and [`Refusal::NoStoreRoom`] (21). No byte is then changed.
+///
+/// [`GraphFault::Malformed`]: crate::GraphFault::Malformed
 pub fn store_put(
     n: usize,
     table: &[u8],
@@ -221,10 +255,15 @@ pub fn store_put(
 }
 
 /// Writes the program of a version in lent bytes as the written record that was put, and
-/// gives its length.
+/// gives its length. Takes 272 KiB of stack.
 ///
-/// Refused by 1 to 3; by 4 of the first graph where the bytes hold no store; by 20 where the
-/// version is above 15 or absent; then by 8.
+/// # Errors
+///
+/// Refused by [`Refusal::Table`] (1 to 3), by [`GraphFault::Malformed`] (4), as the first,
+/// where the bytes hold no store, by [`Refusal::WrongVersion`] (20) where the version is above
+/// 15 or absent, then by [`Refusal::NoRoom`] (8).
+///
+/// [`GraphFault::Malformed`]: crate::GraphFault::Malformed
 pub fn store_read(
     n: usize,
     table: &[u8],
@@ -236,13 +275,18 @@ pub fn store_read(
 }
 
 /// Removes a version from lent bytes, and gives the number of used bytes; the others are
-/// unchanged.
+/// unchanged. Takes 272 KiB of stack.
 ///
-/// Refused by 1 to 3; by 4 of the first graph where the bytes hold no store; by 20 where the
-/// version is above 15 or absent; then on the way of an empty store into which the remaining
-/// programs are put in the order of their numbers, at each step by 11, by 13 and by 21. No
-/// byte is then changed. So a drop may be refused: what remains may have a common part that
-/// is larger, or programs without a difference from it.
+/// # Errors
+///
+/// Refused by [`Refusal::Table`] (1 to 3), by [`GraphFault::Malformed`] (4), as the first,
+/// where the bytes hold no store, by [`Refusal::WrongVersion`] (20) where the version is above
+/// 15 or absent, then on the way of the other programs by the first of [`Refusal::TooLarge`]
+/// (11), [`Refusal::NoWantedType`] (13) and [`Refusal::NoStoreRoom`] (21). No byte is then
+/// changed. So a drop may be refused: what remains may have a common part that is larger, or
+/// programs without a difference from it.
+///
+/// [`GraphFault::Malformed`]: crate::GraphFault::Malformed
 pub fn store_drop(
     n: usize,
     table: &[u8],

@@ -1,7 +1,25 @@
-//! Tables: that of the house types, and small ones by hand.
+//! Tables: whether one is accepted, that of the house types, and small ones by hand.
 
-use crate::code::length;
+use crate::code::{length, nothing};
 use crate::{Refusal, foreign};
+
+/// Whether a table is accepted, so that no call over it is refused by [`Refusal::Table`].
+/// Takes 8 KiB of stack.
+///
+/// ```
+/// use record_engine::{Refusal, TableFault, check_table};
+/// let diamond = record_engine::table(&[0x01, 0x03, 0x05, 0x0F]).expect("at most 8 types");
+/// assert_eq!(check_table(4, &diamond), Ok(()));
+/// // There are rows for four types.
+/// assert_eq!(check_table(5, &diamond), Err(Refusal::Table(TableFault::Size)));
+/// ```
+///
+/// # Errors
+///
+/// Refused by [`Refusal::Table`] (1 to 3).
+pub fn check_table(n: usize, table: &[u8]) -> Result<(), Refusal> {
+    nothing(foreign::record_check_table(n, table))
+}
 
 /// The number of the house types.
 pub const HOUSE_TYPES: usize = 64;
@@ -13,9 +31,7 @@ pub const HOUSE_TABLE_LENGTH: usize = 8 * HOUSE_TYPES;
 /// types, for n = [`HOUSE_TYPES`], and gives their number; its other bytes are
 /// unchanged. A house type has three grades of 0 to 3 and is numbered
 /// 16 × first + 4 × second + third; it is below another when each grade is at most
-/// the other's, and 3 tells nothing.
-///
-/// Refused by 8.
+/// the other's, and 3 tells nothing. Takes 8 KiB of stack.
 ///
 /// ```
 /// use record_engine::{HOUSE_TABLE_LENGTH, HOUSE_TYPES};
@@ -29,6 +45,10 @@ pub const HOUSE_TABLE_LENGTH: usize = 8 * HOUSE_TYPES;
 /// assert_eq!(output[..length], [1, 16 + 3, 0, 0, 0, 0, 0, 0, 0, 0]);
 /// # Ok::<(), record_engine::Refusal>(())
 /// ```
+///
+/// # Errors
+///
+/// Refused by [`Refusal::NoRoom`] (8).
 pub fn house_table(output: &mut [u8]) -> Result<usize, Refusal> {
     length(foreign::record_house_table(output))
 }

@@ -1,11 +1,12 @@
 //! The calls on bytes: rewriting, order, common part, combination, difference, and the
 //! difference with its reasons (Paper 13); the first, third and fourth also with a list
 //! of types for features (Paper 9), the differences also with a list of all features
-//! (Paper 10); a step through all small graphs (Paper 14); and import and export of the
-//! planning tool's rows (Paper 2). Checks run in the papers' order: the table (1, 2, 3), the
-//! list (17, 19), the first graph and then the second (4 to 7, with 14 and 15 behind 4 for
-//! rows, and 18 by the list of types), then 12, 13, 9, 10, 11, 23, 24, 8 and 22. An output
-//! changes only where a length or counts are returned, and then only in its first places.
+//! (Paper 10); a step through all small graphs (Paper 14); import and export of the
+//! planning tool's rows (Paper 2); and whether a table is accepted. Checks run in the
+//! papers' order: the table (1, 2, 3), the list (17, 19), the first graph and then the
+//! second (4 to 7, with 14 and 15 behind 4 for rows, and 18 by the list of types), then 12,
+//! 13, 9, 10, 11, 23, 24, 8 and 22. An output changes only where a length or counts are
+//! returned, and then only in its first places.
 
 use crate::appropriateness::Appropriateness;
 use crate::canonical::canonical;
@@ -50,6 +51,11 @@ pub fn written_by(call: impl FnOnce(&mut [u8]) -> Reply) -> Result<Vec<u8>, Refu
         Reply::Refused(refusal) => Err(refusal),
         _ => unreachable!("a call that writes gives a length"),
     }
+}
+
+/// Whether a table is accepted: 0, since nothing is written, or 1 to 3.
+pub fn check_table(n: usize, table: &[u8]) -> Reply {
+    reply(accept_table(n, table).map(|_| Reply::Length(0)))
 }
 
 /// Rewrites one record in canonical (written) form.
