@@ -2,15 +2,17 @@
 //! accepted record has eight zero bytes in a row, the feature map of a node without links,
 //! and text has no control characters but white space.
 
-use crate::explain;
 use crate::failure::Failure;
+use crate::graph::Graph;
+use crate::names::nearest;
 use crate::notation::{self, Text};
 use crate::planning::File as Csv;
-use crate::source::Fault;
+use crate::source::{Fault, line_feeds};
 use crate::table::Table;
-use crate::{engine, graph::Graph};
-use std::fs::File;
-use std::io::{self, Read};
+use crate::{engine, explain};
+use std::fs::{self, File};
+use std::io::{self, ErrorKind, Read};
+use std::path::Path;
 
 /// No table, record or sensible text is longer.
 const LONGEST_FILE: u64 = 1 << 20;
@@ -29,27 +31,27 @@ impl Input {
     /// Reads a record or a text; whether it is accepted is not asked here.
     pub fn read(table: &Table, argument: &str) -> Result<Input, Failure> {
         let (name, bytes) = contents(argument)?;
-        if !is_text(&bytes) {
-            return Ok(Input {
-                name,
-                record: bytes,
-                text: None,
-            });
-        }
-        let text = decoded(&name, &bytes)?;
-        match notation::read(table, &text) {
-            Ok(read) => Ok(Input {
-                name,
-                record: read.graph.encode(),
-                text: Some((text, read)),
-            }),
-            Err(fault) => Err(Failure::Refused(fault.message(&name, &text))),
-        }
-    }
-
-    /// The name without the folder.
-    pub fn file_name(&self) -> &str {
-        self.name.rsplit('/').next().unwrap_or(&self.name)
+        let (record, text) = match content(&bytes) {
+            Content::Empty => {
+                let advice = "hand in a record, or text as `fitting help text` tells it";
+                return Err(empty(&name, advice));
+            }
+            Content::Utf16 => return Err(utf16(&name)),
+            Content::Binary if !is_like_a_record(&bytes) => return Err(neither(&name, &bytes)),
+            Content::Binary => (bytes, None),
+            Content::Text => {
+                let text = decoded(&name, &bytes)?;
+                let read = notation::read(table, &text).map_err(|mut fault| {
+                    if Table::from_text(&text).is_ok() {
+                        fault.advice =
+                            "this is a table: TABLE stands before the records".to_string();
+                    }
+                    Failure::Malformed(fault.message(&name, &text))
+                })?;
+                (read.graph.encode(), Some((text, read)))
+            }
+        };
+        Ok(Input { name, record, text })
     }
 
     /// The written form, if the engine accepts the record.
@@ -79,12 +81,17 @@ pub fn table(argument: &str) -> Result<Table, Failure> {
         return Ok(Table::house());
     }
     let (name, bytes) = contents(argument)?;
-    let table = match is_text(&bytes) {
-        false => Table::from_bytes(&bytes),
-        true => {
+    let table = match content(&bytes) {
+        Content::Empty => {
+            let advice = "hand in a table, as `fitting help table` tells it, or the word `house`";
+            return Err(empty(&name, advice));
+        }
+        Content::Utf16 => return Err(utf16(&name)),
+        Content::Binary => Table::from_bytes(&bytes),
+        Content::Text => {
             let text = decoded(&name, &bytes)?;
             Table::from_text(&text)
-                .map_err(|fault| Failure::Refused(fault.message(&name, &text)))?
+                .map_err(|fault| Failure::Malformed(fault.message(&name, &text)))?
         }
     };
     match engine::accept(&table) {
@@ -96,20 +103,45 @@ pub fn table(argument: &str) -> Result<Table, Failure> {
 /// Reads a file of CSV; what it says is not asked here.
 pub fn csv(argument: &str) -> Result<Csv, Failure> {
     let (name, bytes) = contents(argument)?;
-    if let Some(at) = bytes.iter().position(is_control) {
-        let line = bytes[..at].iter().filter(|&&byte| byte == b'\n').count() + 1;
-        return Err(Failure::Refused(format!(
-            "{name}:{line}: byte {:#04x} is no text\n  \
-             hand in CSV, as spreadsheets and `fitting export` write it",
-            bytes[at]
-        )));
+    let advice = "hand in CSV, as spreadsheets and `fitting export` write it";
+    match content(&bytes) {
+        Content::Empty => Err(empty(&name, advice)),
+        Content::Utf16 => Err(utf16(&name)),
+        Content::Binary => {
+            let at = bytes.iter().position(is_control).unwrap_or(0);
+            let line = bytes[..at].iter().filter(|&&byte| byte == b'\n').count() + 1;
+            let byte = bytes[at];
+            Err(Failure::Malformed(format!(
+                "{name}:{line}: byte {byte:#04x} is no text\n  {advice}"
+            )))
+        }
+        Content::Text => decoded(&name, &bytes).map(|text| Csv::new(&name, &text)),
     }
-    decoded(&name, &bytes).map(|text| Csv::new(&name, &text))
 }
 
-/// Whether bytes are meant as text.
-fn is_text(bytes: &[u8]) -> bool {
-    !bytes.iter().any(is_control)
+/// What bytes are, by their content.
+#[derive(Clone, Copy, Debug, PartialEq, Eq)]
+enum Content {
+    /// There is nothing, or nothing but white space.
+    Empty,
+    Text,
+    /// Text with two bytes for a letter, which is not read here.
+    Utf16,
+    /// Bytes that no text has are among them.
+    Binary,
+}
+
+fn content(bytes: &[u8]) -> Content {
+    let behind_mark = bytes.strip_prefix(b"\xEF\xBB\xBF").unwrap_or(bytes);
+    if behind_mark.trim_ascii().is_empty() {
+        Content::Empty
+    } else if is_utf16(bytes) {
+        Content::Utf16
+    } else if bytes.iter().any(is_control) {
+        Content::Binary
+    } else {
+        Content::Text
+    }
 }
 
 /// Whether a byte is a control character but white space.
@@ -117,16 +149,60 @@ fn is_control(byte: &u8) -> bool {
     byte.is_ascii_control() && !byte.is_ascii_whitespace()
 }
 
-/// The text of bytes; a mark of the byte order before it is left out.
+/// Whether bytes begin with a mark of the byte order, or every second byte is zero and no
+/// other is, as in letters of ASCII. No accepted table or record is like that.
+fn is_utf16(bytes: &[u8]) -> bool {
+    let zeros = |from: usize, are: bool| {
+        let mut bytes = bytes.iter().skip(from).step_by(2);
+        bytes.all(|&byte| (byte == 0) == are)
+    };
+    let is_wide = bytes.len() > 2 && bytes.len().is_multiple_of(2);
+    bytes.starts_with(b"\xFF\xFE")
+        || bytes.starts_with(b"\xFE\xFF")
+        || is_wide && (zeros(0, true) && zeros(1, false) || zeros(1, true) && zeros(0, false))
+}
+
+/// Whether the engine can have something to say about a record of these bytes: they have
+/// eight zeros in a row, as every accepted record does, or they are a list of nodes.
+fn is_like_a_record(bytes: &[u8]) -> bool {
+    bytes.windows(8).any(|bytes| bytes == [0; 8]) || Graph::decode(bytes).is_ok()
+}
+
+fn empty(name: &str, advice: &str) -> Failure {
+    let what = match name {
+        "standard input" => "there is nothing on it",
+        _ => "the file is empty",
+    };
+    Failure::Malformed(format!("{name}: {what}\n  {advice}"))
+}
+
+fn utf16(name: &str) -> Failure {
+    Failure::Malformed(format!(
+        "{name}: this is text in UTF-16\n  save the file as UTF-8"
+    ))
+}
+
+fn neither(name: &str, bytes: &[u8]) -> Failure {
+    let control = bytes.iter().find(|byte| is_control(byte)).unwrap_or(&0);
+    let as_record = explain::malformed(bytes);
+    Failure::Malformed(format!(
+        "{name}: neither text nor a record\n  \
+         text has no byte {control:#04x}, and a record has eight zero bytes in a row\n  \
+         hand in another file; taken for a record, {as_record}"
+    ))
+}
+
+/// The text of bytes, with a line feed for each line end; a mark of the byte order before it
+/// is left out.
 fn decoded(name: &str, bytes: &[u8]) -> Result<String, Failure> {
     match std::str::from_utf8(bytes) {
-        Ok(text) => Ok(text.strip_prefix('\u{feff}').unwrap_or(text).to_string()),
+        Ok(text) => Ok(line_feeds(text.strip_prefix('\u{feff}').unwrap_or(text))),
         Err(error) => {
             let at = error.valid_up_to();
             let what = format!("byte {:#04x} is no UTF-8 text", bytes[at]);
             let fault = Fault::new(at, what, "save the file as UTF-8");
             let text = String::from_utf8_lossy(bytes);
-            Err(Failure::Refused(fault.message(name, &text)))
+            Err(Failure::Malformed(fault.message(name, &text)))
         }
     }
 }
@@ -141,12 +217,36 @@ fn contents(argument: &str) -> Result<(String, Vec<u8>), Failure> {
     let read = opened.and_then(|file| file.take(LONGEST_FILE + 1).read_to_end(&mut bytes));
     let name = name(argument).to_string();
     match read {
-        Err(error) => Err(Failure::usage(format!("cannot read {name}: {error}"))),
+        Err(error) => {
+            let mut message = format!("cannot read {name}: {error}");
+            if error.kind() == ErrorKind::NotFound {
+                message += &neighbour(argument).unwrap_or_default();
+            }
+            Err(Failure::usage(message))
+        }
         Ok(length) if length as u64 > LONGEST_FILE => Err(Failure::usage(format!(
             "{name} is longer than {LONGEST_FILE} bytes, more than any table, record or text here"
         ))),
         Ok(_) => Ok((name, bytes)),
     }
+}
+
+/// The file of the same folder that a name which is not there is nearest to, as a question.
+fn neighbour(argument: &str) -> Option<String> {
+    const LOOKED_AT: usize = 1_000;
+    let missing = Path::new(argument);
+    let folder = missing.parent()?;
+    let looked_in = match folder.as_os_str().is_empty() {
+        true => Path::new("."),
+        false => folder,
+    };
+    let files = fs::read_dir(looked_in).ok()?.take(LOOKED_AT).flatten();
+    let files: Vec<String> = files
+        .filter_map(|file| file.file_name().into_string().ok())
+        .collect();
+    let wrong = missing.file_name()?.to_str()?;
+    let near = nearest(wrong, files.iter().map(String::as_str))?;
+    Some(format!("\n  did you mean {}?", folder.join(near).display()))
 }
 
 #[cfg(test)]
@@ -155,12 +255,43 @@ mod tests {
 
     #[test]
     fn text_and_records_are_told_apart() {
-        assert!(is_text(b"top[0: X a,\r\n\t1: X] # comment\n"));
-        assert!(is_text("höhe".as_bytes()));
-        assert!(is_text(b""));
+        for text in ["top[0: X a,\r\n\t1: X] # comment\n", "höhe", "\u{feff}a"] {
+            assert_eq!(content(text.as_bytes()), Content::Text);
+        }
+        for empty in ["", " \r\n\t", "\u{feff}", "\u{feff}\n"] {
+            assert_eq!(content(empty.as_bytes()), Content::Empty);
+        }
         // The shortest record, and one whose other bytes are all letters.
-        assert!(!is_text(&[1, 3, 0, 0, 0, 0, 0, 0, 0, 0]));
-        assert!(!is_text(&[b'a', b'b', 0, 0, 0, 0, 0, 0, 0, 0]));
-        assert!(!is_text(&[2, 3]));
+        for record in [
+            [1, 3, 0, 0, 0, 0, 0, 0, 0, 0],
+            [b'a', b'b', 0, 0, 0, 0, 0, 0, 0, 0],
+        ] {
+            assert_eq!(content(&record), Content::Binary);
+            assert!(is_like_a_record(&record));
+        }
+        assert_eq!(content(&[2, 3]), Content::Binary);
+        assert!(!is_like_a_record(&[2, 3]));
+        // A node that reaches itself by its only link: no eight zeros, and yet a record's form.
+        let cyclic = [1, 3, 1, 0, 0, 0, 0, 0, 0, 1, 0, 0];
+        assert!(is_like_a_record(&cyclic));
+    }
+
+    #[test]
+    fn text_of_two_bytes_a_letter_is_known() {
+        let wide = |little: bool, text: &str| -> Vec<u8> {
+            let units = text.encode_utf16();
+            let bytes = units.map(|unit| match little {
+                true => unit.to_le_bytes(),
+                false => unit.to_be_bytes(),
+            });
+            bytes.collect::<Vec<_>>().concat()
+        };
+        for little in [false, true] {
+            assert_eq!(content(&wide(little, "type a")), Content::Utf16);
+            assert_eq!(content(&wide(little, "\u{feff}höhe")), Content::Utf16);
+        }
+        // A table has zeros in a row.
+        let table = [1, 0, 0, 0, 0, 0, 0, 0, 3, 0, 0, 0, 0, 0, 0, 0];
+        assert_eq!(content(&table), Content::Binary);
     }
 }

@@ -5,6 +5,7 @@
 
 #![forbid(unsafe_code)]
 
+mod checksum;
 mod command;
 mod draw;
 mod engine;
@@ -13,7 +14,9 @@ mod failure;
 pub mod graph;
 mod help;
 mod input;
+mod names;
 pub mod notation;
+mod output;
 mod overlay;
 mod picture;
 pub mod planning;

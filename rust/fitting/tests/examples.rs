@@ -10,7 +10,6 @@ use tool::{folder, output, tool};
 const SUBJECTS: [&str; 14] = [
     "",
     "text",
-    "table",
     "check",
     "show",
     "make",
@@ -22,6 +21,7 @@ const SUBJECTS: [&str; 14] = [
     "list",
     "import",
     "export",
+    "table",
 ];
 
 #[test]
@@ -58,8 +58,15 @@ fn the_lines_of_the_readme_work() {
     let folder = folder("readme");
     let readme = Path::new(env!("CARGO_MANIFEST_DIR")).join("../../README.md");
     let readme = fs::read_to_string(readme).expect("the README is text");
+    // The gate empties `target`: what is installed there is gone.
+    let installs = readme.lines().filter(|line| line.contains("cargo install"));
+    let installs: Vec<&str> = installs.map(str::trim).collect();
+    assert_eq!(
+        installs,
+        ["cargo install --offline --locked --path rust/fitting --root ~/.local"]
+    );
     let lines = readme.lines();
-    let lines = lines.filter_map(|line| line.strip_prefix("    target/bin/fitting "));
+    let lines = lines.filter_map(|line| line.strip_prefix("    fitting "));
     let mut commands = Vec::new();
     for line in lines {
         // A picture needs `dot`: DOT text does not.

@@ -14,6 +14,31 @@ fn every_command() {
 }
 
 #[test]
+fn what_was_wrong_is_repaired() {
+    assert_eq!(session::run("repairs"), 66);
+}
+
+#[test]
+fn names_in_quotation_marks_and_one_level() {
+    assert_eq!(session::run("names"), 34);
+}
+
+#[test]
+fn features_that_belong_to_types() {
+    assert_eq!(session::run("lists"), 22);
+}
+
+#[test]
+fn more_than_two() {
+    assert_eq!(session::run("many"), 18);
+}
+
+#[test]
+fn tables_as_text_source_and_pictures() {
+    assert_eq!(session::run("table"), 28);
+}
+
+#[test]
 fn ranges_in_every_command() {
     assert_eq!(session::run("ranges"), 25);
 }

@@ -51,7 +51,7 @@ fn the_largest_record_is_shown_read_and_drawn() {
     let checked = quickly(&folder, &["check", TABLE, "-"], &record);
     let checked = String::from_utf8(checked).expect("text");
     assert!(
-        checked.ends_with("form, 255 nodes and 2048 links\n"),
+        checked.contains("form, 255 nodes and 2048 links\n"),
         "{checked}"
     );
     let text = quickly(&folder, &["show", TABLE, "-"], &record);
@@ -63,14 +63,15 @@ fn the_largest_record_is_shown_read_and_drawn() {
     );
     let dot = quickly(&folder, &["draw", TABLE, "-"], &record);
     let dot = String::from_utf8(dot).expect("text");
-    assert_eq!(dot.matches(" -> ").count(), 2048);
+    // The root's mark has an arrow too.
+    assert_eq!(dot.matches(" -> ").count(), 2048 + 1);
     assert!(dot.contains("splines=line") && dot.contains(" -> n1 [taillabel="));
     assert!(dot.matches("peripheries=2").count() > 200);
     // Each node has a place of its own, so that `dot` need not look for one.
     assert!(dot.contains("layout=nop"));
     let places = dot.split("pos=\"").skip(1);
     let places: BTreeSet<&str> = places.filter_map(|rest| rest.split('"').next()).collect();
-    assert_eq!(places.len(), 255);
+    assert_eq!(places.len(), 255 + 1);
 }
 
 #[test]
@@ -127,7 +128,7 @@ fn a_planning_table_of_too_many_parts_is_refused() {
             &folder,
             &format!("node,type\n{nodes}parent,feature,target\n{links}")
         ),
-        "refused 4 first: the record is malformed\n\
+        "refused 4: the record is malformed\n\
          standard input:2085:1: here begins link 2049 of 2112\n    \
          32,0,33\n    ^\n  \
          leave links out: a record has at most 2,048\n"
@@ -138,7 +139,7 @@ fn a_planning_table_of_too_many_parts_is_refused() {
             &folder,
             &format!("parent,feature,target\nnode,type\n{nodes}")
         ),
-        "refused 4 first: the record is malformed\n\
+        "refused 4: the record is malformed\n\
          standard input:258:1: there are 256 nodes\n    \
          255,top\n    ^\n  \
          leave nodes out: a record has at most 255\n"
@@ -235,7 +236,7 @@ fn a_text_of_too_many_parts_is_refused() {
     let told = output(tool(&folder, &["check", TABLE, "-"]), text.as_bytes());
     assert_eq!(
         String::from_utf8(told.stderr).expect("text"),
-        "refused 4 first: the record is malformed\n  standard input: it has 2112 links\n  \
+        "refused 4: the record is malformed\n  standard input: it has 2112 links\n  \
          leave links out: a record has at most 2,048\n"
     );
 }

@@ -30,7 +30,7 @@ fn size(table: &Table) -> Words {
 /// The first of the rows that is not as an order's, or two rows that do not fit together.
 fn order(table: &Table) -> Option<Words> {
     let n = table.n;
-    let name = |number: usize| table.type_name(number as u8);
+    let name = |number: usize| table.type_shown(number as u8);
     let below = |a: usize, b: usize| table.row(b) >> a & 1 == 1;
     let rows = |what: String, advice: &str| Some((what, advice.to_string()));
     for i in 0..n {
@@ -72,7 +72,7 @@ fn order(table: &Table) -> Option<Words> {
 /// Two types without a meet. With a greatest type, a pair without a join leaves a pair
 /// without a meet as well.
 fn bounds(table: &Table) -> Option<Words> {
-    let name = |number: usize| table.type_name(number as u8);
+    let name = |number: usize| table.type_shown(number as u8);
     let pairs = (0..table.n).flat_map(|a| (0..a).map(move |b| (b, a)));
     for (a, b) in pairs {
         let both = table.row(a) & table.row(b);
