@@ -2,15 +2,18 @@
 
 mod arguments;
 mod check;
+mod comparison;
 mod drawing;
 mod operations;
 mod planning;
+mod sameness;
 mod table;
 
 use crate::engine;
 use crate::failure::Failure;
 use crate::graph::Graph;
 use crate::input::{self, Input};
+use crate::progress::Progress;
 use crate::table::Table;
 use crate::{help, notation, output};
 use arguments::Arguments;
@@ -26,16 +29,19 @@ enum Part {
     Printed(Vec<u8>),
     /// On standard error; the exit status tells it too.
     Failed(Failure),
+    /// What was looked for is there: exit status 1.
+    Found,
 }
 
 /// A listing is told so many lines at a time.
 const LINES_AT_ONCE: usize = 1_000;
 
 /// Runs the tool: writes what a command tells, and gives the exit status, 0 for success, 1
-/// for a refusal, 2 for wrong use.
+/// for a refusal and where programs are found to be the same, 2 for wrong use.
 pub fn run(arguments: &[String], out: &mut dyn Write, err: &mut dyn Write) -> u8 {
     let mut status = 0;
-    for part in told(arguments).unwrap_or_else(failed) {
+    let parts = told(arguments, &mut Progress::new(err));
+    for part in parts.unwrap_or_else(failed) {
         let failure = match part {
             Part::Printed(bytes) => match out.write_all(&bytes).and_then(|()| out.flush()) {
                 // Whoever reads has read enough.
@@ -43,6 +49,10 @@ pub fn run(arguments: &[String], out: &mut dyn Write, err: &mut dyn Write) -> u8
                 Err(error) => Failure::usage(format!("cannot write: {error}")),
                 Ok(()) => continue,
             },
+            Part::Found => {
+                status = status.max(1);
+                continue;
+            }
             Part::Failed(failure) => failure,
         };
         status = status.max(failure.status());
@@ -52,7 +62,7 @@ pub fn run(arguments: &[String], out: &mut dyn Write, err: &mut dyn Write) -> u8
     status
 }
 
-fn told(arguments: &[String]) -> Result<Told, Failure> {
+fn told(arguments: &[String], progress: &mut Progress) -> Result<Told, Failure> {
     let Some((name, arguments)) = arguments.split_first() else {
         let advice = "`fitting --help` tells the commands";
         return Err(Failure::usage(format!("no command is given\n  {advice}")));
@@ -77,6 +87,8 @@ fn told(arguments: &[String]) -> Result<Told, Failure> {
         "make" => make(&table, &arguments),
         "draw" => drawing::draw(&table, &arguments),
         "order" => operations::order(&table, &arguments),
+        "compare" => comparison::compare(&table, &arguments),
+        "same" => sameness::same(&table, &arguments, progress),
         "common" => operations::common(&table, &arguments),
         "combine" => operations::combine(&table, &arguments),
         "difference" => operations::difference(&table, &arguments),

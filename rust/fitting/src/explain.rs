@@ -13,6 +13,7 @@ use crate::input::Input;
 use crate::planning::Planning;
 use crate::source::pointed;
 use crate::table::Table;
+pub use pair::{Contradiction, Kind, contradictions};
 use record_engine::{Refusal, Side};
 
 /// What was found out about a refusal.
@@ -56,7 +57,12 @@ pub fn refused(
                 Side::Second => inputs[inputs.len() - 1],
             };
             let cause = record::cause(refusal.number(), table, input);
-            cause.map(|cause| placed(&cause, input))
+            cause.map(|mut cause| {
+                if (refusal.number(), operation) == (18, Some(Operation::Unify)) {
+                    cause.advice += "; a difference is combined with `--plain`";
+                }
+                placed(&cause, input)
+            })
         }
         None => {
             let cause = pair::cause(refusal.number(), operation, table, inputs);
@@ -125,7 +131,7 @@ fn placed(cause: &Cause, input: &Input) -> String {
 }
 
 /// Items as a sentence lists them.
-fn listed(items: &[String]) -> String {
+pub fn listed(items: &[String]) -> String {
     match items {
         [] => String::new(),
         [one] => one.clone(),

@@ -24,29 +24,31 @@ pub struct Command {
 }
 
 /// Every option, and what has to stand behind it, if anything.
-pub const OPTIONS: [(&str, Option<&str>); 12] = [
+pub const OPTIONS: [(&str, Option<&str>); 14] = [
     ("-o", Some("a file")),
     ("--by", Some("features")),
     ("--c", None),
     ("--features", Some("a number")),
     ("--fingerprint", None),
+    ("--json", None),
     ("--kept-only", None),
     ("--links", Some("a file")),
     ("--nodes", Some("a file")),
     ("--over", Some("a file")),
+    ("--plain", None),
     ("--quiet", None),
     ("--rust", None),
     ("--why", None),
 ];
 
 /// Every command.
-pub const COMMANDS: [Command; 12] = [
+pub const COMMANDS: [Command; 14] = [
     Command {
         name: "check",
-        usage: "fitting check TABLE [FILE..] [--quiet]",
+        usage: "fitting check TABLE [FILE..] [--quiet] [--json]",
         operands: &["TABLE"],
         more: More::Any,
-        options: &["--quiet"],
+        options: &["--quiet", "--json"],
         help: include_str!("help/check.txt"),
     },
     Command {
@@ -75,34 +77,50 @@ pub const COMMANDS: [Command; 12] = [
     },
     Command {
         name: "order",
-        usage: "fitting order TABLE A B [-o FILE]",
+        usage: "fitting order TABLE A B [--json] [-o FILE]",
         operands: &["TABLE", "A", "B"],
         more: More::None,
-        options: &["-o"],
+        options: &["--json", "-o"],
         help: include_str!("help/order.txt"),
     },
     Command {
+        name: "compare",
+        usage: "fitting compare TABLE A B [--json] [-o FILE]",
+        operands: &["TABLE", "A", "B"],
+        more: More::None,
+        options: &["--json", "-o"],
+        help: include_str!("help/compare.txt"),
+    },
+    Command {
+        name: "same",
+        usage: "fitting same TABLE FILE.. [--json]",
+        operands: &["TABLE", "FILE"],
+        more: More::Any,
+        options: &["--json"],
+        help: include_str!("help/same.txt"),
+    },
+    Command {
         name: "common",
-        usage: "fitting common TABLE A B.. [-o FILE]",
+        usage: "fitting common TABLE A B.. [--plain] [-o FILE]",
         operands: &["TABLE", "A", "B"],
         more: More::Any,
-        options: &["-o"],
+        options: &["--plain", "-o"],
         help: include_str!("help/common.txt"),
     },
     Command {
         name: "combine",
-        usage: "fitting combine TABLE A B.. [-o FILE]",
+        usage: "fitting combine TABLE A B.. [--plain] [-o FILE]",
         operands: &["TABLE", "A", "B"],
         more: More::Any,
-        options: &["-o"],
+        options: &["--plain", "-o"],
         help: include_str!("help/combine.txt"),
     },
     Command {
         name: "difference",
-        usage: "fitting difference [--why] [--by FEATURES] TABLE G S [-o FILE]",
+        usage: "fitting difference TABLE G S [--why [--json]] [--by FEATURES] [-o FILE]",
         operands: &["TABLE", "G", "S"],
         more: More::None,
-        options: &["--why", "--by", "-o"],
+        options: &["--why", "--json", "--by", "-o"],
         help: include_str!("help/difference.txt"),
     },
     Command {
@@ -155,11 +173,12 @@ pub fn command(name: &str) -> Result<&'static Command, Failure> {
     })
 }
 
-/// The help about a command, about `text`, or about the whole.
+/// The help about a command, about `text` or `json`, or about the whole.
 pub fn about(subject: &str) -> Result<String, Failure> {
     match subject {
         "" => Ok(include_str!("help/fitting.txt").to_string()),
         "text" => Ok(include_str!("help/text.txt").to_string()),
+        "json" => Ok(include_str!("help/json.txt").to_string()),
         name => {
             let command = command(name)?;
             Ok(format!("Usage: {}\n\n{}", command.usage, command.help))

@@ -10,9 +10,10 @@ use crate::planning::File as Csv;
 use crate::source::{Fault, line_feeds};
 use crate::table::Table;
 use crate::{engine, explain};
+use std::collections::BTreeSet;
 use std::fs::{self, File};
 use std::io::{self, ErrorKind, Read};
-use std::path::Path;
+use std::path::{Path, PathBuf};
 
 /// No table, record or sensible text is longer.
 const LONGEST_FILE: u64 = 1 << 20;
@@ -73,6 +74,59 @@ pub fn name(argument: &str) -> &str {
         "-" => "standard input",
         file => file,
     }
+}
+
+/// The files that arguments name, in their order, each once; for a folder those in it and in
+/// its folders, by name. Hidden files and the table's own are left out of a folder.
+pub fn files(table: &str, arguments: &[String]) -> Result<Vec<String>, Failure> {
+    let mut files = Vec::new();
+    for argument in arguments {
+        match Path::new(argument).is_dir() {
+            false => files.push(argument.clone()),
+            true => {
+                let before = files.len();
+                walk(
+                    Path::new(argument),
+                    fs::canonicalize(table).ok(),
+                    &mut files,
+                )
+                .map_err(|error| Failure::usage(format!("cannot read {argument}: {error}")))?;
+                if files.len() == before {
+                    return Err(Failure::usage(format!(
+                        "{argument}: no file is in this folder"
+                    )));
+                }
+            }
+        }
+    }
+    let mut met = BTreeSet::new();
+    files.retain(|file| match fs::canonicalize(file) {
+        Ok(named) if file != "-" => met.insert(named),
+        // Whether it can be read is told when it is.
+        _ => true,
+    });
+    Ok(files)
+}
+
+fn walk(folder: &Path, table: Option<PathBuf>, files: &mut Vec<String>) -> io::Result<()> {
+    let mut entries = fs::read_dir(folder)?.collect::<io::Result<Vec<_>>>()?;
+    entries.sort_by_key(fs::DirEntry::file_name);
+    for entry in entries {
+        let path = entry.path();
+        let is_hidden = entry.file_name().to_string_lossy().starts_with('.');
+        let is_table = table.is_some() && fs::canonicalize(&path).ok() == table;
+        if is_hidden || is_table {
+            continue;
+        }
+        // A link to a folder is not followed: it may lead back.
+        if entry.file_type()?.is_dir() {
+            walk(&path, table.clone(), files)?;
+        } else if path.is_file() {
+            let name = path.to_str().ok_or(ErrorKind::InvalidFilename)?;
+            files.push(name.to_string());
+        }
+    }
+    Ok(())
 }
 
 /// Reads a table that the engine accepts.

@@ -201,13 +201,12 @@ impl Table {
 
     /// The types directly below a type of an accepted table, by number.
     pub fn directly_below(&self, number: usize) -> Vec<usize> {
-        let under = |upper: usize| {
-            let below = self.row(upper) & !(1 << upper);
-            (0..self.n).filter(move |&lower| below >> lower & 1 == 1)
-        };
-        let is_direct =
-            |&lower: &usize| !under(number).any(|other| under(other).any(|l| l == lower));
-        under(number).filter(is_direct).collect()
+        let others_below = |number: usize| self.row(number) & !(1 << number);
+        let is_in = |types: u64| move |&number: &usize| types >> number & 1 == 1;
+        let below = others_below(number);
+        let between = (0..self.n).filter(is_in(below));
+        let further = between.fold(0, |further, other| further | others_below(other));
+        (0..self.n).filter(is_in(below & !further)).collect()
     }
 
     /// The greatest of some types given as bits, if one of them is above all.

@@ -1,12 +1,13 @@
 //! Why a difference keeps its links: the difference laid into the specific graph, with the
 //! engine's reasons, in words and for a picture.
 
-use crate::graph::{Graph, Levels, Node};
-use crate::notation::label;
+use crate::explain::listed;
+use crate::graph::{Graph, Levels, Link, Node};
+use crate::json::{self, Json};
 use crate::overlay::{Named, image};
 use crate::table::Table;
 use record_engine::Reason;
-use std::collections::BTreeMap;
+use std::collections::{BTreeMap, BTreeSet};
 
 /// What a difference keeps of a specific graph.
 pub struct Kept {
@@ -30,7 +31,7 @@ pub struct Said {
 
 impl Said {
     /// What the difference does here, over a general graph of this name.
-    pub fn words(&self, table: &Table, general: &str) -> String {
+    fn words(&self, table: &Table, general: &str) -> String {
         match self.added.levels {
             Levels::FULL => format!("adds {} to what {general} gives", label(table, &self.added)),
             _ => format!(
@@ -47,6 +48,15 @@ impl Said {
             true => self.own.levels.to_string(),
             false => label(table, &self.own),
         }
+    }
+}
+
+/// The type of a node and, where they are not all, its levels, as messages show them.
+pub fn label(table: &Table, node: &Node) -> String {
+    let name = table.type_shown(node.node_type);
+    match node.levels {
+        Levels::FULL => name,
+        levels => format!("{name}{levels}"),
     }
 }
 
@@ -79,6 +89,66 @@ pub fn kept(
             let reason = *reasons.next().expect("a reason for each link");
             kept.links.insert((under, link.feature), reason);
         }
+    }
+    kept
+}
+
+/// All of a specific graph that a general one does not give, each link with its reason: what a
+/// difference keeps is among it. For where there is no most general difference.
+pub fn differing(table: &Table, general: &Graph, specific: &Graph) -> Kept {
+    let over = over(table, general, specific);
+    let image = laid(table, general, specific);
+    let mut kept = Kept {
+        links: BTreeMap::new(),
+        nodes: BTreeMap::new(),
+    };
+    for (number, (own, over)) in specific.nodes.iter().zip(&over).enumerate() {
+        let own = bare(own);
+        let said = (own != *over).then(|| Said {
+            over: over.clone(),
+            added: own.clone(),
+            own,
+        });
+        kept.nodes.insert(number, said);
+    }
+    // For each link of the specific graph its group: links that the general graph leads to one
+    // node are in one.
+    let links = specific.nodes.iter().enumerate();
+    let links = links.flat_map(|(parent, node)| node.links.iter().map(move |link| (parent, *link)));
+    let links: Vec<(usize, Link)> = links.collect();
+    let mut groups: BTreeMap<(usize, u8), usize> = BTreeMap::new();
+    for (place, (parent, link)) in links.iter().enumerate() {
+        groups.insert((*parent, link.feature), place);
+    }
+    let mut leaders = vec![None; general.nodes.len()];
+    let mut covered = BTreeSet::new();
+    for (parent, node) in general.nodes.iter().enumerate() {
+        for link in &node.links {
+            let under = (image[parent], link.feature);
+            covered.insert(under);
+            let group = groups[&under];
+            let leader = *leaders[link.target].get_or_insert(group);
+            // The group of the leader may have been joined to another since.
+            let leader = groups[&(links[leader].0, links[leader].1.feature)];
+            for other in groups.values_mut().filter(|other| **other == group) {
+                *other = leader;
+            }
+        }
+    }
+    let mut parts: BTreeMap<usize, BTreeSet<usize>> = BTreeMap::new();
+    for (parent, link) in &links {
+        let group = groups[&(*parent, link.feature)];
+        parts.entry(link.target).or_default().insert(group);
+    }
+    for (parent, link) in &links {
+        let place = (*parent, link.feature);
+        let reason = match () {
+            () if !covered.contains(&place) => Reason::Bare,
+            () if parts[&link.target].len() > 1 => Reason::Groups,
+            () if matches!(kept.nodes.get(&link.target), Some(Some(_))) => Reason::Wanted,
+            () => continue,
+        };
+        kept.links.insert(place, reason);
     }
     kept
 }
@@ -132,44 +202,183 @@ pub fn meaning(reason: Reason, general: &str) -> String {
     }
 }
 
-/// The root, where the difference says something there, and the kept links, one a line, each
-/// with its reason; comments, where they follow a text.
-pub fn lines(table: &Table, specific: &Graph, kept: &Kept, general: &str) -> String {
-    let paths = specific.paths();
-    let mut lines = Vec::new();
-    if let Some(Some(said)) = kept.nodes.get(&0) {
-        let because = said.words(table, general);
-        lines.push((table.path(&[]), word(Reason::Wanted), because));
+/// A kept part of the specific graph: where it is, why it is kept, and what is said there.
+pub struct Line {
+    pub path: Vec<u8>,
+    pub reason: Reason,
+    /// What the difference says at the node there, if it says anything.
+    pub said: Option<Said>,
+    pub words: String,
+}
+
+/// What the general graph is called.
+#[derive(Clone, Copy)]
+pub enum General<'a> {
+    /// It has a name.
+    Named(&'a str),
+    /// It is what the specific graph and another, of this name, have in common.
+    CommonWith(&'a str),
+}
+
+impl General<'_> {
+    /// Why a link to a node is kept, that other paths lead to as well.
+    fn words(
+        self,
+        table: &Table,
+        reason: Reason,
+        said: Option<&Said>,
+        others: &[Vec<u8>],
+    ) -> String {
+        let there = |said: &Said| match self {
+            General::Named(general) => said.words(table, general),
+            General::CommonWith(_) => {
+                let [own, over] = [&said.own, &said.over].map(|node| label(table, node));
+                format!("{own}, where both say {over}")
+            }
+        };
+        let (General::Named(name) | General::CommonWith(name)) = self;
+        let others: Vec<String> = others.iter().map(|path| table.path(path)).collect();
+        match (reason, said, self) {
+            (Reason::Bare | Reason::Groups, _, General::CommonWith(_)) if !others.is_empty() => {
+                let joined = format!("one node with {}", listed(&others));
+                let why = match reason {
+                    Reason::Bare => meaning(reason, name),
+                    _ => format!("not so in {name}"),
+                };
+                match said {
+                    Some(said) => format!("{joined}, {why}; {}", there(said)),
+                    None => format!("{joined}, {why}"),
+                }
+            }
+            (Reason::Wanted, Some(said), _) => there(said),
+            (Reason::Wanted, None, _) => "for what is kept below it".to_string(),
+            (Reason::Groups, Some(said), _) => {
+                format!("{}; {}", meaning(reason, name), there(said))
+            }
+            (Reason::Bare, Some(said), General::CommonWith(_)) => {
+                format!("{}; {}", label(table, &said.own), meaning(reason, name))
+            }
+            _ => meaning(reason, name),
+        }
     }
-    for (&(parent, feature), &reason) in &kept.links {
+}
+
+/// The root, where the difference says something there, and the kept links.
+pub fn lines(table: &Table, specific: &Graph, kept: &Kept, general: General) -> Vec<Line> {
+    let paths = specific.paths();
+    let path_of = |parent: usize, feature: u8| {
         let path = paths[parent].clone().expect("the root reaches every node");
+        [&path[..], &[feature]].concat()
+    };
+    // For each node a path for each link that leads to it.
+    let mut entering = vec![Vec::new(); specific.nodes.len()];
+    for (parent, node) in specific.nodes.iter().enumerate() {
+        for link in &node.links {
+            entering[link.target].push(path_of(parent, link.feature));
+        }
+    }
+    let line = |path, reason, node: usize| {
+        let said = kept.nodes.get(&node).and_then(Option::as_ref);
+        let others = entering[node].iter().filter(|other| **other != path);
+        let others: Vec<Vec<u8>> = others.cloned().collect();
+        Line {
+            words: general.words(table, reason, said, &others),
+            path,
+            reason,
+            said: said.cloned(),
+        }
+    };
+    let is_said = matches!(kept.nodes.get(&0), Some(Some(_)));
+    let root = is_said.then(|| line(Vec::new(), Reason::Wanted, 0));
+    let links = kept.links.iter().map(|(&(parent, feature), &reason)| {
         let target = specific.nodes[parent].target(feature);
         let target = target.expect("a kept link is a link of the graph");
-        let said = kept.nodes.get(&target).and_then(Option::as_ref);
-        let because = match (reason, said) {
-            (Reason::Wanted, Some(said)) => said.words(table, general),
-            (Reason::Wanted, None) => "for what is kept below it".to_string(),
-            (Reason::Groups, Some(said)) => {
-                let meaning = meaning(reason, general);
-                format!("{meaning}; {}", said.words(table, general))
-            }
-            _ => meaning(reason, general),
-        };
-        let path = table.path(&[&path[..], &[feature]].concat());
-        lines.push((path, word(reason), because));
-    }
-    let widths = lines.iter().map(|(path, ..)| path.chars().count());
+        line(path_of(parent, feature), reason, target)
+    });
+    root.into_iter().chain(links).collect()
+}
+
+/// Lines as text, each after a prefix.
+pub fn text(table: &Table, lines: &[Line], prefix: &str) -> String {
+    let paths: Vec<String> = lines.iter().map(|line| table.path(&line.path)).collect();
+    let widths = paths.iter().map(|path| path.chars().count());
     let width = widths.max().unwrap_or(0);
-    lines
-        .iter()
-        .map(|(path, word, because)| format!("# {path:width$}  {word:5}  {because}\n"))
-        .collect()
+    let text = paths.iter().zip(lines).map(|(path, line)| {
+        let (word, words) = (word(line.reason), &line.words);
+        format!("{prefix}{path:width$}  {word:5}  {words}\n")
+    });
+    text.collect()
+}
+
+/// Lines as JSON.
+pub fn json(table: &Table, lines: &[Line]) -> Json {
+    let line = |line: &Line| {
+        let said = line.said.as_ref();
+        Json::object([
+            ("path", json::path(table, &line.path)),
+            ("reason", word(line.reason).into()),
+            ("says", said.map(|said| label(table, &said.own)).into()),
+            ("over", said.map(|said| label(table, &said.over)).into()),
+            ("words", line.words.as_str().into()),
+        ])
+    };
+    Json::List(lines.iter().map(line).collect())
 }
 
 #[cfg(test)]
 mod tests {
     use super::*;
-    use crate::{draw, notation};
+    use crate::{draw, engine, notation};
+    use reference::random::{self, Ranges, Shape, Xorshift};
+    use reference::record;
+
+    /// What a difference keeps is among all that differs, for the same reasons, and of what
+    /// differs by itself the difference keeps a link to each node.
+    #[test]
+    fn a_difference_keeps_some_of_what_differs() {
+        let mut random = Xorshift::stored(39);
+        let mut met: BTreeMap<&str, usize> = BTreeMap::new();
+        for round in 0..3_000 {
+            let bytes = random::valid_table(&mut random);
+            let table = Table::from_bytes(&bytes.bytes);
+            let shape = match round % 2 {
+                0 => Shape::shared(&mut random),
+                _ => Shape::small(&mut random, 8, 3),
+            };
+            let shape = shape.ranged(&mut random, Ranges::Present);
+            let specific = random::graph(&mut random, table.n, &shape);
+            let general = random::graph_above(&mut random, &bytes.accepted(), &specific);
+            let [general, specific] = [general, specific].map(|graph| {
+                let written = engine::rewrite(&table, &record::write(&graph));
+                written.expect("an accepted record")
+            });
+            let Ok((difference, reasons)) = engine::explain(&table, None, &general, &specific)
+            else {
+                continue;
+            };
+            let [general, specific, difference] =
+                [general, specific, difference].map(|record| Graph::of_written(&record));
+            let all = differing(&table, &general, &specific);
+            let kept = kept(&table, &general, &specific, &difference, &reasons);
+            for (link, &reason) in &kept.links {
+                let target = specific.nodes[link.0].target(link.1).expect("a link");
+                let is_said = kept.nodes[&target].is_some();
+                if reason != Reason::Wanted || is_said {
+                    assert_eq!(all.links.get(link), Some(&reason));
+                    *met.entry(word(reason)).or_default() += 1;
+                }
+            }
+            for (node, said) in &kept.nodes {
+                assert!(said.is_none() || all.nodes[node].is_some());
+            }
+            for &(parent, feature) in all.links.keys() {
+                let target = specific.nodes[parent].target(feature).expect("a link");
+                assert!(kept.nodes.contains_key(&target));
+            }
+        }
+        let enough = met.len() == 3 && met.values().all(|&count| count > 500);
+        assert!(enough || !random::is_stored(), "{met:?}");
+    }
 
     #[test]
     fn reasons_stand_at_the_links_of_the_specific_graph() {
@@ -181,7 +390,11 @@ mod tests {
         let general = graph("top[0: X a, 1: X, 2: a, 3: b]");
         let kept = kept(&table, &general, &specific, &difference, &reasons);
         assert_eq!(
-            lines(&table, &specific, &kept, "g"),
+            text(
+                &table,
+                &lines(&table, &specific, &kept, General::Named("g")),
+                "# "
+            ),
             "# path 0    apart  g does not join all links to the node\n\
              # path 2    apart  g does not join all links to the node\n\
              # path 3    more   for what is kept below it\n\

@@ -7,14 +7,17 @@ use std::fs;
 use std::path::Path;
 use tool::{folder, output, tool};
 
-const SUBJECTS: [&str; 14] = [
+const SUBJECTS: [&str; 17] = [
     "",
     "text",
+    "json",
     "check",
     "show",
     "make",
     "draw",
     "order",
+    "compare",
+    "same",
     "common",
     "combine",
     "difference",

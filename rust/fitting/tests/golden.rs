@@ -1,5 +1,6 @@
 //! The tool's answers as sessions: what a person types and sees.
 
+mod maps;
 mod session;
 mod tool;
 
@@ -25,7 +26,7 @@ fn names_in_quotation_marks_and_one_level() {
 
 #[test]
 fn features_that_belong_to_types() {
-    assert_eq!(session::run("lists"), 22);
+    assert_eq!(session::run("lists"), 24);
 }
 
 #[test]
@@ -36,6 +37,33 @@ fn more_than_two() {
 #[test]
 fn tables_as_text_source_and_pictures() {
     assert_eq!(session::run("table"), 28);
+}
+
+#[test]
+fn comparisons() {
+    assert_eq!(session::run("compare"), 14);
+}
+
+#[test]
+fn programs_that_mean_the_same() {
+    assert_eq!(session::run("same"), 14);
+}
+
+#[test]
+fn answers_as_json() {
+    assert_eq!(session::run("json"), 20);
+}
+
+#[test]
+fn forty_three_maps() {
+    let folder = tool::folder("maps");
+    maps::store(&folder);
+    assert_eq!(session::run_in("maps", &folder), 6);
+}
+
+#[test]
+fn the_day_of_an_integrator() {
+    assert_eq!(session::run("day"), 26);
 }
 
 #[test]

@@ -182,12 +182,19 @@ fn results_that_no_record_holds_are_refused() {
     write("second", ladder(60, 1, 0));
     let told = output(tool(&folder, &["common", TABLE, "first", "second"]), b"");
     assert_eq!(told.status.code(), Some(1));
-    let error = String::from_utf8(told.stderr).expect("text");
     let cause = "\n  it has 620 nodes and 1180 links\n";
-    assert!(
-        error.starts_with("refused 11: ") && error.contains(cause),
-        "{error}"
-    );
+    let is_told = |error: Vec<u8>| {
+        let error = String::from_utf8(error).expect("text");
+        let told = error.starts_with("refused 11: ") && error.contains(cause);
+        assert!(told, "{error}");
+    };
+    is_told(told.stderr);
+    // What more than two have in common, of which the first two are the same.
+    let files = ["common", TABLE, "first", "first", "second"];
+    is_told(output(tool(&folder, &files), b"").stderr);
+    let told = output(tool(&folder, &["compare", TABLE, "first", "second"]), b"");
+    assert_eq!(told.status.code(), Some(1));
+    is_told(told.stderr);
 }
 
 /// Nodes in a row, each with a link to the next by one feature, and to the one after that

@@ -1,44 +1,83 @@
 //! `order`, `common`, `combine` and `difference`: the engine's answers about two records, or
 //! more of them in turn.
 
-use super::{Part, Told, give, put};
+use super::{Part, Told, give, printed, put};
 use crate::command::arguments::Arguments;
 use crate::engine::{self, Operation};
 use crate::failure::Failure;
 use crate::graph::Graph;
-use crate::input::Input;
+use crate::input::{self, Input};
+use crate::json::{self, Json};
 use crate::overlay::{Named, image};
 use crate::table::Table;
-use crate::why::{self, Kept};
-use crate::{explain, reading};
-use record_engine::Order;
+use crate::why::{self, General, Kept};
+use crate::{explain, notation, output, reading};
+use record_engine::{Order, Refusal};
 use std::iter;
 
 pub fn order(table: &Table, arguments: &Arguments) -> Result<Told, Failure> {
     let first = Input::read(table, &arguments.operands[1])?;
     let second = Input::read(table, &arguments.operands[2])?;
-    let order = engine::order(table, &first.record, &second.record)
-        .map_err(|refusal| explain::refused(refusal, None, table, &[&first, &second]))?;
+    let order = order_of(table, &first, &second)?;
     let (one, two) = (first.graph(table)?, second.graph(table)?);
     let [one, two] = [(&one, &first), (&two, &second)].map(|(graph, input)| Named {
         graph,
         name: &input.name,
     });
-    // The word, and of which it is to be told why it is not below which.
-    let (word, not_below): (_, &[_]) = match order {
-        Order::Same => ("same", &[]),
-        Order::Under => ("under", &[(two, one)]),
-        Order::Above => ("above", &[(one, two)]),
-        Order::Neither => ("neither", &[(one, two), (two, one)]),
+    // Of which it is to be told why it is not below which.
+    let not_below: &[_] = match order {
+        Order::Same => &[],
+        Order::Under => &[(two, one)],
+        Order::Above => &[(one, two)],
+        Order::Neither => &[(one, two), (two, one)],
     };
-    let mut lines = format!("{word}\n");
-    for &(lower, upper) in not_below {
-        if let Err(why) = image(table, upper, lower) {
-            lines += &format!("  {} is not below {}: {why}\n", lower.name, upper.name);
+    let because = not_below.iter().filter_map(|&(lower, upper)| {
+        let why = image(table, upper, lower).err()?;
+        Some((lower.name, upper.name, why))
+    });
+    let told = match arguments.has("--json") {
+        true => {
+            let because = because.map(|(lower, upper, why)| {
+                Json::object([
+                    ("lower", lower.into()),
+                    ("upper", upper.into()),
+                    ("words", why.into()),
+                ])
+            });
+            let file = input::name(&arguments.operands[0]);
+            Json::object([
+                ("table", json::table(table, file)),
+                ("files", Json::list([one.name, two.name])),
+                ("order", order_word(order).into()),
+                ("because", Json::list(because)),
+            ])
+            .lines()
         }
-    }
+        false => {
+            let because = because
+                .map(|(lower, upper, why)| format!("  {lower} is not below {upper}: {why}\n"));
+            let because: String = because.collect();
+            format!("{}\n{because}", order_word(order)).into_bytes()
+        }
+    };
     // No record tells an order, so a file gets the same words.
-    put(arguments.output().unwrap_or("-"), lines.into_bytes())
+    put(arguments.output().unwrap_or("-"), told)
+}
+
+/// The order of two records, seen from the first.
+pub fn order_of(table: &Table, first: &Input, second: &Input) -> Result<Order, Failure> {
+    engine::order(table, &first.record, &second.record)
+        .map_err(|refusal| explain::refused(refusal, None, table, &[first, second]))
+}
+
+/// The word for an order.
+pub fn order_word(order: Order) -> &'static str {
+    match order {
+        Order::Same => "same",
+        Order::Under => "under",
+        Order::Above => "above",
+        Order::Neither => "neither",
+    }
 }
 
 pub fn common(table: &Table, arguments: &Arguments) -> Result<Told, Failure> {
@@ -54,10 +93,15 @@ fn operate(operation: Operation, table: &Table, arguments: &Arguments) -> Result
     let files = arguments.operands[1..].iter();
     let inputs = files.map(|file| Input::read(table, file));
     let inputs = inputs.collect::<Result<Vec<_>, _>>()?;
+    // A difference need not obey the table's list, and is combined without it.
+    let call = match arguments.has("--plain") {
+        true => engine::operate,
+        false => engine::operate_obeying,
+    };
     let mut result = inputs[0].record.clone();
     for count in 2..=inputs.len() {
         let next = &inputs[count - 1].record;
-        result = engine::operate_obeying(operation, table, &result, next).map_err(|refusal| {
+        result = call(operation, table, &result, next).map_err(|refusal| {
             let inputs: Vec<&Input> = inputs[..count].iter().collect();
             explain::refused(refusal, Some(operation), table, &inputs)
         })?;
@@ -66,9 +110,12 @@ fn operate(operation: Operation, table: &Table, arguments: &Arguments) -> Result
 }
 
 pub fn difference(table: &Table, arguments: &Arguments) -> Result<Told, Failure> {
-    let why = arguments.has("--why");
+    let (why, json) = (arguments.has("--why"), arguments.has("--json"));
     if why && arguments.output() == Some("-") {
         return Err(arguments.misused("`--why` and `-o -` both write to standard output"));
+    }
+    if json && !why {
+        return Err(arguments.misused("`--json` is about reasons: it needs `--why`"));
     }
     let first = Input::read(table, &arguments.operands[1])?;
     let second = Input::read(table, &arguments.operands[2])?;
@@ -82,14 +129,31 @@ pub fn difference(table: &Table, arguments: &Arguments) -> Result<Told, Failure>
         return give(table, arguments, result);
     }
     let explained = explained(table, by.as_deref(), &first, &second)?;
+    if !why {
+        return give(table, arguments, explained.difference);
+    }
     let Explained { specific, kept, .. } = &explained;
-    let why = match why {
-        true => why::lines(table, specific, kept, &first.name),
-        false => String::new(),
-    };
+    let lines = why::lines(table, specific, kept, General::Named(&first.name));
+    if json {
+        let file = input::name(&arguments.operands[0]);
+        let written = Graph::of_written(&explained.difference);
+        let answer = Json::object([
+            ("table", json::table(table, file)),
+            ("files", Json::list([&first.name[..], &second.name])),
+            (
+                "difference",
+                notation::write_line(table, &written).trim_end().into(),
+            ),
+            ("kept", why::json(table, &lines)),
+        ]);
+        if let Some(file) = arguments.output() {
+            output::write(file, &explained.difference)?;
+        }
+        return Ok(printed(answer.lines()));
+    }
     let told = give(table, arguments, explained.difference)?;
-    let why = iter::once(Part::Printed(why.into_bytes()));
-    Ok(Box::new(told.chain(why)))
+    let why = why::text(table, &lines, "# ").into_bytes();
+    Ok(Box::new(told.chain(iter::once(Part::Printed(why)))))
 }
 
 /// The list of all features that `--by` asks for, if it is there.
@@ -112,12 +176,25 @@ pub fn explained(
     general: &Input,
     specific: &Input,
 ) -> Result<Explained, Failure> {
-    let (difference, reasons) = engine::explain(table, by, &general.record, &specific.record)
-        .map_err(|refusal| {
-            let operation = Some(Operation::Difference);
-            explain::refused(refusal, operation, table, &[general, specific])
-        })?;
-    let (general, specific) = (general.graph(table)?, specific.graph(table)?);
+    explained_graphs(table, by, &general.record, &specific.record).map_err(|refusal| {
+        let operation = Some(Operation::Difference);
+        explain::refused(refusal, operation, table, &[general, specific])
+    })
+}
+
+/// The same of records as bytes.
+pub fn explained_graphs(
+    table: &Table,
+    by: Option<&[u8]>,
+    general: &[u8],
+    specific: &[u8],
+) -> Result<Explained, Refusal> {
+    let (difference, reasons) = engine::explain(table, by, general, specific)?;
+    let [general, specific] = [
+        engine::rewrite(table, general)?,
+        engine::rewrite(table, specific)?,
+    ]
+    .map(|record| Graph::of_written(&record));
     let written = Graph::of_written(&difference);
     let kept = why::kept(table, &general, &specific, &written, &reasons);
     Ok(Explained {

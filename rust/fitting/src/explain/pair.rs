@@ -5,7 +5,7 @@
 use super::unify::unify;
 use super::{Cause, Place, listed};
 use crate::engine::{self, Operation};
-use crate::graph::{Graph, Levels};
+use crate::graph::{Graph, Levels, Node};
 use crate::input::Input;
 use crate::overlay::{Named, image};
 use crate::table::Table;
@@ -26,12 +26,7 @@ pub fn cause(
     table: &Table,
     inputs: &[&Input],
 ) -> Option<Cause> {
-    let graphs = inputs.iter().map(|input| input.graph(table).ok());
-    let group = Group {
-        table,
-        graphs: graphs.collect::<Option<_>>()?,
-        names: inputs.iter().map(|input| &input.name[..]).collect(),
-    };
+    let group = Group::new(table, inputs)?;
     let (what, advice) = match number {
         9 => group.cycle()?,
         10 => group.clash()?,
@@ -45,7 +40,86 @@ pub fn cause(
 
 type Words = (String, String);
 
-impl Group<'_> {
+/// Where records contradict each other: a place of their combination.
+pub struct Contradiction {
+    /// A path of the combination to it.
+    pub path: Vec<u8>,
+    pub kind: Kind,
+    /// What comes together there.
+    pub said: Vec<Said>,
+}
+
+/// What is said by a node of one of the records.
+pub struct Said {
+    /// Which of the records.
+    pub side: usize,
+    pub path: Vec<u8>,
+    pub label: String,
+}
+
+/// In which way records contradict each other.
+#[derive(Clone, Copy, PartialEq, Eq)]
+pub enum Kind {
+    /// A class of shared paths reaches itself.
+    Loop,
+    /// It has no type.
+    Type,
+    /// It has no level.
+    Levels,
+}
+
+impl Kind {
+    pub fn word(self) -> &'static str {
+        match self {
+            Kind::Loop => "loop",
+            Kind::Type => "type",
+            Kind::Levels => "levels",
+        }
+    }
+
+    /// What keeps the combination from being a record.
+    pub fn nothing(self, table: &Table) -> String {
+        match self {
+            Kind::Loop => "the node reaches itself".to_string(),
+            Kind::Type => format!("no type but {} is below them", table.type_shown(0)),
+            Kind::Levels => "no level is in all of them".to_string(),
+        }
+    }
+}
+
+/// Where accepted records contradict each other.
+pub fn contradictions(table: &Table, inputs: &[&Input]) -> Vec<Contradiction> {
+    let Some(group) = Group::new(table, inputs) else {
+        return Vec::new();
+    };
+    let combined = unify(table, &group.graphs).graph;
+    let looped = combined.cycle().and_then(|cycle| {
+        let path = combined.paths()[cycle.node].clone()?;
+        let again = [&path[..], &cycle.around].concat();
+        let paths = [path.clone(), again].map(|path| Said {
+            side: 0,
+            label: table.path(&path),
+            path,
+        });
+        Some(Contradiction {
+            path,
+            kind: Kind::Loop,
+            said: paths.into(),
+        })
+    });
+    looped.into_iter().chain(group.clashes()).collect()
+}
+
+impl<'a> Group<'a> {
+    fn new(table: &'a Table, inputs: &[&'a Input]) -> Option<Group<'a>> {
+        let graphs = inputs.iter().map(|input| input.graph(table).ok());
+        Some(Group {
+            table,
+            graphs: graphs.collect::<Option<_>>()?,
+            names: inputs.iter().map(|input| &input.name[..]).collect(),
+        })
+    }
+
     /// The general and the specific graph of a difference.
     fn named(&self) -> [Named<'_>; 2] {
         [0, 1].map(|side| Named {
@@ -67,41 +141,69 @@ impl Group<'_> {
     }
 
     fn clash(&self) -> Option<Words> {
-        let combination = unify(self.table, &self.graphs);
-        let nodes = &combination.graph.nodes;
-        let paths = combination.graph.paths();
-        let clashes = |node: usize| nodes[node].node_type == 0 || nodes[node].levels.is_empty();
-        // The nearest to the root.
-        let class = (0..nodes.len())
-            .filter(|&node| clashes(node))
-            .min_by_key(|&node| paths[node].as_ref().map(Vec::len))?;
-        let by_type = nodes[class].node_type == 0;
-        let own_paths: Vec<_> = self.graphs.iter().map(Graph::paths).collect();
-        let mut told = BTreeSet::new();
-        let mut labels = Vec::new();
-        for &(side, node) in &combination.members[class] {
-            let member = &self.graphs[side].nodes[node];
-            let (label, says_something) = match by_type {
-                true => (
-                    self.table.type_shown(member.node_type),
-                    member.node_type != self.table.top(),
-                ),
-                false => (member.levels.to_string(), member.levels != Levels::FULL),
-            };
-            if says_something && told.insert(label.clone()) {
-                let path = self.table.path(own_paths[side][node].as_ref()?);
-                labels.push(format!("{label} ({}, {path})", self.names[side]));
-            }
-        }
-        let (path, labels) = (self.table.path(paths[class].as_ref()?), listed(&labels));
-        let nothing = match by_type {
-            true => format!("no type but {} is below them", self.table.type_shown(0)),
-            false => "no level is in all of them".to_string(),
+        let clash = self.clashes().into_iter().next()?;
+        let label = |said: &Said| {
+            let path = self.table.path(&said.path);
+            format!("{} ({}, {path})", said.label, self.names[said.side])
         };
+        let labels: Vec<String> = clash.said.iter().map(label).collect();
+        let (path, labels) = (self.table.path(&clash.path), listed(&labels));
+        let nothing = clash.kind.nothing(self.table);
         Some((
             format!("at {path} of the combination {labels} come together, and {nothing}"),
             "change one of them, or part what is shared there".to_string(),
         ))
+    }
+
+    /// The classes of the combination without a type or without a level, nearest to the root
+    /// first.
+    fn clashes(&self) -> Vec<Contradiction> {
+        let combination = unify(self.table, &self.graphs);
+        let paths = combination.graph.paths();
+        let own_paths: Vec<_> = self.graphs.iter().map(Graph::paths).collect();
+        let mut clashes = Vec::new();
+        for (class, node) in combination.graph.nodes.iter().enumerate() {
+            let by_type = (node.node_type == 0).then_some(Kind::Type);
+            let by_levels = node.levels.is_empty().then_some(Kind::Levels);
+            for kind in by_type.into_iter().chain(by_levels) {
+                let members = combination.members[class].iter();
+                let members = members.map(|&(side, node)| {
+                    let member = &self.graphs[side].nodes[node];
+                    let path = own_paths[side][node].clone().unwrap_or_default();
+                    (side, path, member)
+                });
+                clashes.push(Contradiction {
+                    path: paths[class].clone().unwrap_or_default(),
+                    kind,
+                    said: self.said(kind, members),
+                });
+            }
+        }
+        clashes.sort_by_key(|clash| (clash.path.len(), clash.path.clone()));
+        clashes
+    }
+
+    /// What nodes of a class say of types or of levels, each once.
+    fn said<'n>(
+        &self,
+        kind: Kind,
+        members: impl Iterator<Item = (usize, Vec<u8>, &'n Node)>,
+    ) -> Vec<Said> {
+        let mut told = BTreeSet::new();
+        let mut said = Vec::new();
+        for (side, path, member) in members {
+            let (label, says_something) = match kind {
+                Kind::Levels => (member.levels.to_string(), member.levels != Levels::FULL),
+                Kind::Type | Kind::Loop => (
+                    self.table.type_shown(member.node_type),
+                    member.node_type != self.table.top(),
+                ),
+            };
+            if says_something && told.insert(label.clone()) {
+                said.push(Said { side, path, label });
+            }
+        }
+        said
     }
 
     fn too_large(&self, operation: Operation) -> Option<Words> {
