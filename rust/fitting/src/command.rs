@@ -6,6 +6,7 @@ mod comparison;
 mod drawing;
 mod operations;
 mod planning;
+mod reporting;
 mod sameness;
 mod table;
 
@@ -29,6 +30,8 @@ enum Part {
     Printed(Vec<u8>),
     /// On standard error; the exit status tells it too.
     Failed(Failure),
+    /// On standard error, and no failure.
+    Noted(String),
     /// What was looked for is there: exit status 1.
     Found,
 }
@@ -49,6 +52,10 @@ pub fn run(arguments: &[String], out: &mut dyn Write, err: &mut dyn Write) -> u8
                 Err(error) => Failure::usage(format!("cannot write: {error}")),
                 Ok(()) => continue,
             },
+            Part::Noted(note) => {
+                let _ = writeln!(err, "fitting: {note}");
+                continue;
+            }
             Part::Found => {
                 status = status.max(1);
                 continue;
@@ -92,6 +99,7 @@ fn told(arguments: &[String], progress: &mut Progress) -> Result<Told, Failure> 
         "common" => operations::common(&table, &arguments),
         "combine" => operations::combine(&table, &arguments),
         "difference" => operations::difference(&table, &arguments),
+        "report" => reporting::report(&table, &arguments, progress),
         "list" => list(table, &arguments),
         "import" => planning::import(&table, &arguments),
         "export" => planning::export(&table, &arguments),

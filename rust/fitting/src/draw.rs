@@ -58,6 +58,8 @@ pub struct Over<'a> {
     pub general: &'a str,
     /// Whether what is not kept is left out.
     pub kept_only: bool,
+    /// Whether the picture tells what its looks mean.
+    pub legend: bool,
 }
 
 /// The picture of an accepted graph.
@@ -99,7 +101,7 @@ fn picture(table: &Table, graph: &Graph, over: Option<Over>) -> String {
             false => "  graph [ordering=out];\n",
         };
     }
-    if let Some(over) = over {
+    if let Some(over) = over.filter(|over| over.legend) {
         dot += &format!("  {};\n", label("label", &legend(over), "\\l"));
     }
     let kept = over.map(|over| over.kept);
@@ -144,6 +146,8 @@ fn node(
         Some(Some(said)) => {
             looks.push(BOLD);
             match said {
+                // What is new was nothing before.
+                Some(Said { over, .. }) if table.says_nothing(over) => {}
                 Some(Said { over, added, .. }) if added.levels != Levels::FULL => {
                     text += &format!("\nwas {}", words(table, over));
                 }

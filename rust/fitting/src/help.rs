@@ -42,7 +42,7 @@ pub const OPTIONS: [(&str, Option<&str>); 14] = [
 ];
 
 /// Every command.
-pub const COMMANDS: [Command; 14] = [
+pub const COMMANDS: [Command; 15] = [
     Command {
         name: "check",
         usage: "fitting check TABLE [FILE..] [--quiet] [--json]",
@@ -122,6 +122,14 @@ pub const COMMANDS: [Command; 14] = [
         more: More::None,
         options: &["--why", "--json", "--by", "-o"],
         help: include_str!("help/difference.txt"),
+    },
+    Command {
+        name: "report",
+        usage: "fitting report TABLE FILE.. [-o PAGE]",
+        operands: &["TABLE", "FILE"],
+        more: More::Any,
+        options: &["-o"],
+        help: include_str!("help/report.txt"),
     },
     Command {
         name: "list",

@@ -23,6 +23,7 @@ mod picture;
 pub mod planning;
 mod progress;
 mod reading;
+mod report;
 mod source;
 pub mod table;
 mod why;

@@ -211,13 +211,15 @@ pub struct Line {
     pub words: String,
 }
 
-/// What the general graph is called.
+/// What the general graph is.
 #[derive(Clone, Copy)]
 pub enum General<'a> {
-    /// It has a name.
+    /// One with a name.
     Named(&'a str),
-    /// It is what the specific graph and another, of this name, have in common.
+    /// What the specific graph and another, of this name, have in common.
     CommonWith(&'a str),
+    /// What the specific graph and several others have in common.
+    CommonWithAll,
 }
 
 impl General<'_> {
@@ -229,37 +231,61 @@ impl General<'_> {
         said: Option<&Said>,
         others: &[Vec<u8>],
     ) -> String {
-        let there = |said: &Said| match self {
-            General::Named(general) => said.words(table, general),
-            General::CommonWith(_) => {
-                let [own, over] = [&said.own, &said.over].map(|node| label(table, node));
-                format!("{own}, where both say {over}")
-            }
+        let (who, lacks, splits) = match self {
+            General::Named(general) => return named(table, general, reason, said),
+            General::CommonWith(other) => (
+                "both",
+                meaning(Reason::Bare, other),
+                format!("not so in {other}"),
+            ),
+            General::CommonWithAll => (
+                "all",
+                "not all have such a link".to_string(),
+                "not so in all".to_string(),
+            ),
         };
-        let (General::Named(name) | General::CommonWith(name)) = self;
+        let there = |said: &Said| {
+            let [own, over] = [&said.own, &said.over].map(|node| label(table, node));
+            format!("{own}, where {who} say {over}")
+        };
         let others: Vec<String> = others.iter().map(|path| table.path(path)).collect();
-        match (reason, said, self) {
-            (Reason::Bare | Reason::Groups, _, General::CommonWith(_)) if !others.is_empty() => {
-                let joined = format!("one node with {}", listed(&others));
-                let why = match reason {
-                    Reason::Bare => meaning(reason, name),
-                    _ => format!("not so in {name}"),
-                };
-                match said {
-                    Some(said) => format!("{joined}, {why}; {}", there(said)),
-                    None => format!("{joined}, {why}"),
+        let joined = match others.is_empty() {
+            true => None,
+            false => Some(format!("one node with {}", listed(&others))),
+        };
+        match (reason, joined, said) {
+            (Reason::Wanted, _, Some(said)) => there(said),
+            (Reason::Wanted, _, None) => "for what is kept below it".to_string(),
+            (Reason::Groups, joined, said) => {
+                let joined = joined.unwrap_or_default();
+                let said = said.map_or(String::new(), |said| format!("; {}", there(said)));
+                format!("{joined}, {splits}{said}")
+            }
+            (Reason::Bare, joined, said) => {
+                let own = said.map(|said| label(table, &said.own));
+                let what: Vec<String> = own.into_iter().chain(joined).collect();
+                match what.is_empty() {
+                    true => lacks,
+                    false => format!("{}; {lacks}", what.join(", ")),
                 }
             }
-            (Reason::Wanted, Some(said), _) => there(said),
-            (Reason::Wanted, None, _) => "for what is kept below it".to_string(),
-            (Reason::Groups, Some(said), _) => {
-                format!("{}; {}", meaning(reason, name), there(said))
-            }
-            (Reason::Bare, Some(said), General::CommonWith(_)) => {
-                format!("{}; {}", label(table, &said.own), meaning(reason, name))
-            }
-            _ => meaning(reason, name),
         }
+    }
+}
+
+/// Why a link to a node is kept by the difference from a general graph of this name.
+fn named(table: &Table, general: &str, reason: Reason, said: Option<&Said>) -> String {
+    match (reason, said) {
+        (Reason::Wanted, Some(said)) => said.words(table, general),
+        (Reason::Wanted, None) => "for what is kept below it".to_string(),
+        (Reason::Groups, Some(said)) => {
+            format!(
+                "{}; {}",
+                meaning(reason, general),
+                said.words(table, general)
+            )
+        }
+        _ => meaning(reason, general),
     }
 }
 
@@ -404,6 +430,7 @@ mod tests {
             kept: &kept,
             general: "g",
             kept_only: false,
+            legend: true,
         };
         let dot = draw::dot_over(&table, &specific, over);
         for line in [

@@ -7,7 +7,7 @@ use std::fs;
 use std::path::Path;
 use tool::{folder, output, tool};
 
-const SUBJECTS: [&str; 17] = [
+const SUBJECTS: [&str; 18] = [
     "",
     "text",
     "json",
@@ -21,6 +21,7 @@ const SUBJECTS: [&str; 17] = [
     "common",
     "combine",
     "difference",
+    "report",
     "list",
     "import",
     "export",

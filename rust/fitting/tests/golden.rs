@@ -50,6 +50,11 @@ fn programs_that_mean_the_same() {
 }
 
 #[test]
+fn reports() {
+    assert_eq!(session::run("report"), 11);
+}
+
+#[test]
 fn answers_as_json() {
     assert_eq!(session::run("json"), 20);
 }
@@ -103,7 +108,7 @@ fn malformed_planning_tables() {
 
 #[test]
 fn pictures() {
-    assert_eq!(session::run("draw"), 8);
+    assert_eq!(session::run("draw"), 9);
 }
 
 #[test]

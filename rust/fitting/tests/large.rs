@@ -195,6 +195,15 @@ fn results_that_no_record_holds_are_refused() {
     let told = output(tool(&folder, &["compare", TABLE, "first", "second"]), b"");
     assert_eq!(told.status.code(), Some(1));
     is_told(told.stderr);
+    // A report has the programs alone then.
+    let told = output(tool(&folder, &["report", TABLE, "first", "second"]), b"");
+    assert!(told.status.success());
+    let page = String::from_utf8(told.stdout).expect("text");
+    assert!(
+        page.contains("<pre>refused 11: ") && page.contains(cause),
+        "{page}"
+    );
+    assert!(!page.contains("and no more") && !page.contains("class=\"reasons\""));
 }
 
 /// Nodes in a row, each with a link to the next by one feature, and to the one after that

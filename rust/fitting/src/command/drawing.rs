@@ -45,6 +45,7 @@ fn drawn(table: &Table, arguments: &Arguments) -> Result<String, Failure> {
                 kept: &explained.kept,
                 general: &general.name,
                 kept_only: arguments.has("--kept-only"),
+                legend: true,
             };
             Ok(draw::dot_over(table, &explained.specific, over))
         }

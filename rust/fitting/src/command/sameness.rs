@@ -26,7 +26,9 @@ pub fn same(
         progress.tell(done, files.len(), "files read");
         let read = Input::read(table, file).and_then(|i| i.written(table).map(|w| (i, w)));
         match read {
-            Ok((input, written)) => meanings.add(input, written),
+            Ok((input, written)) => {
+                meanings.add(input, written);
+            }
             Err(failure) => parts.push(Part::Failed(failure)),
         }
     }
@@ -55,13 +57,15 @@ pub struct Meanings {
 }
 
 impl Meanings {
-    /// Adds a program with its written record.
-    pub fn add(&mut self, input: Input, written: Vec<u8>) {
+    /// Adds a program with its written record, and gives the number of its group.
+    pub fn add(&mut self, input: Input, written: Vec<u8>) -> usize {
         let next = self.groups.len();
-        match *self.places.entry(written).or_insert(next) {
-            place if place == next => self.groups.push(vec![input]),
-            place => self.groups[place].push(input),
+        let place = *self.places.entry(written).or_insert(next);
+        match place == next {
+            true => self.groups.push(vec![input]),
+            false => self.groups[place].push(input),
         }
+        place
     }
 
     /// For each two groups, by their numbers, the order of the first to the second.

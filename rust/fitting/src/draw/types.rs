@@ -11,7 +11,7 @@ pub fn types(table: &Table) -> String {
     if is_wide(table) {
         dot += RIGHTWARD;
     }
-    dot += "  graph [ranksep=0.4];\n";
+    dot += "  graph [ranksep=0.4, ordering=out];\n";
     // From above to below, and among equals by number.
     let mut types: Vec<usize> = (0..table.n).collect();
     types.sort_by_key(|&number| std::cmp::Reverse(table.row(number).count_ones()));
@@ -27,7 +27,8 @@ pub fn types(table: &Table) -> String {
         for lower in table.directly_below(upper) {
             let looks: &[&str] = match lower {
                 0 => &["dir=none", GREY_LINE],
-                _ => &["dir=none"],
+                // A type stands near those above it, and not near the least.
+                _ => &["dir=none, weight=3"],
             };
             dot += &statement(&format!("t{upper} -> t{lower}"), looks);
         }

@@ -119,7 +119,10 @@ fn answer(folder: &Path, arguments: &[&str], stored: &[String]) -> Vec<String> {
         .iter()
         .map(|line| format!("{}\n", &line[2..]))
         .collect();
-    let output = output(tool(folder, arguments), input.as_bytes());
+    let mut command = tool(folder, arguments);
+    // No program is found: a session is the same where `dot` is installed.
+    command.env("PATH", folder.join("target"));
+    let output = output(command, input.as_bytes());
     let text = |bytes: Vec<u8>| String::from_utf8(bytes).expect("the tool prints text");
     lines.extend(text(output.stdout).lines().map(str::to_string));
     lines.extend(text(output.stderr).lines().map(|line| format!("! {line}")));
