@@ -69,7 +69,7 @@ pub const COMMANDS: [Command; 15] = [
     },
     Command {
         name: "draw",
-        usage: "fitting draw TABLE [FILE [--over G [--by FEATURES] [--kept-only]]] [-o PICTURE]",
+        usage: "fitting draw TABLE [FILE [--over G [--by FEATURES] [--kept-only]]]\n         [-o PICTURE]",
         operands: &["TABLE"],
         more: More::One,
         options: &["--over", "--by", "--kept-only", "-o"],

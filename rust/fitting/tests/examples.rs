@@ -7,8 +7,7 @@ use std::fs;
 use std::path::Path;
 use tool::{folder, output, tool};
 
-const SUBJECTS: [&str; 18] = [
-    "",
+const SUBJECTS: [&str; 17] = [
     "text",
     "json",
     "check",

@@ -113,7 +113,7 @@ fn pictures() {
 
 #[test]
 fn help() {
-    assert_eq!(session::run("help"), 14);
+    assert_eq!(session::run("help"), 19);
 }
 
 #[test]
