@@ -4,7 +4,7 @@
 
 use crate::failure::Failure;
 use crate::graph::Graph;
-use crate::names::nearest;
+use crate::names::{cut_file, nearest};
 use crate::notation::{self, Text};
 use crate::planning::File as Csv;
 use crate::source::{Fault, line_feeds};
@@ -21,8 +21,10 @@ const LONGEST_FILE: u64 = 1 << 20;
 /// A record as a command was given it.
 #[derive(Clone, Debug)]
 pub struct Input {
-    /// The name that messages give it.
+    /// The name that it was given.
     pub name: String,
+    /// The name that messages give it.
+    pub shown: String,
     pub record: Vec<u8>,
     /// Where the record was read from text, the text and its parts.
     pub text: Option<(String, Text)>,
@@ -52,7 +54,13 @@ impl Input {
                 (read.graph.encode(), Some((text, read)))
             }
         };
-        Ok(Input { name, record, text })
+        let shown = cut_file(&name);
+        Ok(Input {
+            name,
+            shown,
+            record,
+            text,
+        })
     }
 
     /// The written form, if the engine accepts the record.

@@ -15,6 +15,19 @@ pub fn cut(name: &str) -> String {
     }
 }
 
+/// A file's name as a message shows it: where it is long, its end.
+pub fn cut_file(name: &str) -> String {
+    const SHOWN: usize = 60;
+    let count = name.chars().count();
+    match count > SHOWN {
+        true => format!(
+            "...{}",
+            name.chars().skip(count - SHOWN).collect::<String>()
+        ),
+        false => name.to_string(),
+    }
+}
+
 /// A name as text writes it: in quotation marks where it is not a word of small letters.
 pub fn written(name: &str) -> String {
     match is_name(name) {
@@ -100,6 +113,9 @@ mod tests {
         assert_eq!(cut(&"ä".repeat(40)), "ä".repeat(40));
         assert_eq!(cut(&"ä".repeat(41)), format!("{}...", "ä".repeat(40)));
         assert_eq!(cut("one\ntwo"), "one...");
+        assert_eq!(cut_file(&"ä".repeat(60)), "ä".repeat(60));
+        let long = format!("{}/map.txt", "folder".repeat(20));
+        assert_eq!(cut_file(&long), format!("...{}", &long[long.len() - 60..]));
     }
 
     #[test]

@@ -16,7 +16,7 @@ fn every_command() {
 
 #[test]
 fn what_was_wrong_is_repaired() {
-    assert_eq!(session::run("repairs"), 66);
+    assert_eq!(session::run("repairs"), 68);
 }
 
 #[test]

@@ -66,7 +66,7 @@ impl<'a> Comparison<'a> {
                 // No most general difference: all that differs is told.
                 Err(_) => why::differing(table, &Graph::of_written(&both), &specific),
             };
-            let mut lines = why::lines(table, &specific, &kept, General::CommonWith(&other.name));
+            let mut lines = why::lines(table, &specific, &kept, General::CommonWith(&other.shown));
             // A link that is kept for what lies below it says nothing itself.
             lines.retain(|line| line.reason != Reason::Wanted || line.said.is_some());
             lines.sort_by(|one, two| one.path.cmp(&two.path));
@@ -120,7 +120,7 @@ impl<'a> Comparison<'a> {
             return format!("{} are one node: {nothing}", listed(&paths));
         }
         let said = contradiction.said.iter().map(|said| {
-            let name = &self.inputs[said.side].name;
+            let name = &self.inputs[said.side].shown;
             match said.path == contradiction.path {
                 true => format!("{} of {name}", said.label),
                 false => format!(
@@ -135,7 +135,7 @@ impl<'a> Comparison<'a> {
         let mut sides = contradiction.said.iter().map(|said| said.side);
         let joined = match sides.next() {
             Some(side) if sides.all(|other| other == side) => {
-                format!(", joined by {}", self.inputs[1 - side].name)
+                format!(", joined by {}", self.inputs[1 - side].shown)
             }
             _ => String::new(),
         };

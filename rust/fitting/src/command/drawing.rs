@@ -43,7 +43,7 @@ fn drawn(table: &Table, arguments: &Arguments) -> Result<String, Failure> {
             let explained = explained(table, by.as_deref(), &general, &specific)?;
             let over = Over {
                 kept: &explained.kept,
-                general: &general.name,
+                general: &general.shown,
                 kept_only: arguments.has("--kept-only"),
                 legend: true,
             };

@@ -20,42 +20,44 @@ pub fn order(table: &Table, arguments: &Arguments) -> Result<Told, Failure> {
     let second = Input::read(table, &arguments.operands[2])?;
     let order = order_of(table, &first, &second)?;
     let (one, two) = (first.graph(table)?, second.graph(table)?);
-    let [one, two] = [(&one, &first), (&two, &second)].map(|(graph, input)| Named {
-        graph,
-        name: &input.name,
-    });
+    let (inputs, graphs) = ([&first, &second], [&one, &two]);
+    let named = |side: usize| Named {
+        graph: graphs[side],
+        name: &inputs[side].shown,
+    };
     // Of which it is to be told why it is not below which.
-    let not_below: &[_] = match order {
+    let not_below: &[(usize, usize)] = match order {
         Order::Same => &[],
-        Order::Under => &[(two, one)],
-        Order::Above => &[(one, two)],
-        Order::Neither => &[(one, two), (two, one)],
+        Order::Under => &[(1, 0)],
+        Order::Above => &[(0, 1)],
+        Order::Neither => &[(0, 1), (1, 0)],
     };
     let because = not_below.iter().filter_map(|&(lower, upper)| {
-        let why = image(table, upper, lower).err()?;
-        Some((lower.name, upper.name, why))
+        let why = image(table, named(upper), named(lower)).err()?;
+        Some((inputs[lower], inputs[upper], why))
     });
     let told = match arguments.has("--json") {
         true => {
             let because = because.map(|(lower, upper, why)| {
                 Json::object([
-                    ("lower", lower.into()),
-                    ("upper", upper.into()),
+                    ("lower", lower.name.as_str().into()),
+                    ("upper", upper.name.as_str().into()),
                     ("words", why.into()),
                 ])
             });
             let file = input::name(&arguments.operands[0]);
             Json::object([
                 ("table", json::table(table, file)),
-                ("files", Json::list([one.name, two.name])),
+                ("files", Json::list([&first.name[..], &second.name])),
                 ("order", order_word(order).into()),
                 ("because", Json::list(because)),
             ])
             .lines()
         }
         false => {
-            let because = because
-                .map(|(lower, upper, why)| format!("  {lower} is not below {upper}: {why}\n"));
+            let because = because.map(|(lower, upper, why)| {
+                format!("  {} is not below {}: {why}\n", lower.shown, upper.shown)
+            });
             let because: String = because.collect();
             format!("{}\n{because}", order_word(order)).into_bytes()
         }
@@ -133,7 +135,7 @@ pub fn difference(table: &Table, arguments: &Arguments) -> Result<Told, Failure>
         return give(table, arguments, explained.difference);
     }
     let Explained { specific, kept, .. } = &explained;
-    let lines = why::lines(table, specific, kept, General::Named(&first.name));
+    let lines = why::lines(table, specific, kept, General::Named(&first.shown));
     if json {
         let file = input::name(&arguments.operands[0]);
         let written = Graph::of_written(&explained.difference);

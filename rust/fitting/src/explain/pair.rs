@@ -116,7 +116,7 @@ impl<'a> Group<'a> {
         Some(Group {
             table,
             graphs: graphs.collect::<Option<_>>()?,
-            names: inputs.iter().map(|input| &input.name[..]).collect(),
+            names: inputs.iter().map(|input| &input.shown[..]).collect(),
         })
     }
 

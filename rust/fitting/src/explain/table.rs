@@ -2,6 +2,7 @@
 //! types without a meet, by their names.
 
 use super::{Cause, Place};
+use crate::graph::Graph;
 use crate::table::Table;
 
 /// What was found out about a refusal of a table by its number.
@@ -18,12 +19,16 @@ pub fn cause(number: u8, table: &Table) -> Option<Cause> {
 type Words = (String, String);
 
 fn size(table: &Table) -> Words {
+    let advice = match Graph::decode(&table.bytes) {
+        Ok(_) => "is this a record? A command's first file is the table",
+        Err(_) => "hand in 8 bytes for each type, a table as text, or the word `house`",
+    };
     (
         format!(
             "it has {} bytes, and a table has 8 for each of 2 to 64 types",
             table.bytes.len()
         ),
-        "hand in 8 bytes for each type, a table as text, or the word `house`".to_string(),
+        advice.to_string(),
     )
 }
 
