@@ -1,13 +1,16 @@
 //! Why a difference keeps its links: the difference laid into the specific graph, with the
 //! engine's reasons, in words and for a picture.
 
+mod differing;
+
 use crate::explain::listed;
-use crate::graph::{Graph, Levels, Link, Node};
+use crate::graph::{Graph, Levels, Node};
 use crate::json::{self, Json};
 use crate::overlay::{Named, image};
 use crate::table::Table;
+pub use differing::differing;
 use record_engine::Reason;
-use std::collections::{BTreeMap, BTreeSet};
+use std::collections::BTreeMap;
 
 /// What a difference keeps of a specific graph.
 pub struct Kept {
@@ -89,66 +92,6 @@ pub fn kept(
             let reason = *reasons.next().expect("a reason for each link");
             kept.links.insert((under, link.feature), reason);
         }
-    }
-    kept
-}
-
-/// All of a specific graph that a general one does not give, each link with its reason: what a
-/// difference keeps is among it. For where there is no most general difference.
-pub fn differing(table: &Table, general: &Graph, specific: &Graph) -> Kept {
-    let over = over(table, general, specific);
-    let image = laid(table, general, specific);
-    let mut kept = Kept {
-        links: BTreeMap::new(),
-        nodes: BTreeMap::new(),
-    };
-    for (number, (own, over)) in specific.nodes.iter().zip(&over).enumerate() {
-        let own = bare(own);
-        let said = (own != *over).then(|| Said {
-            over: over.clone(),
-            added: own.clone(),
-            own,
-        });
-        kept.nodes.insert(number, said);
-    }
-    // For each link of the specific graph its group: links that the general graph leads to one
-    // node are in one.
-    let links = specific.nodes.iter().enumerate();
-    let links = links.flat_map(|(parent, node)| node.links.iter().map(move |link| (parent, *link)));
-    let links: Vec<(usize, Link)> = links.collect();
-    let mut groups: BTreeMap<(usize, u8), usize> = BTreeMap::new();
-    for (place, (parent, link)) in links.iter().enumerate() {
-        groups.insert((*parent, link.feature), place);
-    }
-    let mut leaders = vec![None; general.nodes.len()];
-    let mut covered = BTreeSet::new();
-    for (parent, node) in general.nodes.iter().enumerate() {
-        for link in &node.links {
-            let under = (image[parent], link.feature);
-            covered.insert(under);
-            let group = groups[&under];
-            let leader = *leaders[link.target].get_or_insert(group);
-            // The group of the leader may have been joined to another since.
-            let leader = groups[&(links[leader].0, links[leader].1.feature)];
-            for other in groups.values_mut().filter(|other| **other == group) {
-                *other = leader;
-            }
-        }
-    }
-    let mut parts: BTreeMap<usize, BTreeSet<usize>> = BTreeMap::new();
-    for (parent, link) in &links {
-        let group = groups[&(*parent, link.feature)];
-        parts.entry(link.target).or_default().insert(group);
-    }
-    for (parent, link) in &links {
-        let place = (*parent, link.feature);
-        let reason = match () {
-            () if !covered.contains(&place) => Reason::Bare,
-            () if parts[&link.target].len() > 1 => Reason::Groups,
-            () if matches!(kept.nodes.get(&link.target), Some(Some(_))) => Reason::Wanted,
-            () => continue,
-        };
-        kept.links.insert(place, reason);
     }
     kept
 }
@@ -354,57 +297,7 @@ pub fn json(table: &Table, lines: &[Line]) -> Json {
 #[cfg(test)]
 mod tests {
     use super::*;
-    use crate::{draw, engine, notation};
-    use reference::random::{self, Ranges, Shape, Xorshift};
-    use reference::record;
-
-    /// What a difference keeps is among all that differs, for the same reasons, and of what
-    /// differs by itself the difference keeps a link to each node.
-    #[test]
-    fn a_difference_keeps_some_of_what_differs() {
-        let mut random = Xorshift::stored(39);
-        let mut met: BTreeMap<&str, usize> = BTreeMap::new();
-        for round in 0..3_000 {
-            let bytes = random::valid_table(&mut random);
-            let table = Table::from_bytes(&bytes.bytes);
-            let shape = match round % 2 {
-                0 => Shape::shared(&mut random),
-                _ => Shape::small(&mut random, 8, 3),
-            };
-            let shape = shape.ranged(&mut random, Ranges::Present);
-            let specific = random::graph(&mut random, table.n, &shape);
-            let general = random::graph_above(&mut random, &bytes.accepted(), &specific);
-            let [general, specific] = [general, specific].map(|graph| {
-                let written = engine::rewrite(&table, &record::write(&graph));
-                written.expect("an accepted record")
-            });
-            let Ok((difference, reasons)) = engine::explain(&table, None, &general, &specific)
-            else {
-                continue;
-            };
-            let [general, specific, difference] =
-                [general, specific, difference].map(|record| Graph::of_written(&record));
-            let all = differing(&table, &general, &specific);
-            let kept = kept(&table, &general, &specific, &difference, &reasons);
-            for (link, &reason) in &kept.links {
-                let target = specific.nodes[link.0].target(link.1).expect("a link");
-                let is_said = kept.nodes[&target].is_some();
-                if reason != Reason::Wanted || is_said {
-                    assert_eq!(all.links.get(link), Some(&reason));
-                    *met.entry(word(reason)).or_default() += 1;
-                }
-            }
-            for (node, said) in &kept.nodes {
-                assert!(said.is_none() || all.nodes[node].is_some());
-            }
-            for &(parent, feature) in all.links.keys() {
-                let target = specific.nodes[parent].target(feature).expect("a link");
-                assert!(kept.nodes.contains_key(&target));
-            }
-        }
-        let enough = met.len() == 3 && met.values().all(|&count| count > 500);
-        assert!(enough || !random::is_stored(), "{met:?}");
-    }
+    use crate::{draw, notation};
 
     #[test]
     fn reasons_stand_at_the_links_of_the_specific_graph() {
