@@ -211,17 +211,25 @@ fn is_control(byte: &u8) -> bool {
     byte.is_ascii_control() && !byte.is_ascii_whitespace()
 }
 
-/// Whether bytes begin with a mark of the byte order, or every second byte is zero and no
-/// other is, as in letters of ASCII. No accepted table or record is like that.
+/// Whether bytes are text with two bytes for a letter: behind a mark of the byte order any
+/// text, else letters of ASCII. No accepted table or record is like that: in its seven or
+/// eight zero bytes in a row is a letter that no text has.
 fn is_utf16(bytes: &[u8]) -> bool {
-    let zeros = |from: usize, are: bool| {
-        let mut bytes = bytes.iter().skip(from).step_by(2);
-        bytes.all(|&byte| (byte == 0) == are)
+    if bytes.len() < 4 || !bytes.len().is_multiple_of(2) {
+        return false;
+    }
+    let pairs = bytes.chunks(2).map(|pair| [pair[0], pair[1]]);
+    let is_text = |units: Vec<u16>| match String::from_utf16(&units) {
+        Err(_) => false,
+        Ok(text) => {
+            let is_marked = text.starts_with('\u{feff}');
+            let is_letter = |c: char| is_marked || c.is_ascii();
+            text.chars()
+                .all(|c| is_letter(c) && (!c.is_control() || c.is_whitespace()))
+        }
     };
-    let is_wide = bytes.len() > 2 && bytes.len().is_multiple_of(2);
-    bytes.starts_with(b"\xFF\xFE")
-        || bytes.starts_with(b"\xFE\xFF")
-        || is_wide && (zeros(0, true) && zeros(1, false) || zeros(1, true) && zeros(0, false))
+    is_text(pairs.clone().map(u16::from_le_bytes).collect())
+        || is_text(pairs.map(u16::from_be_bytes).collect())
 }
 
 /// Whether the engine can have something to say about a record of these bytes: they have
@@ -352,8 +360,12 @@ mod tests {
             assert_eq!(content(&wide(little, "type a")), Content::Utf16);
             assert_eq!(content(&wide(little, "\u{feff}höhe")), Content::Utf16);
         }
-        // A table has zeros in a row.
+        // A table has zeros in a row, and other bytes are not letters.
         let table = [1, 0, 0, 0, 0, 0, 0, 0, 3, 0, 0, 0, 0, 0, 0, 0];
-        assert_eq!(content(&table), Content::Binary);
+        for other in [&table[..], &[1, 0, 3, 0], &[0xFF, 0xFE, 1, 0]] {
+            assert_eq!(content(other), Content::Binary);
+        }
+        // Bytes of text are not taken for it: `ab` is one letter of another script.
+        assert_eq!(content(b"abcd"), Content::Text);
     }
 }

@@ -23,10 +23,12 @@ fn told(arguments: &[&str]) -> (u8, String) {
     (status, String::from_utf8(err).expect("messages are text"))
 }
 
-/// A heading or a place, the cause, and what to do; of an empty file there is no cause.
+/// A heading or a place, the cause, and what to do; of an empty file and of text in UTF-16 there
+/// is no cause.
 fn assert_explained(status: u8, message: &str) {
     assert!(status < 2, "{message}");
-    let least = match message.contains(": the file is empty\n") {
+    let causeless = [": the file is empty\n", ": this is text in UTF-16\n"];
+    let least = match causeless.iter().any(|what| message.contains(what)) {
         true => 2,
         false => 3,
     };
