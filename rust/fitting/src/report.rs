@@ -13,6 +13,8 @@ pub struct Report<'a> {
     pub table: &'a Table,
     /// The table's file.
     pub file: &'a str,
+    /// The folder that all programs are in, with its last slash, if there is one.
+    pub folder: &'a str,
     pub programs: Vec<Program>,
     /// Of each two programs, by their places, the order of the first to the second.
     pub order: &'a dyn Fn(usize, usize) -> Order,
@@ -23,6 +25,7 @@ pub struct Report<'a> {
 
 /// A program, and what it says beyond what all have in common.
 pub struct Program {
+    /// Its name, without the folder that all programs are in.
     pub name: String,
     pub nodes: usize,
     pub links: usize,
@@ -54,17 +57,23 @@ impl Report<'_> {
     /// The whole page.
     pub fn page(&self) -> String {
         let count = self.programs.len();
+        let table = self.file.rsplit('/').next().unwrap_or(self.file);
         let title = match count {
-            1 => format!("1 program over {}", escaped(self.file)),
-            _ => format!("{count} programs over {}", escaped(self.file)),
+            1 => format!("1 program over {}", escaped(table)),
+            _ => format!("{count} programs over {}", escaped(table)),
         };
         let (n, fingerprint) = (self.table.n, self.table.fingerprint());
         let version = env!("CARGO_PKG_VERSION");
+        let folder = match self.folder {
+            "" => String::new(),
+            folder => format!(" The programs are in {}.", escaped(folder)),
+        };
+        let file = escaped(self.file);
         let mut page = format!(
             "<!DOCTYPE html>\n<html lang=\"en\">\n<head>\n<meta charset=\"utf-8\">\n\
              <meta name=\"viewport\" content=\"width=device-width, initial-scale=1\">\n\
              <title>{title}</title>\n<style>\n{}</style>\n</head>\n<body>\n<h1>{title}</h1>\n\
-             <p class=\"small\">A table of {n} types, fingerprint {fingerprint}. \
+             <p class=\"small\">{file} is a table of {n} types, fingerprint {fingerprint}.{folder} \
              Written by fitting {version}.</p>\n",
             include_str!("report.css")
         );

@@ -44,6 +44,8 @@ pub fn report(
         let pair = (groups[one], groups[other]);
         orders.get(&pair).copied().unwrap_or(Order::Same)
     };
+    let names = programs.iter().map(|(name, ..)| &name[..]);
+    let folder = folder(names).to_string();
     let mut pictures = Pictures::default();
     let common = common(table, &meanings);
     let mut firsts = BTreeMap::new();
@@ -56,7 +58,7 @@ pub fn report(
             false => None,
         };
         told.push(Program {
-            name,
+            name: name[folder.len()..].to_string(),
             nodes: graph.nodes.len(),
             links: graph.link_count(),
             text: notation::write(table, &graph),
@@ -81,6 +83,7 @@ pub fn report(
     let page = Report {
         table,
         file: input::name(over),
+        folder: &folder,
         programs: told,
         order: &order,
         common,
@@ -90,6 +93,20 @@ pub fn report(
     let told = put(arguments.output().unwrap_or("-"), page.into_bytes())?;
     let note = pictures.missing.map(Part::Noted);
     Ok(Box::new(told.chain(note)))
+}
+
+/// The folder that all files are in, with its last slash.
+fn folder<'a>(mut names: impl Iterator<Item = &'a str>) -> &'a str {
+    let of = |name: &'a str| &name[..name.rfind('/').map_or(0, |slash| slash + 1)];
+    let Some(first) = names.next() else {
+        return "";
+    };
+    names.fold(of(first), |mut folder, name| {
+        while !name.starts_with(folder) {
+            folder = of(folder.trim_end_matches('/'));
+        }
+        folder
+    })
 }
 
 /// What all programs have in common, as a record.
@@ -180,5 +197,21 @@ impl Pictures {
             }
             Err(error) => Err(Failure::usage(format!("cannot draw: {error}"))),
         }
+    }
+}
+
+#[cfg(test)]
+mod tests {
+    use super::folder;
+
+    #[test]
+    fn the_folder_of_all_files() {
+        assert_eq!(folder(["a/b/c", "a/b/d"].into_iter()), "a/b/");
+        assert_eq!(folder(["a/b/c", "a/bc/d", "a/b"].into_iter()), "a/");
+        assert_eq!(folder(["a/b", "c/d"].into_iter()), "");
+        assert_eq!(folder(["/a//b", "/c"].into_iter()), "/");
+        assert_eq!(folder(["a/b", "standard input"].into_iter()), "");
+        assert_eq!(folder(["a/b"].into_iter()), "a/");
+        assert_eq!(folder([].into_iter()), "");
     }
 }
