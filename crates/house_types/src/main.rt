@@ -1,5 +1,7 @@
 // Prints the meets of the house types, as a table of 64 lines with 64 numbers each. It knows the house types and text, and no record.
+// A table that cannot be written whole is told on standard error.
 
+use libc::STDERR_FILENO;
 use libc::STDOUT_FILENO;
 use text::put_decimal;
 ghost use mathlib.Core.Path.{_≡_};
@@ -37,5 +39,7 @@ fn put_meets(out: &mut [u8]) -> usize
 fn main() {
     let mut text = [0u8; 12288];
     let end = put_meets(&mut text);
-    io::write_all(STDOUT_FILENO, &text[..end]);
+    if !io::write_all(STDOUT_FILENO, &text[..end]) {
+        io::write_all(STDERR_FILENO, b"house_types: the table cannot be written\n");
+    }
 }

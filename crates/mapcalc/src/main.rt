@@ -1,5 +1,7 @@
 // Reads what is asked for from standard input, and prints the one line that answers it. It knows `request` alone.
+// A line that cannot be written whole is told on standard error. A program of this language has no exit status of its own.
 
+use libc::STDERR_FILENO;
 use libc::STDIN_FILENO;
 use libc::STDOUT_FILENO;
 
@@ -9,5 +11,7 @@ fn main() {
     let count = io::read_full(STDIN_FILENO, &mut input);
     let line = request::line(&input[..count]);
     let bytes = line.bytes;
-    io::write_all(STDOUT_FILENO, &bytes[..line.count]);
+    if !io::write_all(STDOUT_FILENO, &bytes[..line.count]) {
+        io::write_all(STDERR_FILENO, b"mapcalc: the line cannot be written\n");
+    }
 }

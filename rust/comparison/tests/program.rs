@@ -6,6 +6,7 @@ use comparison::program::{path, run};
 use reference::mapcalc;
 use reference::random::{self, Ranges, Xorshift};
 use std::collections::BTreeMap;
+use std::fs::File;
 use std::io::Write;
 use std::process::{Command, Stdio};
 use std::thread;
@@ -80,6 +81,27 @@ fn input_without_end_is_bad() {
     assert_eq!(output.stdout, b"bad input\n");
     // What was taken is the program's 18,431 bytes and what the pipe holds.
     assert!(writer.join().expect("a writer") < 1_000);
+}
+
+#[test]
+fn a_line_that_cannot_be_written_is_told() {
+    for program in ["mapcalc", "house_types"] {
+        let full = File::create("/dev/full").expect("a device that takes no byte");
+        let output = Command::new(path().with_file_name(program))
+            .stdin(Stdio::null())
+            .stdout(full)
+            .output()
+            .expect("the program ends");
+        let error = String::from_utf8(output.stderr).expect("text");
+        let told = format!("{program}: the ");
+        assert!(error.starts_with(&told), "{program}: {error}");
+        assert!(
+            error.ends_with(" cannot be written\n"),
+            "{program}: {error}"
+        );
+        // The language has no exit status: it says nothing.
+        assert!(output.status.success(), "{program}: {}", output.status);
+    }
 }
 
 /// How many threads run the program, and on how many inputs together. Each input is a

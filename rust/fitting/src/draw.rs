@@ -1,13 +1,17 @@
 //! A graph as a picture in Graphviz's DOT language. Nodes go by the names of their types,
-//! and a link has its feature in its middle; a shared node is tinted, has a second border
-//! and the capital that it has in text. Over a general graph, what a difference keeps is
-//! bold, with its reasons, and what the general graph gives is grey.
+//! and a link has its feature in its middle; features stand in their order, and the root has
+//! a mark. A shared node is tinted, has a second border and the capital that it has in text.
+//! Over a general graph, what a difference keeps is bold, with its reasons, and what the
+//! general graph gives is grey.
 
-use crate::graph::{Graph, Link, Node};
-use crate::notation;
+mod types;
+
+use crate::graph::{Graph, Levels, Link, Node};
+use crate::names::cut;
 use crate::table::Table;
-use crate::why::{Kept, meaning, word};
+use crate::why::{Kept, Said, meaning, word};
 use record_engine::Reason;
+pub use types::types;
 
 /// With more links than this, `dot` is told to lay the picture out soon: straight lines,
 /// labels at the tails, few attempts at fewer crossings. It takes minutes else.
@@ -16,6 +20,9 @@ const MANY_LINKS: usize = 300;
 /// With more links than this, it would take seconds all the same, for a picture too dense
 /// to be read: nodes have their places from here.
 const TOO_MANY_LINKS: usize = 1000;
+
+/// A picture with a wider row than this, in points, goes from left to right.
+const WIDEST_ROW: usize = 800;
 
 /// The distance of two columns and of two rows, in points; the next node of a row stands
 /// four columns on.
@@ -28,41 +35,87 @@ const GREY_TEXT: &str = "fontcolor=\"#767676\"";
 const BOLD: &str = "penwidth=2.5";
 const SHARED: &str = "peripheries=2, fillcolor=\"#dfeaff\"";
 
+/// What every picture begins with.
+const HEAD: &str = concat!(
+    "digraph fitting {\n",
+    "  graph [fontname=\"Helvetica\", fontsize=12, labeljust=l, nodesep=0.3, ranksep=0.25];\n",
+    "  node [shape=box, style=\"rounded,filled\", fillcolor=white, fontname=\"Helvetica\", fontsize=14];\n",
+    "  edge [fontname=\"Helvetica\", fontsize=13, arrowsize=0.8];\n",
+);
+
+/// What makes a picture go from left to right, in lines that stand close.
+const RIGHTWARD: &str = concat!(
+    "  graph [rankdir=LR, nodesep=0.12, ranksep=0.3];\n",
+    "  node [height=0.3, margin=\"0.12,0.05\"];\n",
+);
+
+/// The general graph over which a specific one is drawn.
+#[derive(Clone, Copy)]
+pub struct Over<'a> {
+    /// What the difference keeps.
+    pub kept: &'a Kept,
+    /// The name of the general graph.
+    pub general: &'a str,
+    /// Whether what is not kept is left out.
+    pub kept_only: bool,
+    /// Whether the picture tells what its looks mean.
+    pub legend: bool,
+}
+
 /// The picture of an accepted graph.
 pub fn dot(table: &Table, graph: &Graph) -> String {
     picture(table, graph, None)
 }
 
-/// The picture of a specific graph over a general one of the name given.
-pub fn dot_over(table: &Table, graph: &Graph, kept: &Kept, general: &str) -> String {
-    picture(table, graph, Some((kept, general)))
+/// The picture of a specific graph over a general one.
+pub fn dot_over(table: &Table, graph: &Graph, over: Over) -> String {
+    picture(table, graph, Some(over))
 }
 
-fn picture(table: &Table, graph: &Graph, over: Option<(&Kept, &str)>) -> String {
-    let many = graph.link_count() > MANY_LINKS;
-    let mut dot = String::from(concat!(
-        "digraph fitting {\n",
-        "  graph [fontname=\"Helvetica\", fontsize=12, labeljust=l, nodesep=0.3, ranksep=0.25];\n",
-        "  node [shape=box, style=\"rounded,filled\", fillcolor=white, fontname=\"Helvetica\", fontsize=14];\n",
-        "  edge [fontname=\"Helvetica\", fontsize=13, arrowsize=0.8];\n",
-    ));
-    let places = (graph.link_count() > TOO_MANY_LINKS).then(|| places(graph));
+fn picture(table: &Table, graph: &Graph, over: Option<Over>) -> String {
+    let is_drawn = |parent, link: &Link| match over {
+        Some(over) if over.kept_only => over.kept.links.contains_key(&(parent, link.feature)),
+        _ => true,
+    };
+    // The graph with the links that are drawn: numbers and capitals are those of the whole.
+    let mut drawn = graph.clone();
+    for (parent, node) in drawn.nodes.iter_mut().enumerate() {
+        node.links.retain(|link| is_drawn(parent, link));
+    }
+    let rows = rows(&drawn);
+    let nodes: Vec<usize> = (0..rows.len()).filter(|&n| rows[n].is_some()).collect();
+    let links = drawn.link_count();
+    let many = links > MANY_LINKS;
+    let mut dot = String::from(HEAD);
+    let places = (links > TOO_MANY_LINKS).then(|| places(&rows));
     if places.is_some() {
         dot += "  graph [layout=nop, splines=line];\n";
-    } else if many {
-        dot += "  graph [splines=line, ranksep=0.7, mclimit=0.05, nslimit=0.05, nslimit1=0.05];\n";
+    } else {
+        if is_wide(table, &drawn, &rows) {
+            dot += RIGHTWARD;
+        }
+        dot += match many {
+            true => {
+                "  graph [splines=line, ranksep=0.7, mclimit=0.05, nslimit=0.05, nslimit1=0.05];\n"
+            }
+            false => "  graph [ordering=out];\n",
+        };
     }
-    if let Some((kept, general)) = over {
-        dot += &format!("  {};\n", label("label", &legend(kept, general), "\\l"));
+    if let Some(over) = over.filter(|over| over.legend) {
+        dot += &format!("  {};\n", label("label", &legend(over), "\\l"));
     }
-    let kept = over.map(|(kept, _)| kept);
-    for (number, capital) in graph.capitals().into_iter().enumerate() {
+    let kept = over.map(|over| over.kept);
+    let capitals = graph.capitals();
+    for &number in &nodes {
         let said = kept.map(|kept| kept.nodes.get(&number));
         let place = places.as_ref().map(|places| places[number]);
-        dot += &node(table, &graph.nodes[number], number, capital, said, place);
+        let (drawn, capital) = (&graph.nodes[number], capitals[number].as_deref());
+        dot += &node(table, drawn, number, capital, said, place);
     }
-    for (parent, node) in graph.nodes.iter().enumerate() {
-        for link in &node.links {
+    let at_root = kept.map(|kept| matches!(kept.nodes.get(&0), Some(Some(_))));
+    dot += &root(at_root, places.as_ref().map(|places| places[0]));
+    for &parent in &nodes {
+        for link in &drawn.nodes[parent].links {
             let reason = kept.map(|kept| kept.links.get(&(parent, link.feature)).copied());
             dot += &lines(table, parent, link, reason, many);
         }
@@ -76,11 +129,11 @@ fn node(
     table: &Table,
     node: &Node,
     number: usize,
-    capital: Option<String>,
-    over: Option<Option<&Option<String>>>,
+    capital: Option<&str>,
+    over: Option<Option<&Option<Said>>>,
     place: Option<[i64; 2]>,
 ) -> String {
-    let own = notation::label(table, node);
+    let own = words(table, node);
     let mut text = own.clone();
     let mut looks = Vec::new();
     if let Some(capital) = capital {
@@ -93,36 +146,103 @@ fn node(
         Some(Some(said)) => {
             looks.push(BOLD);
             match said {
-                Some(said) if *said != own => text += &format!("\nadds {said}"),
+                // What is new was nothing before.
+                Some(Said { over, .. }) if table.says_nothing(over) => {}
+                Some(Said { over, added, .. }) if added.levels != Levels::FULL => {
+                    text += &format!("\nwas {}", words(table, over));
+                }
+                Some(Said { own, added, .. }) if added.node_type != own.node_type => {
+                    text += &format!("\nadds {}", words(table, added));
+                }
                 None if !table.says_nothing(node) => looks.push(GREY_TEXT),
                 _ => {}
             }
         }
     }
     let text = label("label", &text, "\\n");
-    let place = place.map(|[x, y]| format!("pos=\"{x},{y}\""));
+    let place = place.map(position);
     looks.extend(place.as_deref());
     statement(&format!("n{number}"), &[&[&text[..]], &looks[..]].concat())
 }
 
-/// Where nodes stand, in points: in rows by the most links that lead to them from the root,
-/// along a row by number. Rows begin at four different columns in turn, so that fewer lines
-/// go through nodes.
-fn places(graph: &Graph) -> Vec<[i64; 2]> {
-    let mut rows = vec![0; graph.nodes.len()];
+/// What a node says, as a picture shows it.
+fn words(table: &Table, node: &Node) -> String {
+    let name = cut(&table.type_name(node.node_type));
+    match node.levels {
+        Levels::FULL => name,
+        levels => format!("{name}{levels}"),
+    }
+}
+
+/// The mark of the root. Over a general graph, whether the difference says something there.
+fn root(over: Option<bool>, place: Option<[i64; 2]>) -> String {
+    let (reason, line, words): (_, &[&str], &[&str]) = match over {
+        None => ("", &[], &[]),
+        Some(false) => ("", &[GREY_LINE], &[GREY_TEXT]),
+        Some(true) => (word(Reason::Wanted), &[BOLD], &[]),
+    };
+    let text = label("label", format!("root\n{reason}").trim_end(), "\\n");
+    let place = place.map(|[x, y]| position([x, y + ROW]));
+    let place: Vec<&str> = place.as_deref().into_iter().collect();
+    [
+        statement(
+            "root",
+            &[&["shape=plain, fontsize=13", &text], words, &place[..]].concat(),
+        ),
+        statement("root -> n0", line),
+    ]
+    .concat()
+}
+
+/// How many links lead to each node from the root at most; none where none lead.
+fn rows(graph: &Graph) -> Vec<Option<usize>> {
+    let mut rows = vec![None; graph.nodes.len()];
+    rows[0] = Some(0);
     // As often as a path may have links; no node reaches itself.
     for _ in &graph.nodes {
         for (parent, node) in graph.nodes.iter().enumerate() {
+            let Some(row) = rows[parent] else {
+                continue;
+            };
             for link in &node.links {
-                rows[link.target] = rows[link.target].max(rows[parent] + 1);
+                rows[link.target] = rows[link.target].max(Some(row + 1));
             }
         }
     }
-    let place = |(number, &row): (usize, &i64)| {
-        let before = rows[..number].iter().filter(|&&other| other == row);
+    rows
+}
+
+/// Whether a row of nodes or of features would be too wide, if rows stood below each other.
+fn is_wide(table: &Table, graph: &Graph, rows: &[Option<usize>]) -> bool {
+    let mut widths = vec![[0, 0]; rows.len() + 1];
+    for (node, row) in graph.nodes.iter().zip(rows) {
+        let &Some(row) = row else {
+            continue;
+        };
+        let text = words(table, node).chars().count();
+        widths[row][0] += (8 * text + 16).max(54) + 22;
+        for link in &node.links {
+            let text = cut(&table.feature_name(link.feature)).chars().count();
+            widths[row][1] += 7 * text + 26;
+        }
+    }
+    widths.iter().flatten().any(|&width| width > WIDEST_ROW)
+}
+
+/// Where nodes stand, in points: in their rows, along a row by number. Rows begin at four
+/// different columns in turn, so that fewer lines go through nodes.
+fn places(rows: &[Option<usize>]) -> Vec<[i64; 2]> {
+    let place = |(number, row): (usize, &Option<usize>)| {
+        let before = rows[..number].iter().filter(|&other| other == row);
+        let row = row.unwrap_or(0) as i64;
         [COLUMN * (4 * before.count() as i64 + row % 4), -ROW * row]
     };
     rows.iter().enumerate().map(place).collect()
+}
+
+/// A place as an attribute.
+fn position([x, y]: [i64; 2]) -> String {
+    format!("pos=\"{x},{y}\"")
 }
 
 /// The line of a link with its feature in the middle, or at its tail where there are many.
@@ -134,7 +254,7 @@ fn lines(
     over: Option<Option<Reason>>,
     many: bool,
 ) -> String {
-    let mut text = table.feature_name(link.feature);
+    let mut text = cut(&table.feature_name(link.feature));
     let mut looks: (&[&str], &[&str]) = (&[], &[]);
     match over {
         None => {}
@@ -155,10 +275,12 @@ fn lines(
     let text = label("label", &text, "\\n");
     let texts = [&["shape=plain, fontsize=13", &text], words].concat();
     let tail = [&["dir=none"], line].concat();
+    // The feature stands near the node that it leads to.
+    let head = [&["weight=8"], line].concat();
     [
         statement(&middle, &texts),
         statement(&format!("{from} -> {middle}"), &tail),
-        statement(&format!("{middle} -> {to}"), line),
+        statement(&format!("{middle} -> {to}"), &head),
     ]
     .concat()
 }
@@ -172,18 +294,29 @@ fn statement(what: &str, attributes: &[&str]) -> String {
 }
 
 /// What the looks of a picture over a general graph mean; the reasons that come up.
-fn legend(kept: &Kept, general: &str) -> String {
-    let mut legend = format!("\nbold: kept by the difference from {general}\n");
+fn legend(over: Over) -> String {
+    let Over { kept, general, .. } = over;
+    let mut legend = match over.kept_only {
+        true => format!("\nall that is drawn is kept by the difference from {general}\n"),
+        false => format!("\nbold: kept by the difference from {general}\n"),
+    };
+    let at_root = matches!(kept.nodes.get(&0), Some(Some(_)));
     for reason in [Reason::Bare, Reason::Groups, Reason::Wanted] {
-        if kept.links.values().any(|&other| other == reason) {
+        let comes_up = kept.links.values().any(|&other| other == reason);
+        if comes_up || at_root && reason == Reason::Wanted {
             legend += &format!("{}: {}\n", word(reason), meaning(reason, general));
         }
     }
-    legend + &format!("grey: given by {general}\n")
+    match over.kept_only {
+        true => legend,
+        false => legend + &format!("grey: given by {general}\n"),
+    }
 }
 
-/// A text as an attribute, with DOT's mark for the end of a line.
+/// A text as an attribute, with DOT's mark for the end of a line. DOT reads `&` as the begin
+/// of a character's name.
 fn label(name: &str, text: &str, end: &str) -> String {
     let text = text.replace('\\', "\\\\").replace('"', "\\\"");
+    let text = text.replace('&', "&amp;");
     format!("{name}=\"{}\"", text.replace('\n', end))
 }

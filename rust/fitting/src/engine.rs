@@ -27,6 +27,16 @@ pub fn rewrite(table: &Table, record: &[u8]) -> Result<Vec<u8>, Refusal> {
     written(|output| record_engine::rewrite(table.n, &table.bytes, record, output))
 }
 
+/// The written form of a record that obeys the table's list, if it has one.
+pub fn rewrite_obeying(table: &Table, record: &[u8]) -> Result<Vec<u8>, Refusal> {
+    match &table.list {
+        None => rewrite(table, record),
+        Some(list) => written(|output| {
+            record_engine::rewrite_appropriate(table.n, &table.bytes, list, record, output)
+        }),
+    }
+}
+
 /// Which of two records is the broader, seen from the first.
 pub fn order(table: &Table, first: &[u8], second: &[u8]) -> Result<Order, Refusal> {
     record_engine::order(table.n, &table.bytes, first, second)
@@ -45,6 +55,25 @@ pub fn operate(
         Operation::Difference => record_engine::difference,
     };
     written(|output| call(table.n, &table.bytes, first, second, output))
+}
+
+/// What two records that obey the table's list, if it has one, have in common or say together.
+pub fn operate_obeying(
+    operation: Operation,
+    table: &Table,
+    first: &[u8],
+    second: &[u8],
+) -> Result<Vec<u8>, Refusal> {
+    let call = match operation {
+        Operation::Generalize => record_engine::generalize_appropriate,
+        Operation::Unify => record_engine::unify_appropriate,
+        // A difference need not obey a list.
+        Operation::Difference => return operate(operation, table, first, second),
+    };
+    match &table.list {
+        None => operate(operation, table, first, second),
+        Some(list) => written(|output| call(table.n, &table.bytes, list, first, second, output)),
+    }
 }
 
 /// The difference of two records, by a list of all features or without one, and the reason

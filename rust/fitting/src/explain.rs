@@ -13,6 +13,7 @@ use crate::input::Input;
 use crate::planning::Planning;
 use crate::source::pointed;
 use crate::table::Table;
+pub use pair::{Contradiction, Kind, contradictions};
 use record_engine::{Refusal, Side};
 
 /// What was found out about a refusal.
@@ -41,45 +42,75 @@ impl Cause {
     }
 }
 
-/// The message of a refused call on one or two records; the operation, if it is one.
+/// The message of a refused call on records; the operation, if it is one. A call on more than
+/// two has gone from one to the next, and the second of the refused call is the last.
 pub fn refused(
     refusal: Refusal,
     operation: Option<Operation>,
     table: &Table,
     inputs: &[&Input],
 ) -> Failure {
-    let lines = match (refusal.side(), inputs) {
-        (Some(side), _) => {
-            let input = inputs[usize::from(side == Side::Second)];
+    let lines = match refusal.side() {
+        Some(side) => {
+            let input = match side {
+                Side::First => inputs[0],
+                Side::Second => inputs[inputs.len() - 1],
+            };
             let cause = record::cause(refusal.number(), table, input);
-            cause.map(|cause| placed(&cause, input))
+            cause.map(|mut cause| {
+                if (refusal.number(), operation) == (18, Some(Operation::Unify)) {
+                    cause.advice += "; a difference is combined with `--plain`";
+                }
+                placed(&cause, input)
+            })
         }
-        (None, &[first, second]) => {
-            let cause = pair::cause(refusal.number(), operation, table, [first, second]);
+        None => {
+            let cause = pair::cause(refusal.number(), operation, table, inputs);
             cause.map(|cause| format!("  {}\n  {}", cause.what, cause.advice))
         }
-        (None, _) => None,
     };
-    Failure::Refused(match lines {
-        Some(lines) => format!("{refusal}\n{lines}"),
-        None => refusal.to_string(),
-    })
+    let heading = heading(refusal, inputs.len());
+    let message = match lines {
+        Some(lines) => format!("{heading}\n{lines}"),
+        None => heading,
+    };
+    Failure::refused(refusal, message)
+}
+
+/// The first line of a message: number and words as the engine has them. Which record it is
+/// of is said where there are two.
+fn heading(refusal: Refusal, records: usize) -> String {
+    let words = refusal.to_string();
+    match records {
+        2 => words,
+        _ => words
+            .replacen(" first:", ":", 1)
+            .replacen(" second:", ":", 1),
+    }
+}
+
+/// What keeps bytes from being a list of nodes.
+pub fn malformed(bytes: &[u8]) -> String {
+    record::malformed(bytes).map_or("it is a list of nodes".to_string(), |cause| cause.what)
 }
 
 /// The message of a refused planning table.
 pub fn planning_refused(refusal: Refusal, table: &Table, planning: &Planning) -> Failure {
-    Failure::Refused(match planning::cause(refusal.number(), table, planning) {
-        Some(cause) => format!("{refusal}\n{cause}"),
-        None => refusal.to_string(),
-    })
+    let heading = heading(refusal, 1);
+    let message = match planning::cause(refusal.number(), table, planning) {
+        Some(cause) => format!("{heading}\n{cause}"),
+        None => heading,
+    };
+    Failure::refused(refusal, message)
 }
 
 /// The message of a refused table.
 pub fn table_refused(refusal: Refusal, table: &Table, name: &str) -> Failure {
-    Failure::Refused(match table::cause(refusal.number(), table) {
+    let message = match table::cause(refusal.number(), table) {
         Some(cause) => format!("{refusal}\n  {name}: {}\n  {}", cause.what, cause.advice),
         None => format!("{refusal}\n  {name}"),
-    })
+    };
+    Failure::refused(refusal, message)
 }
 
 /// A cause with the record's name, or where the record was a text, the place in it.
@@ -100,7 +131,7 @@ fn placed(cause: &Cause, input: &Input) -> String {
 }
 
 /// Items as a sentence lists them.
-fn listed(items: &[String]) -> String {
+pub fn listed(items: &[String]) -> String {
     match items {
         [] => String::new(),
         [one] => one.clone(),
@@ -112,18 +143,16 @@ fn listed(items: &[String]) -> String {
 mod tests {
     use record_engine::Refusal;
 
-    /// The tool lends enough bytes and hands in no list of types, and a whole list of
-    /// features, so no session comes to these.
+    /// The tool lends enough bytes and hands in whole lists of types and of features, so no
+    /// session comes to these.
     #[test]
     fn refusals_that_no_command_meets_have_words_too() {
-        let is_met = |refusal: &Refusal| matches!(refusal.number(), 1..=7 | 9..=15);
+        let is_met = |refusal: &Refusal| matches!(refusal.number(), 1..=7 | 9..=15 | 18 | 23);
         let unmet = Refusal::ALL.iter().filter(|refusal| !is_met(refusal));
         let words: Vec<String> = unmet.map(|refusal| refusal.to_string()).collect();
         assert_eq!(
             words,
             [
-                "refused 18 first: a node has a feature that the list does not allow its type",
-                "refused 18 second: a node has a feature that the list does not allow its type",
                 "refused 8: the output is shorter than the result",
                 "refused 16: nothing has been added to the gathering",
                 "refused 17: the list has not one type for each of the 64 features",
@@ -131,7 +160,6 @@ mod tests {
                 "refused 20: the version is above 15, or absent, or present already",
                 "refused 21: the store has too few bytes",
                 "refused 22: fewer bytes are lent for reasons than there are links",
-                "refused 23: the number of features is not 1 or 2",
                 "refused 24: the record is not one of those listed",
             ]
         );

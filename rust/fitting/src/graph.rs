@@ -41,7 +41,10 @@ impl Levels {
 
 impl fmt::Display for Levels {
     fn fmt(&self, formatter: &mut fmt::Formatter<'_>) -> fmt::Result {
-        write!(formatter, "{{{}..{}}}", self.lowest, self.highest)
+        match (self.lowest, self.highest) {
+            (level, other) if level == other => write!(formatter, "{{{level}}}"),
+            (lowest, highest) => write!(formatter, "{{{lowest}..{highest}}}"),
+        }
     }
 }
 

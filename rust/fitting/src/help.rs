@@ -2,33 +2,60 @@
 //! their arguments are read. The lines that begin with `$` are run by the tests.
 
 use crate::failure::Failure;
+use crate::names::{cut, nearest};
+
+/// How many operands may follow those that a command needs.
+#[derive(Clone, Copy, PartialEq, Eq)]
+pub enum More {
+    None,
+    One,
+    Any,
+}
 
 /// A command's form and its help.
 pub struct Command {
     pub name: &'static str,
     pub usage: &'static str,
     pub operands: &'static [&'static str],
-    /// Whether more operands may follow.
-    pub takes_more: bool,
+    /// How many operands may follow these.
+    pub more: More,
     pub options: &'static [&'static str],
     help: &'static str,
 }
 
+/// Every option, and what has to stand behind it, if anything.
+pub const OPTIONS: [(&str, Option<&str>); 14] = [
+    ("-o", Some("a file")),
+    ("--by", Some("features")),
+    ("--c", None),
+    ("--features", Some("a number")),
+    ("--fingerprint", None),
+    ("--json", None),
+    ("--kept-only", None),
+    ("--links", Some("a file")),
+    ("--nodes", Some("a file")),
+    ("--over", Some("a file")),
+    ("--plain", None),
+    ("--quiet", None),
+    ("--rust", None),
+    ("--why", None),
+];
+
 /// Every command.
-pub const COMMANDS: [Command; 11] = [
+pub const COMMANDS: [Command; 15] = [
     Command {
         name: "check",
-        usage: "fitting check TABLE [FILE..]",
+        usage: "fitting check TABLE [FILE..] [--quiet] [--json]",
         operands: &["TABLE"],
-        takes_more: true,
-        options: &[],
+        more: More::Any,
+        options: &["--quiet", "--json"],
         help: include_str!("help/check.txt"),
     },
     Command {
         name: "show",
         usage: "fitting show TABLE FILE",
         operands: &["TABLE", "FILE"],
-        takes_more: false,
+        more: More::None,
         options: &[],
         help: include_str!("help/show.txt"),
     },
@@ -36,55 +63,79 @@ pub const COMMANDS: [Command; 11] = [
         name: "make",
         usage: "fitting make TABLE TEXT -o FILE",
         operands: &["TABLE", "TEXT"],
-        takes_more: false,
+        more: More::None,
         options: &["-o"],
         help: include_str!("help/make.txt"),
     },
     Command {
         name: "draw",
-        usage: "fitting draw TABLE FILE [--over G [--by FEATURES]] [-o PICTURE]",
-        operands: &["TABLE", "FILE"],
-        takes_more: false,
-        options: &["--over", "--by", "-o"],
+        usage: "fitting draw TABLE [FILE [--over G [--by FEATURES] [--kept-only]]]\n         [-o PICTURE]",
+        operands: &["TABLE"],
+        more: More::One,
+        options: &["--over", "--by", "--kept-only", "-o"],
         help: include_str!("help/draw.txt"),
     },
     Command {
         name: "order",
-        usage: "fitting order TABLE A B [-o FILE]",
+        usage: "fitting order TABLE A B [--json] [-o FILE]",
         operands: &["TABLE", "A", "B"],
-        takes_more: false,
-        options: &["-o"],
+        more: More::None,
+        options: &["--json", "-o"],
         help: include_str!("help/order.txt"),
     },
     Command {
-        name: "common",
-        usage: "fitting common TABLE A B [-o FILE]",
+        name: "compare",
+        usage: "fitting compare TABLE A B [--json] [-o FILE]",
         operands: &["TABLE", "A", "B"],
-        takes_more: false,
-        options: &["-o"],
+        more: More::None,
+        options: &["--json", "-o"],
+        help: include_str!("help/compare.txt"),
+    },
+    Command {
+        name: "same",
+        usage: "fitting same TABLE FILE.. [--json]",
+        operands: &["TABLE", "FILE"],
+        more: More::Any,
+        options: &["--json"],
+        help: include_str!("help/same.txt"),
+    },
+    Command {
+        name: "common",
+        usage: "fitting common TABLE A B.. [--plain] [-o FILE]",
+        operands: &["TABLE", "A", "B"],
+        more: More::Any,
+        options: &["--plain", "-o"],
         help: include_str!("help/common.txt"),
     },
     Command {
         name: "combine",
-        usage: "fitting combine TABLE A B [-o FILE]",
+        usage: "fitting combine TABLE A B.. [--plain] [-o FILE]",
         operands: &["TABLE", "A", "B"],
-        takes_more: false,
-        options: &["-o"],
+        more: More::Any,
+        options: &["--plain", "-o"],
         help: include_str!("help/combine.txt"),
     },
     Command {
         name: "difference",
-        usage: "fitting difference [--why] [--by FEATURES] TABLE G S [-o FILE]",
+        usage: "fitting difference TABLE G S [--why [--json]] [--by FEATURES] [-o FILE]",
         operands: &["TABLE", "G", "S"],
-        takes_more: false,
-        options: &["--why", "--by", "-o"],
+        more: More::None,
+        options: &["--why", "--json", "--by", "-o"],
         help: include_str!("help/difference.txt"),
+    },
+    Command {
+        name: "report",
+        usage: "fitting report TABLE FILE.. [-o PAGE]",
+        operands: &["TABLE", "FILE"],
+        more: More::Any,
+        options: &["-o"],
+        help: include_str!("help/report.txt"),
     },
     Command {
         name: "list",
         usage: "fitting list TABLE --features F",
         operands: &["TABLE"],
-        takes_more: false,
+        more: More::None,
         options: &["--features"],
         help: include_str!("help/list.txt"),
     },
@@ -92,7 +143,7 @@ pub const COMMANDS: [Command; 11] = [
         name: "import",
         usage: "fitting import TABLE CSV.. [-o FILE]",
         operands: &["TABLE", "CSV"],
-        takes_more: true,
+        more: More::Any,
         options: &["-o"],
         help: include_str!("help/import.txt"),
     },
@@ -100,9 +151,17 @@ pub const COMMANDS: [Command; 11] = [
         name: "export",
         usage: "fitting export TABLE FILE [--nodes CSV] [--links CSV] [-o CSV]",
         operands: &["TABLE", "FILE"],
-        takes_more: false,
+        more: More::None,
         options: &["--nodes", "--links", "-o"],
         help: include_str!("help/export.txt"),
+    },
+    Command {
+        name: "table",
+        usage: "fitting table TABLE [--c | --rust | --fingerprint] [-o FILE]",
+        operands: &["TABLE"],
+        more: More::None,
+        options: &["--c", "--rust", "--fingerprint", "-o"],
+        help: include_str!("help/table.txt"),
     },
 ];
 
@@ -111,19 +170,23 @@ pub fn command(name: &str) -> Result<&'static Command, Failure> {
     let found = COMMANDS.iter().find(|command| command.name == name);
     found.ok_or_else(|| {
         let names: Vec<&str> = COMMANDS.iter().map(|command| command.name).collect();
+        let advice = match nearest(name, names.iter().copied()) {
+            Some(near) => format!("did you mean `{near}`?"),
+            None => format!("commands: {}", names.join(", ")),
+        };
+        let name = cut(name);
         Failure::usage(format!(
-            "there is no command `{name}`\n  commands: {}\n  `fitting --help` tells more",
-            names.join(", ")
+            "there is no command `{name}`\n  {advice}\n  `fitting --help` tells more"
         ))
     })
 }
 
-/// The help about a command, about `text` or `table`, or about the whole.
+/// The help about a command, about `text` or `json`, or about the whole.
 pub fn about(subject: &str) -> Result<String, Failure> {
     match subject {
         "" => Ok(include_str!("help/fitting.txt").to_string()),
         "text" => Ok(include_str!("help/text.txt").to_string()),
-        "table" => Ok(include_str!("help/table.txt").to_string()),
+        "json" => Ok(include_str!("help/json.txt").to_string()),
         name => {
             let command = command(name)?;
             Ok(format!("Usage: {}\n\n{}", command.usage, command.help))

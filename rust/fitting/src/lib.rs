@@ -5,6 +5,7 @@
 
 #![forbid(unsafe_code)]
 
+mod checksum;
 mod command;
 mod draw;
 mod engine;
@@ -13,11 +14,16 @@ mod failure;
 pub mod graph;
 mod help;
 mod input;
+mod json;
+mod names;
 pub mod notation;
+mod output;
 mod overlay;
 mod picture;
 pub mod planning;
+mod progress;
 mod reading;
+mod report;
 mod source;
 pub mod table;
 mod why;

@@ -25,7 +25,7 @@ pub fn image(table: &Table, general: Named, specific: Named) -> Result<Vec<usize
         let (g, s) = (&general.graph.nodes[over], &specific.graph.nodes[under]);
         let place = table.path(&path);
         if !table.below(s.node_type, g.node_type) {
-            let [g, s] = [g, s].map(|node| table.type_name(node.node_type));
+            let [g, s] = [g, s].map(|node| table.type_shown(node.node_type));
             return Err(format!(
                 "at {place}, type {s} of {below} is not below type {g} of {above}"
             ));

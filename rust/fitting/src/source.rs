@@ -29,6 +29,11 @@ impl Fault {
     }
 }
 
+/// A text with a line feed for each line end, also for a carriage return alone.
+pub fn line_feeds(text: &str) -> String {
+    text.replace("\r\n", "\n").replace('\r', "\n")
+}
+
 /// The line and the column of a place, both from 1.
 pub fn line_and_column(text: &str, at: usize) -> (usize, usize) {
     let before = &text[..at];

@@ -2,9 +2,12 @@
 //! that of the house types. The engine says whether it is accepted; orders and meets
 //! are looked up here for messages alone.
 
+mod source;
 mod text;
 
+use crate::checksum::crc32;
 use crate::graph::{Levels, Node};
+use crate::names::{nearest, shown, written};
 use crate::source::Fault;
 use record_engine::{FEATURES, HOUSE_TABLE_LENGTH, house_table};
 
@@ -13,18 +16,37 @@ pub const MOST_TYPES: usize = 64;
 
 /// The number of types, 8 bytes for each, and names. Types without a name go by their
 /// numbers, but for the greatest, which is `top` then.
-#[derive(Clone, Debug)]
+#[derive(Clone, Debug, PartialEq, Eq)]
 pub struct Table {
     pub n: usize,
     pub bytes: Vec<u8>,
     types: Vec<Option<String>>,
     features: Vec<Option<String>>,
+    /// The appropriateness list: for each feature the broadest type that may have it. There
+    /// is none where every type may have every feature.
+    pub list: Option<Vec<u8>>,
 }
 
 impl Table {
     /// The table of a text.
     pub fn from_text(text: &str) -> Result<Table, Fault> {
         text::read(text)
+    }
+
+    /// The text of an accepted table, which reads as the same table; types without a name get
+    /// one.
+    pub fn text(&self) -> String {
+        text::write(self)
+    }
+
+    /// The bytes as a C header; `name` is the table's file.
+    pub fn c(&self, name: &str) -> String {
+        source::c(self, name)
+    }
+
+    /// The bytes as Rust constants; `name` is the table's file.
+    pub fn rust(&self, name: &str) -> String {
+        source::rust(self, name)
     }
 
     /// The table of rows of 8 bytes; rows of no length that fits are for the engine to
@@ -40,6 +62,7 @@ impl Table {
             bytes: bytes.to_vec(),
             types,
             features: vec![None; FEATURES],
+            list: None,
         }
     }
 
@@ -62,12 +85,32 @@ impl Table {
 
     /// The name of a type, or its number.
     pub fn type_name(&self, number: u8) -> String {
-        named(&self.types, number)
+        named(&self.types, number, str::to_string)
     }
 
     /// The name of a feature, or its number.
     pub fn feature_name(&self, number: u8) -> String {
-        named(&self.features, number)
+        named(&self.features, number, str::to_string)
+    }
+
+    /// A type as text writes it.
+    pub fn type_written(&self, number: u8) -> String {
+        named(&self.types, number, written)
+    }
+
+    /// A feature as text writes it.
+    pub fn feature_written(&self, number: u8) -> String {
+        named(&self.features, number, written)
+    }
+
+    /// A type as a message shows it.
+    pub fn type_shown(&self, number: u8) -> String {
+        named(&self.types, number, shown)
+    }
+
+    /// A feature as a message shows it.
+    pub fn feature_shown(&self, number: u8) -> String {
+        named(&self.features, number, shown)
     }
 
     /// The number of the type that has a name.
@@ -80,22 +123,65 @@ impl Table {
         number_of(&self.features, name)
     }
 
+    /// The name of a type that is another word but for capitals.
+    pub fn type_like(&self, word: &str) -> Option<String> {
+        let (word, mut names) = (word.to_lowercase(), self.types.iter().flatten());
+        names.find(|name| name.to_lowercase() == word).cloned()
+    }
+
     /// What to write instead of a name that no type has.
     pub fn types_advice(&self, name: &str) -> String {
         let names: Vec<&str> = self.types.iter().skip(1).flatten().map(|n| &**n).collect();
         let all = format!("types are 1 to {}", self.n - 1);
-        advice(name, &names, &all)
+        match self.feature_named(name) {
+            Some(_) => format!("this is a feature; {}", advice(name, &names, &all)),
+            None => advice(name, &names, &all),
+        }
+    }
+
+    /// What to do about a name that no line of the table's text gives to a type.
+    fn unnamed_advice(&self, name: &str) -> String {
+        match nearest(name, self.types.iter().flatten().map(String::as_str)) {
+            Some(near) => format!("did you mean `{}`?", shown(near)),
+            None => format!("write a line `type {}`, or correct the name", shown(name)),
+        }
     }
 
     /// What to write instead of a name that no feature has.
     pub fn features_advice(&self, name: &str) -> String {
         let names: Vec<&str> = self.features.iter().flatten().map(|n| &**n).collect();
-        advice(name, &names, "features are 0 to 63")
+        let advice = advice(name, &names, "features are 0 to 63");
+        match self.type_named(name) {
+            Some(_) => format!("this is a type; {advice}"),
+            None => advice,
+        }
+    }
+
+    /// A short name of the table, to be compared by eye: the checksum of its bytes and, where
+    /// it has names or a list, that of these.
+    pub fn fingerprint(&self) -> String {
+        let order = format!("{:08x}", crc32(&self.bytes));
+        let implied = [(0, "bottom"), (self.n - 1, "top")];
+        let is_implied = |(number, name): (usize, &Option<String>)| match name {
+            Some(name) => implied.contains(&(number, name)),
+            None => true,
+        };
+        let is_unnamed = self.types.iter().enumerate().all(is_implied)
+            && self.features.iter().all(Option::is_none)
+            && self.list.is_none();
+        if is_unnamed {
+            return order;
+        }
+        let names = self.types.iter().chain(&self.features);
+        let names = names.map(|name| format!("{}\0", name.as_deref().unwrap_or("")));
+        let mut bytes = names.collect::<String>().into_bytes();
+        bytes.extend(self.list.iter().flatten());
+        format!("{order}-{:08x}", crc32(&bytes))
     }
 
     /// A path from the root as messages show it.
     pub fn path(&self, path: &[u8]) -> String {
-        let features: Vec<String> = path.iter().map(|&f| self.feature_name(f)).collect();
+        let features: Vec<String> = path.iter().map(|&f| self.feature_shown(f)).collect();
         match path {
             [] => "the root".to_string(),
             _ => format!("path {}", features.join(".")),
@@ -113,6 +199,16 @@ impl Table {
         self.row(usize::from(b)) >> a & 1 == 1
     }
 
+    /// The types directly below a type of an accepted table, by number.
+    pub fn directly_below(&self, number: usize) -> Vec<usize> {
+        let others_below = |number: usize| self.row(number) & !(1 << number);
+        let is_in = |types: u64| move |&number: &usize| types >> number & 1 == 1;
+        let below = others_below(number);
+        let between = (0..self.n).filter(is_in(below));
+        let further = between.fold(0, |further, other| further | others_below(other));
+        (0..self.n).filter(is_in(below & !further)).collect()
+    }
+
     /// The greatest of some types given as bits, if one of them is above all.
     pub fn greatest(&self, types: u64) -> Option<u8> {
         (0..self.n)
@@ -127,9 +223,10 @@ impl Table {
     }
 }
 
-fn named(names: &[Option<String>], number: u8) -> String {
+/// The name that a number has, in some form, or the number.
+fn named(names: &[Option<String>], number: u8, form: fn(&str) -> String) -> String {
     match names.get(usize::from(number)) {
-        Some(Some(name)) => name.clone(),
+        Some(Some(name)) => form(name),
         _ => number.to_string(),
     }
 }
@@ -143,30 +240,15 @@ fn number_of(names: &[Option<String>], name: &str) -> Option<u8> {
 
 /// The name that is nearest to a misspelt one, or some of the names, or what numbers serve.
 fn advice(wrong: &str, names: &[&str], numbers: &str) -> String {
-    const SHOWN: usize = 12;
-    let near = names.iter().map(|name| (distance(wrong, name), name));
-    match near.min() {
-        Some((1 | 2, name)) if name.chars().count() > 2 => format!("did you mean `{name}`?"),
-        None => format!("the table names none; {numbers}"),
-        Some(_) if names.len() > SHOWN => {
-            format!("it names {}, ..; {numbers}", names[..SHOWN].join(", "))
-        }
-        Some(_) => format!("it names {}; {numbers}", names.join(", ")),
+    const LISTED: usize = 12;
+    if let Some(name) = nearest(wrong, names.iter().copied()) {
+        return format!("did you mean `{}`?", shown(name));
     }
-}
-
-/// How many letters must be put in, left out or changed to make one word of another.
-fn distance(a: &str, b: &str) -> usize {
-    let b: Vec<char> = b.chars().collect();
-    let mut row: Vec<usize> = (0..=b.len()).collect();
-    for (i, x) in a.chars().enumerate() {
-        let mut diagonal = row[0];
-        row[0] = i + 1;
-        for (j, &y) in b.iter().enumerate() {
-            let changed = diagonal + usize::from(x != y);
-            diagonal = row[j + 1];
-            row[j + 1] = changed.min(diagonal + 1).min(row[j] + 1);
-        }
+    let listed: Vec<String> = names.iter().take(LISTED).map(|name| shown(name)).collect();
+    let listed = listed.join(", ");
+    match names.len() {
+        0 => format!("the table names none; {numbers}"),
+        1..=LISTED => format!("it names {listed}; {numbers}"),
+        _ => format!("it names {listed}, ..; {numbers}"),
     }
-    row[b.len()]
 }

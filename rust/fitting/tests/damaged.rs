@@ -23,10 +23,16 @@ fn told(arguments: &[&str]) -> (u8, String) {
     (status, String::from_utf8(err).expect("messages are text"))
 }
 
-/// A heading or a place, the cause, and what to do.
+/// A heading or a place, the cause, and what to do; of an empty file and of text in UTF-16 there
+/// is no cause.
 fn assert_explained(status: u8, message: &str) {
     assert!(status < 2, "{message}");
-    assert!(status == 0 || message.lines().count() >= 3, "{message}");
+    let causeless = [": the file is empty\n", ": this is text in UTF-16\n"];
+    let least = match causeless.iter().any(|what| message.contains(what)) {
+        true => 2,
+        false => 3,
+    };
+    assert!(status == 0 || message.lines().count() >= least, "{message}");
 }
 
 /// A folder for a test to write into.
@@ -65,6 +71,7 @@ fn a_refused_record_has_its_cause_told() {
     let folder = folder("damaged-records");
     let mut random = Xorshift::stored(31);
     let mut refused = [0; 8];
+    let mut neither = 0;
     for round in 0..2_000 {
         let table = random::valid_table(&mut random);
         let ranges = [Ranges::Absent, Ranges::Present][round % 2];
@@ -72,13 +79,13 @@ fn a_refused_record_has_its_cause_told() {
         let file = stored(&folder, "table", &table.bytes);
         let (status, message) = told(&["check", &file, &stored(&folder, "record", &record)]);
         assert_explained(status, &message);
-        let number = message
-            .strip_prefix("refused ")
-            .and_then(|rest| rest.split(' ').next());
+        let number = message.strip_prefix("refused ");
+        let number = number.and_then(|rest| rest.split(':').next());
         refused[number.map_or(0, |number| number.parse().expect("a number"))] += 1;
+        neither += u32::from(message.contains(": neither text nor a record\n"));
     }
-    let enough = refused[4..].iter().all(|&count| count > 50);
-    assert!(enough || !random::is_stored(), "{refused:?}");
+    let enough = refused[4..].iter().all(|&count| count > 50) && neither > 10;
+    assert!(enough || !random::is_stored(), "{refused:?} {neither}");
 }
 
 #[test]

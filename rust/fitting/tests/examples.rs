@@ -7,21 +7,24 @@ use std::fs;
 use std::path::Path;
 use tool::{folder, output, tool};
 
-const SUBJECTS: [&str; 14] = [
-    "",
+const SUBJECTS: [&str; 17] = [
     "text",
-    "table",
+    "json",
     "check",
     "show",
     "make",
     "draw",
     "order",
+    "compare",
+    "same",
     "common",
     "combine",
     "difference",
+    "report",
     "list",
     "import",
     "export",
+    "table",
 ];
 
 #[test]
@@ -58,21 +61,33 @@ fn the_lines_of_the_readme_work() {
     let folder = folder("readme");
     let readme = Path::new(env!("CARGO_MANIFEST_DIR")).join("../../README.md");
     let readme = fs::read_to_string(readme).expect("the README is text");
+    // The gate empties `target`: what is installed there is gone.
+    let installs = readme.lines().filter(|line| line.contains("cargo install"));
+    let installs: Vec<&str> = installs.map(str::trim).collect();
+    assert_eq!(
+        installs,
+        ["cargo install --offline --locked --path rust/fitting --root ~/.local"]
+    );
     let lines = readme.lines();
-    let lines = lines.filter_map(|line| line.strip_prefix("    target/bin/fitting "));
+    let lines = lines.filter_map(|line| line.strip_prefix("    fitting "));
     let mut commands = Vec::new();
     for line in lines {
-        // A picture needs `dot`: DOT text does not.
-        let line = line.split(' ').filter(|word| !word.ends_with(".svg"));
+        // A picture needs `dot`: DOT text does not. A page is printed as well.
+        let is_stored = |word: &&str| word.ends_with(".svg") || word.ends_with(".html");
+        let line = line.split(' ').filter(|word| !is_stored(word));
         let arguments: Vec<&str> = line.collect();
-        let drawn = arguments[0] == "draw";
-        let arguments = &arguments[..arguments.len() - usize::from(drawn)];
+        let begin = match arguments[0] {
+            "draw" => Some("digraph fitting {\n"),
+            "report" => Some("<!DOCTYPE html>\n"),
+            _ => None,
+        };
+        let arguments = &arguments[..arguments.len() - usize::from(begin.is_some())];
         let told = output(tool(&folder, arguments), b"");
         let error = String::from_utf8_lossy(&told.stderr);
         assert!(told.status.success(), "{arguments:?}\n{error}");
         let text = String::from_utf8(told.stdout).expect("text");
-        if drawn {
-            assert!(text.starts_with("digraph fitting {\n"), "{text}");
+        if let Some(begin) = begin {
+            assert!(text.starts_with(begin), "{text}");
         } else {
             // What it prints stands in the README.
             let block: String = text.lines().map(|line| format!("    {line}\n")).collect();
@@ -80,7 +95,19 @@ fn the_lines_of_the_readme_work() {
         }
         commands.push(arguments[0].to_string());
     }
-    assert_eq!(commands, ["make", "difference", "draw", "draw"]);
+    assert_eq!(
+        commands,
+        [
+            "make",
+            "difference",
+            "draw",
+            "compare",
+            "same",
+            "report",
+            "draw",
+            "draw"
+        ]
+    );
 }
 
 #[test]

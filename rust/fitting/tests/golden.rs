@@ -1,5 +1,6 @@
 //! The tool's answers as sessions: what a person types and sees.
 
+mod maps;
 mod session;
 mod tool;
 
@@ -11,6 +12,63 @@ fn cases_of_document_01() {
 #[test]
 fn every_command() {
     assert_eq!(session::run("commands"), 37);
+}
+
+#[test]
+fn what_was_wrong_is_repaired() {
+    assert_eq!(session::run("repairs"), 68);
+}
+
+#[test]
+fn names_in_quotation_marks_and_one_level() {
+    assert_eq!(session::run("names"), 34);
+}
+
+#[test]
+fn features_that_belong_to_types() {
+    assert_eq!(session::run("lists"), 24);
+}
+
+#[test]
+fn more_than_two() {
+    assert_eq!(session::run("many"), 18);
+}
+
+#[test]
+fn tables_as_text_source_and_pictures() {
+    assert_eq!(session::run("table"), 28);
+}
+
+#[test]
+fn comparisons() {
+    assert_eq!(session::run("compare"), 14);
+}
+
+#[test]
+fn programs_that_mean_the_same() {
+    assert_eq!(session::run("same"), 14);
+}
+
+#[test]
+fn reports() {
+    assert_eq!(session::run("report"), 11);
+}
+
+#[test]
+fn answers_as_json() {
+    assert_eq!(session::run("json"), 20);
+}
+
+#[test]
+fn forty_three_maps() {
+    let folder = tool::folder("maps");
+    maps::store(&folder);
+    assert_eq!(session::run_in("maps", &folder), 6);
+}
+
+#[test]
+fn the_day_of_an_integrator() {
+    assert_eq!(session::run("day"), 26);
 }
 
 #[test]
@@ -50,12 +108,12 @@ fn malformed_planning_tables() {
 
 #[test]
 fn pictures() {
-    assert_eq!(session::run("draw"), 8);
+    assert_eq!(session::run("draw"), 9);
 }
 
 #[test]
 fn help() {
-    assert_eq!(session::run("help"), 14);
+    assert_eq!(session::run("help"), 19);
 }
 
 #[test]

@@ -51,7 +51,7 @@ fn the_largest_record_is_shown_read_and_drawn() {
     let checked = quickly(&folder, &["check", TABLE, "-"], &record);
     let checked = String::from_utf8(checked).expect("text");
     assert!(
-        checked.ends_with("form, 255 nodes and 2048 links\n"),
+        checked.contains("form, 255 nodes and 2048 links\n"),
         "{checked}"
     );
     let text = quickly(&folder, &["show", TABLE, "-"], &record);
@@ -63,14 +63,15 @@ fn the_largest_record_is_shown_read_and_drawn() {
     );
     let dot = quickly(&folder, &["draw", TABLE, "-"], &record);
     let dot = String::from_utf8(dot).expect("text");
-    assert_eq!(dot.matches(" -> ").count(), 2048);
+    // The root's mark has an arrow too.
+    assert_eq!(dot.matches(" -> ").count(), 2048 + 1);
     assert!(dot.contains("splines=line") && dot.contains(" -> n1 [taillabel="));
     assert!(dot.matches("peripheries=2").count() > 200);
     // Each node has a place of its own, so that `dot` need not look for one.
     assert!(dot.contains("layout=nop"));
     let places = dot.split("pos=\"").skip(1);
     let places: BTreeSet<&str> = places.filter_map(|rest| rest.split('"').next()).collect();
-    assert_eq!(places.len(), 255);
+    assert_eq!(places.len(), 255 + 1);
 }
 
 #[test]
@@ -127,7 +128,7 @@ fn a_planning_table_of_too_many_parts_is_refused() {
             &folder,
             &format!("node,type\n{nodes}parent,feature,target\n{links}")
         ),
-        "refused 4 first: the record is malformed\n\
+        "refused 4: the record is malformed\n\
          standard input:2085:1: here begins link 2049 of 2112\n    \
          32,0,33\n    ^\n  \
          leave links out: a record has at most 2,048\n"
@@ -138,7 +139,7 @@ fn a_planning_table_of_too_many_parts_is_refused() {
             &folder,
             &format!("parent,feature,target\nnode,type\n{nodes}")
         ),
-        "refused 4 first: the record is malformed\n\
+        "refused 4: the record is malformed\n\
          standard input:258:1: there are 256 nodes\n    \
          255,top\n    ^\n  \
          leave nodes out: a record has at most 255\n"
@@ -181,12 +182,28 @@ fn results_that_no_record_holds_are_refused() {
     write("second", ladder(60, 1, 0));
     let told = output(tool(&folder, &["common", TABLE, "first", "second"]), b"");
     assert_eq!(told.status.code(), Some(1));
-    let error = String::from_utf8(told.stderr).expect("text");
     let cause = "\n  it has 620 nodes and 1180 links\n";
+    let is_told = |error: Vec<u8>| {
+        let error = String::from_utf8(error).expect("text");
+        let told = error.starts_with("refused 11: ") && error.contains(cause);
+        assert!(told, "{error}");
+    };
+    is_told(told.stderr);
+    // What more than two have in common, of which the first two are the same.
+    let files = ["common", TABLE, "first", "first", "second"];
+    is_told(output(tool(&folder, &files), b"").stderr);
+    let told = output(tool(&folder, &["compare", TABLE, "first", "second"]), b"");
+    assert_eq!(told.status.code(), Some(1));
+    is_told(told.stderr);
+    // A report has the programs alone then.
+    let told = output(tool(&folder, &["report", TABLE, "first", "second"]), b"");
+    assert!(told.status.success());
+    let page = String::from_utf8(told.stdout).expect("text");
     assert!(
-        error.starts_with("refused 11: ") && error.contains(cause),
-        "{error}"
+        page.contains("<pre>refused 11: ") && page.contains(cause),
+        "{page}"
     );
+    assert!(!page.contains("and no more") && !page.contains("class=\"reasons\""));
 }
 
 /// Nodes in a row, each with a link to the next by one feature, and to the one after that
@@ -235,7 +252,7 @@ fn a_text_of_too_many_parts_is_refused() {
     let told = output(tool(&folder, &["check", TABLE, "-"]), text.as_bytes());
     assert_eq!(
         String::from_utf8(told.stderr).expect("text"),
-        "refused 4 first: the record is malformed\n  standard input: it has 2112 links\n  \
+        "refused 4: the record is malformed\n  standard input: it has 2112 links\n  \
          leave links out: a record has at most 2,048\n"
     );
 }

@@ -1,7 +1,7 @@
 //! Random records to text and back: the text of a written record is read as that record,
 //! and what is printed of it is the same text. Random records to planning tables and back:
 //! what is exported is imported as the written record, and what is imported is exported
-//! sorted.
+//! sorted. Random tables to text and back.
 
 mod rows;
 
@@ -81,6 +81,36 @@ fn records_in_any_numbering_have_one_text() {
         });
         assert_eq!(one, two);
     }
+}
+
+#[test]
+fn random_tables_to_text_and_back() {
+    let mut random = Xorshift::stored(38);
+    let (mut wide, mut listed) = (0, 0);
+    for _ in 0..2_000 {
+        let bytes = random::valid_table(&mut random).bytes;
+        let mut table = Table::from_bytes(&bytes);
+        // Types without a name get one, and then the text states the same table.
+        let text = table.text();
+        let mut named = Table::from_text(&text).unwrap_or_else(|fault| panic!("{fault:?}"));
+        assert_eq!(named.bytes, bytes, "{text}");
+        assert_eq!(named.text(), text);
+        if random.chance(1, 2) {
+            let list = (0..64).map(|_| random.pick(table.n) as u8).collect();
+            named.list = Some(list);
+            table = Table::from_text(&named.text()).unwrap_or_else(|fault| panic!("{fault:?}"));
+            assert_eq!((&table.bytes, &table.list), (&named.bytes, &named.list));
+            assert_ne!(table.fingerprint(), Table::from_bytes(&bytes).fingerprint());
+            listed += 1;
+        }
+        wide += usize::from(table.n > 8);
+    }
+    let enough = wide > 100 && listed > 500;
+    assert!(enough || !random::is_stored(), "{wide} {listed}");
+    assert_eq!(
+        Table::from_text("house").map(|table| table.text()),
+        Ok("house\n".to_string())
+    );
 }
 
 /// The record of a planning table as CSV.

@@ -1,26 +1,20 @@
 //! A command's arguments: the operands in their order, and options anywhere among them.
 
 use crate::failure::Failure;
-use crate::help::Command;
+use crate::help::{Command, More, OPTIONS};
+use crate::names::{cut, nearest};
+use std::collections::BTreeMap;
+use std::fs;
+
+/// The options that name a file to be written.
+const OUTPUTS: [&str; 3] = ["-o", "--nodes", "--links"];
 
 /// The arguments of one command.
 pub struct Arguments {
     command: &'static Command,
     pub operands: Vec<String>,
-    /// `-o FILE`
-    pub output: Option<String>,
-    /// `--over G`
-    pub over: Option<String>,
-    /// `--why`
-    pub why: bool,
-    /// `--by FEATURES`
-    pub by: Option<String>,
-    /// `--features F`
-    pub features: Option<String>,
-    /// `--nodes CSV`
-    pub nodes: Option<String>,
-    /// `--links CSV`
-    pub links: Option<String>,
+    /// The options that are given, with what stands behind them, if they take something.
+    options: BTreeMap<&'static str, String>,
 }
 
 impl Arguments {
@@ -29,13 +23,7 @@ impl Arguments {
         let mut read = Arguments {
             command,
             operands: Vec::new(),
-            output: None,
-            over: None,
-            why: false,
-            by: None,
-            features: None,
-            nodes: None,
-            links: None,
+            options: BTreeMap::new(),
         };
         let mut waiting = arguments.iter();
         let mut options_end = false;
@@ -49,36 +37,84 @@ impl Arguments {
             }
         }
         read.count()?;
-        let inputs = read.operands.iter().chain(&read.over);
-        if inputs.filter(|input| *input == "-").count() > 1 {
+        let inputs: Vec<&str> = read.inputs().collect();
+        if inputs.iter().filter(|input| **input == "-").count() > 1 {
             return Err(read.misused("standard input, `-`, can be read once"));
         }
+        read.spare(inputs)?;
         Ok(read)
+    }
+
+    /// What stands behind an option, if it is given.
+    pub fn value(&self, option: &str) -> Option<&str> {
+        self.options.get(option).map(String::as_str)
+    }
+
+    /// Whether an option is given.
+    pub fn has(&self, option: &str) -> bool {
+        self.options.contains_key(option)
+    }
+
+    /// The file that `-o` names.
+    pub fn output(&self) -> Option<&str> {
+        self.value("-o")
+    }
+
+    /// No file that is written is one of those that are read.
+    pub fn spare<'a>(&self, inputs: impl IntoIterator<Item = &'a str>) -> Result<(), Failure> {
+        let inputs: Vec<&str> = inputs.into_iter().collect();
+        for option in OUTPUTS {
+            let Some(output) = self.value(option) else {
+                continue;
+            };
+            if let Some(input) = inputs.iter().find(|input| is_one_file(input, output)) {
+                return Err(self.misused(&format!(
+                    "`{option} {output}` would write over {input}, which is read"
+                )));
+            }
+        }
+        Ok(())
+    }
+
+    /// The files that are read.
+    fn inputs(&self) -> impl Iterator<Item = &str> {
+        let table = self.operands.first().filter(|table| *table != "house");
+        let others = self.operands.iter().skip(1).map(String::as_str);
+        let table = table.into_iter().map(String::as_str);
+        table.chain(others).chain(self.value("--over"))
     }
 
     fn option<'a>(
         &mut self,
-        option: &str,
+        argument: &str,
         waiting: &mut impl Iterator<Item = &'a String>,
     ) -> Result<(), Failure> {
-        if !self.command.options.contains(&option) {
-            let name = self.command.name;
-            return Err(self.misused(&format!("`{name}` has no option `{option}`")));
-        }
-        let mut value = |what: &str| match waiting.next() {
-            Some(value) => Ok(Some(value.clone())),
-            None => Err(self.misused(&format!("`{option}` needs {what} behind it"))),
+        let Some(&option) = self.command.options.iter().find(|name| **name == argument) else {
+            return Err(self.no_option(argument));
         };
-        match option {
-            "-o" => self.output = value("a file")?,
-            "--over" => self.over = value("a file")?,
-            "--by" => self.by = value("features")?,
-            "--features" => self.features = value("a number")?,
-            "--nodes" => self.nodes = value("a file")?,
-            "--links" => self.links = value("a file")?,
-            _ => self.why = true,
-        }
+        let needs = OPTIONS.iter().find(|(name, _)| *name == option);
+        let value = match needs {
+            Some((_, Some(what))) => match waiting.next() {
+                Some(value) => value.clone(),
+                None => {
+                    return Err(self.misused(&format!("`{option}` needs {what} behind it")));
+                }
+            },
+            _ => String::new(),
+        };
+        self.options.insert(option, value);
         Ok(())
+    }
+
+    fn no_option(&self, argument: &str) -> Failure {
+        let Command { name, options, .. } = self.command;
+        let near = match argument.split_once('=') {
+            Some((option, _)) => options.iter().find(|name| **name == option).copied(),
+            None => nearest(argument, options.iter().copied()),
+        };
+        let near = near.map_or(String::new(), |near| format!(": did you mean `{near}`?"));
+        let argument = cut(argument);
+        self.misused(&format!("`{name}` has no option `{argument}`{near}"))
     }
 
     fn count(&self) -> Result<(), Failure> {
@@ -87,11 +123,14 @@ impl Arguments {
             let missing = wanted[self.operands.len()..].join(" and ");
             return Err(self.misused(&format!("{missing} missing")));
         }
-        match self.operands.get(wanted.len()) {
-            Some(extra) if !self.command.takes_more => {
-                Err(self.misused(&format!("`{extra}` is one argument too many")))
-            }
-            _ => Ok(()),
+        let most = match self.command.more {
+            More::None => wanted.len(),
+            More::One => wanted.len() + 1,
+            More::Any => usize::MAX,
+        };
+        match self.operands.get(most) {
+            Some(extra) => Err(self.misused(&format!("`{}` is one argument too many", cut(extra)))),
+            None => Ok(()),
         }
     }
 
@@ -101,5 +140,14 @@ impl Arguments {
         Failure::usage(format!(
             "{message}\n  usage: {usage}\n  `fitting {name} --help` tells more"
         ))
+    }
+}
+
+/// Whether two arguments name one regular file.
+fn is_one_file(one: &str, other: &str) -> bool {
+    let file = |name| fs::canonicalize(name).ok().filter(|path| path.is_file());
+    match (one, other) {
+        ("-", _) | (_, "-") => false,
+        _ => file(one).is_some_and(|one| Some(one) == file(other)),
     }
 }

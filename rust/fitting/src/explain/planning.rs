@@ -27,7 +27,7 @@ fn size(table: &Table, planning: &Planning) -> Option<Words> {
     let nodes = planning.nodes.len();
     if nodes == 0 {
         let what = "below this header is no node".to_string();
-        let top = table.type_name(table.top());
+        let top = table.type_shown(table.top());
         let advice = format!("write the root below it: `0,{top}`");
         return Some((planning.nodes_header, what, advice));
     }
@@ -74,7 +74,7 @@ fn twice(table: &Table, planning: &Planning) -> Option<Words> {
     let mut met = BTreeMap::new();
     for (row, &[place, ..]) in planning.rows.iter().zip(&planning.row_places) {
         if let Some(before) = met.insert((row.parent, row.feature), place) {
-            let (feature, line) = (table.feature_name(row.feature), planning.line(before));
+            let (feature, line) = (table.feature_shown(row.feature), planning.line(before));
             let parent = row.parent;
             return Some((
                 place,

@@ -1,8 +1,9 @@
-//! Why a record is refused, 4 to 7: where its bytes end, which node has what is out of
-//! range, which reaches itself along which path, or which no path leads to.
+//! Why a record is refused, 4 to 7 and 18: where its bytes end, which node has what is out of
+//! range, which reaches itself along which path, which no path leads to, or which has a
+//! feature that is for other types.
 
 use super::{Cause, Place, listed};
-use crate::graph::{Graph, Malformed};
+use crate::graph::{Graph, Link, Malformed};
 use crate::input::Input;
 use crate::table::Table;
 use record_engine::MOST_LINKS;
@@ -10,24 +11,27 @@ use record_engine::MOST_LINKS;
 /// What was found out about a refusal of a record by its number.
 pub fn cause(number: u8, table: &Table, input: &Input) -> Option<Cause> {
     match (number, Graph::decode(&input.record)) {
-        (4, graph) => malformed(input.record.len(), graph),
+        (4, _) => malformed(&input.record),
         (_, Ok(graph)) => cause_in(number, table, &graph),
         _ => None,
     }
 }
 
-/// What was found out about a refusal of a graph by its number, 5 to 7.
+/// What was found out about a refusal of a graph by its number, 5 to 7 and 18.
 pub fn cause_in(number: u8, table: &Table, graph: &Graph) -> Option<Cause> {
     match number {
         5 => out_of_range(table, graph),
         6 => cycle(table, graph),
         7 => unreached(table, graph),
+        18 => inappropriate(table, graph),
         _ => None,
     }
 }
 
-fn malformed(length: usize, decoded: Result<Graph, Malformed>) -> Option<Cause> {
-    let (what, advice) = match decoded {
+/// What keeps bytes from being nodes and links of a record.
+pub fn malformed(record: &[u8]) -> Option<Cause> {
+    let length = record.len();
+    let (what, advice) = match Graph::decode(record) {
         Err(Malformed::NoNodes) if length == 0 => (
             "there are no bytes".to_string(),
             "hand in a record of 10 bytes or more, or text",
@@ -58,7 +62,7 @@ fn out_of_range(table: &Table, graph: &Graph) -> Option<Cause> {
     let count = graph.nodes.len();
     for (number, node) in graph.nodes.iter().enumerate() {
         let place = Place::Node(number);
-        let name = table.type_name(node.node_type);
+        let name = table.type_shown(node.node_type);
         if node.node_type == 0 {
             let what = format!("node {number} has type {name}, the contradiction");
             return Some(Cause::new(place, what, types));
@@ -73,7 +77,7 @@ fn out_of_range(table: &Table, graph: &Graph) -> Option<Cause> {
             return Some(Cause::new(place, what, advice));
         }
         if let Some(link) = node.links.iter().find(|link| link.target >= count) {
-            let feature = table.feature_name(link.feature);
+            let feature = table.feature_shown(link.feature);
             let what = format!(
                 "link {feature} of node {number} leads to node {}",
                 link.target
@@ -108,7 +112,7 @@ fn unreached(table: &Table, graph: &Graph) -> Option<Cause> {
     let paths = graph.paths();
     let alone: Vec<usize> = (0..paths.len()).filter(|&n| paths[n].is_none()).collect();
     let shown = alone.iter().take(SHOWN).map(|&number| {
-        let name = table.type_name(graph.nodes[number].node_type);
+        let name = table.type_shown(graph.nodes[number].node_type);
         format!("node {number} ({name})")
     });
     let mut shown: Vec<String> = shown.collect();
@@ -120,4 +124,40 @@ fn unreached(table: &Table, graph: &Graph) -> Option<Cause> {
         format!("no path from the root leads to {}", listed(&shown)),
         "add links to what is meant to stand there, or leave the nodes out",
     ))
+}
+
+/// The first link that the table's list forbids.
+fn inappropriate(table: &Table, graph: &Graph) -> Option<Cause> {
+    let list = table.list.as_ref()?;
+    let paths = graph.paths();
+    for (number, node) in graph.nodes.iter().enumerate() {
+        let forbidden = |link: &&Link| {
+            let broadest = list[usize::from(link.feature)];
+            !table.below(node.node_type, broadest)
+        };
+        let Some(link) = node.links.iter().find(forbidden) else {
+            continue;
+        };
+        let [feature, own] = [
+            table.feature_shown(link.feature),
+            table.type_shown(node.node_type),
+        ];
+        let where_it_is = table.path(paths[number].as_deref()?);
+        let (who, advice) = match list[usize::from(link.feature)] {
+            0 => (
+                "which no type may have".to_string(),
+                "leave the link out, or correct the feature".to_string(),
+            ),
+            broadest => {
+                let broadest = table.type_shown(broadest);
+                (
+                    format!("which is for {broadest} and the types below it"),
+                    format!("leave the link out, or give the node a type from {broadest} down"),
+                )
+            }
+        };
+        let what = format!("{where_it_is} is of type {own} and has the feature {feature}, {who}");
+        return Some(Cause::new(Place::Link(number, link.feature), what, advice));
+    }
+    None
 }

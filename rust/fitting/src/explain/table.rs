@@ -2,6 +2,7 @@
 //! types without a meet, by their names.
 
 use super::{Cause, Place};
+use crate::graph::Graph;
 use crate::table::Table;
 
 /// What was found out about a refusal of a table by its number.
@@ -18,19 +19,23 @@ pub fn cause(number: u8, table: &Table) -> Option<Cause> {
 type Words = (String, String);
 
 fn size(table: &Table) -> Words {
+    let advice = match Graph::decode(&table.bytes) {
+        Ok(_) => "is this a record? A command's first file is the table",
+        Err(_) => "hand in 8 bytes for each type, a table as text, or the word `house`",
+    };
     (
         format!(
             "it has {} bytes, and a table has 8 for each of 2 to 64 types",
             table.bytes.len()
         ),
-        "hand in 8 bytes for each type, a table as text, or the word `house`".to_string(),
+        advice.to_string(),
     )
 }
 
 /// The first of the rows that is not as an order's, or two rows that do not fit together.
 fn order(table: &Table) -> Option<Words> {
     let n = table.n;
-    let name = |number: usize| table.type_name(number as u8);
+    let name = |number: usize| table.type_shown(number as u8);
     let below = |a: usize, b: usize| table.row(b) >> a & 1 == 1;
     let rows = |what: String, advice: &str| Some((what, advice.to_string()));
     for i in 0..n {
@@ -72,7 +77,7 @@ fn order(table: &Table) -> Option<Words> {
 /// Two types without a meet. With a greatest type, a pair without a join leaves a pair
 /// without a meet as well.
 fn bounds(table: &Table) -> Option<Words> {
-    let name = |number: usize| table.type_name(number as u8);
+    let name = |number: usize| table.type_shown(number as u8);
     let pairs = (0..table.n).flat_map(|a| (0..a).map(move |b| (b, a)));
     for (a, b) in pairs {
         let both = table.row(a) & table.row(b);

@@ -5,29 +5,34 @@ use crate::graph::{Graph, Link, Node};
 use crate::table::Table;
 use std::collections::BTreeMap;
 
-/// The classes as the nodes of a graph that may loop and clash, class 0 with both roots.
+/// The classes as the nodes of a graph that may loop and clash, class 0 with all roots.
 pub struct Combination {
     pub graph: Graph,
-    /// For each class its nodes: which of the two graphs, and the number there.
+    /// For each class its nodes: which of the graphs, and the number there.
     pub members: Vec<Vec<(usize, usize)>>,
 }
 
-/// Merges both roots, and what equal features of merged nodes lead to.
-pub fn unify(table: &Table, graphs: [&Graph; 2]) -> Combination {
-    let second = graphs[0].nodes.len();
-    let all: Vec<(usize, usize)> = (0..2)
-        .flat_map(|side| (0..graphs[side].nodes.len()).map(move |node| (side, node)))
-        .collect();
+/// Merges all roots, and what equal features of merged nodes lead to.
+pub fn unify(table: &Table, graphs: &[Graph]) -> Combination {
+    // Where the nodes of each graph begin among all.
+    let mut begins = Vec::new();
+    let mut all = Vec::new();
+    for (side, graph) in graphs.iter().enumerate() {
+        begins.push(all.len());
+        all.extend((0..graph.nodes.len()).map(|node| (side, node)));
+    }
     let mut classes = Classes {
         leader: (0..all.len()).collect(),
         links: Vec::new(),
     };
     for &(side, node) in &all {
         let links = graphs[side].nodes[node].links.iter();
-        let place = |link: &Link| (link.feature, link.target + second * side);
+        let place = |link: &Link| (link.feature, link.target + begins[side]);
         classes.links.push(links.map(place).collect());
     }
-    classes.merge(0, second);
+    for &root in &begins {
+        classes.merge(0, root);
+    }
     // Classes by number, the roots' first.
     let mut numbers = BTreeMap::new();
     let mut members: Vec<Vec<(usize, usize)>> = Vec::new();

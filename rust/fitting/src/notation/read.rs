@@ -4,6 +4,7 @@
 
 use super::tokens::{Kind, Token, tokens};
 use crate::graph::{Graph, Levels, Link, MOST_NODES, Node};
+use crate::names::{cut, shown};
 use crate::source::{Fault, line_and_column};
 use crate::table::Table;
 use std::collections::BTreeMap;
@@ -97,6 +98,7 @@ impl<'a> Reader<'a> {
     /// A capital, with the type and links of its node in one of its places.
     fn capital(&mut self) -> Result<usize, Fault> {
         let Token { text: name, at, .. } = self.take();
+        let shown = cut(name);
         let (node, described) = match self.capitals.get(name) {
             Some(capital) => (capital.node, capital.described),
             None => {
@@ -117,8 +119,8 @@ impl<'a> Reader<'a> {
                     let (line, column) = line_and_column(self.text, before);
                     return Err(Fault::new(
                         token.at,
-                        format!("`{name}` has a type already, in line {line}, column {column}"),
-                        format!("write `{name}` alone here: equal capitals are one node"),
+                        format!("`{shown}` has a type already, in line {line}, column {column}"),
+                        format!("write `{shown}` alone here: equal capitals are one node"),
                     ));
                 }
                 let capital = self.capitals.get_mut(name).expect("it stands above");
@@ -129,8 +131,8 @@ impl<'a> Reader<'a> {
             _ if token.is("[") || token.is("{") => {
                 return Err(Fault::new(
                     token.at,
-                    format!("`{name}` has no type before `{}`", token.text),
-                    format!("write its type: `{name} {}{}`", self.top(), token.text),
+                    format!("`{shown}` has no type before `{}`", token.text),
+                    format!("write its type: `{shown} {}{}`", self.top(), token.text),
                 ));
             }
             _ => {}
@@ -159,7 +161,7 @@ impl<'a> Reader<'a> {
         found.ok_or_else(|| {
             Fault::new(
                 token.at,
-                format!("the table has no type `{}`", token.text),
+                format!("the table has no type {}", token.shown()),
                 self.table.types_advice(token.text),
             )
         })
@@ -170,7 +172,14 @@ impl<'a> Reader<'a> {
             return Ok(Levels::FULL);
         }
         let lowest = self.level()?;
-        self.expect("..", "write a range as {lowest..highest}")?;
+        if self.take_mark("}") {
+            let highest = lowest;
+            return Ok(Levels { lowest, highest });
+        }
+        self.expect(
+            "..",
+            "write a range as {lowest..highest}, one level as {level}",
+        )?;
         let highest = self.level()?;
         self.expect("}", &format!("write {{{lowest}..{highest}}}"))?;
         Ok(Levels { lowest, highest })
@@ -184,7 +193,7 @@ impl<'a> Reader<'a> {
         Err(Fault::new(
             token.at,
             format!("expected a level, found {}", token.shown()),
-            "a level is a number from 0 to 255: {lowest..highest}",
+            "a level is a number from 0 to 255: {lowest..highest}, or {level}",
         ))
     }
 
@@ -215,7 +224,7 @@ impl<'a> Reader<'a> {
             Kind::Name => self.table.feature_named(token.text).ok_or_else(|| {
                 Fault::new(
                     token.at,
-                    format!("the table has no feature `{}`", token.text),
+                    format!("the table has no feature {}", token.shown()),
                     self.table.features_advice(token.text),
                 )
             })?,
@@ -233,14 +242,14 @@ impl<'a> Reader<'a> {
             return Err(Fault::new(
                 token.at,
                 format!(
-                    "this node has the feature `{}` already, in line {line}, column {column}",
-                    token.text
+                    "this node has the feature {} already, in line {line}, column {column}",
+                    token.shown()
                 ),
                 "leave one of the two out: a node has one link for a feature",
             ));
         }
         self.result.links.insert((node, feature), token.at);
-        self.expect(":", &format!("write `{}: value`", token.text))?;
+        self.expect(":", &format!("write `{}: value`", cut(token.text)))?;
         let target = self.value()?;
         let links = &mut self.result.graph.nodes[node].links;
         let place = links.partition_point(|link| link.feature < feature);
@@ -262,7 +271,7 @@ impl<'a> Reader<'a> {
         number.ok_or_else(|| {
             Fault::new(
                 token.at,
-                format!("`{}` is too large for {what}", token.text),
+                format!("{} is too large for {what}", token.shown()),
                 format!("{what} is 0 to {most}"),
             )
         })
@@ -301,15 +310,27 @@ impl<'a> Reader<'a> {
             None => Ok(()),
             Some((name, capital)) => Err(Fault::new(
                 capital.first,
-                format!("`{name}` has no type anywhere"),
-                format!("write its type in one place: `{name} {}`", self.top()),
+                format!("`{}` has no type anywhere", cut(name)),
+                self.untyped_advice(name),
             )),
+        }
+    }
+
+    /// What to do about a capital without a type.
+    fn untyped_advice(&self, name: &str) -> String {
+        match self.table.type_like(name) {
+            Some(like) => format!("did you mean the type `{}`? Capitals share", shown(&like)),
+            None => format!(
+                "write its type in one place: `{} {}`",
+                cut(name),
+                self.top()
+            ),
         }
     }
 
     /// The name of the type that says nothing.
     fn top(&self) -> String {
-        self.table.type_name(self.table.top())
+        cut(&self.table.type_name(self.table.top()))
     }
 }
 

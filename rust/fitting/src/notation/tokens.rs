@@ -1,12 +1,14 @@
 //! The words and marks of a text, each with its place. Blanks and comments are left out,
 //! and a character that no word or mark has is a fault.
 
+use crate::names::{cut, shown, unquotable};
 use crate::source::Fault;
 
 /// What a token is.
 #[derive(Clone, Copy, Debug, PartialEq, Eq)]
 pub enum Kind {
-    /// A word with a small first letter: the name of a type or a feature.
+    /// A word with a small first letter, or what stands in quotation marks: the name of a
+    /// type or a feature.
     Name,
     /// A word with a capital first letter, which shares.
     Capital,
@@ -36,7 +38,8 @@ impl Token<'_> {
     pub fn shown(&self) -> String {
         match self.kind {
             Kind::End => "the end of the text".to_string(),
-            _ => format!("`{}`", self.text),
+            Kind::Name => format!("`{}`", shown(self.text)),
+            _ => format!("`{}`", cut(self.text)),
         }
     }
 }
@@ -66,6 +69,17 @@ pub fn tokens(text: &str) -> Result<Vec<Token<'_>>, Fault> {
         }
         if first == '#' {
             at += rest.find('\n').unwrap_or(rest.len());
+            continue;
+        }
+        if first == '"' {
+            let text = quoted(rest, at)?;
+            tokens.push(Token {
+                kind: Kind::Name,
+                text,
+                at,
+            });
+            at += text.len() + 2;
+            end = at;
             continue;
         }
         let length = match first {
@@ -98,13 +112,26 @@ pub fn tokens(text: &str) -> Result<Vec<Token<'_>>, Fault> {
     Ok(tokens)
 }
 
+/// The name in quotation marks that a text begins with.
+pub fn quoted(text: &str, at: usize) -> Result<&str, Fault> {
+    let line = text[1..].split('\n').next().unwrap_or("");
+    let Some((name, _)) = line.split_once('"') else {
+        let advice = "write one behind the name too, on the same line";
+        return Err(Fault::new(at, "this quotation mark is not closed", advice));
+    };
+    match unquotable(name) {
+        None => Ok(name),
+        Some(what) => Err(Fault::new(at, what, "write a name, as in `\"ACE\"`")),
+    }
+}
+
 fn meaningless(at: usize, character: char) -> Fault {
     let advice = match character {
         '(' | ')' => "write links in brackets: type[feature: value]",
         '=' => "write `:` between a feature and its value",
         ';' => "write `,` between links",
         '.' => "write a range with two dots: type{lowest..highest}",
-        '"' | '\'' => "write names without quotation marks",
+        '\'' => "write a name in quotation marks as in `\"ACE\"`",
         _ => "the notation is type{lowest..highest}[feature: value, ..]; `#` begins a comment",
     };
     Fault::new(at, format!("`{character}` has no meaning here"), advice)
@@ -113,7 +140,7 @@ fn meaningless(at: usize, character: char) -> Fault {
 fn misnamed(at: usize, word: &str) -> Fault {
     Fault::new(
         at,
-        format!("`{word}` is neither a number nor a name"),
+        format!("`{}` is neither a number nor a name", cut(word)),
         "a name begins with a small letter, and a number has digits alone",
     )
 }

@@ -36,7 +36,7 @@ fn write_within(width: usize, table: &Table, graph: &Graph) -> String {
 
 /// The type of a node and, where they are not all, its levels.
 pub fn label(table: &Table, node: &Node) -> String {
-    let name = table.type_name(node.node_type);
+    let name = table.type_written(node.node_type);
     match node.levels {
         Levels::FULL => name,
         levels => format!("{name}{levels}"),
@@ -74,7 +74,7 @@ impl Writer<'_> {
         met[node] = true;
         let mut width = self.head(node).chars().count();
         for link in &self.graph.nodes[node].links {
-            let feature = self.table.feature_name(link.feature).chars().count();
+            let feature = self.table.feature_written(link.feature).chars().count();
             let value = if met[link.target] {
                 self.capital(link.target).len()
             } else {
@@ -110,7 +110,7 @@ impl Writer<'_> {
             if place > 0 || !fits {
                 self.text += &separator;
             }
-            let feature = self.table.feature_name(link.feature);
+            let feature = self.table.feature_written(link.feature);
             self.text += &format!("{feature}: ");
             if self.first_links.contains(&(node, link.feature)) {
                 // A value that fits whole has parts that fit, wherever they begin.

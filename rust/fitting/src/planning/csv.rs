@@ -2,10 +2,8 @@
 //! cells, whichever comes first in the text. Quotation marks may stand around a cell, and
 //! one within it is doubled. Blanks around cells and lines without text do not count.
 
-use crate::source::{Fault, line_and_column};
-
-/// So many characters of a cell are shown in a message.
-const SHOWN: usize = 40;
+use crate::names::cut;
+use crate::source::{Fault, line_and_column, line_feeds};
 
 /// A text and the name that messages give it.
 #[derive(Clone, Debug)]
@@ -19,7 +17,7 @@ impl File {
     pub fn new(name: &str, text: &str) -> File {
         File {
             name: name.to_string(),
-            text: text.replace("\r\n", "\n").replace('\r', "\n"),
+            text: line_feeds(text),
         }
     }
 
@@ -40,12 +38,9 @@ pub struct Cell {
 impl Cell {
     /// The cell as a message names it, on one line.
     pub fn shown(&self) -> String {
-        let line = self.text.lines().next().unwrap_or("");
-        let start: String = line.chars().take(SHOWN).collect();
-        match start.len() {
-            0 => "nothing".to_string(),
-            length if length < self.text.len() => format!("`{start}...`"),
-            _ => format!("`{start}`"),
+        match self.text.is_empty() {
+            true => "nothing".to_string(),
+            false => format!("`{}`", cut(&self.text)),
         }
     }
 }

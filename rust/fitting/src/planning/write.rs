@@ -1,5 +1,4 @@
-//! A planning table to CSV, by the names that the table gives to types and features. A name
-//! has no comma and no quotation mark, so no cell needs them.
+//! A planning table to CSV, by the names that the table gives to types and features.
 
 use super::{LINKS, NODES, NodeBytes};
 use crate::table::Table;
@@ -9,7 +8,7 @@ use record_engine::Row;
 pub fn nodes(table: &Table, nodes: &[NodeBytes]) -> String {
     let mut text = header(&NODES);
     for (number, &[node_type, lowest, highest]) in nodes.iter().enumerate() {
-        let name = table.type_name(node_type);
+        let name = cell(table.type_name(node_type));
         text += &format!("{number},{name},{lowest},{highest}\n");
     }
     text
@@ -19,7 +18,7 @@ pub fn nodes(table: &Table, nodes: &[NodeBytes]) -> String {
 pub fn links(table: &Table, rows: &[Row]) -> String {
     let mut text = header(&LINKS);
     for row in rows {
-        let name = table.feature_name(row.feature);
+        let name = cell(table.feature_name(row.feature));
         text += &format!("{},{name},{}\n", row.parent, row.target);
     }
     text
@@ -27,4 +26,12 @@ pub fn links(table: &Table, rows: &[Row]) -> String {
 
 fn header(columns: &[&str]) -> String {
     format!("{}\n", columns.join(","))
+}
+
+/// A name as a cell: in quotation marks where it has a separator. It has no quotation mark.
+fn cell(name: String) -> String {
+    match name.contains([',', ';']) {
+        true => format!("\"{name}\""),
+        false => name,
+    }
 }

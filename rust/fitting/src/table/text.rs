@@ -1,18 +1,27 @@
 //! A table from text, a statement a line: `type NAME : ABOVE ..` for each type with those
 //! directly above it, `least NAME` and `greatest NAME` where they are not called `bottom`
-//! and `top`, `feature NUMBER NAME`, and `house` for the house types, which
-//! `type NAME = NUMBER` names. `#` begins a comment.
+//! and `top`, `feature NUMBER NAME : TYPE` with the broadest type that may have it, if not
+//! every type may, and `house` for the house types, which `type NAME = NUMBER` names. `#`
+//! begins a comment. And a table to such text.
 
 use super::{MOST_TYPES, Table, number_of};
-use crate::notation::is_name;
+use crate::names::{cut, shown, written};
+use crate::notation::{is_name, quoted};
 use crate::source::Fault;
 use record_engine::FEATURES;
 
 /// The table that a text states; whether it is accepted is for the engine to say.
 pub fn read(text: &str) -> Result<Table, Fault> {
     let mut statements = Vec::new();
-    for line in lines(text) {
+    for line in lines(text)? {
         statements.push(statement(&line)?);
+    }
+    if statements.is_empty() {
+        return Err(Fault::new(
+            0,
+            "no line states anything",
+            "write a line for each type, as `fitting help table` tells",
+        ));
     }
     let house = statements.iter().any(|s| matches!(s, Statement::House));
     let mut table = match house {
@@ -39,7 +48,7 @@ pub fn read(text: &str) -> Result<Table, Fault> {
             Statement::Numbered { name, number } => {
                 give(&mut table.types, number, name, "type")?;
             }
-            Statement::Feature { name, number } => {
+            Statement::Feature { name, number, .. } => {
                 give(&mut table.features, number, name, "feature")?;
             }
             Statement::House | Statement::Least(_) | Statement::Greatest(_) => {}
@@ -48,14 +57,76 @@ pub fn read(text: &str) -> Result<Table, Fault> {
     if !house {
         order(&mut table, &statements)?;
     }
+    table.list = list(&table, &statements)?;
     Ok(table)
 }
 
-/// A word or a mark of a line, and the byte at which it begins.
+/// The text of a table, which reads as the same table. Types without a name get `t` and their
+/// number.
+pub fn write(table: &Table) -> String {
+    let top = table.n - 1;
+    let house = Table::house();
+    let is_house = table.n == house.n && table.bytes == house.bytes;
+    let name = |number: usize| match &table.types[number] {
+        Some(name) => written(name),
+        None => format!("t{number}"),
+    };
+    let mut text = String::new();
+    for (number, word, implied) in [(0, "least", "bottom"), (top, "greatest", "top")] {
+        match table.types[number].as_deref() {
+            Some(stated) if stated != implied => text += &format!("{word} {}\n", written(stated)),
+            _ => {}
+        }
+    }
+    if is_house {
+        text += "house\n";
+    } else if table.n == 2 && text.is_empty() {
+        // A text states something.
+        text += &format!("greatest {}\n", name(top));
+    }
+    for number in 1..top {
+        let above = (0..top).filter(|&upper| table.directly_below(upper).contains(&number));
+        let above: Vec<String> = above.map(name).collect();
+        match (is_house, &table.types[number], above.is_empty()) {
+            (true, None, _) => {}
+            (true, Some(stated), _) => text += &format!("type {} = {number}\n", written(stated)),
+            (false, _, true) => text += &format!("type {}\n", name(number)),
+            (false, _, false) => {
+                text += &format!("type {} : {}\n", name(number), above.join(" "));
+            }
+        }
+    }
+    for number in 0..FEATURES {
+        let broadest = table
+            .list
+            .as_ref()
+            .map_or(top, |list| usize::from(list[number]));
+        let stated = table.features[number].as_ref();
+        if stated.is_none() && broadest == top {
+            continue;
+        }
+        let feature = stated.map_or(format!("f{number}"), |stated| written(stated));
+        text += &match broadest == top {
+            true => format!("feature {number} {feature}\n"),
+            false => format!("feature {number} {feature} : {}\n", name(broadest)),
+        };
+    }
+    text
+}
+
+/// A word or a mark of a line, and the byte at which it begins. A name in quotation marks is
+/// one word with them.
 #[derive(Clone, Copy)]
 struct Word<'a> {
     text: &'a str,
     at: usize,
+}
+
+impl<'a> Word<'a> {
+    /// The name that it is, without quotation marks.
+    fn name(self) -> &'a str {
+        self.text.trim_matches('"')
+    }
 }
 
 /// What a line states.
@@ -74,40 +145,49 @@ enum Statement<'a> {
     Feature {
         name: Word<'a>,
         number: usize,
+        /// The broadest type that may have it, where it is stated.
+        broadest: Option<Word<'a>>,
     },
 }
 
 /// The words of the lines that are not blank; `:` and `=` are words, and `,` parts words.
-fn lines(text: &str) -> Vec<Vec<Word<'_>>> {
+fn lines(text: &str) -> Result<Vec<Vec<Word<'_>>>, Fault> {
     let mut lines = Vec::new();
     let mut start = 0;
     for line in text.split_inclusive('\n') {
-        let stated = line.split('#').next().unwrap_or("");
-        let mut words = Vec::new();
-        let mut at = 0;
-        while let Some(first) = stated[at..].chars().next() {
-            let rest = &stated[at..];
-            let parts = |c: char| c.is_whitespace() || ",:=".contains(c);
-            let length = match rest.find(parts) {
-                Some(0) => first.len_utf8(),
-                Some(length) => length,
-                None => rest.len(),
-            };
-            if !first.is_whitespace() && first != ',' {
-                let text = &rest[..length];
-                words.push(Word {
-                    text,
-                    at: start + at,
-                });
-            }
-            at += length;
-        }
+        let words = words(line, start)?;
         if !words.is_empty() {
             lines.push(words);
         }
         start += line.len();
     }
-    lines
+    Ok(lines)
+}
+
+/// The words of a line that begins at a byte of the text.
+fn words(line: &str, start: usize) -> Result<Vec<Word<'_>>, Fault> {
+    let mut words = Vec::new();
+    let mut at = 0;
+    while let Some(first) = line[at..].chars().next() {
+        let rest = &line[at..];
+        let parts = |c: char| c.is_whitespace() || ",:=#\"".contains(c);
+        let length = match (first, rest.find(parts)) {
+            ('#', _) => break,
+            ('"', _) => quoted(rest, start + at)?.len() + 2,
+            (_, Some(0)) => first.len_utf8(),
+            (_, Some(length)) => length,
+            (_, None) => rest.len(),
+        };
+        if !first.is_whitespace() && first != ',' {
+            let text = &rest[..length];
+            words.push(Word {
+                text,
+                at: start + at,
+            });
+        }
+        at += length;
+    }
+    Ok(words)
 }
 
 fn statement<'a>(line: &[Word<'a>]) -> Result<Statement<'a>, Fault> {
@@ -131,16 +211,25 @@ fn statement<'a>(line: &[Word<'a>]) -> Result<Statement<'a>, Fault> {
         ["feature", _, _] => Ok(Statement::Feature {
             name: line[2],
             number: number(line[1], FEATURES, "a feature")?,
+            broadest: None,
+        }),
+        ["feature", _, _, ":", _] => Ok(Statement::Feature {
+            name: line[2],
+            number: number(line[1], FEATURES, "a feature")?,
+            broadest: Some(line[4]),
         }),
         [first, ..] => {
             let form = match first {
                 "type" => "`type NAME` or `type NAME : ABOVE ..`",
                 "least" | "greatest" => "`least NAME` or `greatest NAME`",
-                "feature" => "`feature NUMBER NAME`",
+                "feature" => "`feature NUMBER NAME` or `feature NUMBER NAME : TYPE`",
                 "house" => "`house` alone",
                 _ => {
-                    let what = format!("`{first}` begins no line of a table");
-                    let advice = "a line begins with type, feature, least, greatest or house";
+                    let what = format!("`{}` begins no line of a table", cut(first));
+                    let mut advice = "a line begins with type, feature, least, greatest or house";
+                    if texts.iter().any(|text| text.contains('[')) {
+                        advice = "is this a record as text? A command's first file is the table";
+                    }
                     return Err(Fault::new(line[0].at, what, advice));
                 }
             };
@@ -156,7 +245,7 @@ fn number(word: Word<'_>, most: usize, what: &str) -> Result<usize, Fault> {
     number.ok_or_else(|| {
         Fault::new(
             word.at,
-            format!("`{}` is not the number of {what}", word.text),
+            format!("`{}` is not the number of {what}", cut(word.text)),
             format!("{what} has a number from 0 to {}", most - 1),
         )
     })
@@ -182,6 +271,7 @@ fn unnamed(statements: &[Statement<'_>]) -> Result<Table, Fault> {
         bytes: Vec::new(),
         types: vec![None; n],
         features: vec![None; FEATURES],
+        list: None,
     })
 }
 
@@ -209,33 +299,71 @@ fn give(
     word: Word<'_>,
     what: &str,
 ) -> Result<(), Fault> {
-    if !is_name(word.text) {
-        return Err(Fault::new(
-            word.at,
-            format!("`{}` is no name", word.text),
-            "a name begins with a small letter and has letters, digits, `_` and `-`; capitals share",
-        ));
+    if !is_name(word.text) && !word.text.starts_with('"') {
+        let name = cut(word.text);
+        let advice = match word.text.chars().next() {
+            Some(first) if first.is_uppercase() => {
+                format!("capitals share: write it in quotation marks, `\"{name}\"`")
+            }
+            _ => "a name begins with a small letter and has letters, digits, `_` and `-`, \
+                  or stands in quotation marks"
+                .to_string(),
+        };
+        return Err(Fault::new(word.at, format!("`{name}` is no name"), advice));
     }
-    if let Some(other) = number_of(names, word.text) {
-        let advice = match word.text {
+    let name = word.name();
+    if let Some(other) = number_of(names, name) {
+        let advice = match name {
             "top" => "the greatest type is `top` without a line; `greatest NAME` renames it",
             "bottom" => "the least type is `bottom` without a line; `least NAME` renames it",
             _ => "write another name",
         };
-        let what = format!("{what} {other} is called `{}` already", word.text);
+        let what = format!("{what} {other} is called `{}` already", shown(name));
         return Err(Fault::new(word.at, what, advice));
     }
     match &names[number] {
         Some(name) => Err(Fault::new(
             word.at,
-            format!("{what} {number} is called `{name}` already"),
+            format!("{what} {number} is called `{}` already", shown(name)),
             "leave one of the two lines out",
         )),
         None => {
-            names[number] = Some(word.text.to_string());
+            names[number] = Some(name.to_string());
             Ok(())
         }
     }
+}
+
+/// The list of the broadest types that may have features, if a line states one.
+fn list(table: &Table, statements: &[Statement<'_>]) -> Result<Option<Vec<u8>>, Fault> {
+    let mut list = vec![table.top(); FEATURES];
+    for statement in statements {
+        if let Statement::Feature {
+            number,
+            broadest: Some(word),
+            ..
+        } = statement
+        {
+            let is_number = word.text.chars().all(|c| c.is_ascii_digit());
+            list[*number] = match table.type_named(word.name()) {
+                Some(broadest) => broadest,
+                // A house type need not have a name.
+                None if is_number => self::number(*word, table.n, "a type")? as u8,
+                None => return Err(unknown(table, *word)),
+            };
+        }
+    }
+    let is_open = list.iter().all(|&broadest| broadest == table.top());
+    Ok((!is_open).then_some(list))
+}
+
+/// A word that names no type.
+fn unknown(table: &Table, word: Word<'_>) -> Fault {
+    Fault::new(
+        word.at,
+        format!("no line names a type `{}`", shown(word.name())),
+        table.unnamed_advice(word.name()),
+    )
 }
 
 /// Fills the rows: each type is below those directly above it, and below what these are
@@ -249,17 +377,13 @@ fn order(table: &mut Table, statements: &[Statement<'_>]) -> Result<(), Fault> {
     });
     for (number, above) in (1..).zip(types) {
         for word in above {
-            let Some(upper) = table.type_named(word.text).map(usize::from) else {
-                return Err(Fault::new(
-                    word.at,
-                    format!("no line names a type `{}`", word.text),
-                    format!("write a line `type {}`, or correct the name", word.text),
-                ));
+            let Some(upper) = table.type_named(word.name()).map(usize::from) else {
+                return Err(unknown(table, *word));
             };
             if upper == 0 || upper == number {
                 return Err(Fault::new(
                     word.at,
-                    format!("`{}` cannot stand above this type", word.text),
+                    format!("`{}` cannot stand above this type", shown(word.name())),
                     "behind `:` stand the other types directly above; none is below the least",
                 ));
             }

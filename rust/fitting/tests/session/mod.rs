@@ -4,6 +4,8 @@
 //!     ## a comment
 //!     $ file NAME                the lines that follow are the file's text
 //!     $ bytes NAME               the lines that follow are its bytes, in hexadecimal
+//!     $ folder NAME              an empty folder
+//!     $ link NAME TO             another name for a file or a folder
 //!     $ fitting ARGUMENTS        the lines that follow are what the tool reads and tells:
 //!     < a line of standard input
 //!     a line of standard output
@@ -59,9 +61,13 @@ fn gap<'a>(lines: &mut Vec<&'a str>) -> Vec<&'a str> {
 
 /// Runs a session of `tests/golden`; the number of the tool's runs in it.
 pub fn run(name: &str) -> usize {
+    run_in(name, &folder(name))
+}
+
+/// Runs a session of `tests/golden` in a folder; the number of the tool's runs in it.
+pub fn run_in(name: &str, folder: &Path) -> usize {
     let file = Path::new(env!("CARGO_MANIFEST_DIR")).join(format!("tests/golden/{name}.session"));
     let session = fs::read_to_string(&file).expect("the session is stored");
-    let folder = folder(name);
     let mut runs = 0;
     let mut told = Vec::new();
     let mut differences = Vec::new();
@@ -76,9 +82,15 @@ pub fn run(name: &str) -> usize {
             ["bytes", name] => {
                 fs::write(folder.join(name), hexadecimal(&text)).expect("a file can be written");
             }
+            ["folder", name] => {
+                fs::create_dir_all(folder.join(name)).expect("a folder can be made");
+            }
+            ["link", name, to] => {
+                std::os::unix::fs::symlink(to, folder.join(name)).expect("a link can be made");
+            }
             ["fitting", ref arguments @ ..] => {
                 runs += 1;
-                let answer = answer(&folder, arguments, &lines);
+                let answer = answer(folder, arguments, &lines);
                 if answer != lines {
                     let (stored, answer) = (lines.join("\n"), answer.join("\n"));
                     let words = words.join(" ");
@@ -107,7 +119,10 @@ fn answer(folder: &Path, arguments: &[&str], stored: &[String]) -> Vec<String> {
         .iter()
         .map(|line| format!("{}\n", &line[2..]))
         .collect();
-    let output = output(tool(folder, arguments), input.as_bytes());
+    let mut command = tool(folder, arguments);
+    // No program is found: a session is the same where `dot` is installed.
+    command.env("PATH", folder.join("target"));
+    let output = output(command, input.as_bytes());
     let text = |bytes: Vec<u8>| String::from_utf8(bytes).expect("the tool prints text");
     lines.extend(text(output.stdout).lines().map(str::to_string));
     lines.extend(text(output.stderr).lines().map(|line| format!("! {line}")));
