@@ -152,22 +152,22 @@ fn the_example_builds_by_what_pkg_config_tells() {
 #[test]
 fn a_folder_goes_before_the_prefix() {
     let before = Folder::new("before");
-    printed(&install(&[Path::new("/opt/records/")], &before.0));
+    printed(&install(&[Path::new("/usr/records/")], &before.0));
     assert_eq!(before.files(), installed("opt/records/"));
     let fields = fields(&before.0.join("opt/records/lib/pkgconfig/record_engine.pc"));
-    assert_eq!(fields["Cflags"], "-I/opt/records/include");
-    assert_eq!(fields["Libs"], "-L/opt/records/lib -lrecord_engine");
+    assert_eq!(fields["Cflags"], "-I/usr/records/include");
+    assert_eq!(fields["Libs"], "-L/usr/records/lib -lrecord_engine");
 }
 
 #[test]
 fn wrong_use_is_told_and_installs_nothing() {
     let before = Folder::new("nothing");
-    let [relative, spaced] = ["records", "/opt/re cords"].map(Path::new);
+    let [relative, spaced] = ["records", "/usr/re cords"].map(Path::new);
     let uses: [(&[&Path], &str); 4] = [
         (&[], "give one folder to install into"),
         (&[spaced, spaced], "give one folder to install into"),
         (&[relative], "records is no absolute path"),
-        (&[spaced], "/opt/re cords has white space"),
+        (&[spaced], "/usr/re cords has white space"),
     ];
     for (arguments, message) in uses {
         let told = install(arguments, &before.0);
