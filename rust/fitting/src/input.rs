@@ -35,7 +35,8 @@ impl Input {
     /// Reads a record or a text; whether it is accepted is not asked here.
     pub fn read(table: &Table, argument: &str) -> Result<Input, Failure> {
         let (name, bytes) = contents(argument)?;
-        if patient::is_meant(&bytes) {
+        // A text may begin with these letters: capitals name a node.
+        if patient::is_meant(&bytes) && content(&bytes) == Content::Binary {
             return Err(Failure::Malformed(format!(
                 "{name}: this is a patient's file, and no record\n  \
                  `fitting versions` tells its programs, and `fitting unpack` gives them"

@@ -73,7 +73,7 @@ fn the_day_of_an_integrator() {
 
 #[test]
 fn a_patients_file() {
-    assert_eq!(session::run("pack"), 95);
+    assert_eq!(session::run("pack"), 96);
 }
 
 #[test]

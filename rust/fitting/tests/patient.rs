@@ -261,7 +261,7 @@ fn what_the_store_refuses_leaves_the_file() {
     );
     let six = read(&folder, "six.fitting");
     let room = "refused 21: the store has too few bytes\n  \
-                together the programs take more than the 16,384 bytes of a store\n  \
+                with chain-7 the programs take more together than the 16,384 bytes of a store\n  \
                 drop a version that is not needed, or pack two files\n";
     let words = pack(&names, "eight.fitting");
     refusal(
@@ -350,6 +350,19 @@ fn a_failed_write_leaves_the_file() {
     let left = fs::read_dir(&folder).expect("a folder").flatten();
     let left = left.filter_map(|file| file.file_name().into_string().ok());
     assert!(left.into_iter().all(|name| !name.starts_with('.')));
+    // A file that would be too long to be read gets no name.
+    let long = format!("type {}\n", "a".repeat((1 << 20) - 6));
+    fs::write(folder.join("long.table"), long).expect("written");
+    fs::write(folder.join("top"), "top").expect("written");
+    let pack = ["pack", "long.table", "top", "-o", "patient.fitting"];
+    let told = output(tool(&folder, &pack), b"");
+    assert_eq!(told.status.code(), Some(2));
+    assert_eq!(
+        String::from_utf8(told.stderr).expect("text"),
+        "fitting: cannot write patient.fitting: \
+         what was written does not read as what was meant\n"
+    );
+    assert_eq!(read(&folder, "patient.fitting"), before);
     // Versions are not unpacked over the file that they are in.
     fs::create_dir(folder.join("f")).expect("made");
     fs::write(folder.join("f/version-0.record"), &before).expect("written");

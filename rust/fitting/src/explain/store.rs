@@ -33,10 +33,16 @@ pub fn cause(
             };
             Some((format!("{file} has no version {version}"), advice))
         }
-        (21, _) => Some((
-            "together the programs take more than the 16,384 bytes of a store".to_string(),
-            "drop a version that is not needed, or pack two files".to_string(),
-        )),
+        (21, asked) => {
+            let programs = match asked {
+                Use::Put { name, .. } => format!("with {name} the programs"),
+                Use::Taken { version, .. } => format!("without version {version} the others"),
+            };
+            Some((
+                format!("{programs} take more together than the 16,384 bytes of a store"),
+                "drop a version that is not needed, or pack two files".to_string(),
+            ))
+        }
         (11 | 13, _) => on_the_way(refusal, table, programs, asked),
         _ => None,
     }
