@@ -3,7 +3,7 @@
 _fitting() {
     local word=${COMP_WORDS[COMP_CWORD]} before=${COMP_WORDS[COMP_CWORD - 1]} options=
     if ((COMP_CWORD == 1)); then
-        mapfile -t COMPREPLY < <(compgen -W "check show make draw order compare same common combine difference report list import export table help --help --version" -- "$word")
+        mapfile -t COMPREPLY < <(compgen -W "check show make draw order compare same common combine difference report list import export pack versions unpack put drop table help --help --version" -- "$word")
         return
     fi
     case ${COMP_WORDS[1]} in
@@ -21,9 +21,14 @@ _fitting() {
     list) options="--features" ;;
     import) options="-o" ;;
     export) options="--nodes --links -o" ;;
+    pack) options="-o" ;;
+    versions) options="--table" ;;
+    unpack) options="--table -o" ;;
+    put) options="--table" ;;
+    drop) options="--table" ;;
     table) options="--c --rust --fingerprint -o" ;;
     help)
-        mapfile -t COMPREPLY < <(compgen -W "check show make draw order compare same common combine difference report list import export table text json" -- "$word")
+        mapfile -t COMPREPLY < <(compgen -W "check show make draw order compare same common combine difference report list import export pack versions unpack put drop table text json" -- "$word")
         return
         ;;
     esac

@@ -5,6 +5,7 @@ mod check;
 mod comparison;
 mod drawing;
 mod operations;
+mod patient;
 mod planning;
 mod reporting;
 mod sameness;
@@ -87,6 +88,13 @@ fn told(arguments: &[String], progress: &mut Progress) -> Result<Told, Failure> 
         return help::about(name).map(text);
     }
     let arguments = Arguments::read(command, arguments)?;
+    match command.name {
+        "versions" => return patient::versions(&arguments),
+        "unpack" => return patient::unpack(&arguments),
+        "put" => return patient::put(&arguments),
+        "drop" => return patient::drop(&arguments),
+        _ => {}
+    }
     let table = input::table(&arguments.operands[0])?;
     match command.name {
         "check" => Ok(check::check(&table, &arguments)),
@@ -103,6 +111,7 @@ fn told(arguments: &[String], progress: &mut Progress) -> Result<Told, Failure> 
         "list" => list(table, &arguments),
         "import" => planning::import(&table, &arguments),
         "export" => planning::export(&table, &arguments),
+        "pack" => patient::pack(table, &arguments),
         "table" => table::table(&table, &arguments),
         _ => unreachable!("the help has no further commands"),
     }

@@ -4,7 +4,8 @@
 use crate::planning::NodeBytes;
 use crate::table::Table;
 use record_engine::{LONGEST_LISTED, LONGEST_RECORD, MOST_LINKS, MOST_NODES};
-use record_engine::{Order, Reason, Refusal, Row, difference_explained, difference_explained_by};
+use record_engine::{Order, Reason, Refusal, Row, Store};
+use record_engine::{difference_explained, difference_explained_by};
 
 /// An operation on two records that gives a third.
 #[derive(Clone, Copy, Debug, PartialEq, Eq)]
@@ -121,6 +122,31 @@ pub fn export(table: &Table, record: &[u8]) -> Result<(Vec<Row>, Vec<NodeBytes>)
     rows.truncate(counts.rows);
     nodes.truncate(counts.nodes);
     Ok((rows, nodes))
+}
+
+/// Stores a program under the number of a version.
+pub fn put_version(
+    table: &Table,
+    store: &mut Store,
+    version: usize,
+    record: &[u8],
+) -> Result<usize, Refusal> {
+    store.put(&accepted(table)?, version, record)
+}
+
+/// Removes a version.
+pub fn drop_version(table: &Table, store: &mut Store, version: usize) -> Result<usize, Refusal> {
+    store.drop(&accepted(table)?, version)
+}
+
+/// The written record of a version.
+pub fn read_version(table: &Table, store: &Store, version: usize) -> Result<Vec<u8>, Refusal> {
+    store.read(&accepted(table)?, version)
+}
+
+/// The table as the store takes it.
+fn accepted(table: &Table) -> Result<record_engine::Table, Refusal> {
+    record_engine::Table::from_bytes(&table.bytes)
 }
 
 /// What a call writes.

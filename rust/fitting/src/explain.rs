@@ -4,6 +4,7 @@
 mod pair;
 mod planning;
 mod record;
+mod store;
 mod table;
 mod unify;
 
@@ -104,6 +105,31 @@ pub fn planning_refused(refusal: Refusal, table: &Table, planning: &Planning) ->
     Failure::refused(refusal, message)
 }
 
+/// What a store was asked for.
+#[derive(Clone, Copy)]
+pub enum Use<'a> {
+    /// A program of this name is put.
+    Put { name: &'a str, version: usize },
+    /// A version is read or dropped; the file's name.
+    Taken { file: &'a str, version: usize },
+}
+
+/// The message of a store's refusal. The programs are those that are there by their numbers,
+/// and the one that is put among them.
+pub fn store_refused(
+    refusal: Refusal,
+    table: &Table,
+    programs: &[(usize, Vec<u8>)],
+    asked: Use,
+) -> Failure {
+    let heading = heading(refusal, 1);
+    let message = match store::cause(refusal, table, programs, &asked) {
+        Some((what, advice)) => format!("{heading}\n  {what}\n  {advice}"),
+        None => heading,
+    };
+    Failure::refused(refusal, message)
+}
+
 /// The message of a refused table.
 pub fn table_refused(refusal: Refusal, table: &Table, name: &str) -> Failure {
     let message = match table::cause(refusal.number(), table) {
@@ -147,7 +173,8 @@ mod tests {
     /// session comes to these.
     #[test]
     fn refusals_that_no_command_meets_have_words_too() {
-        let is_met = |refusal: &Refusal| matches!(refusal.number(), 1..=7 | 9..=15 | 18 | 23);
+        let is_met =
+            |refusal: &Refusal| matches!(refusal.number(), 1..=7 | 9..=15 | 18 | 20 | 21 | 23);
         let unmet = Refusal::ALL.iter().filter(|refusal| !is_met(refusal));
         let words: Vec<String> = unmet.map(|refusal| refusal.to_string()).collect();
         assert_eq!(
@@ -157,8 +184,6 @@ mod tests {
                 "refused 16: nothing has been added to the gathering",
                 "refused 17: the list has not one type for each of the 64 features",
                 "refused 19: the list has not each of the 64 features once",
-                "refused 20: the version is above 15, or absent, or present already",
-                "refused 21: the store has too few bytes",
                 "refused 22: fewer bytes are lent for reasons than there are links",
                 "refused 24: the record is not one of those listed",
             ]

@@ -24,7 +24,7 @@ pub struct Command {
 }
 
 /// Every option, and what has to stand behind it, if anything.
-pub const OPTIONS: [(&str, Option<&str>); 14] = [
+pub const OPTIONS: [(&str, Option<&str>); 15] = [
     ("-o", Some("a file")),
     ("--by", Some("features")),
     ("--c", None),
@@ -38,11 +38,12 @@ pub const OPTIONS: [(&str, Option<&str>); 14] = [
     ("--plain", None),
     ("--quiet", None),
     ("--rust", None),
+    ("--table", Some("a table")),
     ("--why", None),
 ];
 
 /// Every command.
-pub const COMMANDS: [Command; 15] = [
+pub const COMMANDS: [Command; 20] = [
     Command {
         name: "check",
         usage: "fitting check TABLE [FILE..] [--quiet] [--json]",
@@ -154,6 +155,46 @@ pub const COMMANDS: [Command; 15] = [
         more: More::None,
         options: &["--nodes", "--links", "-o"],
         help: include_str!("help/export.txt"),
+    },
+    Command {
+        name: "pack",
+        usage: "fitting pack TABLE P.. -o FILE",
+        operands: &["TABLE", "P"],
+        more: More::Any,
+        options: &["-o"],
+        help: include_str!("help/pack.txt"),
+    },
+    Command {
+        name: "versions",
+        usage: "fitting versions FILE [--table TABLE]",
+        operands: &["FILE"],
+        more: More::None,
+        options: &["--table"],
+        help: include_str!("help/versions.txt"),
+    },
+    Command {
+        name: "unpack",
+        usage: "fitting unpack FILE [VERSION..] [--table TABLE] [-o FOLDER]",
+        operands: &["FILE"],
+        more: More::Any,
+        options: &["--table", "-o"],
+        help: include_str!("help/unpack.txt"),
+    },
+    Command {
+        name: "put",
+        usage: "fitting put FILE VERSION P [--table TABLE]",
+        operands: &["FILE", "VERSION", "P"],
+        more: More::None,
+        options: &["--table"],
+        help: include_str!("help/put.txt"),
+    },
+    Command {
+        name: "drop",
+        usage: "fitting drop FILE VERSION [--table TABLE]",
+        operands: &["FILE", "VERSION"],
+        more: More::None,
+        options: &["--table"],
+        help: include_str!("help/drop.txt"),
     },
     Command {
         name: "table",

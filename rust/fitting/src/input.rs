@@ -6,6 +6,7 @@ use crate::failure::Failure;
 use crate::graph::Graph;
 use crate::names::{cut_file, nearest};
 use crate::notation::{self, Text};
+use crate::patient::{self, Patient};
 use crate::planning::File as Csv;
 use crate::source::{Fault, line_feeds};
 use crate::table::Table;
@@ -34,6 +35,13 @@ impl Input {
     /// Reads a record or a text; whether it is accepted is not asked here.
     pub fn read(table: &Table, argument: &str) -> Result<Input, Failure> {
         let (name, bytes) = contents(argument)?;
+        // A text may begin with these letters: capitals name a node.
+        if patient::is_meant(&bytes) && content(&bytes) == Content::Binary {
+            return Err(Failure::Malformed(format!(
+                "{name}: this is a patient's file, and no record\n  \
+                 `fitting versions` tells its programs, and `fitting unpack` gives them"
+            )));
+        }
         let (record, text) = match content(&bytes) {
             Content::Empty => {
                 let advice = "hand in a record, or text as `fitting help text` tells it";
@@ -137,12 +145,15 @@ fn walk(folder: &Path, table: Option<PathBuf>, files: &mut Vec<String>) -> io::R
     Ok(())
 }
 
-/// Reads a table that the engine accepts.
+/// Reads a table that the engine accepts, from a file of its own or a patient's.
 pub fn table(argument: &str) -> Result<Table, Failure> {
     if argument == "house" {
         return Ok(Table::house());
     }
     let (name, bytes) = contents(argument)?;
+    if patient::is_meant(&bytes) {
+        return Patient::open(&name, &bytes).map(|patient| patient.table);
+    }
     let table = match content(&bytes) {
         Content::Empty => {
             let advice = "hand in a table, as `fitting help table` tells it, or the word `house`";
@@ -160,6 +171,21 @@ pub fn table(argument: &str) -> Result<Table, Failure> {
         Ok(()) => Ok(table),
         Err(refusal) => Err(explain::table_refused(refusal, &table, &name)),
     }
+}
+
+/// Reads a patient's file, and gives its name too.
+pub fn patient(argument: &str) -> Result<(String, Patient), Failure> {
+    let (name, bytes) = contents(argument)?;
+    if bytes.is_empty() {
+        return Err(empty(&name, "hand in a file that `fitting pack` wrote"));
+    }
+    let patient = Patient::open(&name, &bytes)?;
+    Ok((name, patient))
+}
+
+/// Whether a file of these bytes is not too long to be read.
+pub fn is_read_whole(bytes: &[u8]) -> bool {
+    bytes.len() as u64 <= LONGEST_FILE
 }
 
 /// Reads a file of CSV; what it says is not asked here.

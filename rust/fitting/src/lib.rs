@@ -19,6 +19,7 @@ mod names;
 pub mod notation;
 mod output;
 mod overlay;
+mod patient;
 mod picture;
 pub mod planning;
 mod progress;

@@ -7,13 +7,33 @@ use std::io::{self, Write};
 use std::path::{Path, PathBuf};
 use std::process;
 
+/// What is asked of the bytes that were written, before they get their name.
+type Check<'a> = &'a dyn Fn(&[u8]) -> bool;
+
 /// Writes a file.
 pub fn write(file: &str, bytes: &[u8]) -> Result<(), Failure> {
-    put(Path::new(file), bytes)
+    written(file, bytes, None)
+}
+
+/// Writes a file that is read again and checked before it gets its name.
+pub fn write_checked(file: &str, bytes: &[u8], check: Check) -> Result<(), Failure> {
+    written(file, bytes, Some(check))
+}
+
+fn written(file: &str, bytes: &[u8], check: Option<Check>) -> Result<(), Failure> {
+    put(Path::new(file), bytes, check)
         .map_err(|error| Failure::usage(format!("cannot write {file}: {error}")))
 }
 
-fn put(file: &Path, bytes: &[u8]) -> io::Result<()> {
+/// What a check that fails is told as.
+fn unlike() -> io::Error {
+    io::Error::other("what was written does not read as what was meant")
+}
+
+fn put(file: &Path, bytes: &[u8], check: Option<Check>) -> io::Result<()> {
+    if check.is_some_and(|check| !check(bytes)) {
+        return Err(unlike());
+    }
     // What is there already, and its own name where it is a link.
     let old = match fs::symlink_metadata(file) {
         Err(_) => None,
@@ -23,15 +43,22 @@ fn put(file: &Path, bytes: &[u8]) -> io::Result<()> {
         }
     };
     match old {
-        None => replace(file, None, bytes),
-        Some(Ok((named, old))) if old.is_file() => replace(&named, Some(old.permissions()), bytes),
+        None => replace(file, None, bytes, check),
+        Some(Ok((named, old))) if old.is_file() => {
+            replace(&named, Some(old.permissions()), bytes, check)
+        }
         // A device, a pipe or a link that leads nowhere: no other file can take its place.
         Some(_) => fs::write(file, bytes),
     }
 }
 
 /// Writes beside a file, then takes its place.
-fn replace(file: &Path, permissions: Option<fs::Permissions>, bytes: &[u8]) -> io::Result<()> {
+fn replace(
+    file: &Path,
+    permissions: Option<fs::Permissions>,
+    bytes: &[u8],
+    check: Option<Check>,
+) -> io::Result<()> {
     let beside = beside(file).ok_or(io::ErrorKind::IsADirectory)?;
     let mut new = OpenOptions::new()
         .write(true)
@@ -43,6 +70,10 @@ fn replace(file: &Path, permissions: Option<fs::Permissions>, bytes: &[u8]) -> i
     }
     .and_then(|()| new.write_all(bytes))
     .and_then(|()| new.sync_all())
+    .and_then(|()| match check {
+        Some(check) if !check(&fs::read(&beside)?) => Err(unlike()),
+        _ => Ok(()),
+    })
     .and_then(|()| fs::rename(&beside, file));
     if written.is_err() {
         // What is left of it is of no use, and why it failed is told.

@@ -4,6 +4,7 @@
 
 mod source;
 mod text;
+mod unlike;
 
 use crate::checksum::crc32;
 use crate::graph::{Levels, Node};
@@ -161,15 +162,7 @@ impl Table {
     /// it has names or a list, that of these.
     pub fn fingerprint(&self) -> String {
         let order = format!("{:08x}", crc32(&self.bytes));
-        let implied = [(0, "bottom"), (self.n - 1, "top")];
-        let is_implied = |(number, name): (usize, &Option<String>)| match name {
-            Some(name) => implied.contains(&(number, name)),
-            None => true,
-        };
-        let is_unnamed = self.types.iter().enumerate().all(is_implied)
-            && self.features.iter().all(Option::is_none)
-            && self.list.is_none();
-        if is_unnamed {
+        if self.is_unnamed() {
             return order;
         }
         let names = self.types.iter().chain(&self.features);
@@ -177,6 +170,24 @@ impl Table {
         let mut bytes = names.collect::<String>().into_bytes();
         bytes.extend(self.list.iter().flatten());
         format!("{order}-{:08x}", crc32(&bytes))
+    }
+
+    /// Whether it has neither names nor a list, but for the names that need no line.
+    pub fn is_unnamed(&self) -> bool {
+        let implied = [(0, "bottom"), (self.n - 1, "top")];
+        let is_implied = |(number, name): (usize, &Option<String>)| match name {
+            Some(name) => implied.contains(&(number, name)),
+            None => true,
+        };
+        self.types.iter().enumerate().all(is_implied)
+            && self.features.iter().all(Option::is_none)
+            && self.list.is_none()
+    }
+
+    /// How another table differs from this one, if it does: in the number of types, in their
+    /// order, or, where both have names, in names or lists.
+    pub fn unlike(&self, other: &Table) -> Option<String> {
+        unlike::unlike(self, other)
     }
 
     /// A path from the root as messages show it.

@@ -7,7 +7,7 @@ use std::fs;
 use std::path::Path;
 use tool::{folder, output, tool};
 
-const SUBJECTS: [&str; 17] = [
+const SUBJECTS: [&str; 22] = [
     "text",
     "json",
     "check",
@@ -24,6 +24,11 @@ const SUBJECTS: [&str; 17] = [
     "list",
     "import",
     "export",
+    "pack",
+    "versions",
+    "unpack",
+    "put",
+    "drop",
     "table",
 ];
 

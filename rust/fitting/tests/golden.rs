@@ -72,6 +72,11 @@ fn the_day_of_an_integrator() {
 }
 
 #[test]
+fn a_patients_file() {
+    assert_eq!(session::run("pack"), 96);
+}
+
+#[test]
 fn ranges_in_every_command() {
     assert_eq!(session::run("ranges"), 25);
 }
@@ -113,7 +118,7 @@ fn pictures() {
 
 #[test]
 fn help() {
-    assert_eq!(session::run("help"), 19);
+    assert_eq!(session::run("help"), 24);
 }
 
 #[test]

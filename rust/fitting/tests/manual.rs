@@ -15,14 +15,19 @@ fn help(folder: &Path, subject: &str) -> String {
     String::from_utf8(told.stdout).expect("text")
 }
 
-/// The commands, and what each does, in the order of the help.
+/// The commands, and what each does, in the order of the help. Two may share a line.
 fn commands(folder: &Path) -> Vec<(String, String)> {
     let whole = help(folder, "");
     let lines = whole.lines().filter_map(|line| line.strip_prefix("  "));
-    let commands = lines.filter_map(|line| line.split_once(' '));
+    let mut commands = Vec::new();
+    for (names, whats) in lines.filter_map(|line| line.split_once("  ")) {
+        let names: Vec<&str> = names.split(", ").collect();
+        let whats: Vec<&str> = whats.trim().split("; ").collect();
+        assert_eq!(names.len(), whats.len(), "{names:?}");
+        let pairs = names.into_iter().zip(whats);
+        commands.extend(pairs.map(|(name, what)| (name.to_string(), what.to_string())));
+    }
     commands
-        .map(|(name, what)| (name.to_string(), what.trim().to_string()))
-        .collect()
 }
 
 /// How a command is used, from its help.
@@ -236,7 +241,7 @@ fn the_help_fits_a_screen() {
         .into_iter()
         .map(|(name, _)| name)
         .collect();
-    assert_eq!(commands.len(), 15);
+    assert_eq!(commands.len(), 20);
     for subject in ["", "text", "json"]
         .into_iter()
         .chain(commands.iter().map(String::as_str))

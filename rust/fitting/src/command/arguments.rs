@@ -78,10 +78,11 @@ impl Arguments {
 
     /// The files that are read.
     fn inputs(&self) -> impl Iterator<Item = &str> {
-        let table = self.operands.first().filter(|table| *table != "house");
+        let table = self.operands.first().map(String::as_str);
+        let tables = table.into_iter().chain(self.value("--table"));
         let others = self.operands.iter().skip(1).map(String::as_str);
-        let table = table.into_iter().map(String::as_str);
-        table.chain(others).chain(self.value("--over"))
+        let tables = tables.filter(|table| *table != "house");
+        tables.chain(others).chain(self.value("--over"))
     }
 
     fn option<'a>(
@@ -144,7 +145,7 @@ impl Arguments {
 }
 
 /// Whether two arguments name one regular file.
-fn is_one_file(one: &str, other: &str) -> bool {
+pub fn is_one_file(one: &str, other: &str) -> bool {
     let file = |name| fs::canonicalize(name).ok().filter(|path| path.is_file());
     match (one, other) {
         ("-", _) | (_, "-") => false,
