@@ -153,8 +153,8 @@ fn the_example_builds_by_what_pkg_config_tells() {
 fn a_folder_goes_before_the_prefix() {
     let before = Folder::new("before");
     printed(&install(&[Path::new("/usr/records/")], &before.0));
-    assert_eq!(before.files(), installed("opt/records/"));
-    let fields = fields(&before.0.join("opt/records/lib/pkgconfig/record_engine.pc"));
+    assert_eq!(before.files(), installed("usr/records/"));
+    let fields = fields(&before.0.join("usr/records/lib/pkgconfig/record_engine.pc"));
     assert_eq!(fields["Cflags"], "-I/usr/records/include");
     assert_eq!(fields["Libs"], "-L/usr/records/lib -lrecord_engine");
 }
