@@ -11,4 +11,5 @@ pub mod Output
 pub mod Meaning
 pub mod Appropriate
 pub mod Reasons
+pub mod Recorded
 pub mod Imported

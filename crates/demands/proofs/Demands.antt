@@ -1,10 +1,11 @@
 -- The three demands on the calls, one theorem for each sentence, about the definitions that the calls are proved equal to: `rewriting`,
 -- `ordering`, `generalizing`, `unifying` and `differing`. What the statements say stands in those definitions and in `Demand`; the proofs
 -- are cited. n and t are the table, out is the output lent; a and b are the records.
-use mathlib.Core.Path.{_≡_, refl}
+use mathlib.Core.Path.{_≡_, refl, _∙_}
 use mathlib.Core.Bool.{Bool}
 use mathlib.Core.List.{List}
 use mathlib.Core.Logic.{_↔_, _⊎_}
+use mathlib.Core.Option.{none, some}
 use Prim.Native.Nat.{ℕ, _≤_}
 use lib.Dec.{eqb}
 use lib.ListN.{take}
@@ -32,7 +33,10 @@ use Rattle.demands.specs.Demand.{
   AnswersNotBelow,
   WrittenRecord,
   Leaves,
-  Writes,
+  Large,
+  recordOf,
+  writing,
+  RecordOf,
   Rewritten,
   common,
   CommonPart,
@@ -42,7 +46,9 @@ use Rattle.demands.specs.Demand.{
   Restores,
   Difference,
 }
+use Rattle.demands.proofs.Results.{rewriting-is, result-record}
 use Rattle.demands.proofs.Demanded.Output as Output
+use Rattle.demands.proofs.Demanded.Recorded as Recorded
 use Rattle.demands.proofs.Demanded.Meaning as Meaning
 use Rattle.demands.proofs.Demanded.Order as Order
 use Rattle.demands.proofs.Demanded.CommonPart as Common
@@ -79,10 +85,24 @@ module _ (n : ℕ) (t out : List ℕ) where
 
 -- Demand 2: bytes and meaning.
 
--- Rewriting an accepted record gives 8 and a length exactly where they are due.
+-- A graph's record: there is none exactly where the graph is too large; it means the same, and graphs of equal meaning, and no others, have one.
+module _ (n : ℕ) (t : List ℕ) (opens : opened n t ≡ Accepted) {C : Type 0} (same : C → C → Bool) (tells : TellsApart same) (k : Graph Label C)
+    (size : OfAnySize n t k) where
+  pub record-none : (recordOf same k ≡ none) ↔ Large k
+  record-none = Recorded.record-none n t opens same tells k size
+
+  module _ (bytes : List ℕ) (is : recordOf same k ≡ some bytes) where
+    pub record-means : RecordOf n t k bytes
+    record-means = Recorded.record-means n t opens same tells k size bytes is
+
+    pub record-of-meaning : {D : Type 0} (other : D → D → Bool) → TellsApart other → (m : Graph Label D) → OfAnySize n t m →
+        SameMeaning (tableLabels n t) k m ↔ (recordOf other m ≡ some bytes)
+    record-of-meaning = Recorded.record-exact n t opens same tells k size bytes is
+
+-- Rewriting an accepted record writes the record of its graph.
 module _ (n : ℕ) (t a : List ℕ) (rows : List (Row Label)) (opens : opened n t ≡ Accepted) (reads : reading n a ≡ accepted rows) (out : List ℕ) where
-  pub rewriting-written : Writes n t eqb (graphOfRows rows) out (rewriting n t a out)
-  rewriting-written = Meaning.rewriting-writes n t a rows opens reads out
+  pub rewriting-written : rewriting n t a out ≡ writing (recordOf eqb (graphOfRows rows)) out
+  rewriting-written = rewriting-is n t a rows opens reads out ∙ result-record eqb (graphOfRows rows) out
 
   -- What is written is accepted, is its own written form and means the same.
   pub rewriting-means : (l : ℕ) → rewriting n t a out .reply ≡ Length l → Rewritten n t a rows (take l (rewriting n t a out .output))
@@ -135,9 +155,9 @@ module _ (n : ℕ) (t a b : List ℕ) (g h : List (Row Label)) (given : Given n 
   common-part-exists = Common.common-part-exists n t a b g h given
 
   module _ (out : List ℕ) where
-    -- The call refuses by 11 and 8 exactly where they are due; else it writes the common part.
-    pub common-part-written : Writes n t samePair (common n t g h) out (generalizing n t a b out)
-    common-part-written = Common.common-part-written n t a b g h given out
+    -- The call writes it.
+    pub common-part-written : generalizing n t a b out ≡ writing (recordOf samePair (common n t g h)) out
+    common-part-written = Common.common-part-result n t a b g h given out ∙ result-record samePair (common n t g h) out
 
     -- What is written has those paths, is the least graph above both, and the order agrees.
     pub common-part : (l : ℕ) → generalizing n t a b out .reply ≡ Length l → CommonPart n t a b g h (take l (generalizing n t a b out .output))
@@ -171,10 +191,10 @@ module _ (n : ℕ) (t a b : List ℕ) (g h : List (Row Label)) (given : Given n 
       (u : Graph Label (ℕ ⊎ ℕ)) × IsCombination n t (graphOfRows g) (graphOfRows h) u × GreatestOfAnySize n t (graphOfRows g) (graphOfRows h) u
   combination-exists = Combined.exists n t a b g h given out
 
-  -- Of whatever such graph, the call refuses by 11 and 8 exactly where they are due; else it writes it.
+  -- Whatever graph is such a one, the call writes it.
   pub combination-written : {C : Type 0} (same : C → C → Bool) → TellsApart same → (u : Graph Label C) →
-      GreatestOfAnySize n t (graphOfRows g) (graphOfRows h) u → Writes n t same u out (unifying n t a b out)
-  combination-written same tells u best = Combined.greatest-writes n t a b g h given out same tells u best
+      GreatestOfAnySize n t (graphOfRows g) (graphOfRows h) u → unifying n t a b out ≡ writing (recordOf same u) out
+  combination-written same tells u best = Combined.greatest-result n t a b g h given out same tells u best ∙ result-record same u out
 
   -- What is written is the greatest graph below both, and the order agrees.
   pub combination : (l : ℕ) → unifying n t a b out .reply ≡ Length l → Combination n t a b g h (take l (unifying n t a b out .output))
@@ -198,10 +218,10 @@ module _ (n : ℕ) (t a b : List ℕ) (g s : List (Row Label)) (given : Given n 
         (Below (tableLabels n t) (graphOfRows s) (graphOfRows g) × SomeUnwanted n t (graphOfRows s) (graphOfRows g))
     difference-not-wanted = Differed.unwanted-reply-exact n t a b g s given by-number-order (Differed.plain-parts n t a b given out)
 
-    -- and else 8 exactly where it is due, and the call writes the difference.
+    -- and else the call writes the difference.
     pub difference-written : Below (tableLabels n t) (graphOfRows s) (graphOfRows g) →
-        (SomeUnwanted n t (graphOfRows s) (graphOfRows g) → ⊥) → Writes n t eqb (remainder byNumber n t g s) out (differing n t a b out)
-    difference-written below all = Differed.remainder-writes n t a b g s given by-number-order (Differed.plain-parts n t a b given out) below (Differed.all-wanted n t a b g s given below all)
+        (SomeUnwanted n t (graphOfRows s) (graphOfRows g) → ⊥) → differing n t a b out ≡ writing (recordOf eqb (remainder byNumber n t g s)) out
+    difference-written below all = Differed.remainder-written n t a b g s given by-number-order (Differed.plain-parts n t a b given out) below (Differed.all-wanted n t a b g s given below all)
 
     -- What is written restores b byte for byte when it is combined with a, nothing more general does, and the order agrees.
     pub difference : (l : ℕ) → differing n t a b out .reply ≡ Length l → Difference n t a b g s (take l (differing n t a b out .output))

@@ -3,7 +3,7 @@
 use mathlib.Core.Path.{_≡_, refl, sym, _∙_, ap}
 use mathlib.Core.Bool.{Bool, true, false, cond}
 use mathlib.Core.List.{List, _++_}
-use mathlib.Core.Logic.{inl, inr, ⊎-elim}
+use mathlib.Core.Logic.{_↔_, _⊎_, inl, inr, ⊎-elim}
 use mathlib.Core.Option.{some}
 use Prim.Native.Nat.{ℕ, _≤_, _<_}
 use native.Mathlib.Omega.{arith}
@@ -11,7 +11,7 @@ use borrow.Author.Tests.{leb-true, leb-false}
 use lib.Dec.{leb, eqb}
 use lib.ListN.{length, take, drop}
 use lib.Seq.{take-append-seam, drop-append-seam}
-use Rattle.graphs.specs.Graph.{Graph, TellsApart, Reached}
+use Rattle.graphs.specs.Graph.{Graph, TellsApart, Reached, SameMeaning}
 use Rattle.graphs.specs.Rows.{Row}
 use Rattle.graphs.specs.Number.{Canonical, canonical, manyNodes, manyLinks, written}
 use Rattle.graphs.proofs.Form.Large.{canonical-many-nodes, canonical-many-links, canonical-fits}
@@ -20,7 +20,7 @@ use Rattle.lattice.specs.declared.Opened.the-variants.{Accepted}
 use Rattle.lattice.specs.Table as table
 use Rattle.lattice.specs.Reply.{opened}
 use Rattle.lattice.proofs.Laws.{accepted-size}
-use Rattle.lattice.specs.Labels.{OfAnySize}
+use Rattle.lattice.specs.Labels.{tableLabels, OfAnySize}
 use Rattle.encode.specs.declared.Written.the-variants as outcome
 use Rattle.encode.specs.Encode.{encoded, fitted, writtenOut}
 use Rattle.record.specs.Read.{reading, accepted, graphOfRows}
@@ -30,7 +30,33 @@ use Rattle.replies.specs.declared.Reply.{Reply}
 use Rattle.replies.specs.declared.Reply.the-variants.{Length, NoRoom, TooLarge}
 use Rattle.replies.specs.Reply.{Result, refusing, resultOf}
 use Rattle.calls.specs.Calls.{rewriting}
-use Rattle.demands.specs.Demand.{Large, Wrote, Writes}
+use Rattle.demands.specs.Demand.{Large, formBytes, recordOf, writing}
+
+-- What is answered beside a length: the first bytes of the output are the record of the graph, the others unchanged, and reading
+-- them gives a graph of the same meaning.
+pub record Wrote (n : ℕ) (t : List ℕ) {C : Type 0} (same : C → C → Bool) (k : Graph Label C) (out : List ℕ) (l : ℕ)
+    (output : List ℕ) : Type 0 where
+  pub form : List (Row Label)
+  pub fits : canonical same k ≡ written form
+  pub bytes : take l output ≡ encoded form
+  pub others : drop l output ≡ drop l out
+  pub reads : reading n (take l output) ≡ accepted form
+  pub means : SameMeaning (tableLabels n t) k (graphOfRows form)
+
+-- the graph has a record, and its length is such a number
+abbrev pub RecordLength : {C : Type 0} → (C → C → Bool) → Graph Label C → (ℕ → Type 0) → Type 0
+RecordLength same k P = (form : List (Row Label)) × (canonical same k ≡ written form) × P (length (encoded form))
+
+-- Which result a graph gives: 11, 8 or a length, each exactly where it is due, and the output beside it.
+pub record Writes (n : ℕ) (t : List ℕ) {C : Type 0} (same : C → C → Bool) (k : Graph Label C) (out : List ℕ) (r : Result) : Type 0 where
+  pub replies : (r .reply ≡ TooLarge) ⊎ (r .reply ≡ NoRoom) ⊎ ((l : ℕ) × (r .reply ≡ Length l))
+  pub too-large : (r .reply ≡ TooLarge) ↔ Large k
+  -- "the result exists and the output is shorter"
+  pub no-room : (r .reply ≡ NoRoom) ↔ ((Large k → ⊥) × RecordLength same k (λ m. length out < m))
+  -- "the record fits"
+  pub fits : (l : ℕ) → (r .reply ≡ Length l) ↔ ((Large k → ⊥) × RecordLength same k (λ m. (m ≡ l) × (m ≤ length out)))
+  pub unchanged : (r .reply ≡ TooLarge) ⊎ (r .reply ≡ NoRoom) → r .output ≡ out
+  pub wrote : (l : ℕ) → r .reply ≡ Length l → Wrote n t same k out l (r .output)
 
 -- the types of a graph of any size over an accepted table have seven bits
 pub seven-bits : (n : ℕ) (t : List ℕ) → table.accepted n t ≡ true → {C : Type 0} (k : Graph Label C) → OfAnySize n t k → (v : C) → Reached k v →
@@ -40,6 +66,26 @@ seven-bits n t ok k size v r = omega (arith, size .typed v r .type, accepted-siz
 -- a graph as a call's result
 abbrev pub resultFor : {C : Type 0} → (C → C → Bool) → Graph Label C → List ℕ → Result
 resultFor same k out = resultOf (writtenOut (canonical same k) out)
+
+-- It is what writing the graph's record does.
+pub result-record : {C : Type 0} (same : C → C → Bool) (k : Graph Label C) (out : List ℕ) → resultFor same k out ≡ writing (recordOf same k) out
+unfolding writtenOut
+result-record same k out = go (canonical same k)
+  where
+    go : (c : Canonical Label) → resultOf (writtenOut c out) ≡ writing (formBytes c) out
+    go manyNodes = refl
+    go manyLinks = refl
+    go (written form) = refl
+
+-- a graph that has a record has a written form, whose bytes the record is
+pub record-form : {C : Type 0} (same : C → C → Bool) (k : Graph Label C) (bytes : List ℕ) → recordOf same k ≡ some bytes →
+    (form : List (Row Label)) × (canonical same k ≡ written form) × (encoded form ≡ bytes)
+record-form same k bytes = go (canonical same k)
+  where
+    go : (c : Canonical Label) → formBytes c ≡ some bytes → (form : List (Row Label)) × (c ≡ written form) × (encoded form ≡ bytes)
+    go manyNodes e = let z : _≡_ {A = ℕ} 0 1 = cc in absurd (omega arith)
+    go manyLinks e = let z : _≡_ {A = ℕ} 0 1 = cc in absurd (omega arith)
+    go (written form) e = (form, refl, cc)
 
 -- rewriting an accepted record writes its graph
 pub rewriting-is : (n : ℕ) (t bytes : List ℕ) (rows : List (Row Label)) → opened n t ≡ Accepted → reading n bytes ≡ accepted rows → (out : List ℕ) →

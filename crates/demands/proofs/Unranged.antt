@@ -57,7 +57,7 @@ use Rattle.engine.specs.Ordering.{compared, ordered}
 use Rattle.engine.specs.Generalizing.{generalized}
 use Rattle.engine.specs.Unifying.{sameEither, combined, unifiedRows}
 use Rattle.difference.specs.Difference.{over, wantedAt, allWanted, differenceRows, differed, numbered, differedRows}
-use Rattle.demands.specs.Demand.{Given, Wrote, common, remainder}
+use Rattle.demands.specs.Demand.{Given, common, remainder}
 use Rattle.demands.specs.Unranged.{
   typesIn,
   graphOfTypes,
@@ -80,7 +80,7 @@ use Rattle.demands.specs.Unranged.{
   differingTypes,
   WritesUnranged,
 }
-use Rattle.demands.proofs.Results.{resultFor, result-writes, seven-bits}
+use Rattle.demands.proofs.Results.{Wrote, resultFor, result-writes, seven-bits}
 use Rattle.demands.proofs.Demanded.CommonPart.{accepts, common-part-exists}
 use Rattle.demands.proofs.Demanded.Combination.{tells-either}
 use Rattle.demands.proofs.Demanded.Difference.{not-wanted, not-below, differs, difference-told, remainder-result, remainder-restores}

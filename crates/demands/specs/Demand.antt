@@ -4,13 +4,13 @@ use mathlib.Core.Path.{_≡_}
 use mathlib.Core.Bool.{Bool}
 use mathlib.Core.List.{List, _∷_}
 use mathlib.Core.Logic.{_↔_, _⊎_}
-use mathlib.Core.Option.{some}
-use Prim.Native.Nat.{ℕ, _-_, _≤_, _<_}
+use mathlib.Core.Option.{Option, none, some}
+use Prim.Native.Nat.{ℕ, _-_}
 use lib.Dec.{eqb}
 use lib.ListN.{length, take, drop, replicate}
 use Rattle.graphs.specs.Graph.{Graph, TellsApart, Below, SameMeaning}
 use Rattle.graphs.specs.Rows.{Row}
-use Rattle.graphs.specs.Number.{canonical, written}
+use Rattle.graphs.specs.Number.{Canonical, manyNodes, manyLinks, written, canonical}
 use Rattle.graphs.specs.Large.{ManyNodes, ManyLinks}
 use Rattle.graphs.specs.Generalize.{IsGeneralization, generalization}
 use Rattle.graphs.specs.Difference.{Link}
@@ -18,10 +18,10 @@ use Rattle.lattice.specs.Label.{Label}
 use Rattle.lattice.specs.declared.Opened.the-variants.{Accepted}
 use Rattle.lattice.specs.Reply.{opened}
 use Rattle.lattice.specs.Labels.{tableLabels, OfAnySize, LeastOfAnySize, GreatestOfAnySize, IsCombination}
-use Rattle.encode.specs.Encode.{encoded}
+use Rattle.encode.specs.Encode.{encoded, fitted}
 use Rattle.record.specs.Read.{reading, accepted, graphOfRows}
-use Rattle.replies.specs.declared.Reply.the-variants.{Length, Same, Under, Above, Neither, NoRoom, TooLarge}
-use Rattle.replies.specs.Reply.{Result, refusal}
+use Rattle.replies.specs.declared.Reply.the-variants.{Length, Same, Under, Above, Neither, TooLarge}
+use Rattle.replies.specs.Reply.{Result, refusal, refusing, resultOf}
 use Rattle.calls.specs.Calls.{ordering, rewriting, unifying}
 use Rattle.difference.specs.Difference.{numbered, differenceRows}
 
@@ -54,41 +54,34 @@ pub record Leaves (n : ℕ) (out : List ℕ) (r : Result) : Type 0 where
   pub length-is : (l : ℕ) → r .reply ≡ Length l → length (take l (r .output)) ≡ l
   pub others : (l : ℕ) → r .reply ≡ Length l → drop l (r .output) ≡ drop l out
 
--- What is answered beside a length: the first bytes of the output are the record of the graph, the others unchanged, and reading
--- them gives a graph of the same meaning.
-pub record Wrote (n : ℕ) (t : List ℕ) {C : Type 0} (same : C → C → Bool) (k : Graph Label C) (out : List ℕ) (l : ℕ)
-    (output : List ℕ) : Type 0 where
-  pub form : List (Row Label)
-  pub fits : canonical same k ≡ written form
-  pub bytes : take l output ≡ encoded form
-  pub others : drop l output ≡ drop l out
-  pub reads : reading n (take l output) ≡ accepted form
-  pub means : SameMeaning (tableLabels n t) k (graphOfRows form)
-
 -- "result over 255 nodes or 2,048 links"
 abbrev pub Large : {C : Type 0} → Graph Label C → Type 0
 Large k = ManyNodes k ⊎ ManyLinks k
 
--- the graph has a record, and its length is such a number
-abbrev pub RecordLength : {C : Type 0} → (C → C → Bool) → Graph Label C → (ℕ → Type 0) → Type 0
-RecordLength same k P = (form : List (Row Label)) × (canonical same k ≡ written form) × P (length (encoded form))
+abbrev pub formBytes : Canonical Label → Option (List ℕ)
+formBytes manyNodes = none
+formBytes manyLinks = none
+formBytes (written form) = some (encoded form)
 
--- Which result a graph gives: 11, 8 or a length, each exactly where it is due, and the output beside it.
-pub record Writes (n : ℕ) (t : List ℕ) {C : Type 0} (same : C → C → Bool) (k : Graph Label C) (out : List ℕ) (r : Result) : Type 0 where
-  pub replies : (r .reply ≡ TooLarge) ⊎ (r .reply ≡ NoRoom) ⊎ ((l : ℕ) × (r .reply ≡ Length l))
-  pub too-large : (r .reply ≡ TooLarge) ↔ Large k
-  -- "the result exists and the output is shorter"
-  pub no-room : (r .reply ≡ NoRoom) ↔ ((Large k → ⊥) × RecordLength same k (λ m. length out < m))
-  -- "the record fits"
-  pub fits : (l : ℕ) → (r .reply ≡ Length l) ↔ ((Large k → ⊥) × RecordLength same k (λ m. (m ≡ l) × (m ≤ length out)))
-  pub unchanged : (r .reply ≡ TooLarge) ⊎ (r .reply ≡ NoRoom) → r .output ≡ out
-  pub wrote : (l : ℕ) → r .reply ≡ Length l → Wrote n t same k out l (r .output)
+-- a graph's record, if it has one
+abbrev pub recordOf : {C : Type 0} → (C → C → Bool) → Graph Label C → Option (List ℕ)
+recordOf same k = formBytes (canonical same k)
+
+-- What a call does that writes a graph: 11 where the graph has no record, 8 where "the result exists and the output is shorter", else the
+-- record's length; and the output beside it.
+abbrev pub writing : Option (List ℕ) → List ℕ → Result
+writing none out = refusing TooLarge out
+writing (some bytes) out = resultOf (fitted bytes out)
+
+-- The bytes are a written record, and it means the same as the graph.
+pub record RecordOf (n : ℕ) (t : List ℕ) {C : Type 0} (k : Graph Label C) (bytes : List ℕ) : Type 0 where
+  pub is-written : WrittenRecord n bytes
+  pub means : SameMeaning (tableLabels n t) k (graphOfRows (is-written .form))
 
 -- What stands in the output beside a length of rewriting the record a: a record that means the same and is its own written form, so
 -- that rewriting it gives what rewriting a gives.
 pub record Rewritten (n : ℕ) (t a : List ℕ) (rows : List (Row Label)) (bytes : List ℕ) : Type 0 where
-  pub is-written : WrittenRecord n bytes
-  pub means : SameMeaning (tableLabels n t) (graphOfRows rows) (graphOfRows (is-written .form))
+  pub is-record : RecordOf n t (graphOfRows rows) bytes
   pub again : (room : List ℕ) → rewriting n t bytes room ≡ rewriting n t a room
 
 -- the common part of two graphs, of whatever size

@@ -107,9 +107,9 @@ module _ (n : ℕ) (t : List ℕ) (opens : opened n t ≡ Accepted) where
       LeastAbove n t (c ∷ more) q → LeastAbove n t (b ∷ more) q
   least-rewritten b c q rows more e again best =
       let whole : Graph Label ℕ = graphOfRows (best .form) in
-      let form : List (Row Label) = again .is-written .form in
-      let d : reading n c ≡ accepted form = again .is-written .reads in
-      let (there, back) = below-both n t ok (graphOfRows rows) (graphOfRows form) (sized b rows e) (sized c form d) .0 (again .means) in
+      let form : List (Row Label) = again .is-record .is-written .form in
+      let d : reading n c ≡ accepted form = again .is-record .is-written .reads in
+      let (there, back) = below-both n t ok (graphOfRows rows) (graphOfRows form) (sized b rows e) (sized c form d) .0 (again .is-record .means) in
       record {
         all-accepted = read-cons b rows more e (λ x mem. best .all-accepted x (List·Memᴰ·tail mem));
         form = best .form;

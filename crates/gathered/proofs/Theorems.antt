@@ -421,7 +421,7 @@ module _ (n : ℕ) (t : List ℕ) where
           sym (instead-taken (taken (rewriting n t p blank))) ∙ sym (ap (folded n t none) e) ∙ found in
           let one : Rewritten n t p rows q = again rows q reads (lengthOf (rewriting n t p blank .reply)) refl is in
           finish-is n t (stateAfter state cs) (folded n t none (additions state cs)) (calls-hold n t cs state none holds) out q found ∙
-          sym (written-own-bytes n t q (one .is-written) (holds .opens) out) ∙ one .again out
+          sym (written-own-bytes n t q (one .is-record .is-written) (holds .opens) out) ∙ one .again out
 
   -- 9. Additions that are all accepted in two orders give one record: it depends on which programs were accepted, and on nothing else.
   pub two-orders : (cs ds : List Call) (state other : List ℕ) → Holds n t state none → Holds n t other none →

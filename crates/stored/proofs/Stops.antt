@@ -33,12 +33,12 @@ use Rattle.engine.specs.Generalizing.{generalized}
 use Rattle.calls.specs.Calls.{generalizing, differing}
 use Rattle.demands.specs.Demand.{WrittenRecord, Given, AnswersBelow, Large, common, remainder}
 use Rattle.demands.proofs.Results.{resultFor}
+use Rattle.demands.proofs.Demanded.CommonPart.{common-part-writes}
 use Rattle.demands.proofs.Demands.{
   order-exact,
   meaning-order,
   generalizing-leaves,
   common-part,
-  common-part-written,
   differing-leaves,
   differing-never-large,
   difference-not-below,
@@ -127,12 +127,12 @@ module _ (n : ℕ) (t a b : List ℕ) (g h : List (Row Label)) (given : Given n 
       let (is, silent) = taken-stopped (generalizing n t a b blank) r e in
       let large : generalizing n t a b blank .reply ≡ TooLarge =
       call-large n samePair (common n t g h) (generalizing n t a b) (λ out. generalizing-leaves n t out a b) common-is blank (omega (arith, length-blank)) silent in
-      (sym large ∙ is, common-part-written n t a b g h given blank .too-large .0 large)
+      (sym large ∙ is, common-part-writes n t a b g h given blank .too-large .0 large)
 
   common-large : Large (common n t g h) → commonPart n t a b ≡ stopped TooLarge
   unfolding commonPart
   common-large large =
-      stopped-taken (generalizing n t a b blank) TooLarge refl (common-part-written n t a b g h given blank .too-large .1 large)
+      stopped-taken (generalizing n t a b blank) TooLarge refl (common-part-writes n t a b g h given blank .too-large .1 large)
 
   -- the difference of what lies below is stopped by 13 alone, and where a node has no wanted type; a is the general record
   module _ (below : Below (tableLabels n t) (graphOfRows h) (graphOfRows g)) where

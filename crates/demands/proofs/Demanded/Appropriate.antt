@@ -327,8 +327,8 @@ module _ (n : ℕ) (t list out : List ℕ) where
       let one = lone-obeying n t list bytes out l (ap (λ (r : Result). r .reply) does ∙ q) in
       let wrote = written-again n t bytes (one .rows) opens (one .reads) out l (ap (λ (r : Result). r .reply) (sym same) ∙ q) in
       subst (λ (r : Result). Obeys n t list (take l (r .output))) (sym same)
-      (obeys-written n t list (take l (rewriting n t bytes out .output)) opens listed (wrote .is-written) (wrote .is-written .form) (wrote .is-written .reads)
-      (appropriate-same n t list (graphOfRows (one .rows)) (graphOfRows (wrote .is-written .form)) (wrote .means) (one .obeys)))
+      (obeys-written n t list (take l (rewriting n t bytes out .output)) opens listed (wrote .is-record .is-written) (wrote .is-record .is-written .form) (wrote .is-record .is-written .reads)
+      (appropriate-same n t list (graphOfRows (one .rows)) (graphOfRows (wrote .is-record .is-written .form)) (wrote .is-record .means) (one .obeys)))
 
   module _ (a b : List ℕ) (l : ℕ) where
     -- The common part: its paths are paths of both.

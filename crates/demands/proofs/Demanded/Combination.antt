@@ -44,8 +44,8 @@ use Rattle.replies.specs.declared.Reply.the-variants as replies
 use Rattle.replies.specs.Reply.{Result, refusal, refusing, replyOf, resultOf}
 use Rattle.engine.specs.Unifying.{sameEither, combined, unifiedRows}
 use Rattle.calls.specs.Calls.{unifying}
-use Rattle.demands.specs.Demand.{Given, Writes, NoneBelow, Combination}
-use Rattle.demands.proofs.Results.{resultFor, result-writes, seven-bits}
+use Rattle.demands.specs.Demand.{Given, NoneBelow, Combination}
+use Rattle.demands.proofs.Results.{Writes, resultFor, result-writes, seven-bits}
 use Rattle.demands.proofs.Demanded.Order.{order-exact}
 
 pub tells-either : TellsApart sameEither

@@ -1,6 +1,6 @@
 -- The common part has the paths in both and is the least graph of any size above both, whatever its size; what is written of it is read
 -- again as that graph, and the order's own answers agree.
-use mathlib.Core.Path.{_≡_, refl}
+use mathlib.Core.Path.{_≡_, refl, sym, subst}
 use mathlib.Core.Bool.{true}
 use mathlib.Core.List.{List}
 use Prim.Native.Nat.{ℕ}
@@ -21,8 +21,8 @@ use Rattle.generalize.proofs.Sides.{tells-pair}
 use Rattle.replies.specs.declared.Reply.the-variants.{Length}
 use Rattle.engine.specs.Generalizing.{generalized}
 use Rattle.calls.specs.Calls.{generalizing}
-use Rattle.demands.specs.Demand.{Given, Writes, common, CommonPart}
-use Rattle.demands.proofs.Results.{result-writes, seven-bits}
+use Rattle.demands.specs.Demand.{Given, common, CommonPart}
+use Rattle.demands.proofs.Results.{Writes, resultFor, result-writes, seven-bits}
 use Rattle.demands.proofs.Demanded.Order.{order-exact}
 
 module _ (n : ℕ) (t a b : List ℕ) (s g : List (Row Label)) (given : Given n t a b s g) where
@@ -40,11 +40,15 @@ module _ (n : ℕ) (t a b : List ℕ) (s g : List (Row Label)) (given : Given n 
       (accepted-of-any-size n b g (given .second) t)
 
   module _ (out : List ℕ) where
-    -- The call refuses by 11 and 8 exactly where they are due, and leaves the output as it was; else it writes the common part.
-    pub common-part-written : Writes n t samePair (common n t s g) out (generalizing n t a b out)
+    -- The call writes the common part:
+    pub common-part-result : generalizing n t a b out ≡ resultFor samePair (common n t s g) out
     unfolding generalizing generalized
-    common-part-written =
-        rw (given .opens, given .first, given .second)
+    common-part-result = rw (given .opens, given .first, given .second)
+
+    -- it refuses by 11 and 8 exactly where they are due.
+    pub common-part-writes : Writes n t samePair (common n t s g) out (generalizing n t a b out)
+    common-part-writes =
+        subst (Writes n t samePair (common n t s g) out) (sym common-part-result)
         (result-writes n t samePair tells-pair (common n t s g) (common-part-exists .of-any-size)
         (seven-bits n t accepts (common n t s g) (common-part-exists .of-any-size)) out)
 
@@ -52,7 +56,7 @@ module _ (n : ℕ) (t a b : List ℕ) (s g : List (Row Label)) (given : Given n 
     pub common-part : (l : ℕ) → generalizing n t a b out .reply ≡ Length l →
         CommonPart n t a b s g (take l (generalizing n t a b out .output))
     common-part l q =
-        let wrote = common-part-written .wrote l q in
+        let wrote = common-part-writes .wrote l q in
         let bytes : List ℕ = take l (generalizing n t a b out .output) in
         let form : List (Row Label) = wrote .form in
         let reads : reading n bytes ≡ accepted form = wrote .reads in

@@ -34,9 +34,9 @@ use Rattle.replies.specs.declared.Reply.the-variants as replies
 use Rattle.replies.specs.Reply.{Result, refusal, refusing, resultOf}
 use Rattle.calls.specs.Calls.{unifying, differing, differingBy}
 use Rattle.difference.specs.Difference.{allWanted, numbered, differenceRows, differed, differedRows}
-use Rattle.demands.specs.Demand.{Given, Large, Writes, MoreGeneral, remainder, Restores, Difference}
+use Rattle.demands.specs.Demand.{Given, Large, recordOf, writing, MoreGeneral, remainder, Restores, Difference}
 use Rattle.record.proofs.Ordered.{order-test}
-use Rattle.demands.proofs.Results.{resultFor, rewriting-is, result-writes, seven-bits}
+use Rattle.demands.proofs.Results.{Writes, resultFor, result-record, rewriting-is, result-writes, seven-bits}
 use Rattle.demands.proofs.Demanded.Order.{order-exact, above-exact}
 use Rattle.demands.proofs.Demanded.Combination.{other-refusal, greatest-result, written-combination}
 use Rattle.demands.proofs.Demanded.Wanted.{unwanted-exact, same-unwanted}
@@ -238,6 +238,9 @@ module _ (n : ℕ) (t a b : List ℕ) (g s : List (Row Label)) (given : Given n 
           call-is ∙
           ap₂ (λ (x y : Bool). chosen x y (writtenOut (canonical eqb (remainder earlier n t g s)) out) out) (lies-exact .1 below) wants
 
+      pub remainder-written : call ≡ writing (recordOf eqb (remainder earlier n t g s)) out
+      remainder-written = remainder-result ∙ result-record eqb (remainder earlier n t g s) out
+
       pub remainder-writes : Writes n t eqb (remainder earlier n t g s) out call
       remainder-writes =
           subst (Writes n t eqb (remainder earlier n t g s) out) (sym remainder-result)
@@ -247,14 +250,14 @@ module _ (n : ℕ) (t a b : List ℕ) (g s : List (Row Label)) (given : Given n 
     -- s below g gives 13 for a node without a wanted type, or a difference that restores and is most general.
     pub unwanted-or-restored : Below (tableLabels n t) (graphOfRows s) (graphOfRows g) →
         ((call .reply ≡ replies.NoWantedType) × SomeUnwanted n t (graphOfRows s) (graphOfRows g)) ⊎
-        (Restores n t (remainder earlier n t g s) (graphOfRows g) (graphOfRows s) × Writes n t eqb (remainder earlier n t g s) out call)
+        (Restores n t (remainder earlier n t g s) (graphOfRows g) (graphOfRows s) × (call ≡ writing (recordOf eqb (remainder earlier n t g s)) out))
     unwanted-or-restored below = go all refl
       where
         go : (x : Bool) → all ≡ x →
             ((call .reply ≡ replies.NoWantedType) × SomeUnwanted n t (graphOfRows s) (graphOfRows g)) ⊎
-            (Restores n t (remainder earlier n t g s) (graphOfRows g) (graphOfRows s) × Writes n t eqb (remainder earlier n t g s) out call)
+            (Restores n t (remainder earlier n t g s) (graphOfRows g) (graphOfRows s) × (call ≡ writing (recordOf eqb (remainder earlier n t g s)) out))
         go false q = let some = all-exact below .0 q in inl (unwanted-reply-exact .1 (below, some), some)
-        go true q = inr (remainder-restores strict below q, remainder-writes below q)
+        go true q = inr (remainder-restores strict below q, remainder-written below q)
 
     -- What is written restores b with a, byte for byte, and nothing more general does.
     pub written-difference : (l : ℕ) → call .reply ≡ replies.Length l →

@@ -28,8 +28,8 @@ use Rattle.record.proofs.Theorems as record-theorems
 use Rattle.replies.specs.declared.Reply.the-variants.{Length, Same}
 use Rattle.replies.specs.Reply.{Result, resultOf}
 use Rattle.calls.specs.Calls.{ordering, rewriting}
-use Rattle.demands.specs.Demand.{Given, WrittenRecord, Writes, Rewritten}
-use Rattle.demands.proofs.Results.{rewriting-is, result-writes}
+use Rattle.demands.specs.Demand.{Given, WrittenRecord, Rewritten}
+use Rattle.demands.proofs.Results.{Writes, rewriting-is, result-writes}
 use Rattle.demands.proofs.Demanded.Order.{same-exact}
 use Rattle.demands.proofs.Demanded.Output.{rewriting-small}
 
@@ -97,8 +97,11 @@ module _ (n : ℕ) (t a : List ℕ) (rows : List (Row Label)) (opens : opened n 
       let own : canonical eqb (graphOfRows (wrote .form)) ≡ written (wrote .form) =
       form-again n t eqb tells-eqb (graphOfRows rows) (accepted-of-any-size n a rows reads t) (wrote .form) (wrote .fits) in
       record {
-        is-written = record { form = wrote .form; reads = wrote .reads; own = own; bytes-are = wrote .bytes };
-        means = wrote .means;
+        is-record =
+            record {
+              is-written = record { form = wrote .form; reads = wrote .reads; own = own; bytes-are = wrote .bytes };
+              means = wrote .means;
+            };
         again = same-rewriting n t bytes a (wrote .form) rows (record { opens = opens; first = wrote .reads; second = reads }) (same-sym (wrote .means));
       }
 

@@ -38,7 +38,7 @@ use Rattle.planning.proofs.ImportDue as Import
 use Rattle.planning.proofs.ExportDue as Export
 use Rattle.planning.proofs.RoundTrips as Trips
 use Rattle.demands.specs.Lent.{Lent}
-use Rattle.demands.specs.Demand.{WrittenRecord, Leaves, Writes, RecordLength}
+use Rattle.demands.specs.Demand.{WrittenRecord, recordOf, writing, RecordOf, Leaves}
 use Rattle.demands.proofs.Demanded.Imported as Imported
 
 -- The graph of a table.
@@ -61,9 +61,9 @@ module _ (nodes : List ℕ) (rows : List lent.Row) where
 -- "Import writes the written record of that graph": what demand 2 says of rewriting holds of import.
 
 module _ (n : ℕ) (t nodes : List ℕ) (rows : List lent.Row) (lends : Lent n t nodes rows) where
-  -- Import gives 8 and a length exactly where they are due, and writes the graph;
-  pub import-written : (out : List ℕ) → Writes n t eqb (tableGraph nodes rows) out (importingRows n t rows nodes out)
-  import-written = Imported.import-writes n t nodes rows lends
+  -- Import writes the record of the graph, or answers 8 where the output is shorter;
+  pub import-written : (out : List ℕ) → importingRows n t rows nodes out ≡ writing (recordOf eqb (tableGraph nodes rows)) out
+  import-written = Imported.import-written n t nodes rows lends
 
   module _ (a : List ℕ) (g : List (Row Label)) (reads : reading n a ≡ accepted g) where
     -- a table and an accepted record mean the same exactly when importing the one and rewriting the other gives equal bytes,
@@ -99,8 +99,7 @@ module _ (n : ℕ) (t nodes : List ℕ) (rows : List lent.Row) (out : List ℕ) 
     import-lent = Imported.length-lent n t nodes rows out l told
 
     -- and the record is accepted when it is read, is its own written form, and means what the table means: rewriting it gives what import gives.
-    pub import-means : (one : WrittenRecord n (take l (importingRows n t rows nodes out .output))) ×
-        SameMeaning (tableLabels n t) (tableGraph nodes rows) (graphOfRows (one .form)) ×
+    pub import-means : RecordOf n t (tableGraph nodes rows) (take l (importingRows n t rows nodes out .output)) ×
         ((room : List ℕ) → rewriting n t (take l (importingRows n t rows nodes out .output)) room ≡ importingRows n t rows nodes room)
     import-means = Imported.import-means n t nodes rows out l told
 
@@ -163,13 +162,14 @@ module _ (n : ℕ) (t nodes : List ℕ) (rows : List lent.Row) (out : List ℕ) 
 
   -- the output is shorter than the record;
   pub import-room : (importingRows n t rows nodes out .reply ≡ NoRoom) ↔
-      ((opened n t ≡ Accepted) × Importable n nodes rows × RecordLength eqb (tableGraph nodes rows) (λ m. length out < m))
-  import-room = Import.room-exact n t rows nodes out
+      ((opened n t ≡ Accepted) × Importable n nodes rows × ((bytes : List ℕ) × (recordOf eqb (tableGraph nodes rows) ≡ some bytes) × (length out < length bytes)))
+  import-room = Imported.room-exact n t nodes rows out
 
   -- else the record's length.
   pub import-length : (l : ℕ) → (importingRows n t rows nodes out .reply ≡ Length l) ↔
-      ((opened n t ≡ Accepted) × Importable n nodes rows × RecordLength eqb (tableGraph nodes rows) (λ m. (m ≡ l) × (m ≤ length out)))
-  import-length = Import.length-exact n t rows nodes out
+      ((opened n t ≡ Accepted) × Importable n nodes rows ×
+      ((bytes : List ℕ) × (recordOf eqb (tableGraph nodes rows) ≡ some bytes) × ((length bytes ≡ l) × (length bytes ≤ length out))))
+  import-length = Imported.length-exact n t nodes rows out
 
   -- 11 is no reply,
   pub import-never-large : importingRows n t rows nodes out .reply ≡ TooLarge → ⊥

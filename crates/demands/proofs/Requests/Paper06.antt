@@ -21,7 +21,7 @@ use Rattle.replies.specs.declared.Reply.the-variants.{Length, NotBelow, NoWante
 use Rattle.replies.specs.Reply.{resultOf}
 use Rattle.calls.specs.Calls.{differing}
 use Rattle.demands.specs.Before.{differingBefore}
-use Rattle.demands.specs.Demand.{Given, Writes, loneTop, remainder, Restores, Difference}
+use Rattle.demands.specs.Demand.{Given, recordOf, writing, loneTop, remainder, Restores, Difference}
 use Rattle.demands.proofs.Demanded.Difference as Differed
 use Rattle.demands.proofs.Demanded.Before.{differing-before, never-unwanted}
 use Rattle.demands.proofs.Demanded.Itself.{itself}
@@ -40,7 +40,7 @@ module _ (n : ℕ) (t a b : List ℕ) (g s : List (Row Label)) (given : Given n 
   -- does, and it is what the call writes;
   pub restored-or-unwanted : Below (tableLabels n t) (graphOfRows s) (graphOfRows g) →
       ((differing n t a b out .reply ≡ NoWantedType) × SomeUnwanted n t (graphOfRows s) (graphOfRows g)) ⊎
-      (Restores n t (remainder byNumber n t g s) (graphOfRows g) (graphOfRows s) × Writes n t eqb (remainder byNumber n t g s) out (differing n t a b out))
+      (Restores n t (remainder byNumber n t g s) (graphOfRows g) (graphOfRows s) × (differing n t a b out ≡ writing (recordOf eqb (remainder byNumber n t g s)) out))
   restored-or-unwanted = Differed.unwanted-or-restored n t a b g s given by-number-order (Differed.plain-parts n t a b given out)
 
   -- the record that is written restores b byte for byte when it is combined with a, and of records too nothing more general does.

@@ -34,7 +34,7 @@ use Rattle.difference.specs.Explained.{explainedResult}
 use Rattle.engine.specs.Differing.{reasonsOf, parting}
 use Rattle.calls.specs.Explained.{explainingBy}
 use Rattle.demands.specs.Explained.{reasonFor, LinkReason}
-use Rattle.demands.specs.Demand.{Given, Leaves, Writes, remainder, Restores, Difference}
+use Rattle.demands.specs.Demand.{Given, recordOf, writing, Leaves, remainder, Restores, Difference}
 use Rattle.calls.proofs.Listed.{table-before-list, list-exact, differing-checked}
 use Rattle.demands.proofs.Demanded.Output as Output
 use Rattle.demands.proofs.Demanded.Difference as Differed
@@ -82,12 +82,12 @@ module _ (n : ℕ) (t list a b : List ℕ) (g s : List (Row Label)) (given : Giv
         (Below (tableLabels n t) (graphOfRows s) (graphOfRows g) × SomeUnwanted n t (graphOfRows s) (graphOfRows g))
     difference-by-not-wanted = Differed.unwanted-reply-exact n t a b g s given (by-reading-order list) parts
 
-    -- and else 8 exactly where it is due, and the call writes the difference.
+    -- and else the call writes the difference.
     pub difference-by-written : Below (tableLabels n t) (graphOfRows s) (graphOfRows g) →
         (SomeUnwanted n t (graphOfRows s) (graphOfRows g) → ⊥) →
-        Writes n t eqb (remainder (byReading list) n t g s) out (differingBy n t list a b out)
+        differingBy n t list a b out ≡ writing (recordOf eqb (remainder (byReading list) n t g s)) out
     difference-by-written below all =
-        Differed.remainder-writes n t a b g s given (by-reading-order list) parts below (Differed.all-wanted n t a b g s given below all)
+        Differed.remainder-written n t a b g s given (by-reading-order list) parts below (Differed.all-wanted n t a b g s given below all)
 
     -- What is written restores b byte for byte when it is combined with a, nothing more general does, and the order agrees.
     pub difference-by-restored : (l : ℕ) → differingBy n t list a b out .reply ≡ Length l →
