@@ -10,6 +10,7 @@ pub mod Itself
 pub mod Output
 pub mod Meaning
 pub mod Appropriate
+pub mod Forbidden
 pub mod Reasons
 pub mod Recorded
 pub mod Imported

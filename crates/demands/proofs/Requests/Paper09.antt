@@ -20,12 +20,12 @@ use Rattle.record.proofs.Accepted.{accepted-rules}
 use Rattle.record.proofs.Obeying as Obeying
 use Rattle.replies.specs.declared.Side.the-variants.{First, Second}
 use Rattle.replies.specs.declared.Reply.the-variants.{Length, Graph as Refusal, TypeList}
-use Rattle.replies.specs.Reply.{refusing}
 use Rattle.calls.specs.Calls.{rewriting, generalizing, unifying, differing}
 use Rattle.calls.specs.Appropriate.{rewritingAppropriate, generalizingAppropriate, unifyingAppropriate}
 use Rattle.demands.specs.Appropriate.{Passes, Breaks, Fits, Obeys}
-use Rattle.demands.specs.Demand.{Given}
+use Rattle.demands.specs.Demand.{Given, Leaves}
 use Rattle.demands.proofs.Demanded.Appropriate as Listing
+use Rattle.demands.proofs.Demanded.Forbidden as Forbidden
 
 -- For every list, common parts and combinations of graphs of any size that obey it obey it, over paths.
 module _ (n : ℕ) (t list : List ℕ) (opens : opened n t ≡ Accepted) (listed : listAccepted n list ≡ true) {A B C : Type 0} (g : Graph Label A)
@@ -90,25 +90,41 @@ module _ (n : ℕ) (t list out : List ℕ) where
       Obeys n t list (take l (unifyingAppropriate n t list a b out .output))
   unifying-obeys = Listing.unifying-obeys n t list out
 
--- 18 "tells which graph": a graph with a link that the list forbids, straight after its 7 and before the second graph is looked at.
-module _ (n : ℕ) (t list : List ℕ) (opens : opened n t ≡ Accepted) (listed : listAccepted n list ≡ true) (out : List ℕ) where
-  pub rewriting-forbidden : (a : List ℕ) → Breaks n t list a → rewritingAppropriate n t list a out ≡ refusing (Refusal Inappropriate First) out
-  rewriting-forbidden a = Listing.rewriting-breaks n t list opens listed a out
+module _ (n : ℕ) (t list out : List ℕ) where
+  -- 18 exactly where the table and the list are accepted and the graph, accepted without the list, has a link that the list forbids;
+  pub rewriting-forbidden : (a : List ℕ) → (rewritingAppropriate n t list a out .reply ≡ Refusal Inappropriate First) ↔
+      ((opened n t ≡ Accepted) × (listAccepted n list ≡ true) × Breaks n t list a)
+  rewriting-forbidden = Forbidden.rewriting-forbids n t list out
 
+  -- it "tells which graph": it is given of the first before the second graph is looked at, and of the second where the first obeys the list.
   module _ (a b : List ℕ) where
-    pub generalizing-forbidden-first : Breaks n t list a → generalizingAppropriate n t list a b out ≡ refusing (Refusal Inappropriate First) out
-    generalizing-forbidden-first = Listing.generalizing-first-breaks n t list opens listed a b out
+    pub generalizing-forbidden-first : (generalizingAppropriate n t list a b out .reply ≡ Refusal Inappropriate First) ↔
+        ((opened n t ≡ Accepted) × (listAccepted n list ≡ true) × Breaks n t list a)
+    generalizing-forbidden-first = Forbidden.generalizing-forbids-first n t list out a b
 
-    pub generalizing-forbidden-second : Fits n t list a → Breaks n t list b →
-        generalizingAppropriate n t list a b out ≡ refusing (Refusal Inappropriate Second) out
-    generalizing-forbidden-second = Listing.generalizing-second-breaks n t list opens listed a b out
+    pub generalizing-forbidden-second : (generalizingAppropriate n t list a b out .reply ≡ Refusal Inappropriate Second) ↔
+        ((opened n t ≡ Accepted) × (listAccepted n list ≡ true) × Fits n t list a × Breaks n t list b)
+    generalizing-forbidden-second = Forbidden.generalizing-forbids-second n t list out a b
 
-    pub unifying-forbidden-first : Breaks n t list a → unifyingAppropriate n t list a b out ≡ refusing (Refusal Inappropriate First) out
-    unifying-forbidden-first = Listing.unifying-first-breaks n t list opens listed a b out
+    pub unifying-forbidden-first : (unifyingAppropriate n t list a b out .reply ≡ Refusal Inappropriate First) ↔
+        ((opened n t ≡ Accepted) × (listAccepted n list ≡ true) × Breaks n t list a)
+    unifying-forbidden-first = Forbidden.unifying-forbids-first n t list out a b
 
-    pub unifying-forbidden-second : Fits n t list a → Breaks n t list b →
-        unifyingAppropriate n t list a b out ≡ refusing (Refusal Inappropriate Second) out
-    unifying-forbidden-second = Listing.unifying-second-breaks n t list opens listed a b out
+    pub unifying-forbidden-second : (unifyingAppropriate n t list a b out .reply ≡ Refusal Inappropriate Second) ↔
+        ((opened n t ≡ Accepted) × (listAccepted n list ≡ true) × Fits n t list a × Breaks n t list b)
+    unifying-forbidden-second = Forbidden.unifying-forbids-second n t list out a b
+
+-- Whatever is handed in, a refusal, 17 and 18 among them, leaves the output as it was, and beside a length its first bytes are a written
+-- record, the others unchanged.
+module _ (n : ℕ) (t list out : List ℕ) where
+  pub rewriting-beside-leaves : (a : List ℕ) → Leaves n out (rewritingAppropriate n t list a out)
+  rewriting-beside-leaves = Forbidden.rewriting-beside-leaves n t list out
+
+  pub generalizing-beside-leaves : (a b : List ℕ) → Leaves n out (generalizingAppropriate n t list a b out)
+  generalizing-beside-leaves = Forbidden.generalizing-beside-leaves n t list out
+
+  pub unifying-beside-leaves : (a b : List ℕ) → Leaves n out (unifyingAppropriate n t list a b out)
+  unifying-beside-leaves = Forbidden.unifying-beside-leaves n t list out
 
 -- "A difference need not obey it and is combined through the plain call, whose result then obeys": combined with a, from either side, the
 -- difference of a and b gives what rewriting b with the list gives, wherever this is neither 17 nor 18.
