@@ -14,3 +14,4 @@ pub mod Forbidden
 pub mod Reasons
 pub mod Recorded
 pub mod Imported
+pub mod Whole

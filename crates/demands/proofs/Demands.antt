@@ -2,7 +2,7 @@
 -- `ordering`, `generalizing`, `unifying` and `differing`. What the statements say stands in those definitions and in `Demand`; the proofs
 -- are cited. n and t are the table, out is the output lent; a and b are the records.
 use mathlib.Core.Path.{_≡_, refl, _∙_}
-use mathlib.Core.Bool.{Bool}
+use mathlib.Core.Bool.{Bool, true}
 use mathlib.Core.List.{List}
 use mathlib.Core.Logic.{_↔_, _⊎_}
 use mathlib.Core.Option.{none, some}
@@ -17,8 +17,9 @@ use Rattle.graphs.specs.Difference.{byNumber}
 use Rattle.graphs.proofs.Difference.ByNumber.{by-number-order}
 use Rattle.lattice.specs.Label.{Label}
 use Rattle.lattice.specs.declared.Opened.the-variants.{Accepted}
+use Rattle.lattice.specs.Table.{admits}
 use Rattle.lattice.specs.Reply.{opened}
-use Rattle.lattice.specs.Labels.{tableLabels, OfAnySize, LeastOfAnySize, GreatestOfAnySize, IsCombination, LabelClash, SomeUnwanted}
+use Rattle.lattice.specs.Labels.{tableLabels, OfAnySize, LeastOfAnySize, GreatestOfAnySize, IsCombination, LabelClash}
 use Rattle.lattice.proofs.Acceptance.{opened-accepted}
 use Rattle.lattice.proofs.AnySize.{combination-greatest}
 use Rattle.encode.specs.Encode.{fitted}
@@ -27,6 +28,7 @@ use Rattle.generalize.specs.Pairs.{samePair}
 use Rattle.replies.specs.declared.Reply.the-variants.{Length, Same, Cycle, Clash, TooLarge, NotBelow, NoWantedType}
 use Rattle.replies.specs.Reply.{Result, resultOf}
 use Rattle.calls.specs.Calls.{rewriting, ordering, generalizing, unifying, differing}
+use Rattle.demands.specs.Wanted.{SomeUnwanted}
 use Rattle.demands.specs.Demand.{
   Given,
   AnswersBelow,
@@ -54,6 +56,7 @@ use Rattle.demands.proofs.Demanded.Order as Order
 use Rattle.demands.proofs.Demanded.CommonPart as Common
 use Rattle.demands.proofs.Demanded.Combination as Combined
 use Rattle.demands.proofs.Demanded.Difference as Differed
+use Rattle.demands.proofs.Demanded.Whole as Whole
 
 -- Demand 1: what is handed in determines the reply and each byte of the output. Each call's promise is an equation with its definition.
 -- Whatever is handed in, a refusal leaves the output as it was; beside a length the first bytes are a record, accepted when it is read and
@@ -201,6 +204,13 @@ module _ (n : ℕ) (t a b : List ℕ) (g h : List (Row Label)) (given : Given n 
   combination = Combined.written-combination n t a b g h given out
 
 -- Demand 3, the difference of a, the general record, and b, the specific one.
+
+-- Over a table that admits differences, where b is below a, there is one record that every call for the difference writes, or answers 8 where
+-- the output is shorter. Combined with a it restores b byte for byte, and nothing of any size that is strictly more general does.
+pub difference-demanded : (n : ℕ) (t a b : List ℕ) (g s : List (Row Label)) → Given n t a b g s → admits n t ≡ true → AnswersBelow n t b a →
+    (bytes : List ℕ) × WrittenRecord n bytes × ((out : List ℕ) → differing n t a b out ≡ resultOf (fitted bytes out)) ×
+    Difference n t a b g s bytes
+difference-demanded = Whole.difference-whole
 
 module _ (n : ℕ) (t a b : List ℕ) (g s : List (Row Label)) (given : Given n t a b g s) where
   -- Where s is below g and no node of s is without a wanted type, the difference restores s with g and nothing more general does.

@@ -133,7 +133,7 @@ remainder earlier n t g s = differenceRows earlier n t g (numbered (canonical eq
 
 -- d, combined with g, restores s, and nothing more general does: whatever graph of any size is strictly more general than d, what it
 -- combines to with g, the greatest graph of any size below both, is strictly more general than s. There is one, what the classes of paths
--- give, where the nodes of that graph are told apart.
+-- give, where the nodes of that graph are told apart; on any nodes, that there is none is refuted.
 pub record Restores (n : ℕ) (t : List ℕ) (d g s : Graph Label ℕ) : Type 1 where
   pub of-any-size : OfAnySize n t d
   pub restores : GreatestOfAnySize n t d g s
@@ -141,6 +141,8 @@ pub record Restores (n : ℕ) (t : List ℕ) (d g s : Graph Label ℕ) : Type 1 
       GreatestOfAnySize n t e g u → MoreGeneral n t u s
   pub combines : {E : Type 0} (same : E → E → Bool) → TellsApart same → (e : Graph Label E) → OfAnySize n t e → MoreGeneral n t e d →
       (u : Graph Label (E ⊎ ℕ)) × IsCombination n t e g u × GreatestOfAnySize n t e g u
+  pub not-none : {E : Type 0} (e : Graph Label E) → OfAnySize n t e → MoreGeneral n t e d →
+      ((C : Type 0) (u : Graph Label C) → GreatestOfAnySize n t e g u → ⊥) → ⊥
 
 -- What stands in the output beside a length of the difference of the records a and b: a record that is read as such a graph. Combined
 -- with a, from either side, it gives the written record of b byte for byte, whatever the output; and the order's own answers agree: b is

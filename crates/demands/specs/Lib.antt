@@ -5,3 +5,4 @@ pub mod Unranged
 pub mod Appropriate
 pub mod Explained
 pub mod Lent
+pub mod Wanted

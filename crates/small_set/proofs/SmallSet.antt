@@ -62,7 +62,6 @@ use Rattle.lattice.specs.Labels.{tableLabels, wantedLabel}
 use Rattle.lattice.proofs.Every.{and-both, implies-at, every-at, found-some}
 use Rattle.lattice.proofs.Acceptance.{opened-accepted}
 use Rattle.lattice.proofs.Lawful.{inside}
-use Rattle.lattice.proofs.WantedLabels.{wanted-label-found}
 use Rattle.decode.specs.Decode.{bitOf, labelLength, labelOf, takeLinks, takeRow, takeRows, decoded}
 use Rattle.encode.specs.Encode.{bitsFrom, isFull, encodedLabel, encodedRow, encodedRows, encoded, fitted, writtenOut}
 use Rattle.record.specs.Read.{labelInRange, inRange, cyclic, reachesAll, reading, accepted, graphOfRows}
@@ -83,7 +82,7 @@ use Rattle.calls.specs.Explained.{explaining, explainingBy}
 use Rattle.replies.specs.declared.Reply.the-variants.{NoWantedType}
 use Rattle.listed.specs.Listing.{precedes, statedRows, span, runs, listing, isListed, firstAfter, following}
 use Rattle.listing.specs.Call.{continued, counted as counting, stepped, stepping}
-use Rattle.demands.proofs.Demanded.Wanted.{meet-known, label-below, wanted-exact}
+use Rattle.demands.proofs.Demanded.Wanted.{meet-known, label-below, type-exact}
 use Rattle.demands.proofs.Requests.Paper06.{unwanted-exact, itself-lone-top}
 use Rattle.small_set.specs.Cases.{threeMiddles, twoOverTwo, NeverUnwanted, ItselfTop, AllHold, none-left, _and_, cases, SmallSet, FourAnswers, Reasons, ReadingOrders, AsSets, Chains}
 
@@ -169,12 +168,11 @@ no-unwanted n t first second out g s opens all e f told =
     let q : ℕ = y .type in
     let nonzero : eqb p 0 ≡ false = or-first (eqb p 0) _ (size .any-size .consistent v r) in
     let (c, is) =
-    found-some (wantedLabel n t x y)
-    (wanted-label-found n t x y ∙
-    implies-at (not (eqb p 0) && below t p q) (found (wanted n t p q))
+    found-some (wanted n t p q)
+    (implies-at (not (eqb p 0) && below t p q) (found (wanted n t p q))
     (every-at _ n q (every-at _ n p all (size .typed v r .type)) (meet-known n t ok g s general specific lies v .type))
     (and-both (not (eqb p 0)) (below t p q) (ap not nonzero) (inside n t x y (label-below n t ok g s general specific lies v) .type))) in
-    nothing c (wanted-exact n t ok g s general specific lies v c .0 is)
+    nothing c (type-exact n t ok g s general specific lies v c .0 is)
 
 never-unwanted : NeverUnwanted threeMiddles
 never-unwanted first second out g s =

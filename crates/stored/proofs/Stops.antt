@@ -20,7 +20,7 @@ use Rattle.lattice.specs.Label.{Label}
 use Rattle.lattice.specs.declared.Opened.the-variants.{Accepted}
 use Rattle.lattice.specs.Reply.{opened}
 use Rattle.lattice.specs.Table.{admits}
-use Rattle.lattice.specs.Labels.{tableLabels, SomeUnwanted}
+use Rattle.lattice.specs.Labels.{tableLabels}
 use Rattle.lattice.proofs.Acceptance.{opened-accepted}
 use Rattle.lattice.proofs.AnySize.{below-transitive}
 use Rattle.record.specs.Read.{reading, accepted, graphOfRows}
@@ -31,6 +31,7 @@ use Rattle.replies.specs.declared.Reply.the-variants.{TooLarge, NoWantedType, N
 use Rattle.replies.specs.Reply.{Result, lengthOf}
 use Rattle.engine.specs.Generalizing.{generalized}
 use Rattle.calls.specs.Calls.{generalizing, differing}
+use Rattle.demands.specs.Wanted.{SomeUnwanted}
 use Rattle.demands.specs.Demand.{WrittenRecord, Given, AnswersBelow, Large, common, remainder}
 use Rattle.demands.proofs.Results.{resultFor}
 use Rattle.demands.proofs.Demanded.CommonPart.{common-part-writes}

@@ -19,7 +19,7 @@ use Rattle.graphs.proofs.Below.{same-refl, same-sym}
 use Rattle.lattice.specs.Label.{Label}
 use Rattle.lattice.specs.Table as table
 use Rattle.lattice.specs.Reply.{opened}
-use Rattle.lattice.specs.Labels.{tableLabels, SomeUnwanted}
+use Rattle.lattice.specs.Labels.{tableLabels}
 use Rattle.lattice.proofs.Every.{not-false-true}
 use Rattle.lattice.proofs.Acceptance.{opened-accepted}
 use Rattle.lattice.proofs.Relabel.{same-below-left, same-below-right}
@@ -34,12 +34,13 @@ use Rattle.replies.specs.declared.Reply.the-variants as replies
 use Rattle.replies.specs.Reply.{Result, refusal, refusing, resultOf}
 use Rattle.calls.specs.Calls.{unifying, differing, differingBy}
 use Rattle.difference.specs.Difference.{allWanted, numbered, differenceRows, differed, differedRows}
+use Rattle.demands.specs.Wanted.{SomeUnwanted}
 use Rattle.demands.specs.Demand.{Given, Large, recordOf, writing, MoreGeneral, remainder, Restores, Difference}
 use Rattle.record.proofs.Ordered.{order-test}
 use Rattle.demands.proofs.Results.{Writes, resultFor, result-record, rewriting-is, result-writes, seven-bits}
 use Rattle.demands.proofs.Demanded.Order.{order-exact, above-exact}
 use Rattle.demands.proofs.Demanded.Combination.{other-refusal, greatest-result, written-combination}
-use Rattle.demands.proofs.Demanded.Wanted.{unwanted-exact, same-unwanted}
+use Rattle.demands.proofs.Demanded.Wanted.{unwanted-types, same-unwanted}
 use Rattle.demands.proofs.Demanded.Remainder.{rows-small, rows-restore}
 
 -- 12, then 13, else what writing answers
@@ -128,7 +129,7 @@ module _ (n : ℕ) (t a b : List ℕ) (g s : List (Row Label)) (given : Given n 
 
     all-exact : (all ≡ false) ↔ SomeUnwanted n t (graphOfRows s) (graphOfRows g)
     all-exact =
-        let (there, back) = unwanted-exact n t accepts g form general-rules form-rules form-below in
+        let (there, back) = unwanted-types n t accepts g form general-rules form-rules form-below in
         subst (λ (rows : List (Row Label)). (allWanted n t rows g ≡ false) ↔ SomeUnwanted n t (graphOfRows s) (graphOfRows g))
         (sym (ap numbered form-is)) (
           λ e. same-unwanted n t (graphOfRows form) (graphOfRows s) (graphOfRows g) (same-sym means) (there e),
@@ -165,6 +166,7 @@ module _ (n : ℕ) (t a b : List ℕ) (g s : List (Row Label)) (given : Given n 
                 let (x, y) = made .most-general e c more u best in
                 (same-below-left (same-sym means) x, λ z. y (same-below-right means z));
             combines = made .combines;
+            not-none = made .not-none;
           })
 
   -- what means the same restores the same
@@ -177,6 +179,7 @@ module _ (n : ℕ) (t a b : List ℕ) (g s : List (Row Label)) (given : Given n 
             (made .restores);
         most-general = λ e c more. made .most-general e c (as-general e more);
         combines = λ test tells e c more. made .combines test tells e c (as-general e more);
+        not-none = λ e c more. made .not-none e c (as-general e more);
       }
     where
       as-general : {E : Type 0} (e : Graph Label E) → MoreGeneral n t e (graphOfRows again) → MoreGeneral n t e d

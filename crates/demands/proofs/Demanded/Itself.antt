@@ -5,7 +5,7 @@ use mathlib.Core.Bool.{true}
 use mathlib.Core.List.{List, [], _∷_, List·Memᴰ, List·Memᴰ·head, List·Memᴰ·not-nil, List·Memᴰ·cases-cons}
 use mathlib.Core.Logic.{_↔_, inl, inr, ⊎-elim}
 use mathlib.Core.Option.{some, none, bind}
-use Prim.Native.Nat.{ℕ, _-_}
+use Prim.Native.Nat.{ℕ, _-_, _<_}
 use native.Mathlib.Omega.{arith}
 use borrow.Author.Tests.{ne-eqb}
 use lib.Dec.{eqb}
@@ -27,12 +27,11 @@ use Rattle.lattice.specs.Label.{Label, plain}
 use Rattle.lattice.specs.declared.Opened.the-variants.{Accepted}
 use Rattle.lattice.specs.Table as table
 use Rattle.lattice.specs.Reply.{opened}
-use Rattle.lattice.specs.Labels.{typeLabels, tableLabels, Known, OfAnySize, SomeUnwanted}
+use Rattle.lattice.specs.Labels.{typeLabels, tableLabels, Known, OfAnySize}
 use Rattle.lattice.proofs.Every.{not-false-true}
-use Rattle.lattice.proofs.Laws.{accepted-size, top-type, top-greatest}
+use Rattle.lattice.proofs.Laws.{accepted-size, top-type, top-greatest, below-reflexive, wanted-sound, wanted-of-same}
 use Rattle.lattice.proofs.Lawful.{inside-le, le-antisymmetric, le-reflexive, plain-known}
 use Rattle.lattice.proofs.Plain.{contradiction-plain}
-use Rattle.lattice.proofs.WantedLabels.{wanted-at, wanted-label-of-same}
 use Rattle.lattice.proofs.Relabel.{same-below-right}
 use Rattle.lattice.proofs.Acceptance.{opened-accepted}
 use Rattle.encode.specs.Encode.{bitsFrom, isFull, encodedLabel, encodedRow, encodedRows, encoded, fitted, writtenOut}
@@ -41,6 +40,7 @@ use Rattle.record.proofs.Accepted.{accepted-rules}
 use Rattle.record.proofs.Theorems.{accepted-of-any-size, written-reads}
 use Rattle.replies.specs.Reply.{resultOf}
 use Rattle.calls.specs.Calls.{differing}
+use Rattle.demands.specs.Wanted.{SomeUnwanted}
 use Rattle.demands.specs.Demand.{Given, loneTop, remainder, Restores}
 use Rattle.record.proofs.Ordered.{short}
 use Rattle.demands.proofs.Results.{seven-bits}
@@ -137,17 +137,24 @@ module _ (n : ℕ) (t : List ℕ) (ok : table.accepted n t ≡ true) where
       label w r l =
           le-antisymmetric n t ok (plain (n - 1)) (d .label w) top-known (size .typed w r) l (under-top (d .label w) (size .typed w r))
 
-  -- over a graph itself every node has a wanted label, the greatest
+  -- over a graph itself every node has a wanted type, the greatest
   none-unwanted : {A : Type 0} (s : Graph Label A) → OfAnySize n t s → SomeUnwanted n t s s → ⊥
   none-unwanted s size (v, (p, d), nothing) =
-      let known = size .typed v (p, d) in
-      nothing (plain (n - 1))
-      (wanted-at n t ok s s v (s .label v)
+      let type : ℕ = s .label v .type in
+      let known : type < n = size .typed v (p, d) .type in
+      nothing (n - 1)
       (record {
-        known = known;
-        under = λ q y i j. ap (λ w. tableLabels n t .le (s .label v) (s .label w)) (some-unique j i) ∙ le-reflexive n t ok (s .label v) known;
-        greatest = λ b l under. under p v d d;
-      }) known (le-reflexive n t ok (s .label v) known) (plain (n - 1)) .0 (wanted-label-of-same n t ok (s .label v) known))
+        over = type;
+        is-over =
+            record {
+              known = known;
+              under = λ q y i j. ap (λ w. table.below t type (s .label w .type)) (some-unique j i) ∙ below-reflexive n t ok type known;
+              greatest = λ b l under. under p v d d;
+            };
+        known = top-type n t ok;
+        restores = wanted-sound n t ok type type (n - 1) known (wanted-of-same n t ok type known) .exact;
+        greatest = λ e l _. top-greatest n t ok e l;
+      })
 
 module _ (n : ℕ) (t a : List ℕ) (s : List (Row Label)) (opens : opened n t ≡ Accepted) (reads : reading n a ≡ accepted s) where
   given : Given n t a a s s

@@ -12,6 +12,7 @@ use Rattle.graphs.specs.Graph.{Graph, walk, Reached, Below}
 use Rattle.graphs.specs.Rows.{Row, from}
 use Rattle.graphs.specs.Difference.{Link, StrictOrder, IsWanted, meetOver, difference}
 use Rattle.graphs.proofs.Walk.{some-injective, snoc-induction, follow-nil, follow-last, reached-root, reached-link}
+use Rattle.graphs.proofs.Below.{same-refl}
 use Rattle.graphs.proofs.Lists.{tells-eqb}
 use Rattle.graphs.proofs.Difference.Computed.{Setting}
 use Rattle.lattice.specs.Label.{Label, noLabel}
@@ -28,6 +29,8 @@ use Rattle.lattice.proofs.AnySize.{
   unification-exists,
   unification-combination,
   combination-greatest,
+  combines-not-refuted,
+  below-both,
   below-transitive,
 }
 use Rattle.record.specs.Read.{graphOfRows}
@@ -152,6 +155,9 @@ module _ (n : ℕ) (t : List ℕ) (ok : table.accepted n t ≡ true) (g s : List
                 (below-transitive n t ok (graphOfRows s) byLabels e s-size size c (best .left) above) below in
                 let (bounded, is) = unification-combination n t ok same eqb tells tells-eqb e (graphOfRows g) c g-size u q in
                 (u, is, combination-greatest n t ok e (graphOfRows g) c g-size u bounded is);
+            not-none = λ e c (above, _).
+                combines-not-refuted n t ok byLabels e (graphOfRows g) (graphOfRows g) size c g-size g-size above
+                (below-both n t ok (graphOfRows g) (graphOfRows g) g-size g-size .0 (same-refl (graphOfRows g)) .0) (graphOfRows s) best;
           })
         where
           size : OfAnySize n t byLabels

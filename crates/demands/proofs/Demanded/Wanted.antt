@@ -4,9 +4,9 @@ use mathlib.Core.Path.{_≡_, refl, sym, _∙_, ap, ap₂, subst}
 use mathlib.Core.Bool.{Bool, true, false, cond, _&&_}
 use mathlib.Core.List.{List, [], _∷_, List·Memᴰ, List·Memᴰ·head, List·Memᴰ·tail}
 use mathlib.Core.Logic.{_↔_}
-use mathlib.Core.Option.{some}
-use Prim.Native.Nat.{ℕ, zero, suc, _-_, _≤_, _<_}
-use native.Mathlib.Decide.{decLt}
+use mathlib.Core.Option.{Option, none, some, Option·map}
+use Prim.Native.Nat.{ℕ, zero, suc, _-_, _≤_, _<_, min, max}
+use native.Mathlib.Decide.{decLt, ℕ-discrete}
 use native.Mathlib.Omega.{arith}
 use borrow.Author.Tests.{ne-eqb}
 use lib.Dec.{eqb}
@@ -23,11 +23,11 @@ use Rattle.graphs.proofs.Unification.Beside.{Operands}
 use Rattle.graphs.proofs.Difference.Wanted.{meetOver-under, label-under}
 use Rattle.lattice.specs.Label.{Label, plain, noLabel}
 use Rattle.lattice.specs.Table as table
-use Rattle.lattice.specs.Labels.{tableLabels, Known, wantedLabel, OfAnySize, BelowOver, MeetOver, WantedAt, SomeUnwanted}
+use Rattle.lattice.specs.Labels.{tableLabels, Known, wantedLabel, wantedRange, OfAnySize, MeetOver, WantedAt}
 use Rattle.lattice.proofs.Every.{every-at, every-fails, found-some}
-use Rattle.lattice.proofs.Laws.{zero-type}
+use Rattle.lattice.proofs.Laws.{zero-type, below-antisymmetric, wanted-sound, wanted-unique}
 use Rattle.lattice.proofs.WantedLabels.{wanted-at, wanted-label-by-top}
-use Rattle.lattice.proofs.Lawful.{KnownLabel, known-label, plain-known, lawful, lawful-lattice}
+use Rattle.lattice.proofs.Lawful.{Inside, inside, inside-le, KnownLabel, known-label, plain-known, lawful, lawful-lattice}
 use Rattle.lattice.proofs.Transfer.{lift, map-lift, meetOver-label}
 use Rattle.record.specs.Read.{graphOfRows}
 use Rattle.record.proofs.Accepted.{Rules, rules-of-any-size, rules-nodes}
@@ -35,6 +35,7 @@ use Rattle.difference.specs.Promise.{wantedAlong, allWantedAlong}
 use Rattle.difference.specs.Difference.{over, wantedAt, allWanted}
 use Rattle.engine.proofs.Tables.{label-known}
 use Rattle.difference.proofs.Over.{over-map}
+use Rattle.demands.specs.Wanted.{TypeBelowOver, TypeOver, WantedType, SomeUnwanted, WantedRange}
 
 -- no label that a test picks
 meetWhere-none : (𝓛 : Labels) {B : Type 0} (test : B → Bool) (label : B → 𝓛 .L) (ys : List B) → ((y : B) → List·Memᴰ y ys → test y ≡ false) →
@@ -60,7 +61,7 @@ every-missed p (suc n) e = go (p n) refl (every-missed p n)
     go false q before = (n, omega arith, q)
     go true q before = let (k, l, r) = before (first (table.every n p) (p n) q e) in (k, omega arith, r)
 
--- Graphs of one meaning have the same wanted labels, whatever lies over them.
+-- Graphs of one meaning have the same wanted types, whatever lies over them.
 module _ (n : ℕ) (t : List ℕ) {A C B : Type 0} {s : Graph Label A} {r : Graph Label C} (g : Graph Label B) (same : SameMeaning (tableLabels n t) s r) where
   -- a path that leads to w in r leads to the node v of s that a path leads to together with w
   same-path : {v : A} {w : C} (p q : List ℕ) → walk s p ≡ some v → walk r p ≡ some w → walk r q ≡ some w → walk s q ≡ some v
@@ -68,14 +69,14 @@ module _ (n : ℕ) (t : List ℕ) {A C B : Type 0} {s : Graph Label A} {r : Grap
       let (x, i, j) = same .corefers p q .1 (w, e, f) in
       subst (λ y. walk s q ≡ some y) (some-unique i d) j
 
-  same-over : {v : A} {w : C} (p : List ℕ) → walk s p ≡ some v → walk r p ≡ some w → (a : Label) → BelowOver n t s g v a → BelowOver n t r g w a
+  same-over : {v : A} {w : C} (p : List ℕ) → walk s p ≡ some v → walk r p ≡ some w → (a : ℕ) → TypeBelowOver n t s g v a → TypeBelowOver n t r g w a
   same-over p d e a under q y f i = under q y (same-path p q d e f) i
 
 same-wanted : (n : ℕ) (t : List ℕ) {A C B : Type 0} (s : Graph Label A) (r : Graph Label C) (g : Graph Label B) → SameMeaning (tableLabels n t) s r →
-    (p : List ℕ) (v : A) (w : C) → walk s p ≡ some v → walk r p ≡ some w → (c : Label) → WantedAt n t r g w c → WantedAt n t s g v c
+    (p : List ℕ) (v : A) (w : C) → walk s p ≡ some v → walk r p ≡ some w → (c : ℕ) → WantedType n t r g w c → WantedType n t s g v c
 same-wanted n t s r g same p v w d e c is =
     let (x, i, labels) = same .there p v d in
-    let label : s .label v ≡ r .label w = labels ∙ ap (r .label) (some-unique i e) in
+    let type : s .label v .type ≡ r .label w .type = ap (λ (l : Label). l .type) (labels ∙ ap (r .label) (some-unique i e)) in
     record {
       over = is .over;
       is-over =
@@ -85,8 +86,8 @@ same-wanted n t s r g same p v w d e c is =
             greatest = λ b l under. is .is-over .greatest b l (same-over n t g same p d e b under);
           };
       known = is .known;
-      restores = is .restores ∙ sym label;
-      greatest = λ b l f. is .greatest b l (f ∙ label);
+      restores = is .restores ∙ ap some (sym type);
+      greatest = λ b l f. is .greatest b l (f ∙ ap some type);
     }
 
 pub same-unwanted : (n : ℕ) (t : List ℕ) {A C B : Type 0} (s : Graph Label A) (r : Graph Label C) (g : Graph Label B) → SameMeaning (tableLabels n t) s r →
@@ -177,18 +178,126 @@ module _ (n : ℕ) (t : List ℕ) (ok : table.accepted n t ≡ true) (g s : List
   wanted-exact v c =
       wanted-at n t ok (graphOfRows s) (graphOfRows g) v (meetAt v) (meet-over v) (label-known (zero-type n t ok) specific v) (label-below v) c
 
+  -- The same of types alone.
+
+  type-over : (v : ℕ) → TypeOver n t (graphOfRows s) (graphOfRows g) v (meetAt v .type)
+  type-over v =
+      let is : MeetOver n t (graphOfRows s) (graphOfRows g) v (meetAt v) = meet-over v in
+      record {
+        known = is .known .type;
+        under = λ p y d e. inside n t (meetAt v) (graphOfRows g .label y) (is .under p y d e) .type;
+        greatest = λ b l under.
+            let a : Label = record { type = b; lowest = meetAt v .lowest; highest = meetAt v .highest } in
+            inside n t a (meetAt v)
+            (is .greatest a (record { type = l; lowest = is .known .lowest; highest = is .known .highest })
+            (λ p y d e.
+            let i = inside n t (meetAt v) (graphOfRows g .label y) (is .under p y d e) in
+            inside-le n t a (graphOfRows g .label y) (record { type = under p y d e; lowest = i .lowest; highest = i .highest }))) .type;
+      }
+
+  type-over-unique : (v q : ℕ) → TypeOver n t (graphOfRows s) (graphOfRows g) v q → q ≡ meetAt v .type
+  type-over-unique v q a =
+      let b = type-over v in
+      below-antisymmetric n t ok q (meetAt v .type) (a .known) (b .known) (b .greatest q (a .known) (a .under)) (a .greatest (meetAt v .type) (b .known) (b .under))
+
+  -- the wanted type, as it is computed
+  abbrev typeWanted : ℕ → Option ℕ
+  typeWanted v = table.wanted n t (graphOfRows s .label v .type) (meetAt v .type)
+
+  pub type-exact : (v c : ℕ) → (typeWanted v ≡ some c) ↔ WantedType n t (graphOfRows s) (graphOfRows g) v c
+  type-exact v c = (
+    λ e.
+        let w = wanted-sound n t ok (graphOfRows s .label v .type) (meetAt v .type) c (type-over v .known) e in
+        record { over = meetAt v .type; is-over = type-over v; known = w .type; restores = w .exact; greatest = w .greatest },
+    λ w.
+        let same = type-over-unique v (w .over) (w .is-over) in
+        wanted-unique n t ok (graphOfRows s .label v .type) (meetAt v .type) c (type-over v .known) (w .known)
+        (subst (λ (q : ℕ). table.meet n t c q ≡ some (graphOfRows s .label v .type)) same (w .restores))
+        (λ d l e. w .greatest d l (subst (λ (q : ℕ). table.meet n t d q ≡ some (graphOfRows s .label v .type)) (sym same) e)),
+  )
+
+  -- a node has a wanted label where it has a wanted type
+  label-found : (v : ℕ) → table.found (wantedAt n t s g v) ≡ table.found (typeWanted v)
+  unfolding wantedAlong wantedLabel
+  label-found v = go (typeWanted v)
+    where
+      go : (o : Option ℕ) → table.found (Option·map (wantedRange (graphOfRows s .label v) (meetAt v)) o) ≡ table.found o
+      go none = refl
+      go (some c) = refl
+
   -- Some node has none exactly where the test of all nodes fails.
-  pub unwanted-exact : (allWanted n t s g ≡ false) ↔ SomeUnwanted n t (graphOfRows s) (graphOfRows g)
+  pub unwanted-types : (allWanted n t s g ≡ false) ↔ SomeUnwanted n t (graphOfRows s) (graphOfRows g)
   unfolding allWantedAlong
-  unwanted-exact = (
+  unwanted-types = (
     λ e.
         let (v, l, missed) = every-missed (λ v. table.found (wantedAt n t s g v)) (length s) e in
-        (v, specific .reached v l, λ c is. true-false (ap table.found (wanted-exact v c .1 is)) missed),
+        (v, specific .reached v l, λ c is. true-false (label-found v ∙ ap table.found (type-exact v c .1 is)) missed),
     λ (v, r, nothing).
         every-fails (λ v. table.found (wantedAt n t s g v)) (length s) v (node-inside v r)
         (not-true (table.found (wantedAt n t s g v))
-        (λ q. let (c, e) = found-some (wantedAt n t s g v) q in nothing c (wanted-exact v c .0 e))),
+        (λ q. let (c, e) = found-some (typeWanted v) (sym (label-found v) ∙ q) in nothing c (type-exact v c .0 e))),
   )
+
+  -- the lowest and the highest level of the meet over a node
+  lowest-least : (v l : ℕ) → ((p : List ℕ) (y : ℕ) → walk (graphOfRows s) p ≡ some v → walk (graphOfRows g) p ≡ some y → graphOfRows g .label y .lowest ≤ l) →
+      meetAt v .lowest ≤ l
+  lowest-least v l within = go (decLt 255 l)
+    where
+      go : Dec (255 < l) → meetAt v .lowest ≤ l
+      go (yes large) = omega (arith, meet-known v .lowest)
+      go (no small) =
+          let a : Label = record { type = meetAt v .type; lowest = l; highest = meetAt v .highest } in
+          inside n t a (meetAt v)
+          (meet-over v .greatest a (record { type = meet-known v .type; lowest = omega arith; highest = meet-known v .highest })
+          (λ p y d e.
+          let i = inside n t (meetAt v) (graphOfRows g .label y) (meet-over v .under p y d e) in
+          inside-le n t a (graphOfRows g .label y) (record { type = i .type; lowest = within p y d e; highest = i .highest }))) .lowest
+
+  highest-most : (v h : ℕ) → h ≤ 255 →
+      ((p : List ℕ) (y : ℕ) → walk (graphOfRows s) p ≡ some v → walk (graphOfRows g) p ≡ some y → h ≤ graphOfRows g .label y .highest) → h ≤ meetAt v .highest
+  highest-most v h small within =
+      let a : Label = record { type = meetAt v .type; lowest = meetAt v .lowest; highest = h } in
+      inside n t a (meetAt v)
+      (meet-over v .greatest a (record { type = meet-known v .type; lowest = meet-known v .lowest; highest = small })
+      (λ p y d e.
+      let i = inside n t (meetAt v) (graphOfRows g .label y) (meet-over v .under p y d e) in
+      inside-le n t a (graphOfRows g .label y) (record { type = i .type; lowest = i .lowest; highest = within p y d e }))) .highest
+
+  -- A wanted range it always has.
+  pub range-wanted : (v : ℕ) → Reached (graphOfRows s) v → (lowest highest : ℕ) × WantedRange (graphOfRows s) (graphOfRows g) v lowest highest
+  range-wanted v r =
+      let is : MeetOver n t (graphOfRows s) (graphOfRows g) v (meetAt v) = meet-over v in
+      let p : Label = graphOfRows s .label v in
+      let i : Inside t p (meetAt v) = inside n t p (meetAt v) (label-below v) in
+      let (lowest, low-over, low-widest) = low-wanted (p .lowest) (meetAt v .lowest) (i .lowest) in
+      let (highest, high-over, high-widest) = high-wanted (p .highest) (meetAt v .highest) (i .highest) in (
+        lowest,
+        highest,
+        record {
+          low = meetAt v .lowest;
+          high = meetAt v .highest;
+          inside = λ p y d e.
+              let i = inside n t (meetAt v) (graphOfRows g .label y) (is .under p y d e) in
+              (i .lowest, i .highest);
+          widest-inside = λ l h small within. (lowest-least v l (λ p y d e. within p y d e .0), highest-most v h small (λ p y d e. within p y d e .1));
+          overlap = (low-over, high-over);
+          widest = λ l h small (e, f). (low-widest l e, high-widest h small f);
+        },
+      )
+    where
+      low-wanted : (p q : ℕ) → q ≤ p → (a : ℕ) × (max a q ≡ p) × ((l : ℕ) → max l q ≡ p → a ≤ l)
+      low-wanted p q le = go (ℕ-discrete p q)
+        where
+          go : Dec (p ≡ q) → (a : ℕ) × (max a q ≡ p) × ((l : ℕ) → max l q ≡ p → a ≤ l)
+          go (yes e) = (0, omega arith, λ l f. omega arith)
+          go (no e) = (p, omega arith, λ l f. omega arith)
+
+      high-wanted : (p q : ℕ) → p ≤ q → (a : ℕ) × (min a q ≡ p) × ((h : ℕ) → h ≤ 255 → min h q ≡ p → h ≤ a)
+      high-wanted p q le = go (ℕ-discrete p q)
+        where
+          go : Dec (p ≡ q) → (a : ℕ) × (min a q ≡ p) × ((h : ℕ) → h ≤ 255 → min h q ≡ p → h ≤ a)
+          go (yes e) = (max q 255, omega arith, λ h small f. omega arith)
+          go (no e) = (p, omega arith, λ h small f. omega arith)
 
   -- past the nodes of s there is no label, nothing of g lies over, and that of no node is found
   wanted-past : (v : ℕ) → length s ≤ v → wantedAt n t s g v ≡ some noLabel

@@ -1,28 +1,32 @@
 -- Paper 6: tables with three rival types. a is the general record, b the specific one.
-use mathlib.Core.Path.{_≡_}
+use mathlib.Core.Path.{_≡_, refl}
 use mathlib.Core.Bool.{true}
 use mathlib.Core.List.{List}
 use mathlib.Core.Logic.{_↔_, _⊎_}
 use Prim.Native.Nat.{ℕ}
 use lib.Dec.{eqb}
 use lib.ListN.{take}
-use Rattle.graphs.specs.Graph.{Below}
+use Rattle.graphs.specs.Graph.{Reached, Below}
 use Rattle.graphs.specs.Rows.{Row}
 use Rattle.lattice.specs.Label.{Label}
 use Rattle.graphs.specs.Difference.{byNumber}
 use Rattle.graphs.proofs.Difference.ByNumber.{by-number-order}
 use Rattle.lattice.specs.declared.Opened.the-variants.{Accepted}
 use Rattle.lattice.specs.Reply.{opened}
-use Rattle.lattice.specs.Labels.{tableLabels, SomeUnwanted}
+use Rattle.lattice.specs.Labels.{tableLabels}
 use Rattle.lattice.specs.Table as types
+use Rattle.lattice.proofs.Acceptance.{opened-accepted}
+use Rattle.record.proofs.Accepted.{accepted-rules}
 use Rattle.encode.specs.Encode.{fitted}
 use Rattle.record.specs.Read.{reading, accepted, graphOfRows}
 use Rattle.replies.specs.declared.Reply.the-variants.{Length, NotBelow, NoWantedType}
 use Rattle.replies.specs.Reply.{resultOf}
 use Rattle.calls.specs.Calls.{differing}
 use Rattle.demands.specs.Before.{differingBefore}
+use Rattle.demands.specs.Wanted.{SomeUnwanted, WantedRange}
 use Rattle.demands.specs.Demand.{Given, recordOf, writing, loneTop, remainder, Restores, Difference}
 use Rattle.demands.proofs.Demanded.Difference as Differed
+use Rattle.demands.proofs.Demanded.Wanted as Wanted
 use Rattle.demands.proofs.Demanded.Before.{differing-before, never-unwanted}
 use Rattle.demands.proofs.Demanded.Itself.{itself}
 
@@ -31,6 +35,13 @@ module _ (n : ℕ) (t a b : List ℕ) (g s : List (Row Label)) (given : Given n 
   pub unwanted-exact : (differing n t a b out .reply ≡ NoWantedType) ↔
       (Below (tableLabels n t) (graphOfRows s) (graphOfRows g) × SomeUnwanted n t (graphOfRows s) (graphOfRows g))
   unwanted-exact = Differed.unwanted-reply-exact n t a b g s given by-number-order (Differed.plain-parts n t a b given out)
+
+  -- a wanted range every node of s has;
+  pub range-wanted : Below (tableLabels n t) (graphOfRows s) (graphOfRows g) → (v : ℕ) → Reached (graphOfRows s) v →
+      (lowest highest : ℕ) × WantedRange (graphOfRows s) (graphOfRows g) v lowest highest
+  range-wanted =
+      Wanted.range-wanted n t (opened-accepted n t (opened n t) refl (given .opens)) g s (accepted-rules n a g (given .first))
+      (accepted-rules n b s (given .second))
 
   -- 12 is checked before it: it is given wherever s is not below g.
   pub unwanted-after-below : (differing n t a b out .reply ≡ NotBelow) ↔ (Below (tableLabels n t) (graphOfRows s) (graphOfRows g) → ⊥)

@@ -19,7 +19,7 @@ use Rattle.graphs.proofs.Difference.ByReading.{by-reading, by-reading-order}
 use Rattle.lattice.specs.declared.TableFault.{TableFault}
 use Rattle.lattice.specs.declared.Opened.the-variants.{Accepted, Refused}
 use Rattle.lattice.specs.Reply.{opened}
-use Rattle.lattice.specs.Labels.{tableLabels, SomeUnwanted}
+use Rattle.lattice.specs.Labels.{tableLabels}
 use Rattle.record.specs.declared.GraphFault.{GraphFault}
 use Rattle.record.specs.Read.{reading, refused, accepted, graphOfRows}
 use Rattle.groups.specs.LinkOrders.{isReadingOrder, EachOnce}
@@ -34,6 +34,7 @@ use Rattle.difference.specs.Explained.{explainedResult}
 use Rattle.engine.specs.Differing.{reasonsOf, parting}
 use Rattle.calls.specs.Explained.{explainingBy}
 use Rattle.demands.specs.Explained.{reasonFor, LinkReason}
+use Rattle.demands.specs.Wanted.{SomeUnwanted}
 use Rattle.demands.specs.Demand.{Given, recordOf, writing, Leaves, remainder, Restores, Difference}
 use Rattle.calls.proofs.Listed.{table-before-list, list-exact, differing-checked}
 use Rattle.demands.proofs.Demanded.Output as Output
