@@ -5,6 +5,7 @@ pub mod Combination
 pub mod Wanted
 pub mod Remainder
 pub mod Difference
+pub mod Relations
 pub mod Before
 pub mod Itself
 pub mod Output

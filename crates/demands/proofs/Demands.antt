@@ -3,23 +3,24 @@
 -- are cited. n and t are the table, out is the output lent; a and b are the records.
 use mathlib.Core.Path.{_≡_, refl, _∙_}
 use mathlib.Core.Bool.{Bool, true}
-use mathlib.Core.List.{List}
+use mathlib.Core.List.{List, List·Memᴰ}
 use mathlib.Core.Logic.{_↔_, _⊎_}
 use mathlib.Core.Option.{none, some}
 use Prim.Native.Nat.{ℕ, _≤_}
 use lib.Dec.{eqb}
-use lib.ListN.{take}
-use Rattle.graphs.specs.Graph.{Graph, TellsApart, Below, SameMeaning}
-use Rattle.graphs.specs.Rows.{Row}
+use lib.ListN.{length, take}
+use Rattle.graphs.specs.Graph.{Graph, TellsApart, Reached, Below, SameMeaning}
+use Rattle.graphs.specs.Rows.{Row, from}
 use Rattle.graphs.specs.Generalize.{IsGeneralization}
 use Rattle.graphs.specs.Unify as unify
-use Rattle.graphs.specs.Difference.{byNumber}
+use Rattle.graphs.specs.Difference.{Link, byNumber, groupOf}
+use Rattle.graphs.specs.Relations.{Into, LiesOver, Grouped, KeptLink}
 use Rattle.graphs.proofs.Difference.ByNumber.{by-number-order}
 use Rattle.lattice.specs.Label.{Label}
 use Rattle.lattice.specs.declared.Opened.the-variants.{Accepted}
 use Rattle.lattice.specs.Table.{admits}
 use Rattle.lattice.specs.Reply.{opened}
-use Rattle.lattice.specs.Labels.{tableLabels, OfAnySize, LeastOfAnySize, GreatestOfAnySize, IsCombination, LabelClash}
+use Rattle.lattice.specs.Labels.{tableLabels, OfAnySize, LeastOfAnySize, GreatestOfAnySize, IsCombination, LabelClash, WantedAt}
 use Rattle.lattice.proofs.Acceptance.{opened-accepted}
 use Rattle.lattice.proofs.AnySize.{combination-greatest}
 use Rattle.encode.specs.Encode.{fitted}
@@ -27,6 +28,7 @@ use Rattle.record.specs.Read.{reading, accepted, graphOfRows}
 use Rattle.generalize.specs.Pairs.{samePair}
 use Rattle.replies.specs.declared.Reply.the-variants.{Length, Same, Cycle, Clash, TooLarge, NotBelow, NoWantedType}
 use Rattle.replies.specs.Reply.{Result, resultOf}
+use Rattle.difference.specs.Difference.{over}
 use Rattle.calls.specs.Calls.{rewriting, ordering, generalizing, unifying, differing}
 use Rattle.demands.specs.Wanted.{SomeUnwanted}
 use Rattle.demands.specs.Demand.{
@@ -44,7 +46,9 @@ use Rattle.demands.specs.Demand.{
   CommonPart,
   NoneBelow,
   Combination,
+  asWritten,
   remainder,
+  WantedNotTop,
   Restores,
   Difference,
 }
@@ -57,6 +61,7 @@ use Rattle.demands.proofs.Demanded.CommonPart as Common
 use Rattle.demands.proofs.Demanded.Combination as Combined
 use Rattle.demands.proofs.Demanded.Difference as Differed
 use Rattle.demands.proofs.Demanded.Whole as Whole
+use Rattle.demands.proofs.Demanded.Relations as Related
 
 -- Demand 1: what is handed in determines the reply and each byte of the output. Each call's promise is an equation with its definition.
 -- Whatever is handed in, a refusal leaves the output as it was; beside a length the first bytes are a record, accepted when it is read and
@@ -217,6 +222,29 @@ module _ (n : ℕ) (t a b : List ℕ) (g s : List (Row Label)) (given : Given n 
   pub difference-restores : Below (tableLabels n t) (graphOfRows s) (graphOfRows g) →
       (SomeUnwanted n t (graphOfRows s) (graphOfRows g) → ⊥) → Restores n t (remainder byNumber n t g s) (graphOfRows g) (graphOfRows s)
   difference-restores below all = Differed.remainder-restores n t a b g s given by-number-order below (Differed.all-wanted n t a b g s given below all)
+
+  -- It is the difference of document 01, as the relations state it over the paths and links of the two graphs, s numbered as written: the
+  -- nodes of g that lie over a node of s,
+  module _ (below : Below (tableLabels n t) (graphOfRows s) (graphOfRows g)) where
+    pub over-exact : (y v : ℕ) →
+        LiesOver (graphOfRows (asWritten s)) (graphOfRows g) y v ↔ (Reached (graphOfRows g) y × (over (asWritten s) g y ≡ v))
+    over-exact = Related.over-exact n t a b g s given below
+
+    -- the links in one group,
+    pub group-exact : (v : ℕ) (l m : Link ℕ) → Into (graphOfRows (asWritten s)) v l →
+        List·Memᴰ m
+        (groupOf eqb eqb (graphOfRows (asWritten s)) (from 0 (length (asWritten s))) (graphOfRows g) (from 0 (length g)) (over (asWritten s) g) v l) ↔
+        Grouped (graphOfRows (asWritten s)) (graphOfRows g) v l m
+    group-exact = Related.group-exact n t a b g s given below
+
+    -- the kept links, and the labels of the nodes.
+    module _ (all : SomeUnwanted n t (graphOfRows s) (graphOfRows g) → ⊥) where
+      pub keep-exact : (u f v : ℕ) → Reached (graphOfRows (asWritten s)) u → (remainder byNumber n t g s .link u f ≡ some v) ↔
+          KeptLink (graphOfRows (asWritten s)) (graphOfRows g) byNumber (WantedNotTop n t (graphOfRows (asWritten s)) (graphOfRows g)) u f v
+      keep-exact = Related.keep-exact n t a b g s given below (Differed.all-wanted n t a b g s given below all) by-number-order
+
+      pub label-exact : (v : ℕ) → WantedAt n t (graphOfRows (asWritten s)) (graphOfRows g) v (remainder byNumber n t g s .label v)
+      label-exact = Related.label-exact n t a b g s given below (Differed.all-wanted n t a b g s given below all) by-number-order
 
   module _ (out : List ℕ) where
     -- 12 exactly where s is not below g,

@@ -1,7 +1,7 @@
 -- What is demanded of the calls beyond their replies, over an accepted table and accepted records: what stands in the output, which
 -- result a graph of any size gives, and what the records of a common part, a combination and a difference are among all graphs of any size.
 use mathlib.Core.Path.{_≡_}
-use mathlib.Core.Bool.{Bool}
+use mathlib.Core.Bool.{Bool, false}
 use mathlib.Core.List.{List, _∷_}
 use mathlib.Core.Logic.{_↔_, _⊎_}
 use mathlib.Core.Option.{Option, none, some}
@@ -17,7 +17,7 @@ use Rattle.graphs.specs.Difference.{Link}
 use Rattle.lattice.specs.Label.{Label}
 use Rattle.lattice.specs.declared.Opened.the-variants.{Accepted}
 use Rattle.lattice.specs.Reply.{opened}
-use Rattle.lattice.specs.Labels.{tableLabels, OfAnySize, LeastOfAnySize, GreatestOfAnySize, IsCombination}
+use Rattle.lattice.specs.Labels.{tableLabels, OfAnySize, LeastOfAnySize, GreatestOfAnySize, IsCombination, WantedAt}
 use Rattle.encode.specs.Encode.{encoded, fitted}
 use Rattle.record.specs.Read.{reading, accepted, graphOfRows}
 use Rattle.replies.specs.declared.Reply.the-variants.{Length, Same, Under, Above, Neither, TooLarge}
@@ -127,9 +127,17 @@ MoreGeneral n t e d = Below (tableLabels n t) d e × (Below (tableLabels n t) e 
 abbrev pub loneTop : ℕ → List ℕ
 loneTop n = 1 ∷ (n - 1) ∷ replicate 8 0
 
+-- "Number s as written": the rows of s in written form
+abbrev pub asWritten : List (Row Label) → List (Row Label)
+asWritten s = numbered (canonical eqb (graphOfRows s))
+
 -- the difference of g and s by an order of links, for s below g, with s numbered as written
 abbrev pub remainder : (Link ℕ → Link ℕ → Bool) → ℕ → List ℕ → List (Row Label) → List (Row Label) → Graph Label ℕ
-remainder earlier n t g s = differenceRows earlier n t g (numbered (canonical eqb (graphOfRows s)))
+remainder earlier n t g s = differenceRows earlier n t g (asWritten s)
+
+-- the wanted label of the node v of s, over paths, is not top: "the wanted type is not top", or the wanted range "is not full"
+abbrev pub WantedNotTop : {A B : Type 0} → ℕ → List ℕ → Graph Label A → Graph Label B → A → Type 0
+WantedNotTop n t s g v = (c : Label) × WantedAt n t s g v c × (tableLabels n t .le (tableLabels n t .top) c ≡ false)
 
 -- d, combined with g, restores s, and nothing more general does: whatever graph of any size is strictly more general than d, what it
 -- combines to with g, the greatest graph of any size below both, is strictly more general than s. There is one, what the classes of paths

@@ -1,24 +1,35 @@
 -- What a reason beside a link of a difference tells (document 02, Paper 13).
+use mathlib.Core.Path.{_≡_}
 use mathlib.Core.Bool.{Bool}
-use mathlib.Core.List.{List}
-use mathlib.Core.Option.{Option·getD}
-use Prim.Native.Nat.{ℕ}
+use mathlib.Core.List.{List, [], _∷_, _++_}
+use mathlib.Core.Option.{some}
+use Prim.Native.Nat.{ℕ, _<_}
 use lib.Dec.{eqb}
-use lib.ListN.{length}
+use lib.ListN.{length, getD}
+use Rattle.graphs.specs.Graph.{walk}
 use Rattle.graphs.specs.Rows.{Row, from}
+use Rattle.graphs.specs.Large.{linksIn}
 use Rattle.graphs.specs.Difference.{Link}
-use Rattle.graphs.specs.Reasons.{reasonAt, IsReason}
-use Rattle.lattice.specs.Label.{Label, noLabel}
-use Rattle.lattice.specs.Labels.{tableLabels}
+use Rattle.graphs.specs.Reasons.{reasonAt, linksInOrder, IsReason}
+use Rattle.lattice.specs.Label.{Label}
 use Rattle.record.specs.Read.{graphOfRows}
-use Rattle.difference.specs.Difference.{over, wantedAt}
+use Rattle.difference.specs.Difference.{over}
+use Rattle.demands.specs.Demand.{WantedNotTop}
 
 -- the reason for a link of the difference of g and s that enters v
 abbrev pub reasonFor : (Link ℕ → Link ℕ → Bool) → ℕ → List ℕ → List (Row Label) → List (Row Label) → Link ℕ → ℕ → ℕ
 reasonFor earlier n t g s l v = reasonAt eqb eqb (graphOfRows s) (from 0 (length s)) (graphOfRows g) (from 0 (length g)) (over s g) earlier l v
 
--- the reason for the link from u by f, which enters v, tells what it should
-abbrev pub LinkReason : (Link ℕ → Link ℕ → Bool) → ℕ → List ℕ → List (Row Label) → List (Row Label) → ℕ → ℕ → ℕ → Type 0
-LinkReason earlier n t g s u f v =
-    IsReason (tableLabels n t) eqb eqb earlier (graphOfRows s) (from 0 (length s)) (graphOfRows g) (from 0 (length g)) (over s g)
-    (λ v. Option·getD (wantedAt n t s g v) noLabel) (u, f) v (reasonFor earlier n t g s (u, f) v)
+-- the reason tells what it should, over paths, of the link of s from u by f, which enters v
+abbrev pub LinkReason : (Link ℕ → Link ℕ → Bool) → ℕ → List ℕ → List (Row Label) → List (Row Label) → ℕ → ℕ → ℕ → ℕ → Type 0
+LinkReason earlier n t g s u f v reason =
+    IsReason (graphOfRows s) (graphOfRows g) earlier (WantedNotTop n t (graphOfRows s) (graphOfRows g)) (u, f) v reason
+
+-- "Each byte's fact is to be shown true of the two graphs": byte i tells of link i, "in record order", of the difference with the rows
+-- `form`. Let it leave node k by f. A path to k leads in s to a node u, and followed by f to a node v; byte i is a reason for that link.
+abbrev pub ReasonsTell : (Link ℕ → Link ℕ → Bool) → ℕ → List ℕ → List (Row Label) → List (Row Label) → List (Row Label) → List ℕ → Type 0
+ReasonsTell earlier n t g s form reasons =
+    (i k f : ℕ) → i < linksIn form → _≡_ {A = Link ℕ} (getD (linksInOrder form) i (0, 0)) (k, f) →
+    (p : List ℕ) → walk (graphOfRows form) p ≡ some k →
+    (u : ℕ) × (v : ℕ) × (walk (graphOfRows s) p ≡ some u) × (walk (graphOfRows s) (p ++ (f ∷ [])) ≡ some v) ×
+    LinkReason earlier n t g s u f v (getD reasons i 0)

@@ -17,4 +17,5 @@ pub mod Consequences
 pub mod Unique
 pub mod Agree
 pub mod Computed
+pub mod Relations
 pub mod Reasons

@@ -1,8 +1,8 @@
 -- The theorems about graphs of any size, in one place, each with its statement and a line that cites its proof. `𝓛` is any
 -- lattice of labels; graphs have any type of nodes, and nothing bounds their size but where "fits" is said.
 use mathlib.Core.Path.{_≡_, refl}
-use mathlib.Core.Bool.{Bool, true}
-use mathlib.Core.List.{List}
+use mathlib.Core.Bool.{Bool, true, false}
+use mathlib.Core.List.{List, List·Memᴰ}
 use mathlib.Core.Logic.{_↔_, _⊎_, inl, inr, ⊎-elim}
 use mathlib.Core.Option.{some}
 use Prim.Native.Nat.{ℕ, _<_, _≤_}
@@ -17,7 +17,8 @@ use Rattle.graphs.specs.Large.{ManyNodes, ManyLinks}
 use Rattle.graphs.specs.Order.{subsumes}
 use Rattle.graphs.specs.Generalize.{IsGeneralization, generalization}
 use Rattle.graphs.specs.Unify.{Cycle, Clash, IsUnification, Unified, cycle, clash, unified, unification, classGraph}
-use Rattle.graphs.specs.Difference.{Link, StrictOrder, IsResidual, IsWanted, meetOver, difference}
+use Rattle.graphs.specs.Difference.{Link, StrictOrder, IsResidual, IsWanted, meetOver, groupOf, difference}
+use Rattle.graphs.specs.Relations.{Into, LiesOver, Grouped, KeptLink}
 use Rattle.graphs.proofs.Below as Below
 use Rattle.graphs.proofs.Finite as Finite
 use Rattle.graphs.proofs.Product as Product
@@ -30,6 +31,7 @@ use Rattle.graphs.proofs.Unification.Beside.{Operands, any-size-operand
 use Rattle.graphs.proofs.Unification.Outcome as Outcome
 use Rattle.graphs.proofs.Difference.Computed as Difference
 use Rattle.graphs.proofs.Difference.Computed.{Setting}
+use Rattle.graphs.proofs.Difference.Relations as Relations
 use Rattle.graphs.proofs.Difference.Wanted as Wanted
 
 -- features below 64, as in every graph of any size
@@ -197,6 +199,20 @@ module _ (𝓛 : Labels) (lattice : Lattice 𝓛) where
           map = map;
           wants = wants;
         }
+
+    -- It is the one that the relations over paths and links state: of what lies over what,
+    pub over-exact : (y : B) (v : A) → LiesOver s g y v ↔ (Reached g y × (over y ≡ v))
+    over-exact = Relations.over-exact map
+
+    -- of the links in one group,
+    pub group-exact : (v : A) (l m : Link A) → Into s v l →
+        List·Memᴰ m (groupOf sameA sameB s (a .nodes) g (b .nodes) over v l) ↔ Grouped s g v l m
+    group-exact = Relations.group-exact (set .operands) map
+
+    -- and of the kept links.
+    pub keep-exact : (u : A) (f : ℕ) (v : A) → Reached s u →
+        (d .link u f ≡ some v) ↔ KeptLink s g earlier (λ w. 𝓛 .le (𝓛 .top) (wanted w) ≡ false) u f v
+    keep-exact = Relations.keep-exact (set .operands) map earlier order a wanted
 
     -- It is a graph of any size, and no larger than s.
     pub difference-any-size : AnySize 𝓛 d

@@ -10,4 +10,5 @@ pub mod Generalize
 pub mod Order
 pub mod Unify
 pub mod Difference
+pub mod Relations
 pub mod Reasons

@@ -1,16 +1,16 @@
 -- The reason beside each kept link (document 02, Paper 13), over what a difference is made of: the number of the reason for a link, and
 -- the links of a graph "in record order".
 use mathlib.Core.Path.{_≡_}
-use mathlib.Core.Bool.{Bool, false, cond}
-use mathlib.Core.List.{List, [], _∷_, _++_, map, reverse, List·Memᴰ}
+use mathlib.Core.Bool.{Bool, cond}
+use mathlib.Core.List.{List, [], _∷_, _++_, map, reverse}
 use mathlib.Core.Logic.{_↔_, _⊎_}
 use mathlib.Core.Option.{Option, none, some}
-use Prim.Native.Nat.{ℕ}
-use Rattle.graphs.specs.Label.{Labels}
-use Rattle.graphs.specs.Graph.{Graph, Reached, walk}
-use Rattle.graphs.specs.Rows.{features, linksOf}
+use Prim.Native.Nat.{ℕ, suc}
+use Rattle.graphs.specs.Graph.{Graph}
+use Rattle.graphs.specs.Rows.{Row, features, linksOf}
 use Rattle.graphs.specs.Number.{visit}
-use Rattle.graphs.specs.Difference.{Link, bare, differ, groupOf, leaders, difference}
+use Rattle.graphs.specs.Difference.{Link, bare, differ, leaders}
+use Rattle.graphs.specs.Relations.{SomethingOver, NothingOver, TwoGroups, KeptLink}
 
 -- "1 when nothing of the general graph lies over the link; else 2 when the node it enters has two or more groups; else 3": of a link
 -- that enters v in s
@@ -36,29 +36,20 @@ unfoldable pub alongLinks : {L X : Type 0} → Graph L ℕ → (Link ℕ → ℕ
 alongLinks d value [] = []
 alongLinks d value (v ∷ vs) = map (λ l. value (v, l .0) (l .1)) (linksOf (d .link v) features) ++ alongLinks d value vs
 
--- "nothing of the general graph lies over the link": no path that leads to the link's source in s, followed by its feature, is a path
--- of g
-abbrev pub NothingOver : {L A B : Type 0} → Graph L A → Graph L B → Link A → Type 0
-NothingOver {B = B} s g l = (p : List ℕ) (w : B) → walk s p ≡ some (l .0) → walk g (p ++ (l .1 ∷ [])) ≡ some w → ⊥
+-- the links of rows, the first of which is row k
+unfoldable pub linksFromRow : {L : Type 0} → ℕ → List (Row L) → List (Link ℕ)
+linksFromRow k [] = []
+linksFromRow k (row ∷ rows) = map (λ l. (k, l .0)) (row .1) ++ linksFromRow (suc k) rows
 
--- "two or more groups": two links enter v, and the one is not in the group of the other
-pub record TwoGroups {L A B : Type 0} (sameA : A → A → Bool) (sameB : B → B → Bool) (s : Graph L A) (ss : List A) (g : Graph L B)
-    (gs : List B) (over : B → A) (v : A) : Type 0 where
-  pub one : Link A
-  pub other : Link A
-  pub one-reached : Reached s (one .0)
-  pub other-reached : Reached s (other .0)
-  pub one-enters : s .link (one .0) (one .1) ≡ some v
-  pub other-enters : s .link (other .0) (other .1) ≡ some v
-  pub apart : List·Memᴰ other (groupOf sameA sameB s ss g gs over v one) → ⊥
+-- the links of a record "in record order": node after node, each node's links in turn
+abbrev pub linksInOrder : {L : Type 0} → List (Row L) → List (Link ℕ)
+linksInOrder rows = linksFromRow 0 rows
 
-module _ (𝓛 : Labels) {A B : Type 0} (sameA : A → A → Bool) (sameB : B → B → Bool) (earlier : Link A → Link A → Bool)
-    (s : Graph (𝓛 .L) A) (ss : List A) (g : Graph (𝓛 .L) B) (gs : List B) (over : B → A) (wanted : A → 𝓛 .L) where
+module _ {L A B : Type 0} (s : Graph L A) (g : Graph L B) (earlier : Link A → Link A → Bool) (Wants : A → Type 0) where
   -- What the reason for a link that enters v tells of the two graphs. A link that is kept for neither of the first two enters a node
-  -- with "a wanted type or range", or one that a link of the difference leaves: "what hangs below".
+  -- with "a wanted type or range", or one that a kept link leaves: "what hangs below".
   pub record IsReason (l : Link A) (v : A) (reason : ℕ) : Type 0 where
     pub first : (reason ≡ 1) ↔ NothingOver s g l
-    pub second : (reason ≡ 2) ↔ ((NothingOver s g l → ⊥) × TwoGroups sameA sameB s ss g gs over v)
-    pub third : (reason ≡ 3) ↔ ((NothingOver s g l → ⊥) × (TwoGroups sameA sameB s ss g gs over v → ⊥))
-    pub why-third : reason ≡ 3 → (𝓛 .le (𝓛 .top) (wanted v) ≡ false) ⊎
-        ((f : ℕ) × (w : A) × (difference 𝓛 sameA sameB earlier s ss g gs over wanted .link v f ≡ some w))
+    pub second : (reason ≡ 2) ↔ (SomethingOver s g l × TwoGroups s g v)
+    pub third : (reason ≡ 3) ↔ (SomethingOver s g l × (TwoGroups s g v → ⊥))
+    pub why-third : reason ≡ 3 → Wants v ⊎ ((f : ℕ) × (w : A) × KeptLink s g earlier Wants v f w)

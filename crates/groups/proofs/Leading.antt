@@ -13,13 +13,14 @@ use Rattle.graphs.specs.Graph.{Graph}
 use Rattle.graphs.specs.Map.{NodeMap}
 use Rattle.graphs.specs.Rows.{from}
 use Rattle.graphs.specs.Difference.{Link, StrictOrder, lead}
+use Rattle.graphs.specs.Relations.{Into, Grouped, itself, touching, chain}
 use Rattle.graphs.proofs.Walk.{some-unique}
 use Rattle.graphs.proofs.Search.{true-false}
 use Rattle.graphs.proofs.Lists.{from-member, from-range}
 use Rattle.graphs.proofs.Unification.Beside.{Operands}
-use Rattle.graphs.proofs.Difference.Laws.{Into, Leader, Enters, Grouped, touching, alike, flip, chain}
-use Rattle.graphs.proofs.Difference.Kept.{enters-into}
-use Rattle.graphs.proofs.Difference.Lead.{grouped-into, lead-least, lead-unique}
+use Rattle.graphs.proofs.Difference.Laws.{Leader, Enters}
+use Rattle.graphs.proofs.Difference.Kept.{enters-into, enters-grouped, grouped-into, grouped-flip, link-over}
+use Rattle.graphs.proofs.Difference.Lead.{lead-least, lead-unique}
 use Rattle.lattice.specs.Labels.{tableLabels}
 use Rattle.lattice.specs.Label.{Label}
 use Rattle.layout.specs.Layout.{longest, size, featureAt, targetAt, graphIn, Sound, Place, rowsEnd}
@@ -77,7 +78,7 @@ module _ (n : ℕ) (t : List ℕ) {sw gw map : List ℕ} (lying : Lying sw gw ma
   over y = getD map y 0
 
   abbrev Joins : ℕ → Link ℕ → Link ℕ → Type 0
-  Joins v l m = Grouped {L = Label} g over v l m
+  Joins v l m = Grouped s g v l m
 
   abbrev Goes : ℕ → Link ℕ → Type 0
   Goes z l = Enters {L = Label} g over z l
@@ -134,7 +135,7 @@ module _ (n : ℕ) (t : List ℕ) {sw gw map : List ℕ} (lying : Lying sw gw ma
         to-link = l;
         from-enters = p;
         to-enters = q;
-        grouped = alike;
+        grouped = itself (enters-into lies x l p);
         under = some-unique (enters-into lies x l p .1) (enters-into lies y l q .1);
       })
   meets (back {x} {y} c) =
@@ -145,7 +146,7 @@ module _ (n : ℕ) (t : List ℕ) {sw gw map : List ℕ} (lying : Lying sw gw ma
         to-link = m .from-link;
         from-enters = m .to-enters;
         to-enters = m .from-enters;
-        grouped = subst (λ v. Joins v (m .to-link) (m .from-link)) (m .under) (flip (m .grouped));
+        grouped = subst (λ v. Joins v (m .to-link) (m .from-link)) (m .under) (grouped-flip (m .grouped));
         under = sym (m .under);
       }))
       (meets c)
@@ -161,7 +162,7 @@ module _ (n : ℕ) (t : List ℕ) {sw gw map : List ℕ} (lying : Lying sw gw ma
         to-enters = o .to-enters;
         grouped =
             chain (m .grouped)
-            (chain (touching y (sym (m .under)) (m .to-enters) (o .from-enters))
+            (chain (enters-grouped lies (over x) y (m .to-link) (o .from-link) (sym (m .under)) (m .to-enters) (o .from-enters))
             (subst (λ v. Joins v (o .from-link) (o .to-link)) (sym (m .under)) (o .grouped)));
         under = m .under ∙ o .under;
       }))
@@ -199,34 +200,30 @@ module _ (n : ℕ) (t : List ℕ) {sw gw map : List ℕ} (lying : Lying sw gw ma
         u = some-unique (enters-into lies x l p .1) (at-link s-sound j l a)
 
         go : (x ≡ y) ⊎ Meeting x y → Joins (targetAt sw j) l m
-        go (inl e) = touching x u p (subst (λ z. Goes z m) (sym e) q)
+        go (inl e) = enters-grouped lies (targetAt sw j) x l m u p (subst (λ z. Goes z m) (sym e) q)
         go (inr c) =
             subst (λ v. Joins v l m) u
-            (chain (touching x refl p (c .from-enters))
-            (chain (c .grouped) (touching y (sym (c .under)) (c .to-enters) q)))
+            (chain (enters-grouped lies (over x) x l (c .from-link) refl p (c .from-enters))
+            (chain (c .grouped) (enters-grouped lies (over x) y (c .to-link) m (sym (c .under)) (c .to-enters) q)))
 
     together-sym : {j k : ℕ} → Beside j k → Beside k j
     together-sym t = record { left = t .right; right = t .left; class = sym (t .class) }
 
     -- and links of one group stand at such places
-    grouped-together : (v : ℕ) (j k : ℕ) {l m : Link ℕ} → Joins v l m → Into s v l → At sw j l → At sw k m → (j ≡ k) ⊎ Beside j k
-    grouped-together v j k (touching {l} {m} z o p q) i a b =
-        let (x, e) = grouping .covered j z (enters-covers l a p) in
-        let (y, d) = grouping .covered k z (enters-covers m b q) in
+    grouped-together : (v : ℕ) (j k : ℕ) {l m : Link ℕ} → Joins v l m → At sw j l → At sw k m → (j ≡ k) ⊎ Beside j k
+    grouped-together v j k (itself {l} _) a b = inl (at-one s-sound j k l a b)
+    grouped-together v j k (touching {l} {m} _ _ (z, p, q)) a b =
+        let (x, e) = grouping .covered j z (enters-covers l a (link-over lies z l .0 p)) in
+        let (y, d) = grouping .covered k z (enters-covers m b (link-over lies z m .0 q)) in
         inr (record { left = x; right = y; class = e ∙ sym d })
-    grouped-together v j k (alike {l}) i a b = inl (at-one s-sound j k l a b)
-    grouped-together v j k (flip {l} {m} c) i a b =
-        ⊎-elim (λ (e : k ≡ j). inl (sym e)) (λ (t : Beside k j). inr (together-sym t))
-        (grouped-together v k j c (grouped-into operands lies v c .1 i) b a)
-    grouped-together v j k (chain {m = m} c d) i a b =
-        let im = grouped-into operands lies v c .0 i in
-        let (h, at, _) = into-at v m im in
-        ⊎-elim (λ (e : j ≡ h). subst (λ x. (x ≡ k) ⊎ Beside x k) (sym e) (grouped-together v h k d im at b))
+    grouped-together v j k (chain {m = m} c d) a b =
+        let (h, at, _) = into-at v m (grouped-into c .1) in
+        ⊎-elim (λ (e : j ≡ h). subst (λ x. (x ≡ k) ⊎ Beside x k) (sym e) (grouped-together v h k d at b))
         (λ (x : Beside j h).
         ⊎-elim (λ (e : h ≡ k). inr (subst (Beside j) e x))
         (λ (y : Beside h k). inr (record { left = x .left; right = y .right; class = x .class ∙ y .class }))
-        (grouped-together v h k d im at b))
-        (grouped-together v j h c i a at)
+        (grouped-together v h k d at b))
+        (grouped-together v j h c a at)
 
     module _ {earlier : Link ℕ → Link ℕ → Bool} (strict : StrictOrder earlier) where
       abbrev first : ℕ → Link ℕ → Link ℕ
@@ -236,18 +233,18 @@ module _ (n : ℕ) (t : List ℕ) {sw gw map : List ℕ} (lying : Lying sw gw ma
       place-leads : (k : ℕ) (l : Link ℕ) → At sw k l → Into s (targetAt sw k) l →
           ((j : ℕ) → j < longest → Earlier earlier sw j k → Beside j k → ⊥) → first (targetAt sw k) l ≡ l
       place-leads k l a i alone =
-          sym (lead-unique operands lies earlier strict (targetAt sw k) l l i alike λ m c. go m c (earlier m l) refl)
+          sym (lead-unique operands lies earlier strict (targetAt sw k) l l i (itself i) λ m c. go m c (earlier m l) refl)
         where
           go : (m : Link ℕ) → Joins (targetAt sw k) l m → (b : Bool) → earlier m l ≡ b → earlier m l ≡ false
           go m c false e = e
           go m c true e =
-              let (j, at, _) = into-at (targetAt sw k) m (grouped-into operands lies (targetAt sw k) c .0 i) in
+              let (j, at, _) = into-at (targetAt sw k) m (grouped-into c .1) in
               ⊎-elim
               (λ (z : k ≡ j).
               let here : At sw k m = subst (λ (x : ℕ). At sw x m) (sym z) at in
               ap (λ (x : Link ℕ). earlier x l) (one-link s-sound k m l here a) ∙ strict .irreflexive l)
               (λ (t : Beside k j). absurd (alone j (within j m at) (m, l, at, a, e) (together-sym t)))
-              (grouped-together (targetAt sw k) k j c i a at)
+              (grouped-together (targetAt sw k) k j c a at)
 
       -- and else it does not
       place-follows : (j k : ℕ) (l : Link ℕ) → At sw k l → Into s (targetAt sw k) l → Earlier earlier sw j k → Beside j k →

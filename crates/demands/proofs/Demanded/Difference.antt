@@ -81,7 +81,7 @@ unfolding differingBy
 listed-parts n t list a b given listed out = record { is = rw (given .opens, listed, given .first, given .second) }
 
 module _ (n : ℕ) (t a b : List ℕ) (g s : List (Row Label)) (given : Given n t a b g s) where
-  accepts : table.accepted n t ≡ true
+  pub accepts : table.accepted n t ≡ true
   accepts = opened-accepted n t (opened n t) refl (given .opens)
 
   pub general-rules : Rules n g

@@ -1,27 +1,27 @@
 -- What the reasons for the links of a difference tell of the two graphs, and the call with reasons beside the plain one.
 use mathlib.Core.Path.{_≡_, refl, sym, _∙_, ap, subst}
 use mathlib.Core.Bool.{Bool, true, false, cond}
-use mathlib.Core.List.{List, _++_, List·Memᴰ}
+use mathlib.Core.List.{List, [], _∷_, _++_}
 use mathlib.Core.Logic.{_↔_}
 use mathlib.Core.Option.{Option, none, some, Option·getD}
 use Prim.Native.Nat.{ℕ, _≤_, _<_}
 use native.Mathlib.Omega.{arith}
 use borrow.Author.Tests.{le-leb, lt-leb, leb-true, leb-false}
 use lib.Dec.{eqb, leb}
-use lib.ListN.{length, drop}
-use Rattle.graphs.specs.Graph.{AnySize, Reached, Below}
-use Rattle.graphs.specs.Rows.{Row, from}
+use lib.ListN.{length, getD, take, drop, List·getD-append}
+use Rattle.graphs.specs.Graph.{Graph, Reached, Below}
+use Rattle.graphs.specs.Rows.{Row}
 use Rattle.graphs.specs.Number.{canonical, written}
 use Rattle.graphs.specs.Large.{linksIn}
-use Rattle.graphs.specs.Difference.{Link, StrictOrder, byNumber, byReading, difference}
+use Rattle.graphs.specs.Difference.{Link, StrictOrder, byNumber, byReading}
 use Rattle.graphs.specs.Reasons.{alongLinks, writtenOrder}
-use Rattle.graphs.proofs.Walk.{some-injective, none-some}
+use Rattle.graphs.proofs.Walk.{some-injective, none-some, walk-snoc}
 use Rattle.graphs.proofs.Lists.{tells-eqb}
-use Rattle.graphs.proofs.Reasons.{written-length}
-use Rattle.graphs.proofs.Unification.Beside.{Operands}
+use Rattle.graphs.proofs.Reasons.{written-length, written-value}
 use Rattle.graphs.proofs.Difference.Reasons.{reason-tells}
 use Rattle.lattice.specs.Label.{Label, noLabel}
 use Rattle.lattice.specs.Labels.{tableLabels}
+use Rattle.lattice.specs.Table as types
 use Rattle.lattice.specs.declared.TableFault.{TableFault}
 use Rattle.lattice.specs.declared.Opened.{Opened}
 use Rattle.lattice.specs.declared.Opened.the-variants as opened
@@ -30,9 +30,9 @@ use Rattle.encode.specs.Encode.{Outcome, writtenOut}
 use Rattle.record.specs.declared.GraphFault.{GraphFault}
 use Rattle.record.specs.declared.GraphFault.the-variants as faults
 use Rattle.record.specs.Read.{Reading, refused, accepted, reading, graphOfRows, graphNumber}
-use Rattle.record.proofs.Accepted.{Rules, rules-of-any-size, rules-nodes}
+use Rattle.record.proofs.Accepted.{Rules}
 use Rattle.groups.specs.LinkOrders.{isReadingOrder}
-use Rattle.difference.specs.Promise.{differenceAlong, reasonsAlong}
+use Rattle.difference.specs.Promise.{reasonsAlong}
 use Rattle.replies.specs.declared.Reply.{Reply}
 use Rattle.replies.specs.declared.Reply.the-variants as replies
 use Rattle.replies.specs.declared.answers.Answer.{Answer}
@@ -43,65 +43,86 @@ use Rattle.calls.specs.Calls.{checked, differing, differingBy}
 use Rattle.pairs.specs.Pair.{readBoth}
 use Rattle.difference.specs.Difference.{wantedAt, allWanted, numbered, differenceRows, differed, differedRows}
 use Rattle.engine.specs.Differing.{parting, reasonsOf}
-use Rattle.demands.specs.Demand.{Given, remainder}
+use Rattle.demands.specs.Demand.{Given, asWritten, remainder, WantedNotTop}
 use Rattle.difference.specs.Explained.{Explained, explainedResult, lengthWithReasons, withReasons}
-use Rattle.demands.specs.Explained.{reasonFor, LinkReason}
+use Rattle.demands.specs.Explained.{reasonFor, LinkReason, ReasonsTell}
 use Rattle.replies.proofs.Numbers.{answer-injective}
 use Rattle.difference.proofs.Over.{over-map}
 use Rattle.demands.proofs.Demanded.Combination.{other-refusal}
-use Rattle.demands.proofs.Demanded.Difference.{general-rules, form, form-is, form-below, form-rules}
+use Rattle.demands.proofs.Demanded.Difference.{
+  Parts,
+  accepts,
+  general-rules,
+  Told,
+  not-below,
+  not-wanted,
+  differs,
+  difference-told,
+  remainder-writes,
+}
+use Rattle.demands.proofs.Demanded.Relations.{specific-size, operands, rows-kept, rows-walk, written-rules, written-below}
 
 -- Of the rows of two graphs.
 module _ (n : ℕ) (t : List ℕ) (g s : List (Row Label)) (general : Rules n g) (specific : Rules n s)
-    (below : Below (tableLabels n t) (graphOfRows s) (graphOfRows g)) where
-  s-size : AnySize (tableLabels n t) (graphOfRows s)
-  s-size = rules-of-any-size n s specific t .any-size
+    (below : Below (tableLabels n t) (graphOfRows s) (graphOfRows g)) (ok : types.accepted n t ≡ true) (all : allWanted n t s g ≡ true)
+    {earlier : Link ℕ → Link ℕ → Bool} (strict : StrictOrder earlier) where
+  abbrev d : Graph Label ℕ
+  d = differenceRows earlier n t g s
 
-  operands : Operands eqb eqb (graphOfRows s) (from 0 (length s)) (graphOfRows g) (from 0 (length g))
-  unfolding s-size
-  operands =
-      record {
-        tells-left = tells-eqb;
-        tells-right = tells-eqb;
-        lists-left = record {
-          listed = subst (λ (nodes : List ℕ). (v : ℕ) → Reached (graphOfRows s) v ↔ List·Memᴰ v nodes) (rules-nodes n s specific t) (s-size .listed);
-          features = s-size .features;
-        };
-        lists-right = record {
-          listed = subst (λ (nodes : List ℕ). (v : ℕ) → Reached (graphOfRows g) v ↔ List·Memᴰ v nodes) (rules-nodes n g general t)
-              (rules-of-any-size n g general t .any-size .listed);
-          features = rules-of-any-size n g general t .any-size .features;
-        };
-      }
+  rows-reason : (u f v : ℕ) → Reached (graphOfRows s) u → d .link u f ≡ some v →
+      LinkReason earlier n t g s u f v (reasonFor earlier n t g s (u, f) v)
+  rows-reason u f v r e =
+      reason-tells (operands n t g s general specific below) (over-map n t g s general below) earlier strict
+      (specific-size n t g s general specific below) (λ w. Option·getD (wantedAt n t s g w) noLabel)
+      (WantedNotTop n t (graphOfRows s) (graphOfRows g)) (u, f) v (rows-kept n t g s general specific below ok all strict u f v r .0 e)
 
-  rows-reason : {earlier : Link ℕ → Link ℕ → Bool} → StrictOrder earlier → (u f v : ℕ) → Reached (graphOfRows s) u →
-      differenceRows earlier n t g s .link u f ≡ some v → LinkReason earlier n t g s u f v
-  unfolding differenceAlong difference
-  rows-reason {earlier} strict u f v r e =
-      reason-tells operands (over-map n t g s general below) earlier strict s-size
-      (λ v. Option·getD (wantedAt n t s g v) noLabel) (u, f) v r e
+  rows-tell : (rows : List (Row Label)) → canonical eqb d ≡ written rows →
+      ReasonsTell earlier n t g s rows (alongLinks d (reasonFor earlier n t g s) (writtenOrder eqb d))
+  rows-tell rows e i k f h at p a =
+      let within = rows-walk n t g s general specific below ok all strict in
+      let kept = rows-kept n t g s general specific below ok all strict in
+      let (u, v, du, dv, q) = written-value eqb d (reasonFor earlier n t g s) tells-eqb narrow noLabel rows e i h 0 k f at p a in
+      let su = within p u du in
+      let (least, _) = kept u f v (p, su) .0 dv in (
+        u,
+        v,
+        su,
+        walk-snoc (graphOfRows s) p f su ∙ least .0 .1,
+        subst (LinkReason earlier n t g s u f v) (sym q) (rows-reason u f v (p, su) dv),
+      )
+    where
+      narrow : (v w f : ℕ) → Reached d v → d .link v f ≡ some w → f < 64
+      narrow v w f (p, r) l =
+          let su = rows-walk n t g s general specific below ok all strict p v r in
+          let (least, _) = rows-kept n t g s general specific below ok all strict v f w (p, su) .0 l in
+          specific-size n t g s general specific below .features v w f (p, su) (least .0 .1)
 
 -- Of two accepted records.
 module _ (n : ℕ) (t a b : List ℕ) (g s : List (Row Label)) (given : Given n t a b g s) where
-  pub link-reasons : {earlier : Link ℕ → Link ℕ → Bool} → StrictOrder earlier → Below (tableLabels n t) (graphOfRows s) (graphOfRows g) → (u f v : ℕ) →
-      Reached (graphOfRows (numbered (canonical eqb (graphOfRows s)))) u → remainder earlier n t g s .link u f ≡ some v →
-      LinkReason earlier n t g (numbered (canonical eqb (graphOfRows s))) u f v
-  link-reasons {earlier} strict below =
-      subst
-      (λ (rows : List (Row Label)). (u f v : ℕ) → Reached (graphOfRows rows) u → differenceRows earlier n t g rows .link u f ≡ some v → LinkReason earlier n t g rows u f v)
-      (sym (ap numbered (form-is n t a b g s given)))
-      (rows-reason n t g (form n t a b g s given) (general-rules n t a b g s given) (form-rules n t a b g s given below)
-      (form-below n t a b g s given below) strict)
-
   pub reasons-are : (earlier : Link ℕ → Link ℕ → Bool) → reasonsOf earlier n t a b ≡
-      alongLinks (remainder earlier n t g s) (λ l v. reasonFor earlier n t g (numbered (canonical eqb (graphOfRows s))) l v) (writtenOrder eqb (remainder earlier n t g s))
+      alongLinks (remainder earlier n t g s) (reasonFor earlier n t g (asWritten s)) (writtenOrder eqb (remainder earlier n t g s))
   unfolding reasonsOf reasonsAlong
   reasons-are earlier = rw (given .first, given .second)
 
-  pub reasons-count : (earlier : Link ℕ → Link ℕ → Bool) (rows : List (Row Label)) → canonical eqb (remainder earlier n t g s) ≡ written rows → length (reasonsOf earlier n t a b) ≡ linksIn rows
+  pub reasons-count : (earlier : Link ℕ → Link ℕ → Bool) (rows : List (Row Label)) → canonical eqb (remainder earlier n t g s) ≡ written rows →
+      length (reasonsOf earlier n t a b) ≡ linksIn rows
   reasons-count earlier rows e =
-      ap length (reasons-are earlier)
-      ∙ written-length eqb (remainder earlier n t g s) (λ l v. reasonFor earlier n t g (numbered (canonical eqb (graphOfRows s))) l v) rows e
+      ap length (reasons-are earlier) ∙ written-length eqb (remainder earlier n t g s) (reasonFor earlier n t g (asWritten s)) rows e
+
+  module _ {earlier : Link ℕ → Link ℕ → Bool} (strict : StrictOrder earlier) (below : Below (tableLabels n t) (graphOfRows s) (graphOfRows g))
+      (all : allWanted n t (asWritten s) g ≡ true) where
+    pub link-reasons : (u f v : ℕ) → Reached (graphOfRows (asWritten s)) u → remainder earlier n t g s .link u f ≡ some v →
+        LinkReason earlier n t g (asWritten s) u f v (reasonFor earlier n t g (asWritten s) (u, f) v)
+    link-reasons =
+        rows-reason n t g (asWritten s) (general-rules n t a b g s given) (written-rules n t a b g s given below)
+        (written-below n t a b g s given below) (accepts n t a b g s given) all strict
+
+    pub reasons-tell : (rows : List (Row Label)) → canonical eqb (remainder earlier n t g s) ≡ written rows →
+        ReasonsTell earlier n t g (asWritten s) rows (reasonsOf earlier n t a b)
+    reasons-tell rows e =
+        subst (ReasonsTell earlier n t g (asWritten s) rows) (sym (reasons-are earlier))
+        (rows-tell n t g (asWritten s) (general-rules n t a b g s given) (written-rules n t a b g s given below)
+        (written-below n t a b g s given below) (accepts n t a b g s given) all strict rows e)
 
 -- Beside the plain call, whatever is handed in.
 module _ (plain : Result) (reasons out old : List ℕ) where
@@ -199,6 +220,64 @@ no-room-exact plain reasons out old never = (
     there (some l) q e =
         let told = length-told (plain .reply) l q in
         (l, told, fits l told (leb (length reasons) (length old)) refl e)
+
+-- where the call with reasons tells a length, the plain call tells it, and the reasons fit
+beside-length : (plain : Result) (reasons out old : List ℕ) (l : ℕ) → withReasons plain reasons out old .reply ≡ replies.Length l →
+    (plain .reply ≡ replies.Length l) × (length reasons ≤ length old)
+beside-length plain reasons out old l e = there (lengthOf (plain .reply)) refl
+  where
+    fits : (m : ℕ) → plain .reply ≡ replies.Length m → (c : Bool) → leb (length reasons) (length old) ≡ c →
+        (plain .reply ≡ replies.Length l) × (length reasons ≤ length old)
+    fits m q true c =
+        let h = leb-true (length reasons) (length old) c in
+        (q ∙ sym (ap (λ (x : Explained). x .reply) (beside-room plain reasons out old m q h)) ∙ e, h)
+    fits m q false c =
+        let z : _≡_ {A = ℕ} 0 1 =
+        cc (sym (ap (λ (x : Explained). x .reply) (beside-short plain reasons out old m q (leb-false (length reasons) (length old) c))) ∙ e) in
+        absurd (omega arith)
+
+    there : (o : Option ℕ) → lengthOf (plain .reply) ≡ o → (plain .reply ≡ replies.Length l) × (length reasons ≤ length old)
+    there none q =
+        none-some
+        (sym q ∙ ap (λ (r : Reply). lengthOf r) (sym (ap (λ (x : Explained). x .reply) (beside-refused plain reasons out old q)) ∙ e))
+    there (some m) q = fits m (length-told (plain .reply) m q) (leb (length reasons) (length old)) refl
+
+-- Beside a record that a call with reasons has written, the bytes tell of its links.
+module _ (n : ℕ) (t a b : List ℕ) (g s : List (Row Label)) (given : Given n t a b g s) {earlier : Link ℕ → Link ℕ → Bool}
+    (strict : StrictOrder earlier) {out : List ℕ} {call : Result} (parts : Parts earlier n t out g s call) (old : List ℕ) where
+  abbrev reasons : List ℕ
+  reasons = reasonsOf earlier n t a b
+
+  abbrev explained : Explained
+  explained = withReasons call reasons out old
+
+  pub call-tells : (l : ℕ) → explained .reply ≡ replies.Length l → (rows : List (Row Label)) →
+      reading n (take l (explained .output)) ≡ accepted rows → ReasonsTell earlier n t g (asWritten s) rows (explained .reasons)
+  call-tells l e rows read =
+      let (q, fits) = beside-length call reasons out old l e in
+      go q (beside-room call reasons out old l q fits) (difference-told n t a b g s given strict parts)
+    where
+      go : call .reply ≡ replies.Length l →
+          explained ≡ explainedResult (replies.Length l) (call .output) (reasons ++ drop (length reasons) old) →
+          Told n t a b g s given strict parts → ReasonsTell earlier n t g (asWritten s) rows (explained .reasons)
+      go q same (not-wanted _ _ x) = let z : _≡_ {A = ℕ} 0 1 = cc (q, ap (λ (r : Result). r .reply) x) in absurd (omega arith)
+      go q same (not-below x) = let z : _≡_ {A = ℕ} 0 1 = cc (q, ap (λ (r : Result). r .reply) x) in absurd (omega arith)
+      go q same (differs below all) =
+          let wrote = remainder-writes n t a b g s given strict parts below all .wrote l q in
+          let again : accepted (wrote .form) ≡ accepted rows =
+          sym (wrote .reads) ∙ ap (λ (x : Explained). reading n (take l (x .output))) (sym same) ∙ read in
+          let written-as : canonical eqb (remainder earlier n t g s) ≡ written rows = wrote .fits ∙ cc again in
+          let count = reasons-count n t a b g s given earlier rows written-as in
+          subst (λ (x : Explained). ReasonsTell earlier n t g (asWritten s) rows (x .reasons)) (sym same)
+          (λ i k f h at p x.
+          let (u, v, su, sv, tells) = reasons-tell n t a b g s given strict below all rows written-as i k f h at p x in (
+            u,
+            v,
+            su,
+            sv,
+            subst (LinkReason earlier n t g (asWritten s) u f v)
+                (sym (List·getD-append reasons (drop (length reasons) old) 0 i (omega (arith, count)))) tells,
+          ))
 
 -- The calls for a difference never give 22.
 table-low : (fault : TableFault) → replies.Table fault ≡ replies.NoReasonRoom → ⊥

@@ -29,17 +29,27 @@ use Rattle.replies.specs.declared.Reply.{Reply}
 use Rattle.replies.specs.declared.Reply.the-variants.{Length, Table, Graph as Refusal, TooLarge, NotBelow, NoWantedType, ReadingOrder, NoReasonRoom}
 use Rattle.replies.specs.Reply.{refusal, refusing, lengthOf}
 use Rattle.calls.specs.Calls.{checked, differing, differingBy}
-use Rattle.difference.specs.Difference.{numbered}
 use Rattle.difference.specs.Explained.{explainedResult}
 use Rattle.engine.specs.Differing.{reasonsOf, parting}
 use Rattle.calls.specs.Explained.{explainingBy}
-use Rattle.demands.specs.Explained.{reasonFor, LinkReason}
+use Rattle.demands.specs.Explained.{reasonFor, LinkReason, ReasonsTell}
 use Rattle.demands.specs.Wanted.{SomeUnwanted}
-use Rattle.demands.specs.Demand.{Given, recordOf, writing, Leaves, remainder, Restores, Difference}
+use Rattle.demands.specs.Demand.{Given, recordOf, writing, Leaves, asWritten, remainder, Restores, Difference}
 use Rattle.calls.proofs.Listed.{table-before-list, list-exact, differing-checked}
 use Rattle.demands.proofs.Demanded.Output as Output
 use Rattle.demands.proofs.Demanded.Difference as Differed
-use Rattle.demands.proofs.Demanded.Reasons.{differing-by-other, parting-low, no-room-exact, link-reasons, reasons-are, reasons-count, beside-room, beside-short, beside-refused}
+use Rattle.demands.proofs.Demanded.Reasons.{
+  differing-by-other,
+  parting-low,
+  no-room-exact,
+  call-tells,
+  link-reasons,
+  reasons-are,
+  reasons-count,
+  beside-room,
+  beside-short,
+  beside-refused,
+}
 
 -- "A list of all 64 features, each once": the test of a list is that.
 pub reading-order-each-once : (list : List ℕ) → (isReadingOrder list ≡ true) ↔ EachOnce list
@@ -156,8 +166,7 @@ module _ (n : ℕ) (t list a b out : List ℕ) where
 -- Its reasons are those of the links of that difference, in record order, as many as its record has links, and true of the two graphs.
 module _ (n : ℕ) (t list a b : List ℕ) (g s : List (Row Label)) (given : Given n t a b g s) where
   pub reasons-by-in-order : reasonsOf (byReading list) n t a b ≡
-      alongLinks (remainder (byReading list) n t g s)
-      (λ l v. reasonFor (byReading list) n t g (numbered (canonical eqb (graphOfRows s))) l v)
+      alongLinks (remainder (byReading list) n t g s) (reasonFor (byReading list) n t g (asWritten s))
       (writtenOrder eqb (remainder (byReading list) n t g s))
   reasons-by-in-order = reasons-are n t a b g s given (byReading list)
 
@@ -165,7 +174,15 @@ module _ (n : ℕ) (t list a b : List ℕ) (g s : List (Row Label)) (given : Giv
       length (reasonsOf (byReading list) n t a b) ≡ linksIn rows
   reasons-by-counted = reasons-count n t a b g s given (byReading list)
 
-  pub reasons-by-true : Below (tableLabels n t) (graphOfRows s) (graphOfRows g) → (u f v : ℕ) →
-      Reached (graphOfRows (numbered (canonical eqb (graphOfRows s)))) u → remainder (byReading list) n t g s .link u f ≡ some v →
-      LinkReason (byReading list) n t g (numbered (canonical eqb (graphOfRows s))) u f v
-  reasons-by-true = link-reasons n t a b g s given (by-reading-order list)
+  pub reasons-by-true : Below (tableLabels n t) (graphOfRows s) (graphOfRows g) → (SomeUnwanted n t (graphOfRows s) (graphOfRows g) → ⊥) →
+      (u f v : ℕ) → Reached (graphOfRows (asWritten s)) u → remainder (byReading list) n t g s .link u f ≡ some v →
+      LinkReason (byReading list) n t g (asWritten s) u f v (reasonFor (byReading list) n t g (asWritten s) (u, f) v)
+  reasons-by-true below all =
+      link-reasons n t a b g s given (by-reading-order list) below (Differed.all-wanted n t a b g s given below all)
+
+  pub reason-of-link-by : isReadingOrder list ≡ true → (out old : List ℕ) (l : ℕ) → explainingBy n t list a b out old .reply ≡ Length l →
+      (form : List (Row Label)) → reading n (take l (explainingBy n t list a b out old .output)) ≡ accepted form →
+      ReasonsTell (byReading list) n t g (asWritten s) form (explainingBy n t list a b out old .reasons)
+  unfolding explainingBy
+  reason-of-link-by listed out old =
+      call-tells n t a b g s given (by-reading-order list) (Differed.listed-parts n t list a b given listed out) old

@@ -5,7 +5,7 @@ use mathlib.Core.Option.{some, none}
 use mathlib.Core.Logic.{_↔_}
 use Prim.Native.Nat.{ℕ, _≤_, _<_}
 use lib.Dec.{eqb}
-use lib.ListN.{length, drop}
+use lib.ListN.{length, take, drop}
 use Rattle.graphs.specs.Graph.{Reached, Below}
 use Rattle.graphs.specs.Rows.{Row}
 use Rattle.lattice.specs.Label.{Label}
@@ -15,17 +15,28 @@ use Rattle.graphs.specs.Difference.{byNumber}
 use Rattle.graphs.specs.Reasons.{alongLinks, writtenOrder}
 use Rattle.graphs.proofs.Difference.ByNumber.{by-number-order}
 use Rattle.lattice.specs.Labels.{tableLabels}
-use Rattle.record.specs.Read.{graphOfRows}
+use Rattle.record.specs.Read.{reading, accepted, graphOfRows}
 use Rattle.replies.specs.declared.Reply.the-variants.{Length, NoReasonRoom}
-use Rattle.difference.specs.Difference.{numbered}
 use Rattle.calls.specs.Calls.{differing}
 use Rattle.replies.specs.Reply.{lengthOf}
 use Rattle.difference.specs.Explained.{explainedResult}
 use Rattle.engine.specs.Differing.{reasonsOf}
 use Rattle.calls.specs.Explained.{explaining}
-use Rattle.demands.specs.Explained.{reasonFor, LinkReason}
-use Rattle.demands.specs.Demand.{Given, remainder}
-use Rattle.demands.proofs.Demanded.Reasons.{differing-other, no-room-exact, link-reasons, reasons-are, reasons-count, beside-room, beside-short, beside-refused}
+use Rattle.demands.specs.Explained.{reasonFor, LinkReason, ReasonsTell}
+use Rattle.demands.specs.Wanted.{SomeUnwanted}
+use Rattle.demands.specs.Demand.{Given, asWritten, remainder}
+use Rattle.demands.proofs.Demanded.Difference.{plain-parts, all-wanted}
+use Rattle.demands.proofs.Demanded.Reasons.{
+  differing-other,
+  no-room-exact,
+  call-tells,
+  link-reasons,
+  reasons-are,
+  reasons-count,
+  beside-room,
+  beside-short,
+  beside-refused,
+}
 
 module _ (n : ℕ) (t a b out old : List ℕ) where
   -- The record and its reply are those of the plain call, where that gives a length and the reasons fit, "further bytes unchanged";
@@ -57,15 +68,22 @@ module _ (n : ℕ) (t a b : List ℕ) (g s : List (Row Label)) (given : Given n 
   -- "One byte for each of its links, in record order": the reasons are those of the links of the difference, node after node as its
   -- record numbers them, and each node's links by feature;
   pub reasons-in-order : reasonsOf byNumber n t a b ≡
-      alongLinks (remainder byNumber n t g s) (λ l v. reasonFor byNumber n t g (numbered (canonical eqb (graphOfRows s))) l v) (writtenOrder eqb (remainder byNumber n t g s))
+      alongLinks (remainder byNumber n t g s) (reasonFor byNumber n t g (asWritten s)) (writtenOrder eqb (remainder byNumber n t g s))
   reasons-in-order = reasons-are n t a b g s given byNumber
 
   -- as many as the record has links.
   pub reasons-counted : (rows : List (Row Label)) → canonical eqb (remainder byNumber n t g s) ≡ written rows → length (reasonsOf byNumber n t a b) ≡ linksIn rows
   reasons-counted = reasons-count n t a b g s given byNumber
 
-  -- "Each byte's fact is to be shown true of the two graphs": of each link of the difference, s being numbered as written.
-  pub reasons-true : Below (tableLabels n t) (graphOfRows s) (graphOfRows g) → (u f v : ℕ) →
-      Reached (graphOfRows (numbered (canonical eqb (graphOfRows s)))) u → remainder byNumber n t g s .link u f ≡ some v →
-      LinkReason byNumber n t g (numbered (canonical eqb (graphOfRows s))) u f v
-  reasons-true = link-reasons n t a b g s given by-number-order
+  -- "Each byte's fact is to be shown true of the two graphs", s being numbered as written: of each link of the difference,
+  pub reasons-true : Below (tableLabels n t) (graphOfRows s) (graphOfRows g) → (SomeUnwanted n t (graphOfRows s) (graphOfRows g) → ⊥) →
+      (u f v : ℕ) → Reached (graphOfRows (asWritten s)) u → remainder byNumber n t g s .link u f ≡ some v →
+      LinkReason byNumber n t g (asWritten s) u f v (reasonFor byNumber n t g (asWritten s) (u, f) v)
+  reasons-true below all = link-reasons n t a b g s given by-number-order below (all-wanted n t a b g s given below all)
+
+  -- and of each byte beside a record that the call has written: byte i tells of link i of that record.
+  pub reason-of-link : (out old : List ℕ) (l : ℕ) → explaining n t a b out old .reply ≡ Length l → (form : List (Row Label)) →
+      reading n (take l (explaining n t a b out old .output)) ≡ accepted form →
+      ReasonsTell byNumber n t g (asWritten s) form (explaining n t a b out old .reasons)
+  unfolding explaining
+  reason-of-link out old = call-tells n t a b g s given by-number-order (plain-parts n t a b given out) old

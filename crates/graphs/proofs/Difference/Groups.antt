@@ -14,6 +14,7 @@ use borrow.Author.Tests.{eqb-true, eq-eqb, not-true, not-false}
 use Rattle.graphs.specs.Graph.{Graph, TellsApart}
 use Rattle.graphs.specs.Unify.{anyOf, holds}
 use Rattle.graphs.specs.Difference.{Link, select, linksFrom, sameLink, incoming, covers, bare, touch, spread}
+use Rattle.graphs.specs.Relations.{Into}
 use Rattle.graphs.proofs.Walk.{reached-link}
 use Rattle.graphs.proofs.Search.{
   true-false,
@@ -32,7 +33,7 @@ use Rattle.graphs.proofs.Search.{
 }
 use Rattle.graphs.proofs.Difference.Links.{linksFrom-source, linksFrom-listed}
 use Rattle.graphs.proofs.Unification.Beside.{Operands}
-use Rattle.graphs.proofs.Difference.Laws.{Into, Enters}
+use Rattle.graphs.proofs.Difference.Laws.{Enters}
 
 module _ {L A B : Type 0} {sameA : A → A → Bool} {sameB : B → B → Bool} {s : Graph L A} {ss : List A} {g : Graph L B}
     {gs : List B} (operands : Operands sameA sameB s ss g gs) (over : B → A) where

@@ -3,17 +3,18 @@
 use mathlib.Core.Path.{_≡_, refl, sym, _∙_, ap, subst}
 use mathlib.Core.Bool.{Bool, true, false, true≢false}
 use mathlib.Core.List.{List, [], _∷_, _++_}
-use mathlib.Core.Logic.{_⊎_, inl, inr, ⊎-elim}
+use mathlib.Core.Logic.{_↔_, _⊎_, inl, inr, ⊎-elim}
 use mathlib.Core.Option.{Option, some}
 use Prim.Native.Nat.{ℕ}
 use Rattle.graphs.specs.Label.{Labels}
 use Rattle.graphs.specs.Graph.{Graph, AnySize, Below, follow, walk, Reached}
 use Rattle.graphs.specs.Map.{NodeMap}
 use Rattle.graphs.specs.Difference.{Link}
-use Rattle.graphs.proofs.Walk.{some-injective, snoc-induction, follow-last, reached-root, reached-link, walk-snoc}
+use Rattle.graphs.specs.Relations.{Into, LiesOver, LinkOver, Grouped, itself, touching, chain}
+use Rattle.graphs.proofs.Walk.{some-injective, some-unique, snoc-induction, follow-last, reached-root, reached-link, walk-snoc}
 use Rattle.graphs.proofs.Below.{walk-map, map-below}
 use Rattle.graphs.proofs.Difference.Induct.{parents-first}
-use Rattle.graphs.proofs.Difference.Laws.{Into, Leader, Enters, DifferenceLaws, withLinks}
+use Rattle.graphs.proofs.Difference.Laws.{Leader, Enters, DifferenceLaws, withLinks}
 
 module _ {L A : Type 0} (s : Graph L A) where
   -- a path is empty, or its last link enters where it leads
@@ -55,6 +56,41 @@ pub enters-into : {𝓛 : Labels} {A B : Type 0} {s : Graph (𝓛 .L) A} {g : Gr
 enters-into {s = s} {over = over} map z l (y, r, o, e) =
     let p : walk s (r .0) ≡ some (over y) = walk-map map (r .0) y (r .1) in
     ((r .0, p ∙ ap some o), ap (λ u. s .link u (l .1)) (sym o) ∙ map .links y z (l .1) r e)
+
+-- Groups of links.
+
+module _ {L A B : Type 0} {s : Graph L A} {g : Graph L B} where
+  pub grouped-into : {v : A} {l m : Link A} → Grouped s g v l m → Into s v l × Into s v m
+  grouped-into (itself i) = (i, i)
+  grouped-into (touching i j _) = (i, j)
+  grouped-into (chain c d) = (grouped-into c .0, grouped-into d .1)
+
+  pub grouped-flip : {v : A} {l m : Link A} → Grouped s g v l m → Grouped s g v m l
+  grouped-flip (itself i) = itself i
+  grouped-flip (touching i j (z, a, b)) = touching j i (z, b, a)
+  grouped-flip (chain c d) = chain (grouped-flip d) (grouped-flip c)
+
+module _ {𝓛 : Labels} {A B : Type 0} {s : Graph (𝓛 .L) A} {g : Graph (𝓛 .L) B} {over : B → A} (map : NodeMap 𝓛 s g over) where
+  -- the nodes of g over v are those that the map takes to v
+  pub lies-over : (y : B) (v : A) → LiesOver s g y v ↔ (Reached g y × (over y ≡ v))
+  lies-over y v = (
+    λ (p, a, b). ((p, a), some-unique (walk-map map p y a) b),
+    λ ((p, a), o). (p, a, walk-map map p y a ∙ ap some o),
+  )
+
+  pub link-over : (z : B) (l : Link A) → LinkOver s g z l ↔ Enters g over z l
+  link-over z l = (
+    λ (y, o, e). let (r, q) = lies-over y (l .0) .0 o in (y, r, q, e),
+    λ (y, r, q, e). (y, lies-over y (l .0) .1 (r, q), e),
+  )
+
+  pub enters-at : (v : A) (z : B) (l : Link A) → over z ≡ v → Enters g over z l → Into s v l
+  enters-at v z l o t = subst (λ u. Into s u l) o (enters-into map z l t)
+
+  -- links of s with links of g over them that enter one node are in one group
+  pub enters-grouped : (v : A) (z : B) (l m : Link A) → over z ≡ v → Enters g over z l → Enters g over z m → Grouped s g v l m
+  enters-grouped v z l m o a b =
+      touching (enters-at v z l o a) (enters-at v z m o b) (z, link-over z l .1 a, link-over z m .1 b)
 
 module _ {𝓛 : Labels} {A B : Type 0} {s : Graph (𝓛 .L) A} {g : Graph (𝓛 .L) B} {over : B → A}
     {lead : A → Link A → Link A} {keep : A → Bool} {wanted : A → 𝓛 .L} {kept : A → ℕ → Option A}

@@ -9,26 +9,15 @@ use Prim.Native.Nat.{ℕ}
 use Rattle.graphs.specs.Label.{Labels}
 use Rattle.graphs.specs.Graph.{Graph, Reached}
 use Rattle.graphs.specs.Difference.{Link}
-
--- l is a link of s that enters v
-abbrev pub Into : {L A : Type 0} → Graph L A → A → Link A → Type 0
-Into s v l = Reached s (l .0) × (s .link (l .0) (l .1) ≡ some v)
+use Rattle.graphs.specs.Relations.{Into, Grouped}
 
 -- l is the leader of its group at v
 abbrev pub Leader : {L A : Type 0} → Graph L A → (A → Link A → Link A) → A → Link A → Type 0
 Leader s lead v l = Into s v l × (lead v l ≡ l)
 
-module _ {L A B : Type 0} (g : Graph L B) (over : B → A) where
-  -- a link of g that lies over l enters z
-  abbrev pub Enters : B → Link A → Type 0
-  Enters z l = (y : B) × Reached g y × (over y ≡ l .0) × (g .link y (l .1) ≡ some z)
-
-  -- "put two incoming links in one group when two links of g that enter one node of g lie over them; close this transitively"
-  pub data Grouped (v : A) : Link A → Link A → Type 0 where
-    touching : {l m : Link A} (z : B) → over z ≡ v → Enters z l → Enters z m → Grouped v l m
-    alike : {l : Link A} → Grouped v l l
-    flip : {l m : Link A} → Grouped v l m → Grouped v m l
-    chain : {l m n : Link A} → Grouped v l m → Grouped v m n → Grouped v l n
+-- a link of g that lies over l, by the map, enters z
+abbrev pub Enters : {L A B : Type 0} → Graph L B → (B → A) → B → Link A → Type 0
+Enters {B = B} g over z l = (y : B) × Reached g y × (over y ≡ l .0) × (g .link y (l .1) ≡ some z)
 
 -- a lies below the labels of g over v
 abbrev pub UnderOver : (𝓛 : Labels) {A B : Type 0} → Graph (𝓛 .L) B → (B → A) → A → 𝓛 .L → Type 0
@@ -54,7 +43,7 @@ module _ (𝓛 : Labels) {A B : Type 0} (s : Graph (𝓛 .L) A) (g : Graph (𝓛
   -- The laws of the graph with the links `kept`.
   pub record DifferenceLaws (kept : A → ℕ → Option A) : Type 0 where
     pub one-lead : (z : B) (l m : Link A) → Enters g over z l → Enters g over z m → lead (over z) l ≡ lead (over z) m
-    pub grouped : (v : A) (l : Link A) → Into s v l → Grouped g over v l (lead v l)
+    pub grouped : (v : A) (l : Link A) → Into s v l → Grouped s g v l (lead v l)
     pub leads : (v : A) (l : Link A) → Into s v l → Leader s lead v (lead v l)
     pub root-kept : keep (s .root) ≡ true
     pub reason : (v : A) → Reached s v → keep v ≡ true → Reason v

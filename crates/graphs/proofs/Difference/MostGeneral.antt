@@ -14,6 +14,7 @@ use Rattle.graphs.specs.Graph.{Graph, AnySize, Below, TellsApart, follow
 use Rattle.graphs.specs.Map.{NodeMap}
 use Rattle.graphs.specs.Unify.{Joined, UnderClass}
 use Rattle.graphs.specs.Difference.{Link}
+use Rattle.graphs.specs.Relations.{Into}
 use Rattle.graphs.proofs.Walk.{
   some-injective,
   some-unique,
@@ -30,7 +31,6 @@ use Rattle.graphs.proofs.Unification.Unifier.{joined-least}
 use Rattle.graphs.proofs.Search.{search-list}
 use Rattle.graphs.proofs.Difference.Induct.{parents-first, children-first}
 use Rattle.graphs.proofs.Difference.Laws.{
-  Into,
   Leader,
   Enters,
   DifferenceLaws,

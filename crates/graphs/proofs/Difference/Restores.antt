@@ -12,18 +12,13 @@ use Rattle.graphs.specs.Label.{Labels, Lattice}
 use Rattle.graphs.specs.Graph.{Graph, AnySize, Below, follow, walk, Reached, Corefer}
 use Rattle.graphs.specs.Map.{NodeMap}
 use Rattle.graphs.specs.Difference.{Link}
+use Rattle.graphs.specs.Relations.{Into, LinkOver, Grouped, itself, touching, chain}
 use Rattle.graphs.proofs.Walk.{some-injective, some-unique, snoc-induction, follow-last, reached-link, walk-snoc}
 use Rattle.graphs.proofs.Below.{walk-map}
 use Rattle.graphs.proofs.Difference.Induct.{parents-first}
 use Rattle.graphs.proofs.Difference.Laws.{
-  Into,
   Leader,
   Enters,
-  Grouped,
-  touching,
-  alike,
-  flip,
-  chain,
   DifferenceLaws,
   UnderOver,
   withLinks,
@@ -34,6 +29,7 @@ use Rattle.graphs.proofs.Difference.Kept.{
   root-path,
   no-link-to-root,
   enters-into,
+  link-over,
   source-kept,
   kept-walk,
   reached-kept,
@@ -93,16 +89,14 @@ module _ {𝓛 : Labels} {A B C : Type 0} {s : Graph (𝓛 .L) A} {g : Graph (�
   -- One node, parents first.
   module _ (v : A) (sources : (l : Link A) → Into s v l → (x : C) × Image (l .0) x) where
     -- links of one group lead to one node
-    grouped-goes : (w : C) {l m : Link A} → Grouped g over v l m → Goes l w ↔ Goes m w
-    grouped-goes w (touching {l} {m} z o a b) = (across l m a b, across m l b a)
+    grouped-goes : (w : C) {l m : Link A} → Grouped s g v l m → Goes l w ↔ Goes m w
+    grouped-goes w (itself _) = (λ t. t, λ t. t)
+    grouped-goes w (touching {l} {m} i j (z, a, b)) = (across l m i a b, across m l j b a)
       where
-        across : (l m : Link A) → Enters g over z l → Enters g over z m → Goes l w → Goes m w
-        across l m a b t =
-            let i : Into s v l = subst (λ u. Into s u l) o (enters-into map z l a) in
+        across : (l m : Link A) → Into s v l → LinkOver s g z l → LinkOver s g z m → Goes l w → Goes m w
+        across l m i a b t =
             let x = sources l i in
-            enters-goes z m w b (enters-stands z l (x .0) w a (x .1) (t (x .0) (x .1)))
-    grouped-goes w alike = (λ t. t, λ t. t)
-    grouped-goes w (flip j) = let e = grouped-goes w j in (e .1, e .0)
+            enters-goes z m w (link-over map z m .0 b) (enters-stands z l (x .0) w (link-over map z l .0 a) (x .1) (t (x .0) (x .1)))
     grouped-goes w (chain j i) =
         let e = grouped-goes w j in
         let d = grouped-goes w i in

@@ -8,12 +8,12 @@ use Prim.Native.Nat.{ℕ}
 use Rattle.graphs.specs.Label.{Labels, Lattice}
 use Rattle.graphs.specs.Graph.{Graph, AnySize, Below, SameMeaning, Reached}
 use Rattle.graphs.specs.Difference.{Link}
+use Rattle.graphs.specs.Relations.{Into}
 use Rattle.graphs.proofs.Walk.{reached-link}
 use Rattle.graphs.proofs.Below.{map-below, below-antisym}
 use Rattle.graphs.proofs.Search.{true-false}
 use Rattle.graphs.proofs.Difference.Induct.{children-first}
 use Rattle.graphs.proofs.Difference.Laws.{
-  Into,
   Leader,
   DifferenceLaws,
   Reason,

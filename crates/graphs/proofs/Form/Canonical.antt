@@ -8,6 +8,7 @@ use mathlib.Core.List.{
   _∷_,
   _++_,
   map,
+  map-id,
   reverse,
   List·Memᴰ,
   List·Memᴰ·not-nil,
@@ -25,11 +26,12 @@ use Rattle.graphs.specs.Graph.{Graph, TellsApart, walk, Reached, SameMea
 use Rattle.graphs.specs.Rows.{Row, target, graphOf}
 use Rattle.graphs.specs.Number.{canonical, counted, indexOf, linkCount, manyLinks, rowOf, visit, written}
 use Rattle.graphs.specs.Large.{Distinct}
+use Rattle.graphs.specs.Reasons.{orderIn, writtenOrder}
 use Rattle.graphs.proofs.Walk.{some-injective, reached-root, reached-link, snoc-induction, follow-last, follow-nil}
 use Rattle.graphs.proofs.Lists.{mem-reverse, mem-unreverse, reverse-snoc, getD-index, index-injective, index-first, tells-eqb}
 use Rattle.graphs.proofs.Rows.{target-linksOf}
 use Rattle.graphs.proofs.Below.{same-sym, same-trans}
-use Rattle.graphs.proofs.Form.Bisimilar.{Alike, absent, present, Bisimilar, bisimilar-same}
+use Rattle.graphs.proofs.Form.Bisimilar.{Alike, absent, present, Bisimilar, alike-right, alike-walk, bisimilar-same}
 use Rattle.graphs.proofs.Form.Invariant.{bisimilar-canonical, same-canonical}
 use Rattle.graphs.proofs.Form.Visited.{Grown, visit-all, visit-first}
 
@@ -166,6 +168,19 @@ module _ {L A : Type 0} (same : A → A → Bool) (tells : TellsApart same) (g :
           forth = λ v v′ i i′ (m, q) (n, r) h. sym q ∙ ap (λ (x : A). indexOf same x nodes) h ∙ r;
           back = λ v v′ i i′ (m, q) (n, r) h. index-injective same tells v v′ nodes m n (q ∙ h ∙ sym r);
         }
+
+  -- A path of the rows leads, in the graph, to the node that stands at the number of its row.
+  pub form-walk : (d : L) (form : List (Row L)) → canonical same g ≡ written form → (o : A) (p : List ℕ) (k : ℕ) →
+      walk (graphOf d form) p ≡ some k → (walk g p ≡ some (getD (writtenOrder same g) k o))
+  unfolding rows nodes Numbered writtenOrder
+  form-walk d form e o p k a =
+      let (now, h, _, q) = canonical-written same g form e in
+      let (v, b, (m, at)) =
+      alike-right (alike-walk (Numbered d now h) g (graphOf d (rows d now h)) (written-bisimilar d now h) p)
+      (ap (λ (r : List (Row L)). walk (graphOf d r) p) q ∙ a) in
+      b ∙ ap some (sym (ap (λ (x : Option (List A)). getD (orderIn x) k o) h ∙ ap (λ (j : ℕ). getD (reverse now) j o) (sym at)
+      ∙ ap (λ (l : List A). getD l (indexOf same v (reverse now)) o) (sym (map-id (reverse now)))
+      ∙ getD-index same tells (λ x. x) o v (reverse now) m))
 
   -- The rows, written again, are the rows.
   pub canonical-idempotent : (d : L) (form : List (Row L)) → canonical same g ≡ written form →

@@ -2,13 +2,13 @@
 -- together.
 use mathlib.Core.Path.{_≡_, refl, sym, _∙_, ap, ap₂, subst}
 use mathlib.Core.Bool.{Bool, true, false, cond, _||_}
-use mathlib.Core.List.{List, [], _∷_, map, reverse, reverseAux, List·Memᴰ, List·Memᴰ·not-nil, List·Memᴰ·cases-cons}
+use mathlib.Core.List.{List, [], _∷_, _++_, map, reverse, reverseAux, List·Memᴰ, List·Memᴰ·not-nil, List·Memᴰ·cases-cons}
 use mathlib.Core.Logic.{⊎-elim}
 use mathlib.Core.Option.{Option, none, some, Option·map, bind}
-use Prim.Native.Nat.{ℕ, zero, suc, _+_}
+use Prim.Native.Nat.{ℕ, zero, suc, _+_, _<_}
 use native.Mathlib.Omega.{arith}
 use lib.Dec.{leb}
-use lib.ListN.{length}
+use lib.ListN.{length, getD}
 use Rattle.graphs.specs.Label.{Labels}
 use Rattle.graphs.specs.Graph.{Graph, TellsApart, SameMeaning}
 use Rattle.graphs.specs.Rows.{Row, features, linksOf, addLink}
@@ -26,9 +26,20 @@ bool-ext true b there back = sym (there refl)
 bool-ext false true there back = back refl
 bool-ext false false there back = refl
 
-pointwise-length : {A B : Type 0} {R : A → B → Type 0} {vs : List A} {ws : List B} → Pointwise R vs ws → length vs ≡ length ws
+pub pointwise-length : {A B : Type 0} {R : A → B → Type 0} {vs : List A} {ws : List B} → Pointwise R vs ws → length vs ≡ length ws
 pointwise-length empty = refl
 pointwise-length (more r rs) = ap suc (pointwise-length rs)
+
+pub pointwise-append : {A B : Type 0} {R : A → B → Type 0} {vs xs : List A} {ws ys : List B} → Pointwise R vs ws → Pointwise R xs ys →
+    Pointwise R (vs ++ xs) (ws ++ ys)
+pointwise-append empty q = q
+pointwise-append (more r rs) q = more r (pointwise-append rs q)
+
+pub pointwise-at : {A B : Type 0} {R : A → B → Type 0} {vs : List A} {ws : List B} → Pointwise R vs ws → (i : ℕ) → i < length ws →
+    (a : A) (b : B) → R (getD vs i a) (getD ws i b)
+pointwise-at empty i h a b = absurd (omega arith)
+pointwise-at (more r rs) zero h a b = r
+pointwise-at (more r rs) (suc i) h a b = pointwise-at rs i (omega arith) a b
 
 -- what lists that are equal element by element hold
 pub pointwise-listed : {A : Type 0} {P : A → Type 0} {vs ws : List A} → Pointwise (λ x y. P x × (x ≡ y)) vs ws →
