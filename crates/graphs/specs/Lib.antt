@@ -11,3 +11,4 @@ pub mod Order
 pub mod Unify
 pub mod Difference
 pub mod Reasons
+pub mod LeastPath
