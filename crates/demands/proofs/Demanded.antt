@@ -12,3 +12,5 @@ pub mod Meaning
 pub mod Appropriate
 pub mod Reasons
 pub mod Imported
+pub mod Longest
+pub mod Spelling
