@@ -12,5 +12,6 @@ pub mod Meaning
 pub mod Appropriate
 pub mod Reasons
 pub mod Imported
+pub mod Numbering
 pub mod Longest
 pub mod Spelling

@@ -5,11 +5,12 @@ use mathlib.Core.Path.{_≡_, refl}
 use mathlib.Core.Bool.{Bool}
 use mathlib.Core.List.{List}
 use mathlib.Core.Logic.{_↔_, _⊎_}
-use Prim.Native.Nat.{ℕ, _≤_}
+use Prim.Native.Nat.{ℕ, _≤_, _<_}
 use lib.Dec.{eqb}
-use lib.ListN.{take}
+use lib.ListN.{length, take}
 use Rattle.graphs.specs.Graph.{Graph, TellsApart, Below, SameMeaning}
 use Rattle.graphs.specs.Rows.{Row}
+use Rattle.graphs.specs.LeastPath.{Earlier, LeastPath}
 use Rattle.graphs.specs.Generalize.{IsGeneralization}
 use Rattle.graphs.specs.Unify as unify
 use Rattle.graphs.specs.Difference.{byNumber}
@@ -44,6 +45,7 @@ use Rattle.demands.specs.Demand.{
 }
 use Rattle.demands.proofs.Demanded.Output as Output
 use Rattle.demands.proofs.Demanded.Meaning as Meaning
+use Rattle.demands.proofs.Demanded.Numbering as Numbering
 use Rattle.demands.proofs.Demanded.Order as Order
 use Rattle.demands.proofs.Demanded.CommonPart as Common
 use Rattle.demands.proofs.Demanded.Combination as Combined
@@ -114,6 +116,18 @@ module _ (n : ℕ) (t a : List ℕ) (one : WrittenRecord n a) where
   pub written-one-form : (b : List ℕ) (other : WrittenRecord n b) →
       SameMeaning (tableLabels n t) (graphOfRows (one .form)) (graphOfRows (other .form)) ↔ (a ≡ b)
   written-one-form = Meaning.one-form n t a one
+
+-- "Written records number the nodes by first visit, from the root, lowest feature first, following links downward .. All that hangs below a
+-- link is numbered before the node's next link is followed": of the paths that lead to a node, one is the least, by the lower feature where
+-- two part and with a path before those that go on from it;
+module _ (n : ℕ) (a : List ℕ) (one : WrittenRecord n a) where
+  pub least-path-exists : (v : ℕ) → v < length (one .form) → (p : List ℕ) × LeastPath (graphOfRows (one .form)) p v
+  least-path-exists = Numbering.least-path-exists n a one
+
+  -- and the nodes' numbers ascend with their least paths.
+  pub numbered-by-least-path : (v w : ℕ) (p q : List ℕ) → LeastPath (graphOfRows (one .form)) p v → LeastPath (graphOfRows (one .form)) q w →
+      (v < w) ↔ Earlier p q
+  numbered-by-least-path = Numbering.numbered-by-least-path n a one
 
 -- Demand 3, the order: same or under exactly where the first graph is below the second, and above or neither exactly where it is not.
 
