@@ -12,6 +12,7 @@ pub mod Meaning
 pub mod Appropriate
 pub mod Reasons
 pub mod Imported
+pub mod Accepted
 pub mod Numbering
 pub mod Longest
 pub mod Spelling

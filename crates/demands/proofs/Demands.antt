@@ -29,6 +29,8 @@ use Rattle.replies.specs.Reply.{Result, resultOf}
 use Rattle.calls.specs.Calls.{rewriting, ordering, generalizing, unifying, differing}
 use Rattle.demands.specs.Demand.{
   Given,
+  RefusedAfterReading,
+  BothAccepted,
   AnswersBelow,
   AnswersNotBelow,
   WrittenRecord,
@@ -44,6 +46,7 @@ use Rattle.demands.specs.Demand.{
   Difference,
 }
 use Rattle.demands.proofs.Demanded.Output as Output
+use Rattle.demands.proofs.Demanded.Accepted as After
 use Rattle.demands.proofs.Demanded.Meaning as Meaning
 use Rattle.demands.proofs.Demanded.Numbering as Numbering
 use Rattle.demands.proofs.Demanded.Order as Order
@@ -78,6 +81,21 @@ module _ (n : ℕ) (t out : List ℕ) where
 
   pub differing-never-large : (a b : List ℕ) → differing n t a b out .reply ≡ TooLarge → ⊥
   differing-never-large a b = Output.differing-small n t out a b
+
+  -- 8 to 13 are answered only over an accepted table and accepted graphs: "A table is accepted when none of 1 to 3 applies to it, a graph when
+  -- none of 4 to 7 does." So what demand 3 says of accepted records is said of every such reply.
+  pub rewriting-accepted : (a : List ℕ) → RefusedAfterReading (rewriting n t a out .reply) →
+      (opened n t ≡ Accepted) × ((rows : List (Row Label)) × (reading n a ≡ accepted rows))
+  rewriting-accepted a = After.rewriting-accepted n t out a
+
+  pub generalizing-accepted : (a b : List ℕ) → RefusedAfterReading (generalizing n t a b out .reply) → BothAccepted n t a b
+  generalizing-accepted a b = After.generalizing-accepted n t out a b
+
+  pub unifying-accepted : (a b : List ℕ) → RefusedAfterReading (unifying n t a b out .reply) → BothAccepted n t a b
+  unifying-accepted a b = After.unifying-accepted n t out a b
+
+  pub differing-accepted : (a b : List ℕ) → RefusedAfterReading (differing n t a b out .reply) → BothAccepted n t a b
+  differing-accepted a b = After.differing-accepted n t out a b
 
 -- Demand 2: bytes and meaning.
 
