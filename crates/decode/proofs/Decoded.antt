@@ -29,7 +29,7 @@ getD-member [] i d h = absurd (omega arith)
 getD-member (x ∷ xs) zero d h = List·Memᴰ·head refl
 getD-member (x ∷ xs) (suc i) d h = List·Memᴰ·tail (getD-member xs i d (omega arith))
 
-drop-member : {X : Type 0} {x : X} (k : ℕ) (xs : List X) → List·Memᴰ x (drop k xs) → List·Memᴰ x xs
+pub drop-member : {X : Type 0} {x : X} (k : ℕ) (xs : List X) → List·Memᴰ x (drop k xs) → List·Memᴰ x xs
 drop-member zero xs m = m
 drop-member (suc k) [] m = m
 drop-member (suc k) (y ∷ xs) m = List·Memᴰ·tail (drop-member k xs m)
@@ -43,7 +43,7 @@ are-bytes [] small b m = absurd (List·Memᴰ·not-nil m)
 are-bytes (x ∷ xs) small b m =
     ⊎-elim (λ e. subst (λ (y : ℕ). y < 256) (sym e) (small 0)) (are-bytes xs (λ i. small (suc i)) b) (List·Memᴰ·cases-cons m)
 
-byte-below : (bytes : List ℕ) → AreBytes bytes → (i : ℕ) → getD bytes i 0 < 256
+pub byte-below : (bytes : List ℕ) → AreBytes bytes → (i : ℕ) → getD bytes i 0 < 256
 byte-below [] small i = omega arith
 byte-below (x ∷ xs) small zero = small x (List·Memᴰ·head refl)
 byte-below (x ∷ xs) small (suc i) = byte-below xs (λ b m. small b (List·Memᴰ·tail m)) i

@@ -16,3 +16,7 @@ pub mod Reasons
 pub mod Recorded
 pub mod Imported
 pub mod Whole
+pub mod Accepted
+pub mod Numbering
+pub mod Longest
+pub mod Spelling

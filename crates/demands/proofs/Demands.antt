@@ -6,11 +6,12 @@ use mathlib.Core.Bool.{Bool, true}
 use mathlib.Core.List.{List, List·Memᴰ}
 use mathlib.Core.Logic.{_↔_, _⊎_}
 use mathlib.Core.Option.{none, some}
-use Prim.Native.Nat.{ℕ, _≤_}
+use Prim.Native.Nat.{ℕ, _≤_, _<_}
 use lib.Dec.{eqb}
 use lib.ListN.{length, take}
 use Rattle.graphs.specs.Graph.{Graph, TellsApart, Reached, Below, SameMeaning}
 use Rattle.graphs.specs.Rows.{Row, from}
+use Rattle.graphs.specs.LeastPath.{Earlier, LeastPath}
 use Rattle.graphs.specs.Generalize.{IsGeneralization}
 use Rattle.graphs.specs.Unify as unify
 use Rattle.graphs.specs.Difference.{Link, byNumber, groupOf}
@@ -33,6 +34,8 @@ use Rattle.calls.specs.Calls.{rewriting, ordering, generalizing, unifying, diff
 use Rattle.demands.specs.Wanted.{SomeUnwanted}
 use Rattle.demands.specs.Demand.{
   Given,
+  RefusedAfterReading,
+  BothAccepted,
   AnswersBelow,
   AnswersNotBelow,
   WrittenRecord,
@@ -55,7 +58,9 @@ use Rattle.demands.specs.Demand.{
 use Rattle.demands.proofs.Results.{rewriting-is, result-record}
 use Rattle.demands.proofs.Demanded.Output as Output
 use Rattle.demands.proofs.Demanded.Recorded as Recorded
+use Rattle.demands.proofs.Demanded.Accepted as After
 use Rattle.demands.proofs.Demanded.Meaning as Meaning
+use Rattle.demands.proofs.Demanded.Numbering as Numbering
 use Rattle.demands.proofs.Demanded.Order as Order
 use Rattle.demands.proofs.Demanded.CommonPart as Common
 use Rattle.demands.proofs.Demanded.Combination as Combined
@@ -90,6 +95,21 @@ module _ (n : ℕ) (t out : List ℕ) where
 
   pub differing-never-large : (a b : List ℕ) → differing n t a b out .reply ≡ TooLarge → ⊥
   differing-never-large a b = Output.differing-small n t out a b
+
+  -- 8 to 13 are answered only over an accepted table and accepted graphs: "A table is accepted when none of 1 to 3 applies to it, a graph when
+  -- none of 4 to 7 does." So what demand 3 says of accepted records is said of every such reply.
+  pub rewriting-accepted : (a : List ℕ) → RefusedAfterReading (rewriting n t a out .reply) →
+      (opened n t ≡ Accepted) × ((rows : List (Row Label)) × (reading n a ≡ accepted rows))
+  rewriting-accepted a = After.rewriting-accepted n t out a
+
+  pub generalizing-accepted : (a b : List ℕ) → RefusedAfterReading (generalizing n t a b out .reply) → BothAccepted n t a b
+  generalizing-accepted a b = After.generalizing-accepted n t out a b
+
+  pub unifying-accepted : (a b : List ℕ) → RefusedAfterReading (unifying n t a b out .reply) → BothAccepted n t a b
+  unifying-accepted a b = After.unifying-accepted n t out a b
+
+  pub differing-accepted : (a b : List ℕ) → RefusedAfterReading (differing n t a b out .reply) → BothAccepted n t a b
+  differing-accepted a b = After.differing-accepted n t out a b
 
 -- Demand 2: bytes and meaning.
 
@@ -142,6 +162,18 @@ module _ (n : ℕ) (t a : List ℕ) (one : WrittenRecord n a) where
   pub written-one-form : (b : List ℕ) (other : WrittenRecord n b) →
       SameMeaning (tableLabels n t) (graphOfRows (one .form)) (graphOfRows (other .form)) ↔ (a ≡ b)
   written-one-form = Meaning.one-form n t a one
+
+-- "Written records number the nodes by first visit, from the root, lowest feature first, following links downward .. All that hangs below a
+-- link is numbered before the node's next link is followed": of the paths that lead to a node, one is the least, by the lower feature where
+-- two part and with a path before those that go on from it;
+module _ (n : ℕ) (a : List ℕ) (one : WrittenRecord n a) where
+  pub least-path-exists : (v : ℕ) → v < length (one .form) → (p : List ℕ) × LeastPath (graphOfRows (one .form)) p v
+  least-path-exists = Numbering.least-path-exists n a one
+
+  -- and the nodes' numbers ascend with their least paths.
+  pub numbered-by-least-path : (v w : ℕ) (p q : List ℕ) → LeastPath (graphOfRows (one .form)) p v → LeastPath (graphOfRows (one .form)) q w →
+      (v < w) ↔ Earlier p q
+  numbered-by-least-path = Numbering.numbered-by-least-path n a one
 
 -- Demand 3, the order: same or under exactly where the first graph is below the second, and above or neither exactly where it is not.
 

@@ -4,6 +4,7 @@
 pub mod Paper01
 pub mod Paper02
 pub mod Paper03
+pub mod Paper05
 pub mod Paper06
 pub mod Paper07
 pub mod Paper08

@@ -20,6 +20,7 @@ use Rattle.lattice.specs.Reply.{opened}
 use Rattle.lattice.specs.Labels.{tableLabels, OfAnySize, LeastOfAnySize, GreatestOfAnySize, IsCombination, WantedAt}
 use Rattle.encode.specs.Encode.{encoded, fitted}
 use Rattle.record.specs.Read.{reading, accepted, graphOfRows}
+use Rattle.replies.specs.declared.Reply.{Reply}
 use Rattle.replies.specs.declared.Reply.the-variants.{Length, Same, Under, Above, Neither, TooLarge}
 use Rattle.replies.specs.Reply.{Result, refusal, refusing, resultOf}
 use Rattle.calls.specs.Calls.{ordering, rewriting, unifying}
@@ -30,6 +31,14 @@ pub record Given (n : ℕ) (t a b : List ℕ) (s g : List (Row Label)) : Type 0 
   pub opens : opened n t ≡ Accepted
   pub first : reading n a ≡ accepted s
   pub second : reading n b ≡ accepted g
+
+-- The reply is one of the refusals 8 to 13.
+abbrev pub RefusedAfterReading : Reply → Type 0
+RefusedAfterReading reply = (k : ℕ) × (8 ≤ k) × (k ≤ 13) × (refusal reply ≡ some k)
+
+-- "A table is accepted when none of 1 to 3 applies to it, a graph when none of 4 to 7 does": both records are accepted, over an accepted table.
+abbrev pub BothAccepted : ℕ → List ℕ → List ℕ → List ℕ → Type 0
+BothAccepted n t a b = (s : List (Row Label)) × (g : List (Row Label)) × Given n t a b s g
 
 -- The order answers that the first record is below the second: "same or under";
 abbrev pub AnswersBelow : ℕ → List ℕ → List ℕ → List ℕ → Type 0

@@ -5,3 +5,4 @@ pub mod Visited
 pub mod Canonical
 pub mod Large
 pub mod Rules
+pub mod LeastPath

@@ -12,3 +12,4 @@ pub mod Unify
 pub mod Difference
 pub mod Relations
 pub mod Reasons
+pub mod LeastPath

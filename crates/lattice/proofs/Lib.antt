@@ -18,3 +18,4 @@ pub mod Embedding
 pub mod Transfer
 pub mod AnySize
 pub mod Plain
+pub mod Ranges

@@ -137,7 +137,3 @@ module _ (n : ℕ) (t : List ℕ) {A B : Type 0} (s : Graph Label A) (g : Graph 
     pub known : Known n c
     pub restores : tableLabels n t .meet c over ≡ s .label v
     pub greatest : (d : Label) → Known n d → tableLabels n t .meet d over ≡ s .label v → tableLabels n t .le d c ≡ true
-
-  -- "some node of s has no wanted type"; a wanted range it always has
-  abbrev pub SomeUnwanted : Type 0
-  SomeUnwanted = (v : A) × Reached s v × ((c : Label) → WantedAt v c → ⊥)

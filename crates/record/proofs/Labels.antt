@@ -12,13 +12,14 @@ use lib.Dec.{eqb, leb}
 use lib.ListN.{length, length-append, getD, drop}
 use lib.Seq.{drop-at, drop-append-add}
 use Rattle.graphs.specs.Rows.{Row, features}
-use Rattle.graphs.proofs.Search.{both-true, cond-some}
+use Rattle.graphs.proofs.Search.{true-false, both-true, cond-some}
 use Rattle.graphs.proofs.Walk.{some-injective, none-some}
 use Rattle.lattice.specs.Label.{Label, plain}
 use Rattle.lattice.proofs.Every.{same-test}
 use Rattle.lattice.proofs.Lawful.{label-parts}
 use Rattle.decode.specs.Decode.{Taken, changed, takeLinks, isRanged, labelLength, labelOf, takeRow, takeRows, bitOf, whole, decoded}
 use Rattle.encode.specs.Encode.{isFull, encodedLabel}
+use Rattle.record.specs.Spelled.{spelledLabel}
 
 -- Bytes that state a label.
 
@@ -42,17 +43,29 @@ ranged-states l h =
     let low : (128 + l .type) % 128 ≡ l .type = omega arith in
     record { long = λ behind. rw follows refl; label = λ behind. rw follows (label-parts low refl refl) }
 
--- an encoded label
-pub encoded-states : (l : Label) → l .type < 128 → States (encodedLabel l) l
-unfolding encodedLabel isFull
-encoded-states l h = go (isFull l) refl
+-- a label with its range written, or with the full range left out
+pub spelled-states : (writes : Bool) (l : Label) → l .type < 128 → (isFull l ≡ false → writes ≡ true) → States (spelledLabel writes l) l
+unfolding spelledLabel isFull
+spelled-states true l h range = ranged-states l h
+spelled-states false l h range = go (isFull l) refl range
   where
-    go : (full : Bool) → isFull l ≡ full → States (cond full (l .type ∷ []) ((128 + l .type) ∷ l .lowest ∷ l .highest ∷ [])) l
-    go true e =
+    go : (full : Bool) → isFull l ≡ full → (full ≡ false → false ≡ true) → States (l .type ∷ []) l
+    go true e range =
         let (low, high) = both-true (eqb (l .lowest) 0) (eqb (l .highest) 255) e in
         subst (States (l .type ∷ []))
         (label-parts refl (sym (eqb-true (l .lowest) 0 low)) (sym (eqb-true (l .highest) 255 high))) (plain-states (l .type) h)
-    go false e = ranged-states l h
+    go false e range = true-false (range refl) refl
+
+-- an encoded label
+pub encoded-states : (l : Label) → l .type < 128 → States (encodedLabel l) l
+unfolding encodedLabel spelledLabel
+encoded-states l h = go (isFull l) refl (spelled-states true l h (λ _. refl)) (spelled-states false l h)
+  where
+    go : (full : Bool) → isFull l ≡ full → States ((128 + l .type) ∷ l .lowest ∷ l .highest ∷ []) l →
+        ((isFull l ≡ false → false ≡ true) → States (l .type ∷ []) l) →
+        States (cond full (l .type ∷ []) ((128 + l .type) ∷ l .lowest ∷ l .highest ∷ [])) l
+    go true e ranged alone = alone (λ q. sym q ∙ e)
+    go false e ranged alone = ranged
 
 -- The row behind a label's bytes.
 
@@ -81,11 +94,6 @@ row-behind {bytes} {l} states room behind =
 
     rest-is : drop (labelLength (bytes ++ behind) + 8) (bytes ++ behind) ≡ drop 8 behind
     rest-is = ap (λ (k : ℕ). drop (k + 8) (bytes ++ behind)) (states .long behind) ∙ drop-append-add bytes behind 8
-
--- a row that spells the full range out is read as the row without it
-pub full-range-read : (a : ℕ) → a < 128 → (room : ℕ) (rest : List ℕ) →
-    takeRow room ((128 + a) ∷ 0 ∷ 255 ∷ rest) ≡ takeRow room (a ∷ rest)
-full-range-read a h room rest = row-behind (ranged-states (plain a) h) room rest ∙ sym (row-behind (plain-states a h) room rest)
 
 -- Types that are decoded have seven bits.
 

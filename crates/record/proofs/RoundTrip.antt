@@ -1,7 +1,7 @@
--- A record that was encoded is decoded to the rows that it was made of, if there is one at least, and at most 2,048 links, and in
--- each row a type of seven bits and features below 64 that ascend.
+-- A record that was encoded, or spelled out with more ranges, is decoded to the rows that it was made of, if there is one at least, and at
+-- most 2,048 links, and in each row a type of seven bits and features below 64 that ascend.
 use mathlib.Core.Path.{_≡_, refl, sym, _∙_, ap, ap₂, subst}
-use mathlib.Core.Bool.{Bool, cond}
+use mathlib.Core.Bool.{Bool, true, false, cond, not}
 use mathlib.Core.List.{List, [], _∷_, _++_, map, append-assoc, append-nil, List·Memᴰ, List·Memᴰ·head, List·Memᴰ·tail, List·Memᴰ·not-nil, List·Memᴰ·cases-cons}
 use mathlib.Core.Logic.{⊎-elim}
 use mathlib.Core.Option.{Option, none, some, Option·map, bind}
@@ -18,12 +18,13 @@ use Rattle.graphs.specs.Rows.{Row, from, target}
 use Rattle.graphs.specs.Number.{countSome, canonical, written}
 use Rattle.graphs.specs.Large.{Ascending, linksIn}
 use Rattle.graphs.proofs.Form.Rules.{form-labels}
-use Rattle.lattice.specs.Label.{Label}
+use Rattle.lattice.specs.Label.{Label, isFull, graphOfRows}
 use Rattle.decode.specs.Decode.{Taken, changed, takeTarget, takeLinks, takeRow, takeRows, bitOf, whole, decoded}
 use Rattle.decode.proofs.Decoded.{Proper}
 use Rattle.encode.specs.Encode.{bitsFrom, encodedLabel, encodedRow, encodedRows, encoded}
 use Rattle.encode.proofs.FeatureMap.{Within, bit-small, target-absent, target-first, target-later}
-use Rattle.record.proofs.Labels.{SevenBits, encoded-states, row-behind}
+use Rattle.record.specs.Spelled.{spelledLabel, spelledRow, spelledRows, spelled}
+use Rattle.record.proofs.Labels.{SevenBits, States, encoded-states, spelled-states, row-behind}
 
 -- the bit at i of the number that says which features stand
 bits-at : (links : List (ℕ × ℕ)) (f k i : ℕ) → i < k → (bitsFrom links f k / 2 ^ i) % 2 ≡ countSome (target links (f + i))
@@ -57,7 +58,7 @@ getD-from make j (suc n) (suc i) h =
     getD-from make (suc j) n i (omega arith) ∙ ap make e
 
 -- the eight bytes of a row's map
-abbrev mapBytes : List (ℕ × ℕ) → List ℕ
+abbrev pub mapBytes : List (ℕ × ℕ) → List ℕ
 mapBytes links = map (λ k. bitsFrom links (8 * k) 8) (from 0 8)
 
 length-mapBytes : (links : List (ℕ × ℕ)) → length (mapBytes links) ≡ 8
@@ -137,15 +138,15 @@ module _ (stands : ℕ → Bool) (room : ℕ) (rest : List ℕ) where
           ∙ ap (λ (o : Option ℕ). eqb (countSome o) 1) (target-absent f (l ∷ ls) (λ m i (e : m .0 ≡ f). omega (arith, above m i))))
           ∙ whole (λ m i. omega (arith, above m i, inside m i)) (λ g low high. agree g (omega arith) (omega arith))
 
-pub row-taken : (r : Row Label) (room : ℕ) (rest : List ℕ) → r .0 .type < 128 → Proper r →
-    takeRow (length (r .1) + room) (encodedRow r ++ rest) ≡ took r room rest
-unfolding encodedRow from
-row-taken r room rest typed (up, low) =
+-- a row behind bytes that state its label
+row-taken-behind : (r : Row Label) {bytes : List ℕ} → States bytes (r .0) → (room : ℕ) (rest : List ℕ) → Proper r →
+    takeRow (length (r .1) + room) ((bytes ++ mapBytes (r .1) ++ map (λ l. l .1) (r .1)) ++ rest) ≡ took r room rest
+unfolding from
+row-taken-behind r {bytes} states room rest (up, low) =
     let numbers : List ℕ = map (λ l. l .1) (r .1) in
     let behind : List ℕ = mapBytes (r .1) ++ (numbers ++ rest) in
-    ap (takeRow (length (r .1) + room))
-    (append-assoc (encodedLabel (r .0) ++ mapBytes (r .1)) numbers rest ∙ append-assoc (encodedLabel (r .0)) (mapBytes (r .1)) (numbers ++ rest))
-    ∙ row-behind (encoded-states (r .0) typed) (length (r .1) + room) behind
+    ap (takeRow (length (r .1) + room)) (append-assoc (bytes ++ mapBytes (r .1)) numbers rest ∙ append-assoc bytes (mapBytes (r .1)) (numbers ++ rest))
+    ∙ row-behind states (length (r .1) + room) behind
     ∙ ap
     (λ (t : Bool).
     cond t (Option·map (changed λ ls. (r .0, ls)) (takeLinks (bitOf behind) (from 0 64) (length (r .1) + room) (numbers ++ rest))) none)
@@ -154,34 +155,85 @@ row-taken r room rest typed (up, low) =
     (links-taken (bitOf behind) room rest (r .1) 0 64 (length (r .1) + room) up (λ l m. omega (arith, low l m))
     (λ g _ high. bit-stood (r .1) (numbers ++ rest) g high) refl)
 
-rows-taken : (rows : List (Row Label)) (room total : ℕ) (rest : List ℕ) → SevenBits rows →
-    ((r : Row Label) → List·Memᴰ r rows → Proper r) → total ≡ linksIn rows + room → takeRows (length rows) total (encodedRows rows ++ rest) ≡ took rows room rest
-unfolding bind takeRows encodedRows linksIn
-rows-taken [] room total rest typed proper e =
+pub row-taken : (r : Row Label) (room : ℕ) (rest : List ℕ) → r .0 .type < 128 → Proper r →
+    takeRow (length (r .1) + room) (encodedRow r ++ rest) ≡ took r room rest
+unfolding encodedRow
+row-taken r room rest typed = row-taken-behind r (encoded-states (r .0) typed) room rest
+
+spelled-row-taken : (writes : Bool) (r : Row Label) (room : ℕ) (rest : List ℕ) → r .0 .type < 128 → (isFull (r .0) ≡ false → writes ≡ true) →
+    Proper r → takeRow (length (r .1) + room) (spelledRow writes r ++ rest) ≡ took r room rest
+unfolding spelledRow
+spelled-row-taken writes r room rest typed range = row-taken-behind r (spelled-states writes (r .0) typed range) room rest
+
+-- the ranges that are not full are written
+abbrev pub WritesRanges : (ℕ → Bool) → List (Row Label) → Type 0
+WritesRanges writes rows = (v : ℕ) → v < length rows → isFull (graphOfRows rows .label v) ≡ false → writes v ≡ true
+
+rows-taken : (writes : ℕ → Bool) (rows : List (Row Label)) (room total : ℕ) (rest : List ℕ) → SevenBits rows → WritesRanges writes rows →
+    ((r : Row Label) → List·Memᴰ r rows → Proper r) → total ≡ linksIn rows + room →
+    takeRows (length rows) total (spelledRows writes rows ++ rest) ≡ took rows room rest
+unfolding bind takeRows spelledRows linksIn
+rows-taken writes [] room total rest typed ranges proper e =
     let q : total ≡ room = omega arith in
     ap (λ (n : ℕ). took {X = List (Row Label)} [] n rest) q
-rows-taken (r ∷ rs) room total rest typed proper e =
+rows-taken writes (r ∷ rs) room total rest typed ranges proper e =
     let q : total ≡ length (r .1) + (linksIn rs + room) = omega arith in
+    let later : List ℕ = spelledRows (λ v. writes (suc v)) rs in
     ap₂
     (λ (n : ℕ) (bytes : List ℕ).
     bind (takeRow n bytes) λ t. Option·map (changed λ rs. t .value ∷ rs) (takeRows (length rs) (t .room) (t .rest)))
     q
-    (append-assoc (encodedRow r) (encodedRows rs) rest)
+    (append-assoc (spelledRow (writes 0) r) later rest)
     ∙ ap
     (λ (o : Option (Taken (Row Label))).
     bind o λ t. Option·map (changed λ rs. t .value ∷ rs) (takeRows (length rs) (t .room) (t .rest)))
-    (row-taken r (linksIn rs + room) (encodedRows rs ++ rest) (typed r (List·Memᴰ·head refl)) (proper r (List·Memᴰ·head refl)))
-    ∙ ap (Option·map (changed λ rs. r ∷ rs)) (rows-taken rs room (linksIn rs + room) rest (λ x m. typed x (List·Memᴰ·tail m)) (λ x m. proper x (List·Memᴰ·tail m)) refl)
+    (spelled-row-taken (writes 0) r (linksIn rs + room) (later ++ rest) (typed r (List·Memᴰ·head refl)) (ranges 0 (omega arith))
+    (proper r (List·Memᴰ·head refl)))
+    ∙ ap (Option·map (changed λ rs. r ∷ rs))
+    (rows-taken (λ v. writes (suc v)) rs room (linksIn rs + room) rest (λ x m. typed x (List·Memᴰ·tail m)) (λ v l. ranges (suc v) (omega arith))
+    (λ x m. proper x (List·Memᴰ·tail m)) refl)
 
 -- The round trip.
+pub decode-spelled : (writes : ℕ → Bool) (rows : List (Row Label)) → 0 < length rows → linksIn rows ≤ 2048 → SevenBits rows →
+    WritesRanges writes rows → ((r : Row Label) → List·Memᴰ r rows → Proper r) → decoded (spelled writes rows) ≡ some rows
+unfolding decoded spelled
+decode-spelled writes rows some-row few typed ranges proper =
+    ap (λ (t : Bool). cond t none (whole (takeRows (length rows) 2048 (spelledRows writes rows))))
+    (ne-eqb (length rows) 0 (λ (e : length rows ≡ 0). omega arith))
+    ∙ ap (λ (bytes : List ℕ). whole (takeRows (length rows) 2048 bytes)) (sym (append-nil (spelledRows writes rows)))
+    ∙ ap whole (rows-taken writes rows (2048 - linksIn rows) 2048 [] typed ranges proper (omega arith))
+
+-- The encoder writes the ranges that are not full, and no others.
+
+abbrev pub notFull : List (Row Label) → ℕ → Bool
+notFull rows v = not (isFull (graphOfRows rows .label v))
+
+pub not-full-written : (rows : List (Row Label)) → WritesRanges (notFull rows) rows
+not-full-written rows v l e = ap not e
+
+row-spelled : (r : Row Label) → encodedRow r ≡ spelledRow (not (isFull (r .0))) r
+unfolding encodedRow spelledRow encodedLabel spelledLabel
+row-spelled r = go (isFull (r .0))
+  where
+    go : (full : Bool) →
+        cond full (r .0 .type ∷ []) ((128 + r .0 .type) ∷ r .0 .lowest ∷ r .0 .highest ∷ []) ++ mapBytes (r .1) ++ map (λ l. l .1) (r .1)
+        ≡ cond (not full) ((128 + r .0 .type) ∷ r .0 .lowest ∷ r .0 .highest ∷ []) (r .0 .type ∷ []) ++ mapBytes (r .1) ++ map (λ l. l .1) (r .1)
+    go true = refl
+    go false = refl
+
+rows-spelled : (rows : List (Row Label)) → encodedRows rows ≡ spelledRows (notFull rows) rows
+unfolding encodedRows spelledRows
+rows-spelled [] = refl
+rows-spelled (r ∷ rs) = ap₂ (λ (a b : List ℕ). a ++ b) (row-spelled r) (rows-spelled rs)
+
+pub encoded-spelled : (rows : List (Row Label)) → encoded rows ≡ spelled (notFull rows) rows
+unfolding encoded spelled
+encoded-spelled rows = ap (λ (bytes : List ℕ). length rows ∷ bytes) (rows-spelled rows)
+
 pub decode-encode : (rows : List (Row Label)) → 0 < length rows → linksIn rows ≤ 2048 → SevenBits rows →
     ((r : Row Label) → List·Memᴰ r rows → Proper r) → decoded (encoded rows) ≡ some rows
-unfolding decoded encoded
 decode-encode rows some-row few typed proper =
-    ap (λ (t : Bool). cond t none (whole (takeRows (length rows) 2048 (encodedRows rows))))
-    (ne-eqb (length rows) 0 (λ (e : length rows ≡ 0). omega arith))
-    ∙ ap (λ (bytes : List ℕ). whole (takeRows (length rows) 2048 bytes)) (sym (append-nil (encodedRows rows)))
-    ∙ ap whole (rows-taken rows (2048 - linksIn rows) 2048 [] typed proper (omega arith))
+    ap decoded (encoded-spelled rows) ∙ decode-spelled (notFull rows) rows some-row few typed (not-full-written rows) proper
 
 -- So what is written of a graph whose types have seven bits is read again.
 module _ {A : Type 0} (same : A → A → Bool) (tells : TellsApart same) (g : Graph Label A)

@@ -2,12 +2,12 @@
 -- "Returned by a call", is the text beside it, and document 02, Paper 7, for ranges of levels. A record is a list of bytes, read over
 -- a table with n types; its rows are a label and links for each node, and `graphOfRows rows` is the graph that they state. Nothing
 -- here asks that the types are a lattice.
-use mathlib.Core.Path.{_≡_, refl}
-use mathlib.Core.Bool.{Bool, true, false}
-use mathlib.Core.List.{List, [], _∷_, List·Memᴰ}
+use mathlib.Core.Path.{_≡_, sym, _∙_, ap}
+use mathlib.Core.Bool.{Bool, true, false, not}
+use mathlib.Core.List.{List, _∷_, List·Memᴰ}
 use mathlib.Core.Logic.{_↔_}
 use mathlib.Core.Option.{none, some}
-use Prim.Native.Nat.{ℕ, _+_, _≤_, _<_}
+use Prim.Native.Nat.{ℕ, _≤_, _<_}
 use lib.Dec.{eqb}
 use lib.ListN.{length, getD}
 use Rattle.graphs.specs.Graph.{Graph, TellsApart, follow, Reached, SameMeaning}
@@ -15,15 +15,17 @@ use Rattle.graphs.specs.Rows.{Row, from}
 use Rattle.graphs.specs.Number.{canonical, written}
 use Rattle.graphs.specs.Large.{linksIn, Ascending}
 use Rattle.graphs.proofs.Lists.{tells-eqb}
-use Rattle.lattice.specs.Label.{Label, plain}
+use Rattle.lattice.specs.Label.{Label}
 use Rattle.record.specs.declared.GraphFault.the-variants.{Malformed, OutOfRange, Cyclic, Unreached}
 use Rattle.lattice.specs.Labels.{tableLabels, Known, OfAnySize}
-use Rattle.decode.specs.Decode.{takeRow, decoded}
-use Rattle.encode.specs.Encode.{isFull, encodedLabel, encoded}
-use Rattle.record.specs.Read.{graphOfRows, inRange, cyclic, reachesAll, reading, accepted, refused}
+use Rattle.decode.specs.Decode.{decoded}
+use Rattle.encode.specs.Encode.{isFull, encoded}
+use Rattle.record.specs.Read.{graphOfRows, inRange, cyclic, reachesAll, judged, reading, accepted, refused}
+use Rattle.record.specs.Spelled.{Statable, Spells}
 use Rattle.record.proofs.Readings.{reading-says, in-range}
 use Rattle.decode.proofs.Decoded.{AreBytes, decoded-says, decoded-short, decoded-label, decoded-target}
-use Rattle.record.proofs.Labels.{full-range-read}
+use Rattle.record.proofs.RoundTrip.{encoded-spelled, not-full-written}
+use Rattle.record.proofs.Spelled as Spelled
 use Rattle.record.proofs.Nodes.{Linked, decoded-linked}
 use Rattle.record.proofs.Reaching.{cyclic-exact, reaches-exact}
 use Rattle.record.proofs.Accepted.{accepted-rules, rules-of-any-size, rules-types, rules-nodes, rules-fit}
@@ -144,14 +146,23 @@ written-accepted n t bytes rows ok form e =
     let (read, means) = written-reads n t eqb tells-eqb (graphOfRows rows) size form e (accepted-types n bytes rows ok) in
     (read, Rewritten.form-again n t eqb tells-eqb (graphOfRows rows) size form e, means)
 
--- 9. "A written record never writes the full range, and a read one may": written, a label with it is the type byte alone;
+-- 9. The parser is the inverse of spelling: bytes are parsed to rows exactly where they spell them, with each range written or left out.
 
-pub full-range-dropped : (a : ℕ) → encodedLabel (plain a) ≡ a ∷ []
-unfolding encodedLabel isFull
-full-range-dropped a = refl
+pub parsed-exactly : (bytes : List ℕ) → AreBytes bytes → (rows : List (Row Label)) →
+    (decoded bytes ≡ some rows) ↔ ((writes : ℕ → Bool) × Spells bytes rows writes)
+parsed-exactly bytes small rows = (Spelled.decoded-spells bytes small rows, λ s. Spelled.spells-decoded (s .1))
 
--- read, a row that spells it out is the row without it, so what is written of a record that does so is without it too.
+-- Bytes tell their rows and which ranges they write;
+pub spelled-once : (bytes : List ℕ) (rows rows′ : List (Row Label)) (writes writes′ : ℕ → Bool) → Spells bytes rows writes → Spells bytes rows′ writes′ →
+    (rows ≡ rows′) × ((v : ℕ) → v < length rows → writes v ≡ writes′ v)
+spelled-once bytes rows rows′ writes writes′ one other = Spelled.spells-unique one other
 
-pub spelled-out : (a : ℕ) → a < 128 → (room : ℕ) (rest : List ℕ) →
-    takeRow room ((128 + a) ∷ 0 ∷ 255 ∷ rest) ≡ takeRow room (a ∷ rest)
-spelled-out = full-range-read
+-- those that spell the same rows are read alike;
+pub spelled-alike : (n : ℕ) (bytes bytes′ : List ℕ) (rows : List (Row Label)) (writes writes′ : ℕ → Bool) → Spells bytes rows writes →
+    Spells bytes′ rows writes′ → reading n bytes ≡ reading n bytes′
+unfolding reading
+spelled-alike n bytes bytes′ rows writes writes′ one other = ap (judged n) (Spelled.spells-decoded one ∙ sym (Spelled.spells-decoded other))
+
+-- and what is encoded writes the ranges that are not full, and no others.
+pub encoded-spells : (rows : List (Row Label)) → Statable rows → Spells (encoded rows) rows (λ v. not (isFull (graphOfRows rows .label v)))
+encoded-spells rows can = record { statable = can; bytes-are = encoded-spelled rows; ranges = not-full-written rows }

@@ -4,3 +4,4 @@ pub mod Counts
 pub mod Reads
 pub mod Unranged
 pub mod Appropriate
+pub mod Spelled

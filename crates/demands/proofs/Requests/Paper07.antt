@@ -1,17 +1,30 @@
 -- Paper 7: level ranges on a node.
 use mathlib.Core.Path.{_≡_}
-use mathlib.Core.Bool.{true}
-use mathlib.Core.List.{List, [], _∷_}
-use Prim.Native.Nat.{ℕ, _+_, _<_}
-use Rattle.lattice.specs.Label.{plain}
-use Rattle.decode.specs.Decode.{takeRow}
-use Rattle.encode.specs.Encode.{encodedLabel}
-use Rattle.record.specs.Read.{reading}
+use mathlib.Core.Bool.{Bool, true, not}
+use mathlib.Core.List.{List}
+use mathlib.Core.Logic.{_↔_, _⊎_}
+use mathlib.Core.Option.{some}
+use Prim.Native.Nat.{ℕ, _≤_, _<_}
+use lib.ListN.{length}
+use Rattle.graphs.specs.Rows.{Row}
+use Rattle.lattice.specs.Label.{Label, isFull}
+use Rattle.lattice.specs.Table.{below}
+use Rattle.lattice.specs.Labels.{typeLabels, tableLabels}
+use Rattle.lattice.proofs.Ranges.{LevelIn, NonEmpty, RangeInside}
+use Rattle.lattice.proofs.Ranges as Ranges
+use Rattle.decode.specs.Decode.{decoded}
+use Rattle.decode.proofs.Decoded.{AreBytes}
+use Rattle.record.specs.Read.{reading, graphOfRows}
+use Rattle.record.specs.Spelled.{Spells}
 use Rattle.record.specs.Unranged.{unranged}
 use Rattle.record.proofs.Theorems as records
+use Rattle.replies.specs.declared.Reply.the-variants.{Length}
 use Rattle.calls.specs.Calls.{rewriting, ordering, generalizing, unifying, differing}
+use Rattle.demands.specs.Demand.{WrittenRecord}
 use Rattle.demands.specs.Unranged.{rewritingTypes, orderingTypes, generalizingTypes, unifyingTypes, differingTypes, WritesUnranged}
 use Rattle.demands.proofs.Unranged as Unranged
+use Rattle.demands.proofs.Demanded.Longest as Longest
+use Rattle.demands.proofs.Demanded.Spelling as Spelling
 
 -- "Records without ranges must give the bytes they gave before": a record is without ranges where no type byte has bit 7; what a call gave
 -- before is what it gives over types alone, without ranges in labels and rows.
@@ -44,26 +57,66 @@ module _ (n : ℕ) (t a b : List ℕ) (first : unranged a ≡ true) (second : un
       Unranged.differed-unranged n t out a b first second,
     )
 
--- "A written record never writes the full range, and a read one may": written, a label with it is the type byte alone;
-pub full-range-dropped : (a : ℕ) → encodedLabel (plain a) ≡ a ∷ []
-full-range-dropped = records.full-range-dropped
+-- The parser is the inverse of the encoder, ranges spelled out or not: bytes are parsed to rows exactly where they are a record of these rows
+-- that writes some ranges, among them every one that is not full, and leaves the others out.
+pub parsed-exactly : (bytes : List ℕ) → AreBytes bytes → (rows : List (Row Label)) →
+    (decoded bytes ≡ some rows) ↔ ((writes : ℕ → Bool) × Spells bytes rows writes)
+parsed-exactly = records.parsed-exactly
 
--- read, a row that spells it out is the row without it;
-pub spelled-out : (a : ℕ) → a < 128 → (room : ℕ) (rest : List ℕ) → takeRow room ((128 + a) ∷ 0 ∷ 255 ∷ rest) ≡ takeRow room (a ∷ rest)
-spelled-out = records.spelled-out
+-- "A written record never writes the full range": its bytes spell its rows, with a node's range written exactly where it is not full;
+pub full-range-unwritten : (n : ℕ) (bytes : List ℕ) (one : WrittenRecord n bytes) →
+    Spells bytes (one .form) (λ v. not (isFull (graphOfRows (one .form) .label v)))
+full-range-unwritten = Spelling.written-spells
 
--- and records that are read alike give the same replies and outputs: one that spells full ranges out gives what the one without them gives
--- that is read alike.
-pub spelled-out-same : (n : ℕ) (t a a′ b b′ : List ℕ) → reading n a ≡ reading n a′ → reading n b ≡ reading n b′ → (out : List ℕ) →
+-- there is no other way to take them.
+pub full-range-nowhere : (n : ℕ) (bytes : List ℕ) → WrittenRecord n bytes → (rows : List (Row Label)) (writes : ℕ → Bool) → Spells bytes rows writes →
+    (v : ℕ) → v < length rows → writes v ≡ not (isFull (graphOfRows rows .label v))
+full-range-nowhere = Spelling.full-range-unwritten
+
+-- "and a read one may": records of the same rows are read alike, whichever full ranges they write,
+pub spelled-alike : (n : ℕ) (a a′ : List ℕ) (rows : List (Row Label)) (writes writes′ : ℕ → Bool) → Spells a rows writes → Spells a′ rows writes′ →
+    reading n a ≡ reading n a′
+spelled-alike = records.spelled-alike
+
+-- and give the same replies and outputs.
+pub spelled-out-same : (n : ℕ) (t a a′ b b′ : List ℕ) (s g : List (Row Label)) (writes writes′ also also′ : ℕ → Bool) → Spells a s writes →
+    Spells a′ s writes′ → Spells b g also → Spells b′ g also′ → (out : List ℕ) →
     (rewriting n t a out ≡ rewriting n t a′ out) ×
     (ordering n t a b ≡ ordering n t a′ b′) ×
     (generalizing n t a b out ≡ generalizing n t a′ b′ out) ×
     (unifying n t a b out ≡ unifying n t a′ b′ out) ×
     (differing n t a b out ≡ differing n t a′ b′ out)
-spelled-out-same n t a a′ b b′ first second out = (
-  Unranged.rewriting-alike n t a a′ first out,
-  Unranged.ordering-alike n t a a′ b b′ first second,
-  Unranged.generalizing-alike n t a a′ b b′ first second out,
-  Unranged.unifying-alike n t a a′ b b′ first second out,
-  Unranged.differing-alike n t a a′ b b′ first second out,
-)
+spelled-out-same n t a a′ b b′ s g writes writes′ also also′ one other one-also other-also out =
+    let first = records.spelled-alike n a a′ s writes writes′ one other in
+    let second = records.spelled-alike n b b′ g also also′ one-also other-also in (
+      Unranged.rewriting-alike n t a a′ first out,
+      Unranged.ordering-alike n t a a′ b b′ first second,
+      Unranged.generalizing-alike n t a a′ b b′ first second out,
+      Unranged.unifying-alike n t a a′ b b′ first second out,
+      Unranged.differing-alike n t a a′ b b′ first second out,
+    )
+
+-- "The longest record becomes 4,854 bytes": none is longer (`length-bounded`), and over some table some record is written that long.
+pub longest-reached : (n : ℕ) × (t : List ℕ) × (a : List ℕ) × ((out : List ℕ) → 4854 ≤ length out → rewriting n t a out .reply ≡ Length 4854)
+longest-reached = Longest.longest-rewritten
+
+-- Labels over a table: a type with a range. A range is taken as its levels.
+module _ (n : ℕ) (t : List ℕ) (x y : Label) where
+  -- "Below now also asks that the range lies inside";
+  pub range-below : NonEmpty x → (tableLabels n t .le x y ≡ true) ↔ ((below t (x .type) (y .type) ≡ true) × RangeInside x y)
+  range-below = Ranges.below-range (typeLabels n t) x y
+
+  -- "the common part takes the smallest range holding both",
+  pub range-join : NonEmpty x → NonEmpty y →
+      (RangeInside x (tableLabels n t .join x y) × RangeInside y (tableLabels n t .join x y)) ×
+      ((z : Label) → RangeInside x z → RangeInside y z → RangeInside (tableLabels n t .join x y) z)
+  range-join some-x some-y = (Ranges.join-range-holds (typeLabels n t) x y, Ranges.join-range-smallest (typeLabels n t) x y some-x some-y)
+
+  -- "the combination the overlap",
+  pub range-meet : (l : ℕ) → LevelIn (tableLabels n t .meet x y) l ↔ (LevelIn x l × LevelIn y l)
+  range-meet = Ranges.meet-range (typeLabels n t) x y
+
+  -- "and an empty overlap is a clash": the meet is a contradiction exactly where its type is 0 or no level is inside both.
+  pub range-clash : (tableLabels n t .contradiction (tableLabels n t .meet x y) ≡ true) ↔
+      ((tableLabels n t .meet x y .type ≡ 0) ⊎ ((l : ℕ) → LevelIn x l → LevelIn y l → ⊥))
+  range-clash = Spelling.range-clash n t x y

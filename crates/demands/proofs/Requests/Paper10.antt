@@ -34,8 +34,9 @@ use Rattle.engine.specs.Differing.{reasonsOf, parting}
 use Rattle.calls.specs.Explained.{explainingBy}
 use Rattle.demands.specs.Explained.{reasonFor, LinkReason, ReasonsTell}
 use Rattle.demands.specs.Wanted.{SomeUnwanted}
-use Rattle.demands.specs.Demand.{Given, recordOf, writing, Leaves, asWritten, remainder, Restores, Difference}
+use Rattle.demands.specs.Demand.{Given, RefusedAfterReading, BothAccepted, recordOf, writing, Leaves, asWritten, remainder, Restores, Difference}
 use Rattle.calls.proofs.Listed.{table-before-list, list-exact, differing-checked}
+use Rattle.demands.proofs.Demanded.Accepted as After
 use Rattle.demands.proofs.Demanded.Output as Output
 use Rattle.demands.proofs.Demanded.Difference as Differed
 use Rattle.demands.proofs.Demanded.Reasons.{
@@ -135,6 +136,10 @@ module _ (n : ℕ) (t list a b out : List ℕ) where
   pub difference-by-never-large : differingBy n t list a b out .reply ≡ TooLarge → ⊥
   difference-by-never-large = Output.differing-by-small n t out a b list
 
+  -- 8 to 13 are answered only over an accepted table, list and records.
+  pub difference-by-accepted : RefusedAfterReading (differingBy n t list a b out .reply) → (isReadingOrder list ≡ true) × BothAccepted n t a b
+  difference-by-accepted = After.differing-by-accepted n t out a b list
+
   -- The explained call's record and reply are those of the call by the list, where that gives a length and the reasons fit;
   module _ (old : List ℕ) where
     pub explained-by-record : (l : ℕ) → differingBy n t list a b out .reply ≡ Length l →
@@ -162,6 +167,9 @@ module _ (n : ℕ) (t list a b out : List ℕ) where
         explainingBy n t list a b out old ≡ explainedResult (differingBy n t list a b out .reply) out old
     unfolding explainingBy
     explained-by-refused = beside-refused (differingBy n t list a b out) (reasonsOf (byReading list) n t a b) out old
+
+    pub explained-by-accepted : RefusedAfterReading (explainingBy n t list a b out old .reply) → (isReadingOrder list ≡ true) × BothAccepted n t a b
+    explained-by-accepted = After.explaining-by-accepted n t a b out old list
 
 -- Its reasons are those of the links of that difference, in record order, as many as its record has links, and true of the two graphs.
 module _ (n : ℕ) (t list a b : List ℕ) (g s : List (Row Label)) (given : Given n t a b g s) where

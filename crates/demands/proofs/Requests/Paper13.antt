@@ -24,7 +24,8 @@ use Rattle.engine.specs.Differing.{reasonsOf}
 use Rattle.calls.specs.Explained.{explaining}
 use Rattle.demands.specs.Explained.{reasonFor, LinkReason, ReasonsTell}
 use Rattle.demands.specs.Wanted.{SomeUnwanted}
-use Rattle.demands.specs.Demand.{Given, asWritten, remainder}
+use Rattle.demands.specs.Demand.{Given, RefusedAfterReading, BothAccepted, asWritten, remainder}
+use Rattle.demands.proofs.Demanded.Accepted as After
 use Rattle.demands.proofs.Demanded.Difference.{plain-parts, all-wanted}
 use Rattle.demands.proofs.Demanded.Reasons.{
   differing-other,
@@ -63,6 +64,10 @@ module _ (n : ℕ) (t a b out old : List ℕ) where
       explaining n t a b out old ≡ explainedResult (differing n t a b out .reply) out old
   unfolding explaining
   explained-refused = beside-refused (differing n t a b out) (reasonsOf byNumber n t a b) out old
+
+  -- 8 to 13 are answered only over an accepted table and accepted records.
+  pub explained-accepted : RefusedAfterReading (explaining n t a b out old .reply) → BothAccepted n t a b
+  explained-accepted = After.explaining-accepted n t a b out old
 
 module _ (n : ℕ) (t a b : List ℕ) (g s : List (Row Label)) (given : Given n t a b g s) where
   -- "One byte for each of its links, in record order": the reasons are those of the links of the difference, node after node as its

@@ -31,7 +31,7 @@ use Rattle.graphs.proofs.Walk.{some-injective, reached-root, reached-li
 use Rattle.graphs.proofs.Lists.{mem-reverse, mem-unreverse, reverse-snoc, getD-index, index-injective, index-first, tells-eqb}
 use Rattle.graphs.proofs.Rows.{target-linksOf}
 use Rattle.graphs.proofs.Below.{same-sym, same-trans}
-use Rattle.graphs.proofs.Form.Bisimilar.{Alike, absent, present, Bisimilar, alike-right, alike-walk, bisimilar-same}
+use Rattle.graphs.proofs.Form.Bisimilar.{Alike, absent, present, Bisimilar, alike-left, alike-right, alike-walk, bisimilar-same}
 use Rattle.graphs.proofs.Form.Invariant.{bisimilar-canonical, same-canonical}
 use Rattle.graphs.proofs.Form.Visited.{Grown, visit-all, visit-first}
 
@@ -181,6 +181,21 @@ module _ {L A : Type 0} (same : A → A → Bool) (tells : TellsApart same) (g :
       b ∙ ap some (sym (ap (λ (x : Option (List A)). getD (orderIn x) k o) h ∙ ap (λ (j : ℕ). getD (reverse now) j o) (sym at)
       ∙ ap (λ (l : List A). getD l (indexOf same v (reverse now)) o) (sym (map-id (reverse now)))
       ∙ getD-index same tells (λ x. x) o v (reverse now) m))
+
+  -- A path leads in the rows to the number of the node that it leads to.
+  pub form-numbers : (d : L) (form : List (Row L)) → canonical same g ≡ written form →
+      (now : List A) ×
+      (visit same (g .link) 255 (g .root) [] ≡ some now) ×
+      ((p : List ℕ) (v : A) → walk g p ≡ some v → walk (graphOf d form) p ≡ some (indexOf same v (reverse now)))
+  unfolding rows nodes Numbered
+  form-numbers d form e =
+      let (now, h, _, q) = canonical-written same g form e in (
+        now,
+        h,
+        λ p v to.
+            let (i, at, (_, is)) = alike-left (alike-walk (Numbered d now h) g (graphOf d (rows d now h)) (written-bisimilar d now h) p) to in
+            subst (λ (r : List (Row L)). walk (graphOf d r) p ≡ some (indexOf same v (reverse now))) q (at ∙ ap some (sym is)),
+      )
 
   -- The rows, written again, are the rows.
   pub canonical-idempotent : (d : L) (form : List (Row L)) → canonical same g ≡ written form →

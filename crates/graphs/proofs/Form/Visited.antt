@@ -223,10 +223,14 @@ module _ {A : Type 0} (same : A → A → Bool) (tells : TellsApart same) (link 
       at true q r rest = none-some (sym r)
       at false q r rest = room (leb 255 (length old)) refl r (member-false same tells v old q) rest
 
-  -- a visit from a node with P that starts with nothing seen
-  pub visit-all : (v : A) (now : List A) → P v → visit same link 255 v [] ≡ some now → Grown [] now × List·Memᴰ v now
+  -- a visit from a node with P
+  pub visit-grows : (d : ℕ) (v : A) (old now : List A) → P v → visit same link d v old ≡ some now → Grown old now × List·Memᴰ v now
   unfolding Finds
-  visit-all v now p e = visit-finds 255 v [] now p e
+  visit-grows = visit-finds
+
+  -- one that starts with nothing seen
+  pub visit-all : (v : A) (now : List A) → P v → visit same link 255 v [] ≡ some now → Grown [] now × List·Memᴰ v now
+  visit-all v now = visit-grows 255 v [] now
 
   pub visit-many : (v : A) → P v → visit same link 255 v [] ≡ none → Many
   unfolding Fails
