@@ -16,7 +16,7 @@ use Rattle.graphs.specs.Rows.{Row, from, features}
 use Rattle.graphs.specs.Large.{linksIn, Ascending}
 use Rattle.graphs.proofs.Walk.{some-injective, none-some}
 use Rattle.graphs.proofs.Search.{cond-some}
-use Rattle.decode.specs.Decode.{Taken, changed, takeTarget, takeLinks, labelLength, labelOf, takeRow, takeRows, bitOf, whole, decoded}
+use Rattle.decode.specs.Decode.{AreBytes, Taken, changed, takeTarget, takeLinks, labelLength, labelOf, takeRow, takeRows, bitOf, whole, decoded}
 use Rattle.lattice.specs.Label.{Label, plain}
 use Rattle.lattice.specs.Labels.{Known}
 use Rattle.layout.proofs.Builder.{Orderly}
@@ -33,10 +33,6 @@ pub drop-member : {X : Type 0} {x : X} (k : ℕ) (xs : List X) → List·Memᴰ 
 drop-member zero xs m = m
 drop-member (suc k) [] m = m
 drop-member (suc k) (y ∷ xs) m = List·Memᴰ·tail (drop-member k xs m)
-
--- numbers that are bytes
-abbrev pub AreBytes : List ℕ → Type 0
-AreBytes bytes = (b : ℕ) → List·Memᴰ b bytes → b < 256
 
 pub are-bytes : (bytes : List ℕ) → ((i : ℕ) → getD bytes i 0 < 256) → AreBytes bytes
 are-bytes [] small b m = absurd (List·Memᴰ·not-nil m)

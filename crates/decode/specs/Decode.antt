@@ -1,13 +1,17 @@
 -- A record's bytes as rows (document 01, "Graph record"; ranges of levels by document 02, Paper 7): what they state, or nothing
 -- where refusal 4 is due.
 use mathlib.Core.Bool.{Bool, cond}
-use mathlib.Core.List.{List, [], _∷_}
+use mathlib.Core.List.{List, [], _∷_, List·Memᴰ}
 use mathlib.Core.Option.{Option, none, some, Option·map, bind}
-use Prim.Native.Nat.{ℕ, zero, suc, _+_, _/_, _%_, _^_}
+use Prim.Native.Nat.{ℕ, zero, suc, _+_, _/_, _%_, _^_, _<_}
 use lib.Dec.{eqb, leb}
 use lib.ListN.{length, getD, drop}
 use Rattle.graphs.specs.Rows.{Row, features}
 use Rattle.lattice.specs.Label.{Label, plain}
+
+-- numbers that are bytes
+abbrev pub AreBytes : List ℕ → Type 0
+AreBytes bytes = (b : ℕ) → List·Memᴰ b bytes → b < 256
 
 -- "feature f, 0 to 63, is bit f mod 8 of byte f div 8"
 unfoldable pub bitOf : List ℕ → ℕ → Bool

@@ -10,20 +10,8 @@ use lib.Dec.{leb}
 use borrow.Author.Tests.{le-leb, leb-true}
 use Rattle.graphs.specs.Label.{Labels}
 use Rattle.lattice.specs.Label.{Ranged}
-use Rattle.lattice.specs.Labels.{withRanges}
+use Rattle.lattice.specs.Labels.{withRanges, LevelIn, NonEmpty, RangeInside}
 use Rattle.lattice.proofs.Every.{below-or-not, and-left, and-right, and-both}
-
--- the level l lies inside the range of x
-abbrev pub LevelIn : {T : Type 0} → Ranged T → ℕ → Type 0
-LevelIn x l = (x .lowest ≤ l) × (l ≤ x .highest)
-
--- some level lies inside
-abbrev pub NonEmpty : {T : Type 0} → Ranged T → Type 0
-NonEmpty x = x .lowest ≤ x .highest
-
--- "the range lies inside": every level inside x is inside y
-abbrev pub RangeInside : {T : Type 0} → Ranged T → Ranged T → Type 0
-RangeInside x y = (l : ℕ) → LevelIn x l → LevelIn y l
 
 module _ {T : Type 0} (x y : Ranged T) where
   ends-inside : NonEmpty x → RangeInside x y → (y .lowest ≤ x .lowest) × (x .highest ≤ y .highest)

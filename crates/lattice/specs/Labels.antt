@@ -50,6 +50,18 @@ withRanges 𝓣 =
       contradiction = λ x. 𝓣 .contradiction (x .type) || leb (suc (x .highest)) (x .lowest);
     }
 
+-- the level l lies inside the range of x
+abbrev pub LevelIn : {T : Type 0} → Ranged T → ℕ → Type 0
+LevelIn x l = (x .lowest ≤ l) × (l ≤ x .highest)
+
+-- some level lies inside
+abbrev pub NonEmpty : {T : Type 0} → Ranged T → Type 0
+NonEmpty x = x .lowest ≤ x .highest
+
+-- "the range lies inside": every level inside x is inside y
+abbrev pub RangeInside : {T : Type 0} → Ranged T → Ranged T → Type 0
+RangeInside x y = (l : ℕ) → LevelIn x l → LevelIn y l
+
 -- the labels of a table
 abbrev pub tableLabels : ℕ → List ℕ → Labels
 tableLabels n t = withRanges (typeLabels n t)

@@ -18,8 +18,8 @@ use Rattle.graphs.specs.Number.{countSome}
 use Rattle.graphs.proofs.Search.{true-false, cond-some}
 use Rattle.graphs.proofs.Walk.{some-injective, none-some}
 use Rattle.lattice.specs.Label.{Label, plain, isFull}
-use Rattle.decode.specs.Decode.{Taken, changed, takeTarget, takeLinks, isRanged, labelLength, labelOf, takeRow, takeRows, bitOf, whole, decoded}
-use Rattle.decode.proofs.Decoded.{AreBytes, byte-below, drop-member, Decoded, decoded-says}
+use Rattle.decode.specs.Decode.{AreBytes, Taken, changed, takeTarget, takeLinks, isRanged, labelLength, labelOf, takeRow, takeRows, bitOf, whole, decoded}
+use Rattle.decode.proofs.Decoded.{byte-below, drop-member, Decoded, decoded-says}
 use Rattle.encode.specs.Encode.{bitsFrom}
 use Rattle.record.specs.Spelled.{spelledLabel, spelledRow, spelledRows, spelled, Statable, Spells}
 use Rattle.record.proofs.Labels.{decoded-types}

@@ -8,8 +8,8 @@ use borrow.Author.Tests.{eqb-true, eq-eqb}
 use lib.ListN.{length}
 use Rattle.graphs.specs.Rows.{Row}
 use Rattle.lattice.specs.Label.{Label, isFull}
-use Rattle.lattice.specs.Labels.{typeLabels, tableLabels}
-use Rattle.lattice.proofs.Ranges.{LevelIn, meet-range-clash}
+use Rattle.lattice.specs.Labels.{LevelIn, typeLabels, tableLabels}
+use Rattle.lattice.proofs.Ranges.{meet-range-clash}
 use Rattle.record.specs.Read.{graphOfRows}
 use Rattle.record.specs.Spelled.{Statable, Spells}
 use Rattle.record.proofs.Accepted.{accepted-rules}

@@ -24,4 +24,4 @@ module _ (n : ℕ) (t a b : List ℕ) (g h : List (Row Label)) (given : Given n 
 
   -- "11 included": it is answered exactly where the common part has more than 255 nodes or 2,048 links.
   pub large-exact : (out : List ℕ) → (generalizing n t a b out .reply ≡ TooLarge) ↔ Large (common n t g h)
-  large-exact out = Common.common-part-written n t a b g h given out .too-large
+  large-exact out = Common.common-part-writes n t a b g h given out .too-large

@@ -9,11 +9,9 @@ use lib.ListN.{length}
 use Rattle.graphs.specs.Rows.{Row}
 use Rattle.lattice.specs.Label.{Label, isFull}
 use Rattle.lattice.specs.Table.{below}
-use Rattle.lattice.specs.Labels.{typeLabels, tableLabels}
-use Rattle.lattice.proofs.Ranges.{LevelIn, NonEmpty, RangeInside}
+use Rattle.lattice.specs.Labels.{typeLabels, tableLabels, LevelIn, NonEmpty, RangeInside}
 use Rattle.lattice.proofs.Ranges as Ranges
-use Rattle.decode.specs.Decode.{decoded}
-use Rattle.decode.proofs.Decoded.{AreBytes}
+use Rattle.decode.specs.Decode.{AreBytes, decoded}
 use Rattle.record.specs.Read.{reading, graphOfRows}
 use Rattle.record.specs.Spelled.{Spells}
 use Rattle.record.specs.Unranged.{unranged}
