@@ -17,11 +17,12 @@ pub use source::{Kind, Place, Sources};
 pub const DEMANDS: &str = "crates/demands/proofs/Demands.antt";
 
 /// The files with all statements about calls, the three demands first.
-pub const STATEMENTS: [&str; 14] = [
+pub const STATEMENTS: [&str; 15] = [
     DEMANDS,
     "crates/demands/proofs/Requests/Paper01.antt",
     "crates/demands/proofs/Requests/Paper02.antt",
     "crates/demands/proofs/Requests/Paper03.antt",
+    "crates/demands/proofs/Requests/Paper05.antt",
     "crates/demands/proofs/Requests/Paper06.antt",
     "crates/demands/proofs/Requests/Paper07.antt",
     "crates/demands/proofs/Requests/Paper08.antt",

@@ -58,7 +58,9 @@ impl List {
                 known.extend(rest.iter().cloned());
             } else {
                 let [name, file, theorem, theorem_file] = names.as_slice() else {
-                    panic!("an entry names a definition, its file, a theorem and its file: {entry}");
+                    panic!(
+                        "an entry names a definition, its file, a theorem and its file: {entry}"
+                    );
                 };
                 list.computed.push(Told {
                     file: file.clone(),

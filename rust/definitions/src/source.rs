@@ -197,7 +197,11 @@ fn words(line: &str) -> Vec<String> {
 /// A line without its comment.
 fn bare(line: &str) -> &str {
     let trimmed = line.trim();
-    if trimmed.starts_with("--") { "" } else { trimmed }
+    if trimmed.starts_with("--") {
+        ""
+    } else {
+        trimmed
+    }
 }
 
 /// The name that a line declares, and whether it is a record or a data type.
