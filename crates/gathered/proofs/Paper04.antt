@@ -21,7 +21,7 @@ use Rattle.gathered.specs.Calls.{Call, order, finish, called, stateAfter
 use Rattle.gathered.specs.Theorem.{Holds, LeastAbove}
 use Rattle.gathered.proofs.Theorems as Theorems
 
--- "the pane may put a program beside the unfinished gathering and learn its order [..]; this changes nothing in the gathering": on any bytes.
+-- "the pane may put a program beside the unfinished gathering and learn its order ..; this changes nothing in the gathering": on any bytes.
 pub order-unchanged : (state bytes : List ℕ) → called state (order bytes) .output ≡ state
 order-unchanged state bytes = refl
 
@@ -29,7 +29,7 @@ order-unchanged state bytes = refl
 pub addition-unchanged : (state bytes : List ℕ) (k : ℕ) → refusal (adding state bytes .reply) ≡ some k → adding state bytes .output ≡ state
 addition-unchanged = Theorems.refused-unchanged
 
--- "Finishing [..] leaves the gathering open", and refused it leaves the output.
+-- "Finishing .. leaves the gathering open", and refused it leaves the output.
 pub finish-open : (state out : List ℕ) → called state (finish out) .output ≡ state
 finish-open state out = refl
 
@@ -63,7 +63,7 @@ module _ (n : ℕ) (t buffer : List ℕ) where
     holds : Holds n t start none
     holds = Theorems.begun-holds n t buffer l begins
 
-    -- "The state after any such mixture is what the accepted additions alone [..] give", byte for byte, and alone they are accepted again;
+    -- "The state after any such mixture is what the accepted additions alone .. give", byte for byte, and alone they are accepted again;
     pub mixture-alone : stateAfter start cs ≡ stateAfter start (alone (additions start cs))
     mixture-alone = Theorems.mixture cs start
 

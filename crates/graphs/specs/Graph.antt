@@ -48,7 +48,7 @@ module _ (𝓛 : Labels) where
         (w : A) × (walk s p ≡ some w) × (𝓛 .le (s .label w) (g .label v) ≡ true)
     pub corefers : (p q : List ℕ) → Corefer g p q → Corefer s p q
 
-  -- "A record means its paths, their types and which paths share": the same paths with the same labels, the same coreference.
+  -- Demand 2, what a record means: the same paths with the same labels, the same coreference.
   pub record SameMeaning {A B : Type 0} (g : Graph (𝓛 .L) A) (h : Graph (𝓛 .L) B) : Type 0 where
     pub there : (p : List ℕ) (v : A) → walk g p ≡ some v → (w : B) × (walk h p ≡ some w) × (g .label v ≡ h .label w)
     pub back : (p : List ℕ) (w : B) → walk h p ≡ some w → (v : A) × (walk g p ≡ some v) × (g .label v ≡ h .label w)

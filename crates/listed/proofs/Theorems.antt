@@ -246,7 +246,7 @@ module _ (n F : ℕ) (low : 2 ≤ n) (small : n ≤ 64) (f : Counts F) where
       let (k, e) = member-nth (listing n F) bytes (listing-exactly bytes .1 l) in
       (k, calls-nth k ∙ e, λ j q. nth-once (listing n F) listing-ascends j k bytes (sym (calls-nth j) ∙ q) e)
 
-  -- "and then ends": as many calls as there are records give one, and the next gives none
+  -- and then the list ends: as many calls as there are records give one, and the next gives none
   pub calls-end : (calls n F (length (listing n F)) ≡ none) × ((j : ℕ) → j < length (listing n F) → (bytes : List ℕ) × (calls n F j ≡ some bytes))
   calls-end = (
     calls-nth (length (listing n F)) ∙ nth-out (listing n F),

@@ -32,7 +32,7 @@ use Rattle.record.proofs.Accepted.{accepted-rules, rules-of-any-size, r
 use Rattle.record.proofs.Rewritten as Rewritten
 
 module _ (n : ℕ) (bytes : List ℕ) where
-  -- 1. What is accepted and what is refused: "A graph is accepted when none of 4 to 7 applies"; each refusal says that those
+  -- 1. What is accepted and what is refused: "A table is accepted when none of 1 to 3 applies to it, a graph when none of 4 to 7 does"; each refusal says that those
   -- before it do not apply.
 
   pub accepted-exactly : (rows : List (Row Label)) →

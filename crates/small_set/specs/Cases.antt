@@ -262,7 +262,7 @@ Explains general specific bytes reasons =
 pub record Reasons : Type 0 where
   -- the shared node is kept for its type, by one link
   pub wanted : Explains P R (2 ∷ node top 0x01 (1 ∷ []) ++ leaf a) (3 ∷ [])
-  -- "R from Q has two groups at the shared node"
+  -- in R over Q the shared node has two groups
   pub shared : Explains Q R R (2 ∷ 2 ∷ [])
   pub rejoined : Explains (3 ∷ node top 0x07 (1 ∷ 1 ∷ 2 ∷ []) ++ leaf top ++ leaf top) (2 ∷ node top 0x07 (1 ∷ 1 ∷ 1 ∷ []) ++ leaf top)
       (2 ∷ node top 0x05 (1 ∷ 1 ∷ []) ++ leaf top) (2 ∷ 2 ∷ [])

@@ -53,7 +53,7 @@ use Rattle.stored.proofs.Theorems as Theorems
 
 -- What a buffer holds.
 
--- "a map of 16 bits [..] saying which exist, then the length and record of their common part, then the length and difference of each version that
+-- "a map of 16 bits .. saying which exist, then the length and record of their common part, then the length and difference of each version that
 -- exists": the used bytes of a buffer that holds programs.
 pub used-bytes : (n : ℕ) (t buffer : List ℕ) (ps : Programs) (holds : Holds n t buffer ps) →
     ((ps ≡ noPrograms) × (holds .state ≡ emptyState)) ⊎

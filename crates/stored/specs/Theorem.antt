@@ -117,7 +117,7 @@ module _ (n : ℕ) (t buffer : List ℕ) (version : ℕ) where
     -- 4 to 7: "then the program's 4 to 7, as the second".
     program : (ps : Programs) (fault : GraphFault) → opened n t ≡ Accepted → Holds n t buffer ps → reading n bytes ≡ refused fault →
         PutDue bytes (Graph fault Second)
-    -- 20: "next a version above 15, or [..] present for put, is 20".
+    -- 20: "next a version above 15, or .. present for put, is 20".
     numbered : (ps : Programs) (rows : List (Row Label)) → opened n t ≡ Accepted → Holds n t buffer ps → reading n bytes ≡ accepted rows →
         (15 < version) ⊎ ((p : List ℕ) × (getD ps version none ≡ some p)) → PutDue bytes WrongVersion
     -- 11, 13 and 21: "refused with the first number met on that way".
