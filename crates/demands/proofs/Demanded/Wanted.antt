@@ -23,7 +23,7 @@ use Rattle.graphs.proofs.Unification.Beside.{Operands}
 use Rattle.graphs.proofs.Difference.Wanted.{meetOver-under, label-under}
 use Rattle.lattice.specs.Label.{Label, plain, noLabel}
 use Rattle.lattice.specs.Table as table
-use Rattle.lattice.specs.Labels.{tableLabels, Known, wantedLabel, wantedRange, OfAnySize, MeetOver, WantedAt}
+use Rattle.lattice.specs.Labels.{tableLabels, Known, wantedLabel, wantedRange, OfAnySize, BelowOver, MeetOver, WantedAt}
 use Rattle.lattice.proofs.Every.{every-at, every-fails, found-some}
 use Rattle.lattice.proofs.Laws.{zero-type, below-antisymmetric, wanted-sound, wanted-unique}
 use Rattle.lattice.proofs.WantedLabels.{wanted-at, wanted-label-by-top}
@@ -61,7 +61,7 @@ every-missed p (suc n) e = go (p n) refl (every-missed p n)
     go false q before = (n, omega arith, q)
     go true q before = let (k, l, r) = before (first (table.every n p) (p n) q e) in (k, omega arith, r)
 
--- Graphs of one meaning have the same wanted types, whatever lies over them.
+-- Graphs of one meaning have the same wanted labels and types, whatever lies over them.
 module _ (n : ℕ) (t : List ℕ) {A C B : Type 0} {s : Graph Label A} {r : Graph Label C} (g : Graph Label B) (same : SameMeaning (tableLabels n t) s r) where
   -- a path that leads to w in r leads to the node v of s that a path leads to together with w
   same-path : {v : A} {w : C} (p q : List ℕ) → walk s p ≡ some v → walk r p ≡ some w → walk r q ≡ some w → walk s q ≡ some v
@@ -72,9 +72,30 @@ module _ (n : ℕ) (t : List ℕ) {A C B : Type 0} {s : Graph Label A} {r : Grap
   same-over : {v : A} {w : C} (p : List ℕ) → walk s p ≡ some v → walk r p ≡ some w → (a : ℕ) → TypeBelowOver n t s g v a → TypeBelowOver n t r g w a
   same-over p d e a under q y f i = under q y (same-path p q d e f) i
 
-same-wanted : (n : ℕ) (t : List ℕ) {A C B : Type 0} (s : Graph Label A) (r : Graph Label C) (g : Graph Label B) → SameMeaning (tableLabels n t) s r →
-    (p : List ℕ) (v : A) (w : C) → walk s p ≡ some v → walk r p ≡ some w → (c : ℕ) → WantedType n t r g w c → WantedType n t s g v c
+  same-over-label : {v : A} {w : C} (p : List ℕ) → walk s p ≡ some v → walk r p ≡ some w → (a : Label) → BelowOver n t s g v a → BelowOver n t r g w a
+  same-over-label p d e a under q y f i = under q y (same-path p q d e f) i
+
+pub same-wanted : (n : ℕ) (t : List ℕ) {A C B : Type 0} (s : Graph Label A) (r : Graph Label C) (g : Graph Label B) → SameMeaning (tableLabels n t) s r →
+    (p : List ℕ) (v : A) (w : C) → walk s p ≡ some v → walk r p ≡ some w → (c : Label) → WantedAt n t r g w c → WantedAt n t s g v c
 same-wanted n t s r g same p v w d e c is =
+    let (x, i, labels) = same .there p v d in
+    let label : s .label v ≡ r .label w = labels ∙ ap (r .label) (some-unique i e) in
+    record {
+      over = is .over;
+      is-over =
+          record {
+            known = is .is-over .known;
+            under = same-over-label n t g (same-sym same) p e d (is .over) (is .is-over .under);
+            greatest = λ b l under. is .is-over .greatest b l (same-over-label n t g same p d e b under);
+          };
+      known = is .known;
+      restores = is .restores ∙ sym label;
+      greatest = λ b l f. is .greatest b l (f ∙ label);
+    }
+
+same-type : (n : ℕ) (t : List ℕ) {A C B : Type 0} (s : Graph Label A) (r : Graph Label C) (g : Graph Label B) → SameMeaning (tableLabels n t) s r →
+    (p : List ℕ) (v : A) (w : C) → walk s p ≡ some v → walk r p ≡ some w → (c : ℕ) → WantedType n t r g w c → WantedType n t s g v c
+same-type n t s r g same p v w d e c is =
     let (x, i, labels) = same .there p v d in
     let type : s .label v .type ≡ r .label w .type = ap (λ (l : Label). l .type) (labels ∙ ap (r .label) (some-unique i e)) in
     record {
@@ -94,7 +115,7 @@ pub same-unwanted : (n : ℕ) (t : List ℕ) {A C B : Type 0} (s : Graph Label A
     SomeUnwanted n t s g → SomeUnwanted n t r g
 same-unwanted n t s r g same (v, (p, d), nothing) =
     let (w, e, _) = same .there p v d in
-    (w, (p, e), λ c is. nothing c (same-wanted n t s r g same p v w d e c is))
+    (w, (p, e), λ c is. nothing c (same-type n t s r g same p v w d e c is))
 
 module _ (n : ℕ) (t : List ℕ) (ok : table.accepted n t ≡ true) (g s : List (Row Label)) (general : Rules n g) (specific : Rules n s)
     (below : Below (tableLabels n t) (graphOfRows s) (graphOfRows g)) where
