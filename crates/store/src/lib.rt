@@ -102,7 +102,8 @@ fn put_among<'a>(
     state: &mut [u8],
 ) -> Reply
     requires { ⌜ OpenedFor true n (now table) (now sets) (now cells) × (length (now state) ≡ length (now store)) × (length (now store) ≤ 16384) ⌝ }
-    ensures { λ r. ⌜ Among (onHeld (held n (now (table .entry)) (now (store .entry))) (putAmong n (now (table .entry)) (length (now (store .entry))) version (now (bytes .entry)))) (now (state .entry)) r (now (state .exit)) ⌝ }
+    ensures { λ r. ⌜ Among (onHeld (held n (now (table .entry)) (now (store .entry)))
+        (putAmong n (now (table .entry)) (length (now (store .entry))) version (now (bytes .entry)))) (now (state .entry)) r (now (state .exit)) ⌝ }
 {
     let mut slots = [0u8; versions::slots::SLOTS];
     let mut part = [0u8; versions::slots::SLOT];
@@ -143,7 +144,8 @@ fn drop_among<'a>(
     state: &mut [u8],
 ) -> Reply
     requires { ⌜ OpenedFor true n (now table) (now sets) (now cells) × (length (now state) ≡ length (now store)) × (length (now store) ≤ 16384) ⌝ }
-    ensures { λ r. ⌜ Among (onHeld (held n (now (table .entry)) (now (store .entry))) (dropAmong n (now (table .entry)) (length (now (store .entry))) version)) (now (state .entry)) r (now (state .exit)) ⌝ }
+    ensures { λ r. ⌜ Among (onHeld (held n (now (table .entry)) (now (store .entry)))
+        (dropAmong n (now (table .entry)) (length (now (store .entry))) version)) (now (state .entry)) r (now (state .exit)) ⌝ }
 {
     let mut slots = [0u8; versions::slots::SLOTS];
     let mut part = [0u8; versions::slots::SLOT];

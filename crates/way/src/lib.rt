@@ -104,7 +104,8 @@ pub fn step<'a>(
     part: &mut [u8],
     state: &mut [u8],
 ) -> Reply
-    requires { ⌜ OpenedFor true n (now table) (now sets) (now cells) × Slotted (now slots) × (version < 16) × (1 ≤ lengthAt (drop (version * 4856) (now slots))) × Parted (now part) × (2 ≤ length (now state)) × (length (now state) ≤ 16384) ⌝ }
+    requires { ⌜ OpenedFor true n (now table) (now sets) (now cells) × Slotted (now slots) ×
+        (version < 16) × (1 ≤ lengthAt (drop (version * 4856) (now slots))) × Parted (now part) × (2 ≤ length (now state)) × (length (now state) ≤ 16384) ⌝ }
     ensures { λ r. ⌜ Steps n (now (table .entry)) (programsIn (now (slots .entry))) version (now (part .entry)) (now (state .entry)) r (now (part .exit)) (now (state .exit)) ⌝ }
 {
     let start = version * versions::slots::SLOT + 2;
