@@ -8,9 +8,10 @@ use lib.Dec.{eqb}
 use lib.ListN.{length, getD}
 use Rattle.graphs.specs.Graph.{walk}
 use Rattle.graphs.specs.Rows.{Row, from}
+use Rattle.graphs.specs.Number.{indexOf}
 use Rattle.graphs.specs.Large.{linksIn}
 use Rattle.graphs.specs.Difference.{Link}
-use Rattle.graphs.specs.Reasons.{reasonAt, linksInOrder, IsReason}
+use Rattle.graphs.specs.Reasons.{reasonAt, writtenOrder, linksInOrder, IsReason}
 use Rattle.lattice.specs.Label.{Label}
 use Rattle.record.specs.Read.{graphOfRows}
 use Rattle.difference.specs.Difference.{over}
@@ -24,6 +25,14 @@ reasonFor earlier n t g s l v = reasonAt eqb eqb (graphOfRows s) (from 0 (length
 abbrev pub LinkReason : (Link ℕ → Link ℕ → Bool) → ℕ → List ℕ → List (Row Label) → List (Row Label) → ℕ → ℕ → ℕ → ℕ → Type 0
 LinkReason earlier n t g s u f v reason =
     IsReason (graphOfRows s) (graphOfRows g) earlier (WantedNotTop n t (graphOfRows s) (graphOfRows g)) (u, f) v reason
+
+-- "Number s as written": the number of the node v of s,
+abbrev pub writtenNumber : List (Row Label) → ℕ → ℕ
+writtenNumber s v = indexOf eqb v (writtenOrder eqb (graphOfRows s))
+
+-- and an order of links by these numbers, of the links of s
+abbrev pub byWritten : (Link ℕ → Link ℕ → Bool) → List (Row Label) → Link ℕ → Link ℕ → Bool
+byWritten earlier s l m = earlier (writtenNumber s (l .0), l .1) (writtenNumber s (m .0), m .1)
 
 -- "Each byte's fact is to be shown true of the two graphs": byte i tells of link i, "in record order", of the difference with the rows
 -- `form`. Let it leave node k by f. A path to k leads in s to a node u, and followed by f to a node v; byte i is a reason for that link.

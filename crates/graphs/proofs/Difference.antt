@@ -19,3 +19,4 @@ pub mod Agree
 pub mod Computed
 pub mod Relations
 pub mod Reasons
+pub mod Renamed

@@ -1,5 +1,5 @@
--- The reason beside each kept link (document 02, Paper 13), over what a difference is made of: the number of the reason for a link, and
--- the links of a graph "in record order".
+-- The reason beside each kept link (document 02, Paper 13): the number of the reason for a link as it is computed, the links of a graph "in
+-- record order", and what a reason tells of the two graphs.
 use mathlib.Core.Path.{_≡_}
 use mathlib.Core.Bool.{Bool, cond}
 use mathlib.Core.List.{List, [], _∷_, _++_, map, reverse}

@@ -1,5 +1,5 @@
 -- The difference of g and s as relations over their paths and links (document 01, "Difference, for s below g"); nodes and labels may be of
--- any type. `Difference.antt` computes it. `earlier` orders the links of s; `Wants v`: the wanted label of the node v of s is not top.
+-- any type. `Difference.antt` computes it. `earlier` orders the links of s, and `Wants v` says that the wanted label of its node v is not top.
 use mathlib.Core.Path.{_≡_}
 use mathlib.Core.Bool.{Bool, false}
 use mathlib.Core.List.{List}
@@ -17,15 +17,15 @@ module _ {L A B : Type 0} (s : Graph L A) (g : Graph L B) where
   abbrev pub LiesOver : B → A → Type 0
   LiesOver y v = (p : List ℕ) × (walk g p ≡ some y) × (walk s p ≡ some v)
 
-  -- a link of g that enters z leaves a node over the one that l leaves, by the same feature.
+  -- a link of g that lies over l enters z: it leaves a node over the one that l leaves, by the feature of l.
   abbrev pub LinkOver : B → Link A → Type 0
   LinkOver z l = (y : B) × LiesOver y (l .0) × (g .link y (l .1) ≡ some z)
 
-  -- something of g lies over the link,
+  -- something of g lies over the link l,
   abbrev pub SomethingOver : Link A → Type 0
   SomethingOver l = (z : B) × LinkOver z l
 
-  -- or it is "a link with nothing of g over it".
+  -- or l is a "link with nothing of g over it".
   abbrev pub NothingOver : Link A → Type 0
   NothingOver l = SomethingOver l → ⊥
 
@@ -34,7 +34,7 @@ module _ {L A B : Type 0} (s : Graph L A) (g : Graph L B) where
   Touch l m = (z : B) × LinkOver z l × LinkOver z m
 
   -- "At a node of s .., put two incoming links in one group when two links of g that enter one node of g lie over them; close this
-  -- transitively." A link is in its own group, and "a link with nothing of g over it is a group alone".
+  -- transitively." Each is in its own group. "A link with nothing of g over it is a group alone."
   pub data Grouped (v : A) : Link A → Link A → Type 0 where
     itself : {l : Link A} → Into s v l → Grouped v l l
     touching : {l m : Link A} → Into s v l → Into s v m → Touch l m → Grouped v l m
@@ -56,7 +56,7 @@ module _ {L A B : Type 0} (s : Graph L A) (g : Graph L B) where
         isRoot : {v : A} → v ≡ s .root → Kept v
         -- "With two or more groups, the difference keeps the least link of each."
         manyGroups : {v : A} → TwoGroups v → Kept v
-        -- "With one group, it keeps the least link if nothing of g lies over that group": over its link, for that is then alone;
+        -- "With one group, it keeps the least link if nothing of g lies over that group": such a group is one link;
         nothingOver : {v : A} {l : Link A} → Into s v l → NothingOver l → Kept v
         -- "or the wanted type is not top,
         wantsLabel : {v : A} → Wants v → Kept v

@@ -10,6 +10,7 @@ use borrow.Author.Tests.{le-leb, lt-leb, leb-true, leb-false}
 use lib.Dec.{eqb, leb}
 use lib.ListN.{length, getD, take, drop, List·getD-append}
 use Rattle.graphs.specs.Graph.{Graph, Reached, Below}
+use Rattle.graphs.specs.Map.{Exact}
 use Rattle.graphs.specs.Rows.{Row}
 use Rattle.graphs.specs.Number.{canonical, written}
 use Rattle.graphs.specs.Large.{linksIn}
@@ -18,7 +19,9 @@ use Rattle.graphs.specs.Reasons.{alongLinks, writtenOrder}
 use Rattle.graphs.proofs.Walk.{some-injective, none-some, walk-snoc}
 use Rattle.graphs.proofs.Lists.{tells-eqb}
 use Rattle.graphs.proofs.Reasons.{written-length, written-value}
+use Rattle.graphs.proofs.Below.{exact-same}
 use Rattle.graphs.proofs.Difference.Reasons.{reason-tells}
+use Rattle.graphs.proofs.Difference.Renamed.{walk-to, walk-from, reason-from}
 use Rattle.lattice.specs.Label.{Label, noLabel}
 use Rattle.lattice.specs.Labels.{tableLabels}
 use Rattle.lattice.specs.Table as types
@@ -45,7 +48,7 @@ use Rattle.difference.specs.Difference.{wantedAt, allWanted, numbered, differen
 use Rattle.engine.specs.Differing.{parting, reasonsOf}
 use Rattle.demands.specs.Demand.{Given, asWritten, remainder, WantedNotTop}
 use Rattle.difference.specs.Explained.{Explained, explainedResult, lengthWithReasons, withReasons}
-use Rattle.demands.specs.Explained.{reasonFor, LinkReason, ReasonsTell}
+use Rattle.demands.specs.Explained.{reasonFor, LinkReason, writtenNumber, byWritten, ReasonsTell}
 use Rattle.replies.proofs.Numbers.{answer-injective}
 use Rattle.difference.proofs.Over.{over-map}
 use Rattle.demands.proofs.Demanded.Combination.{other-refusal}
@@ -60,7 +63,8 @@ use Rattle.demands.proofs.Demanded.Difference.{
   difference-told,
   remainder-writes,
 }
-use Rattle.demands.proofs.Demanded.Relations.{specific-size, operands, rows-kept, rows-walk, written-rules, written-below}
+use Rattle.demands.proofs.Demanded.Relations.{specific-size, operands, rows-kept, rows-walk, written-exact, written-rules, written-below}
+use Rattle.demands.proofs.Demanded.Wanted.{same-wanted}
 
 -- Of the rows of two graphs.
 module _ (n : ℕ) (t : List ℕ) (g s : List (Row Label)) (general : Rules n g) (specific : Rules n s)
@@ -123,6 +127,35 @@ module _ (n : ℕ) (t a b : List ℕ) (g s : List (Row Label)) (given : Given n 
         subst (ReasonsTell earlier n t g (asWritten s) rows) (sym (reasons-are earlier))
         (rows-tell n t g (asWritten s) (general-rules n t a b g s given) (written-rules n t a b g s given below)
         (written-below n t a b g s given below) (accepts n t a b g s given) all strict rows e)
+
+  -- What the reasons tell of s numbered as written, they tell of s.
+  own-tell : (earlier : Link ℕ → Link ℕ → Bool) (rows : List (Row Label)) (reasons : List ℕ) →
+      ReasonsTell earlier n t g (asWritten s) rows reasons → ReasonsTell (byWritten earlier s) n t g s rows reasons
+  own-tell earlier rows reasons told i k f h at p leads =
+      let (u′, v′, ru, rv, is) = told i k f h at p leads in
+      let (u, su, x) = walk-from same (graphOfRows g) p u′ ru in
+      let (v, sv, y) = walk-from same (graphOfRows g) (p ++ (f ∷ [])) v′ rv in
+      let link = sym (walk-snoc (graphOfRows s) p f su) ∙ sv in (
+        u,
+        v,
+        su,
+        sv,
+        reason-from same (graphOfRows g) earlier wants (u, f) v ((p, su), link) (getD reasons i 0)
+            (subst (λ w. LinkReason earlier n t g (asWritten s) (writtenNumber s u) f w (getD reasons i 0)) (sym y)
+            (subst (λ w. LinkReason earlier n t g (asWritten s) w f v′ (getD reasons i 0)) (sym x) is)),
+      )
+    where
+      same : Exact (writtenNumber s) (graphOfRows s) (graphOfRows (asWritten s))
+      same = written-exact n t a b g s given
+
+      wants : (v : ℕ) → Reached (graphOfRows s) v →
+          WantedNotTop n t (graphOfRows (asWritten s)) (graphOfRows g) (writtenNumber s v) → WantedNotTop n t (graphOfRows s) (graphOfRows g) v
+      wants v (p, e) (c, is, high) = (
+        c,
+        same-wanted n t (graphOfRows s) (graphOfRows (asWritten s)) (graphOfRows g) (exact-same same) p v (writtenNumber s v) e
+            (walk-to same (graphOfRows g) p v e) c is,
+        high,
+      )
 
 -- Beside the plain call, whatever is handed in.
 module _ (plain : Result) (reasons out old : List ℕ) where
@@ -252,10 +285,11 @@ module _ (n : ℕ) (t a b : List ℕ) (g s : List (Row Label)) (given : Given n 
   explained = withReasons call reasons out old
 
   pub call-tells : (l : ℕ) → explained .reply ≡ replies.Length l → (rows : List (Row Label)) →
-      reading n (take l (explained .output)) ≡ accepted rows → ReasonsTell earlier n t g (asWritten s) rows (explained .reasons)
+      reading n (take l (explained .output)) ≡ accepted rows → ReasonsTell (byWritten earlier s) n t g s rows (explained .reasons)
   call-tells l e rows read =
       let (q, fits) = beside-length call reasons out old l e in
-      go q (beside-room call reasons out old l q fits) (difference-told n t a b g s given strict parts)
+      own-tell n t a b g s given earlier rows (explained .reasons)
+      (go q (beside-room call reasons out old l q fits) (difference-told n t a b g s given strict parts))
     where
       go : call .reply ≡ replies.Length l →
           explained ≡ explainedResult (replies.Length l) (call .output) (reasons ++ drop (length reasons) old) →

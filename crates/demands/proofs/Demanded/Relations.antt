@@ -2,18 +2,20 @@
 -- what, which links are in one group, which links are kept, and which labels their nodes carry.
 use mathlib.Core.Path.{_≡_, refl, sym, _∙_, ap, subst}
 use mathlib.Core.Bool.{Bool, true, false}
-use mathlib.Core.List.{List, [], _∷_, _++_, List·Memᴰ}
+use mathlib.Core.List.{List, List·Memᴰ}
 use mathlib.Core.Logic.{_↔_}
 use mathlib.Core.Option.{Option, some, Option·getD}
-use Prim.Native.Nat.{ℕ, _<_}
+use Prim.Native.Nat.{ℕ}
 use lib.Dec.{eqb}
 use lib.ListN.{length}
 use Rattle.graphs.specs.Graph.{Graph, AnySize, Reached, Below, walk}
+use Rattle.graphs.specs.Map.{Exact}
 use Rattle.graphs.specs.Rows.{Row, from}
 use Rattle.graphs.specs.Difference.{Link, StrictOrder, groupOf, difference}
 use Rattle.graphs.specs.Relations.{Into, LiesOver, Grouped, KeptLink}
 use Rattle.graphs.proofs.Walk.{snoc-induction, follow-nil, follow-last, reached-link, walk-snoc}
 use Rattle.graphs.proofs.Lists.{tells-eqb}
+use Rattle.graphs.proofs.Form.Canonical.{form-exact}
 use Rattle.graphs.proofs.Unification.Beside.{Operands}
 use Rattle.graphs.proofs.Difference.Relations as Relations
 use Rattle.lattice.specs.Label.{Label, noLabel}
@@ -21,10 +23,12 @@ use Rattle.lattice.specs.Table as table
 use Rattle.lattice.specs.Labels.{tableLabels, WantedAt}
 use Rattle.record.specs.Read.{graphOfRows}
 use Rattle.record.proofs.Accepted.{Rules, rules-of-any-size, rules-nodes}
+use Rattle.record.proofs.Theorems.{accepted-of-any-size}
 use Rattle.difference.specs.Promise.{differenceAlong}
 use Rattle.difference.specs.Difference.{over, wantedAt, allWanted, numbered, differenceRows}
 use Rattle.difference.proofs.Over.{over-map}
 use Rattle.demands.specs.Demand.{Given, asWritten, remainder, WantedNotTop}
+use Rattle.demands.specs.Explained.{writtenNumber}
 use Rattle.demands.proofs.Demanded.Wanted.{wanted-exact, wanted-found}
 use Rattle.demands.proofs.Demanded.Difference.{accepts, general-rules, form, form-is, form-below, form-rules}
 
@@ -114,20 +118,29 @@ module _ (n : ℕ) (t : List ℕ) (g s : List (Row Label)) (general : Rules n g)
           walk-within (differenceRows earlier n t g s) (graphOfRows s) refl (λ u v f r e. rows-kept u f v r .0 e .0 .0 .1)
 
 -- Of two accepted records.
+module _ (n : ℕ) (t a b : List ℕ) (g s : List (Row Label)) (given : Given n t a b g s) where
+  written-is : form n t a b g s given ≡ asWritten s
+  written-is = sym (ap numbered (form-is n t a b g s given))
+
+  -- s with its nodes renamed to their numbers is s as it is written
+  pub written-exact : Exact (writtenNumber s) (graphOfRows s) (graphOfRows (asWritten s))
+  written-exact =
+      subst (λ (rows : List (Row Label)). Exact (writtenNumber s) (graphOfRows s) (graphOfRows rows)) written-is
+      (form-exact eqb tells-eqb (graphOfRows s) (accepted-of-any-size n b s (given .second) t .any-size .features) noLabel
+      (form n t a b g s given) (form-is n t a b g s given))
+
 module _ (n : ℕ) (t a b : List ℕ) (g s : List (Row Label)) (given : Given n t a b g s)
     (below : Below (tableLabels n t) (graphOfRows s) (graphOfRows g)) where
   abbrev general : Rules n g
   general = general-rules n t a b g s given
 
-  written-is : form n t a b g s given ≡ asWritten s
-  written-is = sym (ap numbered (form-is n t a b g s given))
-
   pub written-rules : Rules n (asWritten s)
-  written-rules = subst (Rules n) written-is (form-rules n t a b g s given below)
+  written-rules = subst (Rules n) (written-is n t a b g s given) (form-rules n t a b g s given below)
 
   pub written-below : Below (tableLabels n t) (graphOfRows (asWritten s)) (graphOfRows g)
   written-below =
-      subst (λ (rows : List (Row Label)). Below (tableLabels n t) (graphOfRows rows) (graphOfRows g)) written-is (form-below n t a b g s given below)
+      subst (λ (rows : List (Row Label)). Below (tableLabels n t) (graphOfRows rows) (graphOfRows g)) (written-is n t a b g s given)
+      (form-below n t a b g s given below)
 
   pub over-exact : (y v : ℕ) →
       LiesOver (graphOfRows (asWritten s)) (graphOfRows g) y v ↔ (Reached (graphOfRows g) y × (over (asWritten s) g y ≡ v))

@@ -71,8 +71,8 @@ module _ (n : ℕ) (t : List ℕ) {A C B : Type 0} {s : Graph Label A} {r : Grap
   same-over : {v : A} {w : C} (p : List ℕ) → walk s p ≡ some v → walk r p ≡ some w → (a : Label) → BelowOver n t s g v a → BelowOver n t r g w a
   same-over p d e a under q y f i = under q y (same-path p q d e f) i
 
-same-wanted : (n : ℕ) (t : List ℕ) {A C B : Type 0} (s : Graph Label A) (r : Graph Label C) (g : Graph Label B) → SameMeaning (tableLabels n t) s r →
-    (p : List ℕ) (v : A) (w : C) → walk s p ≡ some v → walk r p ≡ some w → (c : Label) → WantedAt n t r g w c → WantedAt n t s g v c
+pub same-wanted : (n : ℕ) (t : List ℕ) {A C B : Type 0} (s : Graph Label A) (r : Graph Label C) (g : Graph Label B) →
+    SameMeaning (tableLabels n t) s r → (p : List ℕ) (v : A) (w : C) → walk s p ≡ some v → walk r p ≡ some w → (c : Label) → WantedAt n t r g w c → WantedAt n t s g v c
 same-wanted n t s r g same p v w d e c is =
     let (x, i, labels) = same .there p v d in
     let label : s .label v ≡ r .label w = labels ∙ ap (r .label) (some-unique i e) in

@@ -32,7 +32,7 @@ use Rattle.calls.specs.Calls.{checked, differing, differingBy}
 use Rattle.difference.specs.Explained.{explainedResult}
 use Rattle.engine.specs.Differing.{reasonsOf, parting}
 use Rattle.calls.specs.Explained.{explainingBy}
-use Rattle.demands.specs.Explained.{reasonFor, LinkReason, ReasonsTell}
+use Rattle.demands.specs.Explained.{reasonFor, LinkReason, byWritten, ReasonsTell}
 use Rattle.demands.specs.Demand.{Given, Leaves, Writes, asWritten, remainder, Restores, Difference}
 use Rattle.calls.proofs.Listed.{table-before-list, list-exact, differing-checked}
 use Rattle.demands.proofs.Demanded.Output as Output
@@ -181,7 +181,7 @@ module _ (n : ℕ) (t list a b : List ℕ) (g s : List (Row Label)) (given : Giv
 
   pub reason-of-link-by : isReadingOrder list ≡ true → (out old : List ℕ) (l : ℕ) → explainingBy n t list a b out old .reply ≡ Length l →
       (form : List (Row Label)) → reading n (take l (explainingBy n t list a b out old .output)) ≡ accepted form →
-      ReasonsTell (byReading list) n t g (asWritten s) form (explainingBy n t list a b out old .reasons)
+      ReasonsTell (byWritten (byReading list) s) n t g s form (explainingBy n t list a b out old .reasons)
   unfolding explainingBy
   reason-of-link-by listed out old =
       call-tells n t a b g s given (by-reading-order list) (Differed.listed-parts n t list a b given listed out) old

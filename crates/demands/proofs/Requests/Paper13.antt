@@ -22,7 +22,7 @@ use Rattle.replies.specs.Reply.{lengthOf}
 use Rattle.difference.specs.Explained.{explainedResult}
 use Rattle.engine.specs.Differing.{reasonsOf}
 use Rattle.calls.specs.Explained.{explaining}
-use Rattle.demands.specs.Explained.{reasonFor, LinkReason, ReasonsTell}
+use Rattle.demands.specs.Explained.{reasonFor, LinkReason, byWritten, ReasonsTell}
 use Rattle.demands.specs.Demand.{Given, asWritten, remainder}
 use Rattle.demands.proofs.Demanded.Difference.{plain-parts, all-wanted}
 use Rattle.demands.proofs.Demanded.Reasons.{
@@ -80,9 +80,9 @@ module _ (n : ℕ) (t a b : List ℕ) (g s : List (Row Label)) (given : Given n 
       LinkReason byNumber n t g (asWritten s) u f v (reasonFor byNumber n t g (asWritten s) (u, f) v)
   reasons-true below all = link-reasons n t a b g s given by-number-order below (all-wanted n t a b g s given below all)
 
-  -- and of each byte beside a record that the call has written: byte i tells of link i of that record.
+  -- and of each byte beside a record that the call has written: byte i tells of link i of that record, and of the graphs as they were handed in.
   pub reason-of-link : (out old : List ℕ) (l : ℕ) → explaining n t a b out old .reply ≡ Length l → (form : List (Row Label)) →
       reading n (take l (explaining n t a b out old .output)) ≡ accepted form →
-      ReasonsTell byNumber n t g (asWritten s) form (explaining n t a b out old .reasons)
+      ReasonsTell (byWritten byNumber s) n t g s form (explaining n t a b out old .reasons)
   unfolding explaining
   reason-of-link out old = call-tells n t a b g s given by-number-order (plain-parts n t a b given out) old

@@ -7,7 +7,7 @@ use mathlib.Core.Logic.{_↔_, _⊎_, inl, inr}
 use Prim.Native.Nat.{ℕ}
 use native.Mathlib.Omega.{arith}
 use Rattle.graphs.specs.Label.{Labels}
-use Rattle.graphs.specs.Graph.{Graph, AnySize, Reached}
+use Rattle.graphs.specs.Graph.{Graph, AnySize}
 use Rattle.graphs.specs.Map.{NodeMap}
 use Rattle.graphs.specs.Difference.{Link, StrictOrder, bare, differ, lead, leaders}
 use Rattle.graphs.specs.Relations.{

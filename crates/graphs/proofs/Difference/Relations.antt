@@ -32,7 +32,7 @@ use Rattle.graphs.proofs.Walk.{reached-link}
 use Rattle.graphs.proofs.Search.{true-false}
 use Rattle.graphs.proofs.Unification.Beside.{Operands}
 use Rattle.graphs.proofs.Difference.Induct.{children-first}
-use Rattle.graphs.proofs.Difference.Laws.{Leader, Reason, atRoot, twoGroups, bareGroup, ownLabel, keptBelow, Idle}
+use Rattle.graphs.proofs.Difference.Laws.{Leader, Reason, atRoot, twoGroups, bareGroup, ownLabel, keptBelow}
 use Rattle.graphs.proofs.Difference.Kept.{grouped-flip, lies-over, link-over}
 use Rattle.graphs.proofs.Difference.Lead.{
   group-self,

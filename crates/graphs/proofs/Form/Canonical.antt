@@ -23,6 +23,7 @@ use lib.Dec.{eqb, leb}
 use lib.ListN.{length, getD}
 use Rattle.graphs.specs.Label.{Labels}
 use Rattle.graphs.specs.Graph.{Graph, TellsApart, walk, Reached, SameMeaning}
+use Rattle.graphs.specs.Map.{Exact}
 use Rattle.graphs.specs.Rows.{Row, target, graphOf}
 use Rattle.graphs.specs.Number.{canonical, counted, indexOf, linkCount, manyLinks, rowOf, visit, written}
 use Rattle.graphs.specs.Large.{Distinct}
@@ -30,8 +31,8 @@ use Rattle.graphs.specs.Reasons.{orderIn, writtenOrder}
 use Rattle.graphs.proofs.Walk.{some-injective, reached-root, reached-link, snoc-induction, follow-last, follow-nil}
 use Rattle.graphs.proofs.Lists.{mem-reverse, mem-unreverse, reverse-snoc, getD-index, index-injective, index-first, tells-eqb}
 use Rattle.graphs.proofs.Rows.{target-linksOf}
-use Rattle.graphs.proofs.Below.{same-sym, same-trans}
-use Rattle.graphs.proofs.Form.Bisimilar.{Alike, absent, present, Bisimilar, alike-right, alike-walk, bisimilar-same}
+use Rattle.graphs.proofs.Below.{exact-walk, same-sym, same-trans}
+use Rattle.graphs.proofs.Form.Bisimilar.{Alike, absent, present, Bisimilar, bisimilar-same}
 use Rattle.graphs.proofs.Form.Invariant.{bisimilar-canonical, same-canonical}
 use Rattle.graphs.proofs.Form.Visited.{Grown, visit-all, visit-first}
 
@@ -137,9 +138,10 @@ module _ {L A : Type 0} (same : A → A → Bool) (tells : TellsApart same) (g :
     unfolding Numbered rowOf
     numbered-labels v i (m, q) = sym (ap (λ (j : ℕ). getD rows j (d, []) .0) (sym q) ∙ ap (λ (r : Row L). r .0) (row-at v m))
 
-    numbered-links : (v : A) (i f : ℕ) → Numbered v i → Alike Numbered (g .link v f) (graphOf d rows .link i f)
-    unfolding Numbered rowOf
-    numbered-links v i f (m, q) = subst (λ (o : Option ℕ). Alike Numbered (g .link v f) o) (sym found) (go (g .link v f) refl)
+    numbered-target : (v : A) (f : ℕ) → List·Memᴰ v nodes →
+        graphOf d rows .link (indexOf same v nodes) f ≡ Option·map (λ w. indexOf same w nodes) (g .link v f)
+    unfolding rowOf
+    numbered-target v f m = ap (λ (r : Row L). target (r .1) f) (row-at v m) ∙ target-linksOf next next-narrow f
       where
         next : ℕ → Option ℕ
         next f′ = Option·map (λ w. indexOf same w nodes) (g .link v f′)
@@ -147,12 +149,12 @@ module _ {L A : Type 0} (same : A → A → Bool) (tells : TellsApart same) (g :
         next-narrow : (f′ w : ℕ) → next f′ ≡ some w → f′ < 64
         next-narrow f′ w h = let (u, l, _) = map-eq-some-iff (λ x. indexOf same x nodes) (g .link v f′) .0 h in narrow v u f′ (listed-reached v m) l
 
-        found : target (getD rows i (d, []) .1) f ≡ Option·map (λ w. indexOf same w nodes) (g .link v f)
-        found =
-            ap (λ (j : ℕ). target (getD rows j (d, []) .1) f) (sym q)
-            ∙ ap (λ (r : Row L). target (r .1) f) (row-at v m)
-            ∙ target-linksOf next next-narrow f
-
+    numbered-links : (v : A) (i f : ℕ) → Numbered v i → Alike Numbered (g .link v f) (graphOf d rows .link i f)
+    unfolding Numbered
+    numbered-links v i f (m, q) =
+        subst (λ (o : Option ℕ). Alike Numbered (g .link v f) o)
+        (sym (ap (λ (j : ℕ). graphOf d rows .link j f) (sym q) ∙ numbered-target v f m)) (go (g .link v f) refl)
+      where
         go : (o : Option A) → g .link v f ≡ o → Alike Numbered o (Option·map (λ w. indexOf same w nodes) o)
         go none l = absent
         go (some w) l = present (reached-listed w (onto v w f (listed-reached v m) l), refl)
@@ -169,18 +171,38 @@ module _ {L A : Type 0} (same : A → A → Bool) (tells : TellsApart same) (g :
           back = λ v v′ i i′ (m, q) (n, r) h. index-injective same tells v v′ nodes m n (q ∙ h ∙ sym r);
         }
 
-  -- A path of the rows leads, in the graph, to the node that stands at the number of its row.
-  pub form-walk : (d : L) (form : List (Row L)) → canonical same g ≡ written form → (o : A) (p : List ℕ) (k : ℕ) →
-      walk (graphOf d form) p ≡ some k → (walk g p ≡ some (getD (writtenOrder same g) k o))
-  unfolding rows nodes Numbered writtenOrder
-  form-walk d form e o p k a =
-      let (now, h, _, q) = canonical-written same g form e in
-      let (v, b, (m, at)) =
-      alike-right (alike-walk (Numbered d now h) g (graphOf d (rows d now h)) (written-bisimilar d now h) p)
-      (ap (λ (r : List (Row L)). walk (graphOf d r) p) q ∙ a) in
-      b ∙ ap some (sym (ap (λ (x : Option (List A)). getD (orderIn x) k o) h ∙ ap (λ (j : ℕ). getD (reverse now) j o) (sym at)
-      ∙ ap (λ (l : List A). getD l (indexOf same v (reverse now)) o) (sym (map-id (reverse now)))
-      ∙ getD-index same tells (λ x. x) o v (reverse now) m))
+    -- The graph with its nodes renamed to their numbers is that of the rows.
+    numbered-exact : Exact (λ v. indexOf same v nodes) g (graphOf d rows)
+    unfolding Numbered
+    numbered-exact =
+        record {
+          root = numbered-root .1;
+          links = λ v f r. numbered-target v f (reached-listed v r);
+          labels = λ v r. sym (numbered-labels v (indexOf same v nodes) (reached-listed v r, refl));
+          injective = λ v w r q. index-injective same tells v w nodes (reached-listed v r) (reached-listed w q);
+        }
+
+  module _ (d : L) (form : List (Row L)) (e : canonical same g ≡ written form) where
+    pub form-exact : Exact (λ v. indexOf same v (writtenOrder same g)) g (graphOf d form)
+    unfolding rows nodes writtenOrder
+    form-exact =
+        let (now, h, _, q) = canonical-written same g form e in
+        subst (λ (o : Option (List A)). Exact (λ v. indexOf same v (orderIn o)) g (graphOf d form)) (sym h)
+        (subst (λ (r : List (Row L)). Exact (λ v. indexOf same v (reverse now)) g (graphOf d r)) q (numbered-exact d now h))
+
+    written-listed : (v : A) → Reached g v → List·Memᴰ v (writtenOrder same g)
+    unfolding nodes writtenOrder
+    written-listed v r =
+        let (now, h, _, _) = canonical-written same g form e in
+        subst (λ (o : Option (List A)). List·Memᴰ v (orderIn o)) (sym h) (reached-listed d now h v r)
+
+    -- A path of the rows leads, in the graph, to the node that stands at the number of its row.
+    pub form-walk : (o : A) (p : List ℕ) (k : ℕ) → walk (graphOf d form) p ≡ some k → walk g p ≡ some (getD (writtenOrder same g) k o)
+    form-walk o p k a =
+        let (v, b, at) = map-eq-some-iff (λ x. indexOf same x (writtenOrder same g)) (walk g p) .0 (sym (exact-walk form-exact p) ∙ a) in
+        b ∙ ap some (sym (ap (λ (j : ℕ). getD (writtenOrder same g) j o) (sym at)
+        ∙ ap (λ (l : List A). getD l (indexOf same v (writtenOrder same g)) o) (sym (map-id (writtenOrder same g)))
+        ∙ getD-index same tells (λ x. x) o v (writtenOrder same g) (written-listed v (p, b))))
 
   -- The rows, written again, are the rows.
   pub canonical-idempotent : (d : L) (form : List (Row L)) → canonical same g ≡ written form →
