@@ -5,7 +5,7 @@ use crate::Refusal;
 use crate::classes::Classes;
 use crate::graph::Graph;
 use crate::range::Range;
-use crate::table::{Bounds, Table};
+use crate::table::Table;
 
 /// No node of g enters a link.
 const BARE: u8 = u8::MAX;
@@ -15,7 +15,6 @@ const NONE: u16 = u16::MAX;
 /// Links of s are known by their places, which go by parent and feature.
 pub fn difference(
     table: &Table,
-    meets: &Bounds,
     g: &Graph,
     s: &Graph,
     map: &[u8; 255],
@@ -25,12 +24,12 @@ pub fn difference(
     // For each link of s a node of g that a link over it enters, and classes of such nodes.
     let mut owner = [BARE; 2048];
     let mut groups = Classes::<255>::new();
-    let mut over = [top; 255];
+    // What is below all types of g over a node, and the overlap of their ranges.
+    let mut over = [table.down[usize::from(top)]; 255];
     let mut range_over = [Range::FULL; 255];
     for (node, &image) in map[..g.nodes].iter().enumerate() {
         let image = usize::from(image);
-        let met = &mut over[image];
-        *met = meets[usize::from(*met)][usize::from(g.types[node])];
+        over[image] &= table.down[usize::from(g.types[node])];
         range_over[image] = range_over[image].overlap(g.ranges[node]);
         let mut below = s.row(image);
         for place in g.row(node) {

@@ -1,8 +1,8 @@
 //! The common part: the pairs of nodes that one path leads to in both graphs.
 
 use crate::Refusal;
+use crate::bounds::Bounds;
 use crate::graph::Graph;
-use crate::table::Bounds;
 
 /// Makes the common part, or gives 11.
 pub fn generalize(joins: &Bounds, a: &Graph, b: &Graph, common: &mut Graph) -> Result<(), Refusal> {
@@ -15,7 +15,7 @@ pub fn generalize(joins: &Bounds, a: &Graph, b: &Graph, common: &mut Graph) -> R
     while next < end {
         let (u, v) = queue[next];
         let (u, v) = (usize::from(u), usize::from(v));
-        common.types[next] = joins[usize::from(a.types[u])][usize::from(b.types[v])];
+        common.types[next] = joins.join(a.types[u], b.types[v]);
         common.ranges[next] = a.ranges[u].hull(b.ranges[v]);
         let (mut left, mut right) = (a.row(u), b.row(v));
         while !left.is_empty() && !right.is_empty() {

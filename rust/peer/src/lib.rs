@@ -6,6 +6,7 @@
 #![forbid(unsafe_code)]
 #![warn(missing_docs)]
 
+mod bounds;
 mod classes;
 mod difference;
 mod generalize;
@@ -19,9 +20,10 @@ mod write;
 
 pub use order::Order;
 
+use bounds::{Bounds, Side};
 use graph::Graph;
-use store::Store;
-use table::{Bounds, Table};
+use store::{Store, Types};
+use table::Table;
 
 /// Why a call has no result: the papers' number, and for 4 to 7 which record.
 #[derive(Clone, Copy, Debug, PartialEq, Eq)]
@@ -43,7 +45,7 @@ impl Refusal {
 
 /// A record in written form.
 pub fn rewrite(n: usize, table: &[u8], record: &[u8], output: &mut [u8]) -> Result<usize, Refusal> {
-    Table::empty().open(n, table)?;
+    Table::open(n, table)?;
     let mut graph = Graph::empty();
     graph.read(n, record).map_err(Refusal::of)?;
     write::write(&graph, output)
@@ -51,8 +53,8 @@ pub fn rewrite(n: usize, table: &[u8], record: &[u8], output: &mut [u8]) -> Resu
 
 /// Which of two is the broader, seen from the first.
 pub fn order(n: usize, table: &[u8], first: &[u8], second: &[u8]) -> Result<Order, Refusal> {
-    let (mut types, mut a, mut b) = (Table::empty(), Graph::empty(), Graph::empty());
-    types.open(n, table)?;
+    let types = Table::open(n, table)?;
+    let (mut a, mut b) = (Graph::empty(), Graph::empty());
     read_both(n, [first, second], [&mut a, &mut b])?;
     Ok(order::order(&types, &a, &b))
 }
@@ -65,8 +67,7 @@ pub fn generalize(
     second: &[u8],
     output: &mut [u8],
 ) -> Result<usize, Refusal> {
-    let mut joins: Bounds = [[0; 64]; 64];
-    Table::empty().open_joins(n, table, &mut joins)?;
+    let (_, joins) = Bounds::open(n, table, Side::Joins)?;
     let (mut a, mut b, mut common) = (Graph::empty(), Graph::empty(), Graph::empty());
     read_both(n, [first, second], [&mut a, &mut b])?;
     generalize::generalize(&joins, &a, &b, &mut common)?;
@@ -83,8 +84,7 @@ pub fn gathering_add(gathering: &mut [u8], record: &[u8]) -> Result<usize, Refus
     let length = count
         .iter()
         .rfold(0, |high, &byte| 256 * high + usize::from(byte));
-    let mut joins: Bounds = [[0; 64]; 64];
-    Table::empty().open_joins(n, head.get(1..).unwrap_or(&[]), &mut joins)?;
+    let (_, joins) = Bounds::open(n, head.get(1..).unwrap_or(&[]), Side::Joins)?;
     let (mut a, mut b, mut common) = (Graph::empty(), Graph::empty(), Graph::empty());
     let written = if length == 0 {
         a.read(n, record).map_err(Refusal::of)?;
@@ -107,8 +107,7 @@ pub fn unify(
     second: &[u8],
     output: &mut [u8],
 ) -> Result<usize, Refusal> {
-    let mut meets: Bounds = [[0; 64]; 64];
-    Table::empty().open_meets(n, table, &mut meets)?;
+    let (_, meets) = Bounds::open(n, table, Side::Meets)?;
     let (mut a, mut b) = (Graph::empty(), Graph::empty());
     read_both(n, [first, second], [&mut a, &mut b])?;
     unify::unify(&meets, &a, &b, output)
@@ -122,8 +121,7 @@ pub fn difference(
     s: &[u8],
     output: &mut [u8],
 ) -> Result<usize, Refusal> {
-    let (mut types, mut meets) = (Table::empty(), [[0; 64]; 64]);
-    types.open_meets(n, table, &mut meets)?;
+    let types = Table::open(n, table)?;
     let (mut general, mut specific) = (Graph::empty(), Graph::empty());
     read_both(n, [g, s], [&mut general, &mut specific])?;
     let mut written = Graph::empty();
@@ -132,7 +130,7 @@ pub fn difference(
         return Err(Refusal::of(12));
     };
     let mut rest = Graph::empty();
-    difference::difference(&types, &meets, &general, &written, &map, &mut rest)?;
+    difference::difference(&types, &general, &written, &map, &mut rest)?;
     write::write(&rest, output)
 }
 
@@ -145,8 +143,9 @@ pub fn store_put(
     version: usize,
     record: &[u8],
 ) -> Result<usize, Refusal> {
-    let mut opened = Store::empty();
-    opened.open(n, table, store)?;
+    let types = Types::open(n, table)?;
+    let mut opened = Store::empty(&types);
+    opened.open(store)?;
     opened.put(version, record, store.len())?;
     Ok(settle(opened.used(), store))
 }
@@ -159,8 +158,9 @@ pub fn store_read(
     version: usize,
     output: &mut [u8],
 ) -> Result<usize, Refusal> {
-    let mut opened = Store::empty();
-    opened.open(n, table, store)?;
+    let types = Types::open(n, table)?;
+    let mut opened = Store::empty(&types);
+    opened.open(store)?;
     write::write(opened.program(version)?, output)
 }
 
@@ -171,8 +171,9 @@ pub fn store_drop(
     store: &mut [u8],
     version: usize,
 ) -> Result<usize, Refusal> {
-    let mut opened = Store::empty();
-    opened.open(n, table, store)?;
+    let types = Types::open(n, table)?;
+    let mut opened = Store::empty(&types);
+    opened.open(store)?;
     opened.drop(version, store.len())?;
     Ok(settle(opened.used(), store))
 }

@@ -3,11 +3,12 @@
 //! after the way to its state has been gone again.
 
 use crate::Refusal;
+use crate::bounds::{Bounds, Side};
 use crate::difference::difference;
 use crate::generalize::generalize;
 use crate::graph::Graph;
 use crate::order::node_map;
-use crate::table::{Bounds, Table};
+use crate::table::Table;
 use crate::unify::combine;
 use crate::write::{renumber, write};
 
@@ -19,11 +20,29 @@ const MAP: usize = 2;
 /// The programs by version, numbered as they are written.
 type Programs = [Option<Graph>; VERSIONS];
 
-/// A store that is taken in: its table, its programs and its state.
-pub struct Store {
+/// A table with its meets and joins.
+pub struct Types {
     table: Table,
     meets: Bounds,
     joins: Bounds,
+}
+
+impl Types {
+    /// The table of some bytes, or 1, 2 or 3.
+    pub fn open(n: usize, bytes: &[u8]) -> Result<Types, Refusal> {
+        let (table, joins) = Bounds::open(n, bytes, Side::Joins)?;
+        let meets = Bounds::of(&table, Side::Meets)?;
+        Ok(Types {
+            table,
+            meets,
+            joins,
+        })
+    }
+}
+
+/// A store that is taken in: its programs and its state.
+pub struct Store<'a> {
+    types: &'a Types,
     programs: Programs,
     state: State,
 }
@@ -35,12 +54,10 @@ struct State {
     common: Graph,
 }
 
-impl Store {
-    pub fn empty() -> Store {
+impl Store<'_> {
+    pub fn empty(types: &Types) -> Store<'_> {
         Store {
-            table: Table::empty(),
-            meets: [[0; 64]; 64],
-            joins: [[0; 64]; 64],
+            types,
             programs: [const { None }; VERSIONS],
             state: State {
                 bytes: [0; LONGEST],
@@ -50,11 +67,8 @@ impl Store {
         }
     }
 
-    /// Takes in a table and a buffer, or gives 1 to 3, or 4 where it holds no state; this one
-    /// is empty.
-    pub fn open(&mut self, n: usize, table: &[u8], buffer: &[u8]) -> Result<(), Refusal> {
-        self.table
-            .open_both(n, table, &mut self.meets, &mut self.joins)?;
+    /// Takes in a buffer, or gives 4 where it holds no state; this one is empty.
+    pub fn open(&mut self, buffer: &[u8]) -> Result<(), Refusal> {
         let is_held = buffer.len() <= LONGEST
             && self.restore(buffer).is_some()
             && self.go(buffer.len()).is_ok()
@@ -69,7 +83,7 @@ impl Store {
         if map == 0 {
             return Some(());
         }
-        let n = self.table.n;
+        let n = self.types.table.n;
         let mut common = Graph::empty();
         rest = read_part(n, rest, &mut common)?;
         for (version, program) in self.programs.iter_mut().enumerate() {
@@ -77,7 +91,7 @@ impl Store {
                 let mut part = Graph::empty();
                 rest = read_part(n, rest, &mut part)?;
                 let program = program.insert(Graph::empty());
-                combine(&self.meets, &common, &part, program).ok()?;
+                combine(&self.types.meets, &common, &part, program).ok()?;
             }
         }
         Some(())
@@ -90,7 +104,7 @@ impl Store {
             number,
             second: true,
         };
-        graph.read(self.table.n, record).map_err(second)?;
+        graph.read(self.types.table.n, record).map_err(second)?;
         let place = self.programs.get_mut(version);
         let place = place.filter(|program| program.is_none());
         renumber(&graph, place.ok_or(Refusal::of(20))?.insert(Graph::empty()));
@@ -136,12 +150,11 @@ impl Store {
     /// Goes one step further, to the program of a version.
     fn step(&mut self, version: usize, room: usize) -> Result<(), Refusal> {
         let Store {
-            table,
-            meets,
-            joins,
+            types,
             programs,
             state,
         } = self;
+        let Types { table, joins, .. } = types;
         let program = programs[version].as_ref().expect("a program");
         if state.used == MAP {
             state.common = program.clone();
@@ -156,7 +169,7 @@ impl Store {
         for program in programs[..=version].iter().flatten() {
             let below = node_map(table, program, common).expect("below the common part");
             let mut rest = Graph::empty();
-            difference(table, meets, common, program, &below, &mut rest)?;
+            difference(table, common, program, &below, &mut rest)?;
             end = end.and_then(|place| write_part(&rest, output, place));
         }
         state.used = end.ok_or(Refusal::of(21))?;

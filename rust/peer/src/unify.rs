@@ -1,10 +1,10 @@
 //! The combination: classes of the nodes of both graphs, merged down equal features.
 
 use crate::Refusal;
+use crate::bounds::Bounds;
 use crate::classes::Classes;
 use crate::graph::Graph;
 use crate::range::Range;
-use crate::table::Bounds;
 use crate::write::{renumber, write};
 
 /// Up to 255 nodes of each graph, and their links.
@@ -105,7 +105,7 @@ fn unify_within<const ROOM: usize, T>(
         } else {
             let number = usize::from(number[class]);
             let met = &mut types[number];
-            *met = meets[usize::from(*met)][usize::from(node_type)];
+            *met = meets.meet(*met, node_type);
             ranges[number] = ranges[number].overlap(range);
         }
     }
