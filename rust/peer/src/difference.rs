@@ -4,6 +4,7 @@
 use crate::Refusal;
 use crate::classes::Classes;
 use crate::graph::Graph;
+use crate::lists::Ranks;
 use crate::range::Range;
 use crate::table::Table;
 
@@ -12,13 +13,22 @@ const BARE: u8 = u8::MAX;
 /// A group without a link so far.
 const NONE: u16 = u16::MAX;
 
-/// Links of s are known by their places, which go by parent and feature.
+/// Why a link is kept: nothing of g lies over it; else its node has two or more groups; else for
+/// a wanted label or for what hangs below.
+const NOTHING_OVER: u8 = 1;
+const GROUPS_MEET: u8 = 2;
+const WANTED: u8 = 3;
+
+/// Makes the difference and, where they are asked for, the reasons for its links, by the places
+/// that these have in it. Links of s are known by their places, which go by parent and feature.
 pub fn difference(
     table: &Table,
+    ranks: &Ranks,
     g: &Graph,
     s: &Graph,
     map: &[u8; 255],
     rest: &mut Graph,
+    mut reasons: Option<&mut [u8; 2048]>,
 ) -> Result<(), Refusal> {
     let top = (table.n - 1) as u8;
     // For each link of s a node of g that a link over it enters, and classes of such nodes.
@@ -60,10 +70,21 @@ pub fn difference(
             leads[place] = true;
         } else {
             let first = &mut least[usize::from(groups.find(u16::from(owner[place])))];
-            leads[place] = *first == NONE;
-            *first = (*first).min(place as u16);
+            if *first == NONE {
+                *first = place as u16;
+                leads[place] = true;
+            } else {
+                let rank = |place: usize| ranks[usize::from(s.features[place])];
+                let earlier = usize::from(*first);
+                if rank(place) < rank(earlier) {
+                    *first = place as u16;
+                    leads[place] = true;
+                    leads[earlier] = false;
+                }
+                continue;
+            }
         }
-        leaders[target] += u16::from(leads[place]);
+        leaders[target] += 1;
     }
     let mut wanted = [0u8; 255];
     let mut kept = [false; 255];
@@ -83,7 +104,15 @@ pub fn difference(
     let mut count = 0;
     for node in 0..s.nodes {
         for place in s.row(node) {
-            if leads[place] && kept[usize::from(s.targets[place])] {
+            let target = usize::from(s.targets[place]);
+            if leads[place] && kept[target] {
+                if let Some(reasons) = reasons.as_deref_mut() {
+                    reasons[count] = match owner[place] {
+                        BARE => NOTHING_OVER,
+                        _ if leaders[target] >= 2 => GROUPS_MEET,
+                        _ => WANTED,
+                    };
+                }
                 rest.features[count] = s.features[place];
                 rest.targets[count] = s.targets[place];
                 count += 1;

@@ -41,6 +41,11 @@ impl Graph {
     /// Takes in a record's graph over n types, or gives 4 to 7; this one is empty.
     pub fn read(&mut self, n: usize, record: &[u8]) -> Result<(), u8> {
         let has_levels = self.parse(record).ok_or(4)?;
+        self.judge(n, has_levels)
+    }
+
+    /// 5 to 7 of rows that are taken in; whether every range has a level is known.
+    pub fn judge(&self, n: usize, has_levels: bool) -> Result<(), u8> {
         let types = &self.types[..self.nodes];
         let targets = &self.targets[..self.links()];
         let is_in_range = has_levels

@@ -7,6 +7,7 @@ use crate::bounds::{Bounds, Side};
 use crate::difference::difference;
 use crate::generalize::generalize;
 use crate::graph::Graph;
+use crate::lists::BY_NUMBER;
 use crate::order::node_map;
 use crate::table::Table;
 use crate::unify::combine;
@@ -20,8 +21,57 @@ const MAP: usize = 2;
 /// The programs by version, numbered as they are written.
 type Programs = [Option<Graph>; VERSIONS];
 
+/// Puts a record, the second, into a store under the number of a version, and gives the used
+/// length.
+pub fn store_put(
+    n: usize,
+    table: &[u8],
+    store: &mut [u8],
+    version: usize,
+    record: &[u8],
+) -> Result<usize, Refusal> {
+    let types = Types::open(n, table)?;
+    let mut opened = Store::empty(&types);
+    opened.open(store)?;
+    opened.put(version, record, store.len())?;
+    Ok(settle(opened.used(), store))
+}
+
+/// Writes the record of a version.
+pub fn store_read(
+    n: usize,
+    table: &[u8],
+    store: &[u8],
+    version: usize,
+    output: &mut [u8],
+) -> Result<usize, Refusal> {
+    let types = Types::open(n, table)?;
+    let mut opened = Store::empty(&types);
+    opened.open(store)?;
+    write(opened.program(version)?, output)
+}
+
+/// Drops a version, and gives the used length.
+pub fn store_drop(
+    n: usize,
+    table: &[u8],
+    store: &mut [u8],
+    version: usize,
+) -> Result<usize, Refusal> {
+    let types = Types::open(n, table)?;
+    let mut opened = Store::empty(&types);
+    opened.open(store)?;
+    opened.drop(version, store.len())?;
+    Ok(settle(opened.used(), store))
+}
+
+fn settle(state: &[u8], store: &mut [u8]) -> usize {
+    store[..state.len()].copy_from_slice(state);
+    state.len()
+}
+
 /// A table with its meets and joins.
-pub struct Types {
+struct Types {
     table: Table,
     meets: Bounds,
     joins: Bounds,
@@ -29,7 +79,7 @@ pub struct Types {
 
 impl Types {
     /// The table of some bytes, or 1, 2 or 3.
-    pub fn open(n: usize, bytes: &[u8]) -> Result<Types, Refusal> {
+    fn open(n: usize, bytes: &[u8]) -> Result<Types, Refusal> {
         let (table, joins) = Bounds::open(n, bytes, Side::Joins)?;
         let meets = Bounds::of(&table, Side::Meets)?;
         Ok(Types {
@@ -41,7 +91,7 @@ impl Types {
 }
 
 /// A store that is taken in: its programs and its state.
-pub struct Store<'a> {
+struct Store<'a> {
     types: &'a Types,
     programs: Programs,
     state: State,
@@ -55,7 +105,7 @@ struct State {
 }
 
 impl Store<'_> {
-    pub fn empty(types: &Types) -> Store<'_> {
+    fn empty(types: &Types) -> Store<'_> {
         Store {
             types,
             programs: [const { None }; VERSIONS],
@@ -68,7 +118,7 @@ impl Store<'_> {
     }
 
     /// Takes in a buffer, or gives 4 where it holds no state; this one is empty.
-    pub fn open(&mut self, buffer: &[u8]) -> Result<(), Refusal> {
+    fn open(&mut self, buffer: &[u8]) -> Result<(), Refusal> {
         let is_held = buffer.len() <= LONGEST
             && self.restore(buffer).is_some()
             && self.go(buffer.len()).is_ok()
@@ -98,13 +148,10 @@ impl Store<'_> {
     }
 
     /// Puts a record, the second, under the number of a version that is absent.
-    pub fn put(&mut self, version: usize, record: &[u8], room: usize) -> Result<(), Refusal> {
+    fn put(&mut self, version: usize, record: &[u8], room: usize) -> Result<(), Refusal> {
         let mut graph = Graph::empty();
-        let second = |number| Refusal {
-            number,
-            second: true,
-        };
-        graph.read(self.types.table.n, record).map_err(second)?;
+        let read = graph.read(self.types.table.n, record);
+        read.map_err(Refusal::of_second)?;
         let place = self.programs.get_mut(version);
         let place = place.filter(|program| program.is_none());
         renumber(&graph, place.ok_or(Refusal::of(20))?.insert(Graph::empty()));
@@ -117,7 +164,7 @@ impl Store<'_> {
     }
 
     /// Drops a version that exists.
-    pub fn drop(&mut self, version: usize, room: usize) -> Result<(), Refusal> {
+    fn drop(&mut self, version: usize, room: usize) -> Result<(), Refusal> {
         let place = self.programs.get_mut(version);
         let place = place.filter(|program| program.is_some());
         *place.ok_or(Refusal::of(20))? = None;
@@ -125,13 +172,13 @@ impl Store<'_> {
     }
 
     /// The program of a version that exists.
-    pub fn program(&self, version: usize) -> Result<&Graph, Refusal> {
+    fn program(&self, version: usize) -> Result<&Graph, Refusal> {
         let program = self.programs.get(version).and_then(Option::as_ref);
         program.ok_or(Refusal::of(20))
     }
 
     /// The bytes of the state.
-    pub fn used(&self) -> &[u8] {
+    fn used(&self) -> &[u8] {
         &self.state.bytes[..self.state.used]
     }
 
@@ -169,7 +216,7 @@ impl Store<'_> {
         for program in programs[..=version].iter().flatten() {
             let below = node_map(table, program, common).expect("below the common part");
             let mut rest = Graph::empty();
-            difference(table, common, program, &below, &mut rest)?;
+            difference(table, BY_NUMBER, common, program, &below, &mut rest, None)?;
             end = end.and_then(|place| write_part(&rest, output, place));
         }
         state.used = end.ok_or(Refusal::of(21))?;

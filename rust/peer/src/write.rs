@@ -48,19 +48,56 @@ fn number(graph: &Graph) -> Numbering {
 /// Writes the nodes that the root reaches, or 8.
 pub fn write(graph: &Graph, output: &mut [u8]) -> Result<usize, Refusal> {
     let numbering = number(graph);
-    let order = &numbering.order[..numbering.count];
-    let row_length = |&node: &u8| {
-        let node = usize::from(node);
-        9 + 2 * usize::from(graph.ranges[node] != Range::FULL) + graph.row(node).len()
-    };
-    let length = 1 + order.iter().map(row_length).sum::<usize>();
-    let Some(mut rest) = output.get_mut(..length) else {
-        return Err(Refusal::of(8));
-    };
-    rest[0] = numbering.count as u8;
-    rest = &mut rest[1..];
-    for &node in order {
-        let node = usize::from(node);
+    let length = numbering.length(graph);
+    let output = output.get_mut(..length).ok_or(Refusal::of(8))?;
+    fill(graph, &numbering, output);
+    Ok(length)
+}
+
+/// The same, and in a second output the mark of each link, or 22; marks go by the places of the
+/// links.
+pub fn write_marked(
+    graph: &Graph,
+    marks: &[u8; 2048],
+    output: &mut [u8],
+    marked: &mut [u8],
+) -> Result<usize, Refusal> {
+    let numbering = number(graph);
+    let length = numbering.length(graph);
+    let output = output.get_mut(..length).ok_or(Refusal::of(8))?;
+    let rows = numbering.nodes().map(|node| graph.row(node));
+    let links = rows.clone().map(|row| row.len()).sum();
+    let mut rest = marked.get_mut(..links).ok_or(Refusal::of(22))?;
+    for row in rows {
+        let (of_row, after) = rest.split_at_mut(row.len());
+        of_row.copy_from_slice(&marks[row]);
+        rest = after;
+    }
+    fill(graph, &numbering, output);
+    Ok(length)
+}
+
+impl Numbering {
+    /// The nodes in the order of their numbers.
+    fn nodes(&self) -> impl Iterator<Item = usize> + Clone {
+        let order = self.order[..self.count].iter();
+        order.map(|&node| usize::from(node))
+    }
+
+    /// The bytes of the record.
+    fn length(&self, graph: &Graph) -> usize {
+        let row_length = |node: usize| {
+            9 + 2 * usize::from(graph.ranges[node] != Range::FULL) + graph.row(node).len()
+        };
+        1 + self.nodes().map(row_length).sum::<usize>()
+    }
+}
+
+/// Fills bytes with the record, which is as long.
+fn fill(graph: &Graph, numbering: &Numbering, output: &mut [u8]) {
+    output[0] = numbering.count as u8;
+    let mut rest = &mut output[1..];
+    for node in numbering.nodes() {
         let row = graph.row(node);
         let (node_type, range) = (graph.types[node], graph.ranges[node]);
         let label_length = if range == Range::FULL {
@@ -80,7 +117,6 @@ pub fn write(graph: &Graph, output: &mut [u8]) -> Result<usize, Refusal> {
         map_bytes.copy_from_slice(&map.to_le_bytes());
         rest = after;
     }
-    Ok(length)
 }
 
 /// Makes the same graph by its written numbers.

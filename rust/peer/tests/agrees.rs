@@ -4,8 +4,12 @@
 
 mod told;
 
-use comparison::{Call, Told};
+use comparison::{Call, NEXT, Told, number};
 use comparison::{DIFFERENCE, GENERALIZE, ORDER, REWRITE, UNIFY};
+use comparison::{DIFFERENCE_BY, DIFFERENCE_EXPLAINED, DIFFERENCE_EXPLAINED_BY};
+use comparison::{GENERALIZE_APPROPRIATE, REWRITE_APPROPRIATE, UNIFY_APPROPRIATE};
+use record_engine::{Listing, check_table, house_table};
+use reference::calls;
 use reference::house;
 use reference::random::{self, Numbering, Ranges, Shape, TableBytes, Xorshift};
 use reference::table::MOST_TYPES;
@@ -27,7 +31,7 @@ macro_rules! peer {
 }
 
 /// The calls on two records.
-const CALLS: [(Call, Peer); 5] = [
+const CALLS: [(Call, Peer); 6] = [
     (REWRITE, peer!(rewrite(record; output), Told::Length)),
     (
         ORDER,
@@ -42,7 +46,49 @@ const CALLS: [(Call, Peer); 5] = [
         DIFFERENCE,
         peer!(difference(first, second; output), Told::Length),
     ),
+    (
+        DIFFERENCE_EXPLAINED,
+        peer!(difference_explained(first, second; output, reasons), Told::Length),
+    ),
 ];
+
+/// Those with a list of types before the records.
+const WITH_TYPES: [(Call, Peer); 3] = [
+    (
+        REWRITE_APPROPRIATE,
+        peer!(rewrite_appropriate(list, record; output), Told::Length),
+    ),
+    (
+        GENERALIZE_APPROPRIATE,
+        peer!(generalize_appropriate(list, first, second; output), Told::Length),
+    ),
+    (
+        UNIFY_APPROPRIATE,
+        peer!(unify_appropriate(list, first, second; output), Told::Length),
+    ),
+];
+
+/// Those with a reading order before the records.
+const BY_ORDER: [(Call, Peer); 2] = [
+    (
+        DIFFERENCE_BY,
+        peer!(difference_by(list, first, second; output), Told::Length),
+    ),
+    (
+        DIFFERENCE_EXPLAINED_BY,
+        peer!(difference_explained_by(list, first, second; output, reasons), Told::Length),
+    ),
+];
+
+/// A step through a listing.
+const STEP: (Call, Peer) = (NEXT, |table, inputs, outputs| {
+    let ([features, record], [output]) = (inputs, outputs) else {
+        panic!("next takes a number, a record and an output");
+    };
+    let features = usize::from_le_bytes((*features).try_into().expect("a number"));
+    let result = peer::next(table.n, &table.bytes, features, record, output);
+    told(result, |length| length.map_or(Told::End, Told::Length))
+});
 
 /// How often each refusal came, and at 0 how often there was none.
 #[derive(Default)]
@@ -204,4 +250,127 @@ fn over_every_small_order() {
         }
     }
     counts.assert_each(&[0, 2, 3], 5);
+}
+
+#[test]
+fn beside_a_list_of_types() {
+    let random = &mut Xorshift::stored(45);
+    let mut counts = Counts::default();
+    for round in 0..6_000 {
+        let ranges = [Ranges::Absent, Ranges::Present][round % 2];
+        let input = random::input_with_list(random, ranges);
+        let [first, second] = &input.records;
+        for call in WITH_TYPES {
+            counts.check(random, call, &input.table, &[&input.list, first, second]);
+        }
+    }
+    counts.assert_each(&[0, 1, 2, 3, 4, 5, 6, 7, 8, 9, 10, 17, 18], 3);
+}
+
+#[test]
+fn by_a_reading_order() {
+    let random = &mut Xorshift::stored(46);
+    let mut counts = Counts::default();
+    for round in 0..6_000 {
+        let ranges = [Ranges::Absent, Ranges::Present][round % 2];
+        let input = random::input_with_reading_order(random, ranges);
+        let [first, second] = &input.records;
+        for call in BY_ORDER {
+            counts.check(random, call, &input.table, &[&input.list, first, second]);
+        }
+    }
+    counts.assert_each(&[0, 1, 2, 3, 4, 5, 6, 7, 8, 12, 13, 19, 22], 3);
+}
+
+/// Whole lists over few types, and records that are read and not listed, are not read, or stand
+/// beside another number of features.
+#[test]
+fn through_a_listing() {
+    let random = &mut Xorshift::stored(47);
+    let mut counts = Counts::default();
+    let tables = [
+        random::chain(2),
+        random::diamond(),
+        random::pentagon(),
+        random::chain(5),
+    ];
+    for table in &tables {
+        for features in [1, 2] {
+            counts.check(random, STEP, table, &[&number(features), &[]]);
+            let listing = Listing::new(table.n, &table.bytes, features).expect("1 or 2");
+            for record in listing {
+                let features = *random.choose(&[1, 2, 2, 2, 0, 3]);
+                counts.check(random, STEP, table, &[&number(features), &record]);
+            }
+        }
+        for _ in 0..2_000 {
+            let features = *random.choose(&[1, 2, 2, 2, 0, 3]);
+            let ranges = *random.choose(&[Ranges::Absent, Ranges::Absent, Ranges::Present]);
+            let record = match random.chance(1, 3) {
+                true => random::damaged_record(random, table.n, ranges),
+                false => {
+                    let shape = Shape::small(random, 4, 3).ranged(random, ranges);
+                    let graph = random::graph(random, table.n, &shape);
+                    random::record_of(random, &graph, ranges)
+                }
+            };
+            counts.check(random, STEP, table, &[&number(features), &record]);
+        }
+    }
+    counts.assert_each(&[0, 4, 5, 6, 7, 8, 23, 24], 20);
+}
+
+/// Steps among the records of 64 types, as the engine goes them.
+#[test]
+fn through_a_long_listing() {
+    let table = random::boolean(6);
+    let (n, bytes) = (table.n, &table.bytes);
+    let random = &mut Xorshift::stored(48);
+    for _ in 0..500 {
+        let shape = Shape::small(random, 3, 2);
+        let graph = random::graph(random, n, &shape);
+        let mut given = random::record_of(random, &graph, Ranges::Absent);
+        for _ in 0..20 {
+            let (mut output, mut engine) = ([7; 32], [7; 32]);
+            let result = peer::next(n, bytes, 2, &given, &mut output);
+            let reply = told(result, |length| length.map_or(Told::End, Told::Length));
+            let by_engine = record_engine::next(n, bytes, 2, &given, &mut engine);
+            assert_eq!(reply, by_engine.into(), "{given:?}");
+            assert_eq!(output, engine, "{given:?}");
+            let Told::Length(length) = reply else { break };
+            given = output[..length].to_vec();
+        }
+    }
+}
+
+#[test]
+fn of_a_table_alone() {
+    let random = &mut Xorshift::stored(49);
+    let mut counts = [0; 4];
+    for _ in 0..5_000 {
+        let table = match random.chance(1, 4) {
+            true => random::valid_table(random),
+            false => random::damaged_table(random),
+        };
+        let (n, bytes) = (table.n, &table.bytes);
+        let reply = told(peer::check_table(n, bytes), |()| Told::Length(0));
+        let by_engine = check_table(n, bytes).map(|()| 0);
+        assert_eq!(reply, by_engine.into(), "{table:?}");
+        assert_eq!(reply, calls::check_table(n, bytes).into(), "{table:?}");
+        if let Told::Refused(number, _) = reply {
+            counts[usize::from(number)] += 1;
+        }
+    }
+    let enough = counts[1..].iter().all(|&count| count >= 20);
+    assert!(enough || !random::is_stored(), "{counts:?}");
+}
+
+#[test]
+fn of_the_house_types() {
+    for room in [0, 511, 512, 600] {
+        let (mut output, mut engine) = (vec![7; room], vec![7; room]);
+        let reply = told(peer::house_table(&mut output), Told::Length);
+        assert_eq!(reply, house_table(&mut engine).into());
+        assert_eq!(output, engine);
+    }
 }
