@@ -16,13 +16,12 @@ pub fn check_table(n: usize, table: &[u8]) -> Result<(), Refusal> {
 /// Fills the output's first 512 bytes with the table of the house types.
 pub fn house_table(output: &mut [u8]) -> Result<usize, Refusal> {
     let output = output.get_mut(..512).ok_or(Refusal::of(8))?;
-    let grades = |house_type: u64| [house_type >> 4, house_type >> 2 & 3, house_type & 3];
-    for (upper, row) in (0..).map(grades).zip(output.chunks_exact_mut(8)) {
-        let mut word = 0u64;
-        for lower in 0..64 {
-            let is_below = std::iter::zip(grades(lower), upper).all(|(low, high)| low <= high);
-            word |= u64::from(is_below) << lower;
-        }
+    // The grades up to one, each a place of so many bits.
+    let up_to =
+        |grade: u64, bits: u64| (0..=grade).fold(0, |word, low| word | 1u64 << (bits * low));
+    for (house_type, row) in (0..).zip(output.chunks_exact_mut(8)) {
+        let (first, second, third) = (house_type >> 4, house_type >> 2 & 3, house_type & 3);
+        let word = up_to(first, 16) * up_to(second, 4) * up_to(third, 1);
         row.copy_from_slice(&word.to_le_bytes());
     }
     Ok(512)
