@@ -138,12 +138,13 @@ fn turned(table: &Table) -> [u64; 64] {
     up
 }
 
-/// Looks up the bound of every two types, if each two have one.
+/// Looks up the bound of every two types, if each two have one. It stands in two cells.
+#[allow(clippy::needless_range_loop)]
 fn fill(n: usize, words: &[u64; 64], end: End) -> Option<Bounds> {
     let mut cells = [[0; 64]; 64];
     for a in 0..n {
-        for b in 0..=a {
-            let bound = bound(words, words[a] & words[b], [a, b], end)?;
+        for b in a..n {
+            let bound = bound(words, a, b, end)?;
             cells[a][b] = bound;
             cells[b][a] = bound;
         }
@@ -151,12 +152,20 @@ fn fill(n: usize, words: &[u64; 64], end: End) -> Option<Bounds> {
     Some(Bounds::Cells(cells))
 }
 
-/// The bound of two types with this word in common, if there is one: at once where it is at the
-/// end, or one of the two. The word is not 0, since the least type, or the greatest, is in both.
-fn bound(words: &[u64; 64], word: u64, [a, b]: [usize; 2], end: End) -> Option<u8> {
-    let likely = [end.bit(word), a, b];
-    match likely.into_iter().find(|&t| words[t] == word) {
-        Some(found) => Some(found as u8),
-        None => search(words, word, word, end),
+/// The bound of two types, if there is one: at once where it is at the end of the word that they
+/// have in common, or one of the two. The word is not 0, since the least type, or the greatest, is
+/// in both.
+#[inline(always)]
+fn bound(words: &[u64; 64], a: usize, b: usize, end: End) -> Option<u8> {
+    let word = words[a] & words[b];
+    let bit = end.bit(word);
+    if words[bit] == word {
+        Some(bit as u8)
+    } else if words[a] == word {
+        Some(a as u8)
+    } else if words[b] == word {
+        Some(b as u8)
+    } else {
+        search(words, word, word & !words[bit], end.other())
     }
 }

@@ -1,7 +1,7 @@
 //! The two kinds of lists: types for features, and all features in the order of reading.
 
 use crate::Refusal;
-use crate::graph::Graph;
+use crate::graph::{Graph, Link};
 use crate::table::Table;
 
 /// For each feature the broadest type that may have it.
@@ -17,12 +17,11 @@ pub fn type_list(n: usize, list: &[u8]) -> Result<&TypeList, Refusal> {
 /// Whether every node may have the features that it has.
 pub fn is_obeyed(table: &Table, list: &TypeList, graph: &Graph) -> bool {
     (0..graph.nodes).all(|node| {
-        let features = &graph.features[graph.row(node)];
-        let may_have = |&feature: &u8| {
-            let broadest = list[usize::from(feature)];
+        let may_have = |link: &Link| {
+            let broadest = list[usize::from(link.feature())];
             table.is_below(graph.types[node], broadest)
         };
-        features.iter().all(may_have)
+        graph.row(node).iter().all(may_have)
     })
 }
 

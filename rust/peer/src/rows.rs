@@ -2,7 +2,7 @@
 //! and filled from one.
 
 use crate::Refusal;
-use crate::graph::Graph;
+use crate::graph::{Graph, Link};
 use crate::range::Range;
 use crate::table::{Table, bits};
 use crate::write::{renumber, write};
@@ -73,8 +73,7 @@ fn fill(n: usize, rows: &[Row], nodes: &[u8], graph: &mut Graph) -> Result<(), u
         graph.types[node] = node_type;
         graph.ranges[node] = Range { lowest, highest };
         for feature in bits(maps[node]) {
-            graph.features[links] = feature as u8;
-            graph.targets[links] = targets[node][feature];
+            graph.links[links] = Link::new(feature as u8, targets[node][feature]);
             links += 1;
         }
         graph.first[node + 1] = links as u16;
@@ -97,19 +96,19 @@ pub fn export(
     renumber(&graph, &mut written);
     let counts = Counts {
         nodes: written.nodes,
-        rows: written.links(),
+        rows: written.all_links().len(),
     };
     let rows = rows.get_mut(..counts.rows).ok_or(Refusal::of(8))?;
     let nodes = nodes.get_mut(..3 * counts.nodes).ok_or(Refusal::of(8))?;
     for (node, label) in nodes.chunks_exact_mut(3).enumerate() {
         let Range { lowest, highest } = written.ranges[node];
         label.copy_from_slice(&[written.types[node], lowest, highest]);
-        let row = written.row(node);
-        for (filled, place) in rows[row.clone()].iter_mut().zip(row) {
-            *filled = Row {
+        let filled = &mut rows[written.places(node)];
+        for (row, link) in filled.iter_mut().zip(written.row(node)) {
+            *row = Row {
                 parent: node as u8,
-                feature: written.features[place],
-                target: written.targets[place],
+                feature: link.feature(),
+                target: link.target() as u8,
             };
         }
     }
