@@ -32,9 +32,15 @@ fn settle() {
     black_box(());
 }
 
+/// By these settings the C library clears and copies by vector stores, however many bytes.
+const SETTINGS: &str = "GLIBC_TUNABLES";
+const VECTORS: &str = "glibc.cpu.x86_rep_stosb_threshold=1000000000:\
+                       glibc.cpu.x86_rep_movsb_threshold=1000000000";
+
 /// The instructions of each row by the engine and by the peer, if valgrind is there. The rows are
-/// those that the words pick.
-pub fn count(words: &[String], rows: &[Row]) -> Option<Vec<[f64; 2]>> {
+/// those that the words pick. Each byte that is cleared or copied is counted, or else the vector
+/// stores for them.
+pub fn count(words: &[String], rows: &[Row], each_byte: bool) -> Option<Vec<[f64; 2]>> {
     let folder = env::temp_dir().join(format!("benchmark-{}", process::id()));
     fs::create_dir(&folder).expect("a folder for what is counted");
     let program = env::current_exe().expect("this program");
@@ -49,6 +55,7 @@ pub fn count(words: &[String], rows: &[Row]) -> Option<Vec<[f64; 2]>> {
             folder.join("counted").display()
         ))
         .arg(program)
+        .env(SETTINGS, if each_byte { "" } else { VECTORS })
         .arg(COUNTED)
         .args(words)
         .stdout(Stdio::null())
@@ -70,6 +77,6 @@ fn total(file: &Path) -> f64 {
     let mut totals = text
         .lines()
         .filter_map(|line| line.strip_prefix("totals: "));
-    let total = totals.next().and_then(|total| total.trim().parse().ok());
-    total.expect("a total")
+    let total: Option<f64> = totals.next().and_then(|total| total.trim().parse().ok());
+    total.filter(|&total| total > 0.0).expect("a total")
 }

@@ -8,14 +8,17 @@
 //! `--` pick rows: those whose name, the call, the types and the nodes, has one of the words in it.
 //! So
 //!
-//!     cargo run --release --offline --manifest-path rust/Cargo.toml -p benchmark -- "order, 64 house" stack
+//!     cargo run --release --offline --manifest-path rust/Cargo.toml -p benchmark -- "common part, 64 house" stack
 //!
-//! measures the orders over the house types, and the stack. Before the words `--instructions` leaves
-//! out the times, so that all is done in a minute, and `--list` prints the names alone. For each
-//! row it prints
+//! measures the common parts over the house types, and the stack. An option may come before the
+//! words: `--instructions` leaves out the times, so that all is done in half a minute; `--each-byte`
+//! too, and counts as valgrind does by itself; `--list` prints the names alone. For each row it
+//! prints
 //!
 //! - the instructions of a call, where valgrind is there, which repeat but for some tens of them
-//!   that hang on where the stack begins;
+//!   that hang on where the stack begins. Clearing and copying many bytes is counted by the vector
+//!   stores that it takes. By itself valgrind counts an instruction for each of more than 2,048
+//!   bytes, which a processor does not take: of a common part, 65,025 for the marks alone;
 //! - the time of a call, the least of many runs in which engine and peer take turns.
 //!
 //! Then it prints what each node costs, what opening 64 types costs, the means of the ratios, the
@@ -42,8 +45,10 @@ use std::process::ExitCode;
 /// By this word the stack is picked.
 const STACK: &str = "stack";
 
-/// By this option no times are measured.
+/// By these options no times are measured; by the second valgrind counts each byte that is
+/// cleared.
 const INSTRUCTIONS: &str = "--instructions";
+const EACH_BYTE: &str = "--each-byte";
 
 fn main() -> ExitCode {
     let mut words: Vec<String> = env::args().skip(1).collect();
@@ -55,15 +60,15 @@ fn main() -> ExitCode {
     match option.as_deref() {
         Some("--list") => rows.iter().for_each(|row| println!("{}", row.name())),
         Some(instructions::COUNTED) => instructions::run(&rows),
-        Some(option) if option != INSTRUCTIONS => {
-            eprintln!("use: benchmark [--instructions | --list] [WORD...]");
+        Some(option) if option != INSTRUCTIONS && option != EACH_BYTE => {
+            eprintln!("use: benchmark [--instructions | --each-byte | --list] [WORD...]");
             return ExitCode::FAILURE;
         }
         _ if rows.is_empty() && !is_picked(&words, STACK) => {
             eprintln!("no row has such a name; --list tells the names");
             return ExitCode::FAILURE;
         }
-        option => measure(&words, &rows, option.is_none()),
+        option => measure(&words, &rows, option),
     }
     ExitCode::SUCCESS
 }
@@ -89,10 +94,10 @@ fn is_picked(words: &[String], name: &str) -> bool {
     words.is_empty() || words.iter().any(|word| name.contains(word.as_str()))
 }
 
-fn measure(words: &[String], rows: &[Row], has_times: bool) {
+fn measure(words: &[String], rows: &[Row], option: Option<&str>) {
     rows.iter().for_each(Row::check);
     if !rows.is_empty() {
-        let counts = instructions::count(words, rows);
+        let counts = instructions::count(words, rows, option == Some(EACH_BYTE));
         if counts.is_none() {
             println!("valgrind is not there: no instructions are counted\n");
         }
@@ -102,7 +107,7 @@ fn measure(words: &[String], rows: &[Row], has_times: bool) {
             let measured = Measured {
                 row,
                 instructions: counts.as_ref().map(|counts| counts[place]),
-                times: has_times.then(|| times::time(row)),
+                times: option.is_none().then(|| times::time(row)),
             };
             report::print_row(&measured);
             all.push(measured);
@@ -111,5 +116,40 @@ fn measure(words: &[String], rows: &[Row], has_times: bool) {
     }
     if is_picked(words, STACK) {
         stack::print(&calls::stack_rows());
+    }
+}
+
+#[cfg(test)]
+mod tests {
+    use super::*;
+
+    #[test]
+    fn engine_and_peer_agree_in_every_row() {
+        for row in picked(&[]).into_iter().chain(calls::stack_rows()) {
+            row.check();
+        }
+    }
+
+    #[test]
+    fn rows_have_names_of_their_own() {
+        let mut names: Vec<String> = picked(&[]).iter().map(Row::name).collect();
+        let count = names.len();
+        names.sort();
+        names.dedup();
+        assert_eq!(names.len(), count);
+    }
+
+    #[test]
+    fn words_pick_rows() {
+        let words = ["common part, 64 house, 40", "import"].map(String::from);
+        let names: Vec<String> = picked(&words).iter().map(Row::name).collect();
+        let expected = [
+            "common part, 64 house, 40",
+            "import, 4 diamond, 40",
+            "import, 4 diamond, 255",
+            "import, 64 house, 40",
+            "import, 64 house, 255",
+        ];
+        assert_eq!(names, expected);
     }
 }

@@ -35,8 +35,8 @@ pub fn print_row(measured: &Measured) {
     let Row {
         call, types, size, ..
     } = measured.row;
-    let instructions = cells(measured.instructions, 0);
-    let times = cells(measured.times, 2);
+    let instructions = cells(measured.instructions);
+    let times = cells(measured.times);
     println!(
         "| {call} | {types} | {} | {instructions} | {times} |",
         size.name
@@ -44,13 +44,24 @@ pub fn print_row(measured: &Measured) {
 }
 
 /// The costs by the engine and by the peer, and their ratio.
-fn cells(both: Option<[f64; 2]>, places: usize) -> String {
+fn cells(both: Option<[f64; 2]>) -> String {
     match both {
         Some([engine, peer]) => {
-            format!("{engine:.places$} | {peer:.places$} | {:.2}", engine / peer)
+            format!("{} | {} | {:.2}", short(engine), short(peer), engine / peer)
         }
         None => "- | - | -".to_string(),
     }
+}
+
+/// A number with some three digits at least.
+fn short(number: f64) -> String {
+    let places = match number.abs() {
+        ..10.0 => 3,
+        ..100.0 => 2,
+        ..1000.0 => 1,
+        _ => 0,
+    };
+    format!("{number:.places$}")
 }
 
 /// What all rows come to.
@@ -91,8 +102,8 @@ fn print_growth(all: &[Measured]) {
         let Row { call, types, .. } = small.row;
         println!(
             "| {call} | {types} | {} | {} |",
-            cells(instructions, 0),
-            cells(times, 1)
+            cells(instructions),
+            cells(times)
         );
     }
 }
@@ -122,7 +133,7 @@ fn print_opening(all: &[Measured]) {
     println!("| | engine | peer | / peer |");
     println!("|---|---|---|---|");
     for (name, cost) in costs() {
-        println!("| {name} | {} |", cells(less(cost(many), cost(few)), 2));
+        println!("| {name} | {} |", cells(less(cost(many), cost(few))));
     }
 }
 

@@ -10,9 +10,8 @@ pub const HAS_RANGE: u8 = 0x80;
 pub struct Link(u16);
 
 impl Link {
-    /// A place without a link. Its bytes differ, so that an array of them is filled by vector
-    /// stores; valgrind counts an instruction for each byte that is cleared otherwise.
-    pub const BLANK: Link = Link(64 << 8);
+    /// What stands at a place without a link.
+    pub const BLANK: Link = Link(0);
 
     pub fn new(feature: u8, target: u8) -> Link {
         Link(u16::from(feature) << 8 | u16::from(target))
