@@ -14,15 +14,15 @@ pub fn rows(tables: &[Types]) -> Vec<Row> {
     let mut rows = Vec::new();
     for types in tables {
         for size in SIZES {
-            let input = Input::new(types, size);
+            let input = Arc::new(Input::new(types, size));
+            push(&mut rows, types.name, size, operations(&input));
             if types.is_for_all_calls() && (size == SMALLER || size == LARGER) {
                 let ranged = Arc::new(input.with_ranges(types, size));
                 let labels = format!("{}, ranges", types.name);
                 push(&mut rows, &labels, size, operations(&ranged));
-                let input = Arc::new(Beside::new(types, &input));
-                push(&mut rows, types.name, size, others(&input));
+                let beside = Arc::new(Beside::new(types, &input));
+                push(&mut rows, types.name, size, others(&beside));
             }
-            push(&mut rows, types.name, size, operations(&Arc::new(input)));
         }
         push(&mut rows, types.name, NO_GRAPH, of_table(types));
     }

@@ -4,7 +4,7 @@
 //!     rt staticlib record_engine
 //!     cargo run --release --offline --manifest-path rust/Cargo.toml -p benchmark
 //!
-//! measures all rows, in some five minutes on a machine that has nothing else to do. Words behind
+//! measures all rows, in some four minutes on a machine that has nothing else to do. Words behind
 //! `--` pick rows: those whose name, the call, the types and the nodes, has one of the words in it.
 //! So
 //!
@@ -27,6 +27,8 @@
 //! and not numbered along their order, and a chain of 64) and on graphs of 8, 40, 100 and 255 nodes
 //! with some two links a node and of 255 with 2,048 links, the other calls over two tables and two
 //! sizes. Before all, the engine and the peer give the same answer and the same bytes in every row.
+//!
+//! `nltk_unify.py` in this package times unification by NLTK on structures of the same shape.
 
 mod calls;
 mod inputs;
