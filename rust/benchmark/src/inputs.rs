@@ -2,8 +2,6 @@
 //! which it has a common part, a combination and a difference, without level ranges
 //! and with them. The same on every run.
 
-use reference::difference::difference;
-use reference::gathering::{self, LONGEST_GATHERING};
 use reference::graph::Graph;
 use reference::house;
 use reference::order::subsumption;
@@ -11,157 +9,202 @@ use reference::random::{self, Shape, TableBytes, Xorshift};
 use reference::record;
 use reference::table::Table;
 
+/// A table that is measured over, and its name in what is printed: its number of types and its
+/// kind.
+pub struct Types {
+    pub name: &'static str,
+    pub bytes: TableBytes,
+    pub accepted: Table,
+}
+
+impl Types {
+    /// Whether the calls beside the operations are measured over it.
+    pub fn is_for_all_calls(&self) -> bool {
+        matches!(self.name, "4 diamond" | "64 house")
+    }
+
+    fn new(name: &'static str, bytes: TableBytes) -> Types {
+        let accepted = bytes.accepted();
+        Types {
+            name,
+            bytes,
+            accepted,
+        }
+    }
+}
+
+/// 4 types, the subsets of six atoms, the house types, 64 types that are not distributive and not
+/// numbered along their order, and 64 types each below the next.
+pub fn tables() -> [Types; 5] {
+    [
+        Types::new("4 diamond", random::diamond()),
+        Types::new("64 subsets", random::boolean(6)),
+        Types::new("64 house", house::table()),
+        Types::new(
+            "64 rivals",
+            random::large_rival_table(&mut Xorshift::new(64)),
+        ),
+        Types::new("64 chain", random::chain(64)),
+    ]
+}
+
+/// How large a graph is, and what is printed of it.
+#[derive(Clone, Copy, PartialEq, Eq)]
+pub struct Size {
+    pub name: &'static str,
+    pub nodes: usize,
+    /// Whether it has all links that a record can have, else some two a node.
+    is_full: bool,
+}
+
+const fn size(name: &'static str, nodes: usize) -> Size {
+    Size {
+        name,
+        nodes,
+        is_full: false,
+    }
+}
+
+pub const SIZES: [Size; 5] = [
+    size("8", 8),
+    size("40", 40),
+    size("100", 100),
+    size("255", 255),
+    Size {
+        name: "255 full",
+        nodes: 255,
+        is_full: true,
+    },
+];
+
+/// A lone node, for what is measured apart from the rows.
+pub const LONE: Size = size("1", 1);
+
+/// The size of what has no graph, or one of three nodes.
+pub const NO_GRAPH: Size = size("-", 0);
+
+/// The two sizes between which it is told how a cost grows.
+pub const SMALLER: Size = SIZES[1];
+pub const LARGER: Size = SIZES[3];
+
 /// The bytes of one measurement.
 pub struct Input {
-    /// The table's name in what is printed: its number of types.
-    pub kind: &'static str,
-    /// Whether nodes have ranges.
-    pub has_ranges: bool,
     /// The number of types.
     pub n: usize,
-    /// The number of nodes of the specific graph.
-    pub nodes: usize,
     /// The table.
     pub table: Vec<u8>,
-    /// A graph of so many nodes.
+    /// A graph of the size that is measured.
     pub specific: Vec<u8>,
     /// A graph above it.
     pub general: Vec<u8>,
     /// Another graph above it.
     pub other: Vec<u8>,
-    /// A gathering to which that one was added.
-    pub gathered: [u8; LONGEST_GATHERING],
 }
 
 impl Input {
-    /// What is printed of the types and the ranges.
-    pub fn labels(&self) -> String {
-        let ranges = if self.has_ranges { ", ranges" } else { "" };
-        format!("{}{ranges}", self.kind)
+    /// The first input of a seed whose graphs have a difference.
+    pub fn new(types: &Types, size: Size) -> Input {
+        let mut attempts = (0..).map(|seed| Input::attempt(types, size, seed));
+        let input = attempts.find(|x| {
+            let output = &mut [0; record_engine::LONGEST_RECORD];
+            record_engine::difference(x.n, &x.table, &x.general, &x.specific, output).is_ok()
+        });
+        input.expect("a seed")
     }
-}
 
-/// The names of the tables.
-const KINDS: [&str; 4] = ["4", "64", "64 house", "64 rivals"];
-
-/// The table of a name: 4 types, the subsets of six atoms, the house types, or 64 types
-/// that are not distributive and not numbered along their order.
-fn table(kind: &str) -> TableBytes {
-    match kind {
-        "4" => random::diamond(),
-        "64" => random::boolean(6),
-        "64 house" => house::table(),
-        _ => random::large_rival_table(&mut Xorshift::new(64)),
-    }
-}
-
-/// The numbers of nodes.
-const SIZES: [usize; 3] = [8, 40, 255];
-
-/// All sizes with each table in turn; then the same with ranges.
-pub fn inputs() -> Vec<Input> {
-    (0..).map_while(input_at).collect()
-}
-
-/// The input at a place among them.
-pub fn input_at(place: usize) -> Option<Input> {
-    let (round, size) = (place / SIZES.len(), place % SIZES.len());
-    let kind = KINDS[round % KINDS.len()];
-    let plain = input(kind, &table(kind), SIZES[size]);
-    match round / KINDS.len() {
-        0 => Some(plain),
-        1 => Some(with_ranges(&plain)),
-        _ => None,
-    }
-}
-
-/// The first input of a seed whose graphs have a difference.
-fn input(kind: &'static str, table: &TableBytes, nodes: usize) -> Input {
-    let accepted = table.accepted();
-    (0..)
-        .map(|seed| attempt(kind, table, nodes, seed))
-        .find(|input| {
-            let [g, s] =
-                [&input.general, &input.specific].map(|bytes| record::read(&accepted, bytes));
-            let (g, s) = (g.expect("a record"), s.expect("a record"));
-            difference(&accepted, &g, &s).is_ok()
-        })
-        .expect("a seed")
-}
-
-fn attempt(kind: &'static str, table: &TableBytes, nodes: usize, seed: u64) -> Input {
-    let random = &mut Xorshift::new(nodes as u64 + 1000 * seed);
-    let shape = Shape {
-        nodes,
-        // Together some two links for each node.
-        extra_links: nodes,
-        features: (0..24).collect(),
-        spread: nodes / 4,
-        tops: 1,
-        ranges: 0,
-    };
-    let specific = random::graph(random, table.n, &shape);
-    let general = weaker(random, &table.accepted(), &specific);
-    let other = weaker(random, &table.accepted(), &specific);
-    let other = record::write(&other);
-    Input {
-        kind,
-        has_ranges: false,
-        n: table.n,
-        nodes,
-        table: table.bytes.clone(),
-        specific: record::write(&specific),
-        general: record::write(&general),
-        gathered: gathered(table.n, &table.bytes, &other),
-        other,
-    }
-}
-
-/// A gathering over a table to which a record was added.
-fn gathered(n: usize, table: &[u8], record: &[u8]) -> [u8; LONGEST_GATHERING] {
-    let mut state = [0; LONGEST_GATHERING];
-    let replies = [
-        gathering::begin(n, table, &mut state),
-        gathering::add(&mut state, record),
-    ];
-    assert!(replies.iter().all(|reply| reply.number().is_none()));
-    state
-}
-
-/// The same graphs with ranges: at every other node of the specific one, and at the
-/// nodes over it the same range, or for one in eight a range around it.
-fn with_ranges(input: &Input) -> Input {
-    let random = &mut Xorshift::new(input.nodes as u64);
-    let table = Table::accept(input.n, &input.table).expect("a table");
-    let [specific, general, other] = [&input.specific, &input.general, &input.other]
-        .map(|bytes| record::read(&table, bytes).expect("a record"));
-    let mut ranged = specific.clone();
-    for node in &mut ranged.nodes {
-        if random.chance(1, 2) {
-            node.label.range = random::range(random);
+    fn attempt(types: &Types, size: Size, seed: u64) -> Input {
+        let nodes = size.nodes;
+        let links = if size.is_full { 4096 } else { nodes };
+        let random = &mut Xorshift::new(nodes as u64 + 1000 * seed);
+        let shape = Shape {
+            nodes,
+            // Together some two links for each node, or as many as there can be.
+            extra_links: links,
+            features: if size.is_full { 0..64 } else { 0..24 }.collect(),
+            spread: (nodes / 4).max(1),
+            tops: 1,
+            ranges: 0,
+        };
+        let specific = random::graph(random, types.bytes.n, &shape);
+        let general = weaker(random, &types.accepted, &specific);
+        let other = weaker(random, &types.accepted, &specific);
+        Input {
+            n: types.bytes.n,
+            table: types.bytes.bytes.clone(),
+            specific: record::write(&specific),
+            general: record::write(&general),
+            other: record::write(&other),
         }
     }
-    let mut above = |graph: &Graph| {
-        let map = subsumption(&table, graph, &specific).expect("a graph above");
-        let mut above = graph.clone();
-        for (node, below) in above.nodes.iter_mut().zip(map.image) {
-            let range = ranged.nodes[below].label.range;
-            node.label.range = match random.chance(1, 8) {
-                true => random::range_around(random, range),
-                false => range,
-            };
+
+    /// A chain of so many nodes in the place of all three graphs.
+    pub fn chain(types: &Types, size: Size) -> Input {
+        let top = (types.bytes.n - 1) as u8;
+        let chain = record::write(&random::chain_graph(size.nodes, 0, top));
+        Input {
+            n: types.bytes.n,
+            table: types.bytes.bytes.clone(),
+            specific: chain.clone(),
+            general: chain.clone(),
+            other: chain,
         }
-        record::write(&above)
-    };
-    let (general, other) = (above(&general), above(&other));
-    Input {
-        has_ranges: true,
-        general,
-        gathered: gathered(input.n, &input.table, &other),
-        other,
-        specific: record::write(&ranged),
-        table: input.table.clone(),
-        ..*input
+    }
+
+    /// The same, and the root has a link to the last node; in the other graph the root has a link
+    /// to a chain of the other nodes, so that combined the one chain goes on where the other ends.
+    pub fn longest_path(types: &Types, size: Size) -> Input {
+        let input = Input::chain(types, size);
+        let [mut first, _, mut second] = input.graphs(types);
+        if size.nodes > 1 {
+            first.nodes[0].links.insert(1, size.nodes - 1);
+            second.nodes[0].links = [(1, 1)].into();
+        }
+        let first = record::write(&first);
+        Input {
+            specific: first.clone(),
+            general: first,
+            other: record::write(&second),
+            ..input
+        }
+    }
+
+    /// The graphs with ranges: at every other node of the specific one, and at the nodes
+    /// over it the same range, or for one in eight a range around it.
+    pub fn with_ranges(&self, types: &Types, size: Size) -> Input {
+        let random = &mut Xorshift::new(size.nodes as u64);
+        let table = &types.accepted;
+        let [specific, general, other] = self.graphs(types);
+        let mut ranged = specific.clone();
+        for node in &mut ranged.nodes {
+            if random.chance(1, 2) {
+                node.label.range = random::range(random);
+            }
+        }
+        let mut above = |graph: &Graph| {
+            let map = subsumption(table, graph, &specific).expect("a graph above");
+            let mut above = graph.clone();
+            for (node, below) in above.nodes.iter_mut().zip(map.image) {
+                let range = ranged.nodes[below].label.range;
+                node.label.range = match random.chance(1, 8) {
+                    true => random::range_around(random, range),
+                    false => range,
+                };
+            }
+            record::write(&above)
+        };
+        Input {
+            n: self.n,
+            table: self.table.clone(),
+            general: above(&general),
+            other: above(&other),
+            specific: record::write(&ranged),
+        }
+    }
+
+    /// The specific graph, the general one and the other.
+    pub fn graphs(&self, types: &Types) -> [Graph; 3] {
+        [&self.specific, &self.general, &self.other]
+            .map(|bytes| record::read(&types.accepted, bytes).expect("a record"))
     }
 }
 

@@ -23,6 +23,7 @@ pub use gathering::Gatherings;
 pub use rows::PlanningTables;
 pub use stack::{on_stated_stack, stack_taken};
 pub use store::Stores;
+pub use told::Told;
 
 use counts::Counts;
 use lent::{Lent, outputs};

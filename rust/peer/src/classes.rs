@@ -1,5 +1,6 @@
 //! Classes of numbers: union by lower number, with paths halved on the way up.
 
+/// Classes of the numbers below N, a power of two.
 pub struct Classes<const N: usize> {
     parent: [u16; N],
 }
@@ -15,18 +16,26 @@ impl<const N: usize> Classes<N> {
     #[inline(always)]
     pub fn find(&mut self, mut number: u16) -> u16 {
         loop {
-            let parent = self.parent[usize::from(number)];
+            let parent = self.parent_of(number);
             if parent == number {
                 return number;
             }
-            let above = self.parent[usize::from(parent)];
-            self.parent[usize::from(number)] = above;
+            let above = self.parent_of(parent);
+            if above == parent {
+                return parent;
+            }
+            self.parent[usize::from(number) % N] = above;
             number = above;
         }
     }
 
+    #[inline(always)]
+    fn parent_of(&self, number: u16) -> u16 {
+        self.parent[usize::from(number) % N]
+    }
+
     /// Puts a class under another with a lower least number.
     pub fn put_under(&mut self, lower: u16, higher: u16) {
-        self.parent[usize::from(higher)] = lower;
+        self.parent[usize::from(higher) % N] = lower;
     }
 }

@@ -3,71 +3,88 @@
 
 use crate::Refusal;
 use crate::classes::Classes;
-use crate::graph::Graph;
+use crate::graph::{Graph, Link};
+use crate::lists::Ranks;
 use crate::range::Range;
-use crate::table::{Bounds, Table};
+use crate::table::Table;
 
 /// No node of g enters a link.
 const BARE: u8 = u8::MAX;
 /// A group without a link so far.
 const NONE: u16 = u16::MAX;
 
-/// Links of s are known by their places, which go by parent and feature.
+/// Why a link is kept: nothing of g lies over it; else its node has two or more groups; else for
+/// a wanted label or for what hangs below.
+const NOTHING_OVER: u8 = 1;
+const GROUPS_MEET: u8 = 2;
+const WANTED: u8 = 3;
+
+/// Makes the difference and, where they are asked for, the reasons for its links, by the places
+/// that these have in it. Links of s are known by their places, which go by parent and feature.
 pub fn difference(
     table: &Table,
-    meets: &Bounds,
+    ranks: &Ranks,
     g: &Graph,
     s: &Graph,
-    map: &[u8; 255],
+    map: &[u8; 256],
     rest: &mut Graph,
+    mut reasons: Option<&mut [u8; 2048]>,
 ) -> Result<(), Refusal> {
     let top = (table.n - 1) as u8;
     // For each link of s a node of g that a link over it enters, and classes of such nodes.
     let mut owner = [BARE; 2048];
-    let mut groups = Classes::<255>::new();
-    let mut over = [top; 255];
-    let mut range_over = [Range::FULL; 255];
+    let mut groups = Classes::<256>::new();
+    // What is below all types of g over a node, and the overlap of their ranges.
+    let mut over = [table.down[usize::from(top)]; 256];
+    let mut range_over = [Range::FULL; 256];
     for (node, &image) in map[..g.nodes].iter().enumerate() {
         let image = usize::from(image);
-        let met = &mut over[image];
-        *met = meets[usize::from(*met)][usize::from(g.types[node])];
+        over[image] &= table.down[usize::from(g.types[node])];
         range_over[image] = range_over[image].overlap(g.ranges[node]);
-        let mut below = s.row(image);
-        for place in g.row(node) {
-            let feature = g.features[place];
-            let found = below.find(|&other| s.features[other] == feature);
-            let owner = &mut owner[found.expect("a path of g is one of s")];
+        let mut below = owner[s.places(image)].iter_mut().zip(s.row(image));
+        for link in g.row(node) {
+            let found = below.find(|(_, other)| other.feature() == link.feature());
+            let (owner, _) = found.expect("a path of g is one of s");
             if *owner == BARE {
-                *owner = g.targets[place];
+                *owner = link.target() as u8;
                 continue;
             }
             let x = groups.find(u16::from(*owner));
-            let y = groups.find(u16::from(g.targets[place]));
+            let y = groups.find(link.target() as u16);
             if x != y {
                 groups.put_under(x.min(y), x.max(y));
             }
         }
     }
     // The least link of each group.
-    let links = s.links();
-    let mut least = [NONE; 255];
+    let mut least = [NONE; 256];
     let mut leads = [false; 2048];
-    let mut leaders = [0u16; 255];
-    let mut has_bare = [false; 255];
-    for place in 0..links {
-        let target = usize::from(s.targets[place]);
-        if owner[place] == BARE {
-            has_bare[target] = true;
+    let mut leaders = [0u16; 256];
+    let mut has_bare = [false; 256];
+    for (place, (link, &owner)) in s.all_links().iter().zip(&owner).enumerate() {
+        if owner == BARE {
+            has_bare[link.target()] = true;
             leads[place] = true;
         } else {
-            let first = &mut least[usize::from(groups.find(u16::from(owner[place])))];
-            leads[place] = *first == NONE;
-            *first = (*first).min(place as u16);
+            let first = &mut least[usize::from(groups.find(u16::from(owner)))];
+            if *first == NONE {
+                *first = place as u16;
+                leads[place] = true;
+            } else {
+                let rank = |link: Link| ranks[usize::from(link.feature())];
+                let earlier = usize::from(*first);
+                if rank(*link) < rank(s.links[earlier]) {
+                    *first = place as u16;
+                    leads[place] = true;
+                    leads[earlier] = false;
+                }
+                continue;
+            }
         }
-        leaders[target] += u16::from(leads[place]);
+        leaders[link.target()] += 1;
     }
-    let mut wanted = [0u8; 255];
-    let mut kept = [false; 255];
+    let mut wanted = [0u8; 256];
+    let mut kept = [false; 256];
     for node in 0..s.nodes {
         let greatest = table.wanted(s.types[node], over[node]);
         wanted[node] = greatest.ok_or(Refusal::of(13))?;
@@ -83,10 +100,17 @@ pub fn difference(
     rest.types = wanted;
     let mut count = 0;
     for node in 0..s.nodes {
-        for place in s.row(node) {
-            if leads[place] && kept[usize::from(s.targets[place])] {
-                rest.features[count] = s.features[place];
-                rest.targets[count] = s.targets[place];
+        for (place, link) in s.places(node).zip(s.row(node)) {
+            let target = link.target();
+            if leads[place] && kept[target] {
+                if let Some(reasons) = reasons.as_deref_mut() {
+                    reasons[count] = match owner[place] {
+                        BARE => NOTHING_OVER,
+                        _ if leaders[target] >= 2 => GROUPS_MEET,
+                        _ => WANTED,
+                    };
+                }
+                rest.links[count] = *link;
                 count += 1;
             }
         }
@@ -96,11 +120,11 @@ pub fn difference(
 }
 
 /// Keeps every node from which a leading link leaves to a kept one.
-fn keep_above(s: &Graph, leads: &[bool; 2048], kept: &mut [bool; 255]) {
+fn keep_above(s: &Graph, leads: &[bool; 2048], kept: &mut [bool; 256]) {
     // The leading links by the node that they enter.
-    let mut first = [0u16; 256];
-    for place in 0..s.links() {
-        first[usize::from(s.targets[place]) + 1] += u16::from(leads[place]);
+    let mut first = [0u16; 257];
+    for (link, &leads) in s.all_links().iter().zip(leads) {
+        first[link.target() + 1] += u16::from(leads);
     }
     for node in 0..s.nodes {
         first[node + 1] += first[node];
@@ -108,15 +132,15 @@ fn keep_above(s: &Graph, leads: &[bool; 2048], kept: &mut [bool; 255]) {
     let mut next = first;
     let mut parents = [0u8; 2048];
     for node in 0..s.nodes {
-        for place in s.row(node) {
-            if leads[place] {
-                let at = &mut next[usize::from(s.targets[place])];
+        for (link, &leads) in s.row(node).iter().zip(&leads[s.places(node)]) {
+            if leads {
+                let at = &mut next[link.target()];
                 parents[usize::from(*at)] = node as u8;
                 *at += 1;
             }
         }
     }
-    let mut queue = [0u8; 255];
+    let mut queue = [0u8; 256];
     let mut end = 0;
     for (node, &is_kept) in kept[..s.nodes].iter().enumerate() {
         if is_kept {

@@ -1,8 +1,8 @@
 //! The common part: the pairs of nodes that one path leads to in both graphs.
 
 use crate::Refusal;
-use crate::graph::Graph;
-use crate::table::Bounds;
+use crate::bounds::Bounds;
+use crate::graph::{Graph, Link};
 
 /// Makes the common part, or gives 11.
 pub fn generalize(joins: &Bounds, a: &Graph, b: &Graph, common: &mut Graph) -> Result<(), Refusal> {
@@ -15,37 +15,35 @@ pub fn generalize(joins: &Bounds, a: &Graph, b: &Graph, common: &mut Graph) -> R
     while next < end {
         let (u, v) = queue[next];
         let (u, v) = (usize::from(u), usize::from(v));
-        common.types[next] = joins[usize::from(a.types[u])][usize::from(b.types[v])];
+        common.types[next] = joins.join(a.types[u], b.types[v]);
         common.ranges[next] = a.ranges[u].hull(b.ranges[v]);
-        let (mut left, mut right) = (a.row(u), b.row(v));
-        while !left.is_empty() && !right.is_empty() {
-            let (f, h) = (a.features[left.start], b.features[right.start]);
-            if f < h {
-                left.start += 1;
+        let (left, right) = (a.row(u), b.row(v));
+        let (mut i, mut j) = (0, 0);
+        while i < left.len() && j < right.len() {
+            let (one, other) = (left[i], right[j]);
+            if one.feature() < other.feature() {
+                i += 1;
                 continue;
             }
-            if h < f {
-                right.start += 1;
+            if other.feature() < one.feature() {
+                j += 1;
                 continue;
             }
-            let pair = (a.targets[left.start], b.targets[right.start]);
-            let mark = &mut marks[255 * usize::from(pair.0) + usize::from(pair.1)];
+            (i, j) = (i + 1, j + 1);
+            let mark = &mut marks[255 * one.target() + other.target()];
             if *mark == CLEAR {
                 if end == 255 {
                     return Err(Refusal::of(11));
                 }
                 *mark = end as u8;
-                queue[end] = pair;
+                queue[end] = (one.target() as u8, other.target() as u8);
                 end += 1;
             }
-            if links == 2048 {
+            let Some(link) = common.links.get_mut(links) else {
                 return Err(Refusal::of(11));
-            }
-            common.features[links] = f;
-            common.targets[links] = *mark;
+            };
+            *link = Link::new(one.feature(), *mark);
             links += 1;
-            left.start += 1;
-            right.start += 1;
         }
         next += 1;
         common.first[next] = links as u16;

@@ -5,51 +5,68 @@ use crate::range::Range;
 /// Bit 7 of a type byte: two bytes of a range follow it.
 pub const HAS_RANGE: u8 = 0x80;
 
-/// Node v's links are the places `first[v]` to `first[v + 1]`, features ascending.
+/// A feature, and the node that it leads to, in one word.
+#[derive(Clone, Copy, PartialEq, Eq)]
+pub struct Link(u16);
+
+impl Link {
+    /// What stands at a place without a link.
+    pub const BLANK: Link = Link(0);
+
+    pub fn new(feature: u8, target: u8) -> Link {
+        Link(u16::from(feature) << 8 | u16::from(target))
+    }
+
+    pub fn feature(self) -> u8 {
+        (self.0 >> 8) as u8
+    }
+
+    pub fn target(self) -> usize {
+        usize::from(self.0 as u8)
+    }
+}
+
+/// Node v's links are the places `first[v]` to `first[v + 1]`, features ascending. A byte is a
+/// place in the arrays that go by nodes, though there are at most 255.
 #[derive(Clone)]
 pub struct Graph {
     pub nodes: usize,
-    pub types: [u8; 255],
-    pub ranges: [Range; 255],
-    pub first: [u16; 256],
-    pub features: [u8; 2048],
-    pub targets: [u8; 2048],
+    pub types: [u8; 256],
+    pub ranges: [Range; 256],
+    pub first: [u16; 257],
+    pub links: [Link; 2048],
 }
 
 impl Graph {
     pub fn empty() -> Graph {
         Graph {
             nodes: 0,
-            types: [0; 255],
-            ranges: [Range::FULL; 255],
-            first: [0; 256],
-            features: [0; 2048],
-            targets: [0; 2048],
+            types: [0; 256],
+            ranges: [Range::FULL; 256],
+            first: [0; 257],
+            links: [Link::BLANK; 2048],
         }
     }
 
     /// The places of a node's links.
-    pub fn row(&self, node: usize) -> std::ops::Range<usize> {
+    pub fn places(&self, node: usize) -> std::ops::Range<usize> {
         usize::from(self.first[node])..usize::from(self.first[node + 1])
     }
 
-    /// How many links there are.
-    pub fn links(&self) -> usize {
-        usize::from(self.first[self.nodes])
+    /// A node's links.
+    pub fn row(&self, node: usize) -> &[Link] {
+        &self.links[self.places(node)]
+    }
+
+    /// All links.
+    pub fn all_links(&self) -> &[Link] {
+        &self.links[..usize::from(self.first[self.nodes])]
     }
 
     /// Takes in a record's graph over n types, or gives 4 to 7; this one is empty.
     pub fn read(&mut self, n: usize, record: &[u8]) -> Result<(), u8> {
         let has_levels = self.parse(record).ok_or(4)?;
-        let types = &self.types[..self.nodes];
-        let targets = &self.targets[..self.links()];
-        let is_in_range = has_levels
-            && types.iter().all(|&t| t != 0 && usize::from(t) < n)
-            && targets.iter().all(|&w| usize::from(w) < self.nodes);
-        if !is_in_range {
-            return Err(5);
-        }
-        self.sources_first()
+        self.judge(n, has_levels)
     }
 
     /// Takes in the rows, and tells whether every range has a level.
@@ -73,13 +90,10 @@ impl Graph {
             };
             let mut map = u64::from_le_bytes(map);
             let count = map.count_ones() as usize;
-            if links + count > 2048 || after.len() < count {
-                return None;
-            }
-            let (targets, after) = after.split_at(count);
-            self.targets[links..links + count].copy_from_slice(targets);
-            for feature in &mut self.features[links..links + count] {
-                *feature = map.trailing_zeros() as u8;
+            let row = self.links.get_mut(links..links + count)?;
+            let (targets, after) = after.split_at_checked(count)?;
+            for (link, &target) in row.iter_mut().zip(targets) {
+                *link = Link::new(map.trailing_zeros() as u8, target);
                 map &= map - 1;
             }
             links += count;
@@ -89,15 +103,26 @@ impl Graph {
         (nodes > 0 && rest.is_empty()).then_some(has_levels)
     }
 
+    /// 5 to 7 of rows that are taken in; whether every range has a level is known.
+    ///
     /// Takes nodes away whose incoming links are all taken: 6 if some stay, 7 if
     /// one beside the root has no incoming link. Where none stays, every node is
     /// below one without incoming links.
-    fn sources_first(&self) -> Result<(), u8> {
-        let mut incoming = [0u16; 255];
-        for &target in &self.targets[..self.links()] {
-            incoming[usize::from(target)] += 1;
+    pub fn judge(&self, n: usize, has_levels: bool) -> Result<(), u8> {
+        let types = &self.types[..self.nodes];
+        let least = types.iter().fold(u8::MAX, |least, &next| least.min(next));
+        let most = types.iter().fold(0, |most: u8, &next| most.max(next));
+        let mut incoming = [0u16; 256];
+        for link in self.all_links() {
+            incoming[link.target()] += 1;
         }
-        let mut queue = [0u8; 255];
+        let outside = incoming[self.nodes..]
+            .iter()
+            .fold(0, |all, &count| all | count);
+        if !has_levels || least == 0 || usize::from(most) >= n || outside != 0 {
+            return Err(5);
+        }
+        let mut queue = [0u8; 256];
         let mut end = 0;
         for (node, &count) in incoming[..self.nodes].iter().enumerate() {
             if count == 0 {
@@ -105,15 +130,14 @@ impl Graph {
                 end += 1;
             }
         }
-        let sources = end;
-        let is_rooted = sources == 1 && queue[0] == 0;
+        let is_rooted = end == 1 && queue[0] == 0;
         let mut next = 0;
         while next < end {
-            for place in self.row(usize::from(queue[next])) {
-                let target = usize::from(self.targets[place]);
-                incoming[target] -= 1;
-                if incoming[target] == 0 {
-                    queue[end] = target as u8;
+            for link in self.row(usize::from(queue[next])) {
+                let count = &mut incoming[link.target()];
+                *count -= 1;
+                if *count == 0 {
+                    queue[end] = link.target() as u8;
                     end += 1;
                 }
             }

@@ -18,8 +18,8 @@ pub enum Order {
 
 /// Which of two graphs is the broader.
 pub fn order(table: &Table, first: &Graph, second: &Graph) -> Order {
-    let below = is_below(table, first, second, &mut [NONE; 255]);
-    let above = is_below(table, second, first, &mut [NONE; 255]);
+    let below = is_below(table, first, second, &mut [NONE; 256]);
+    let above = is_below(table, second, first, &mut [NONE; 256]);
     match (below, above) {
         (true, true) => Order::Same,
         (true, false) => Order::Under,
@@ -29,17 +29,17 @@ pub fn order(table: &Table, first: &Graph, second: &Graph) -> Order {
 }
 
 /// The node of s for each node of g, if s is below g.
-pub fn node_map(table: &Table, s: &Graph, g: &Graph) -> Option<[u8; 255]> {
-    let mut map = [NONE; 255];
-    is_below(table, s, g, &mut map).then(|| map.map(|node| node as u8))
+pub fn node_map(table: &Table, s: &Graph, g: &Graph) -> Option<[u8; 256]> {
+    let mut map = [NONE; 256];
+    is_below(table, s, g, &mut map).then_some(map)
 }
 
-/// A node that is not mapped yet.
-const NONE: u16 = u16::MAX;
+/// A node that is not mapped yet; there are at most 255.
+const NONE: u8 = u8::MAX;
 
 /// Whether s is below g; maps the nodes of g to those of s.
-fn is_below(table: &Table, s: &Graph, g: &Graph, map: &mut [u16; 255]) -> bool {
-    let mut queue = [0u8; 255];
+fn is_below(table: &Table, s: &Graph, g: &Graph, map: &mut [u8; 256]) -> bool {
+    let mut queue = [0u8; 256];
     map[0] = 0;
     let (mut next, mut end) = (0, 1);
     while next < end {
@@ -50,18 +50,17 @@ fn is_below(table: &Table, s: &Graph, g: &Graph, map: &mut [u16; 255]) -> bool {
         if !is_below {
             return false;
         }
-        let mut below = s.row(lower);
-        for place in g.row(upper) {
-            let feature = g.features[place];
-            let found = below.find(|&other| s.features[other] >= feature);
-            let Some(found) = found.filter(|&found| s.features[found] == feature) else {
+        let mut below = s.row(lower).iter();
+        for link in g.row(upper) {
+            let found = below.find(|other| other.feature() >= link.feature());
+            let Some(found) = found.filter(|found| found.feature() == link.feature()) else {
                 return false;
             };
-            let image = &mut map[usize::from(g.targets[place])];
-            let target = u16::from(s.targets[found]);
+            let image = &mut map[link.target()];
+            let target = found.target() as u8;
             if *image == NONE {
                 *image = target;
-                queue[end] = g.targets[place];
+                queue[end] = link.target() as u8;
                 end += 1;
             } else if *image != target {
                 return false;

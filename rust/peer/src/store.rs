@@ -3,11 +3,13 @@
 //! after the way to its state has been gone again.
 
 use crate::Refusal;
+use crate::bounds::{Bounds, Side};
 use crate::difference::difference;
 use crate::generalize::generalize;
 use crate::graph::Graph;
+use crate::lists::BY_NUMBER;
 use crate::order::node_map;
-use crate::table::{Bounds, Table};
+use crate::table::Table;
 use crate::unify::combine;
 use crate::write::{renumber, write};
 
@@ -19,11 +21,78 @@ const MAP: usize = 2;
 /// The programs by version, numbered as they are written.
 type Programs = [Option<Graph>; VERSIONS];
 
-/// A store that is taken in: its table, its programs and its state.
-pub struct Store {
+/// Puts a record, the second, into a store under the number of a version, and gives the used
+/// length.
+pub fn store_put(
+    n: usize,
+    table: &[u8],
+    store: &mut [u8],
+    version: usize,
+    record: &[u8],
+) -> Result<usize, Refusal> {
+    let types = Types::open(n, table)?;
+    let mut opened = Store::empty(&types);
+    opened.open(store)?;
+    opened.put(version, record, store.len())?;
+    Ok(settle(opened.used(), store))
+}
+
+/// Writes the record of a version.
+pub fn store_read(
+    n: usize,
+    table: &[u8],
+    store: &[u8],
+    version: usize,
+    output: &mut [u8],
+) -> Result<usize, Refusal> {
+    let types = Types::open(n, table)?;
+    let mut opened = Store::empty(&types);
+    opened.open(store)?;
+    write(opened.program(version)?, output)
+}
+
+/// Drops a version, and gives the used length.
+pub fn store_drop(
+    n: usize,
+    table: &[u8],
+    store: &mut [u8],
+    version: usize,
+) -> Result<usize, Refusal> {
+    let types = Types::open(n, table)?;
+    let mut opened = Store::empty(&types);
+    opened.open(store)?;
+    opened.drop(version, store.len())?;
+    Ok(settle(opened.used(), store))
+}
+
+fn settle(state: &[u8], store: &mut [u8]) -> usize {
+    store[..state.len()].copy_from_slice(state);
+    state.len()
+}
+
+/// A table with its meets and joins.
+struct Types {
     table: Table,
     meets: Bounds,
     joins: Bounds,
+}
+
+impl Types {
+    /// The table of some bytes, or 1, 2 or 3.
+    fn open(n: usize, bytes: &[u8]) -> Result<Types, Refusal> {
+        let (table, joins) = Bounds::open(n, bytes, Side::Joins)?;
+        let meets = Bounds::of(&table, Side::Meets)?;
+        Ok(Types {
+            table,
+            meets,
+            joins,
+        })
+    }
+}
+
+/// A store that is taken in: its programs and its state.
+struct Store<'a> {
+    types: &'a Types,
     programs: Programs,
     state: State,
 }
@@ -35,12 +104,10 @@ struct State {
     common: Graph,
 }
 
-impl Store {
-    pub fn empty() -> Store {
+impl Store<'_> {
+    fn empty(types: &Types) -> Store<'_> {
         Store {
-            table: Table::empty(),
-            meets: [[0; 64]; 64],
-            joins: [[0; 64]; 64],
+            types,
             programs: [const { None }; VERSIONS],
             state: State {
                 bytes: [0; LONGEST],
@@ -50,11 +117,8 @@ impl Store {
         }
     }
 
-    /// Takes in a table and a buffer, or gives 1 to 3, or 4 where it holds no state; this one
-    /// is empty.
-    pub fn open(&mut self, n: usize, table: &[u8], buffer: &[u8]) -> Result<(), Refusal> {
-        self.table
-            .open_both(n, table, &mut self.meets, &mut self.joins)?;
+    /// Takes in a buffer, or gives 4 where it holds no state; this one is empty.
+    fn open(&mut self, buffer: &[u8]) -> Result<(), Refusal> {
         let is_held = buffer.len() <= LONGEST
             && self.restore(buffer).is_some()
             && self.go(buffer.len()).is_ok()
@@ -69,7 +133,7 @@ impl Store {
         if map == 0 {
             return Some(());
         }
-        let n = self.table.n;
+        let n = self.types.table.n;
         let mut common = Graph::empty();
         rest = read_part(n, rest, &mut common)?;
         for (version, program) in self.programs.iter_mut().enumerate() {
@@ -77,20 +141,17 @@ impl Store {
                 let mut part = Graph::empty();
                 rest = read_part(n, rest, &mut part)?;
                 let program = program.insert(Graph::empty());
-                combine(&self.meets, &common, &part, program).ok()?;
+                combine(&self.types.meets, &common, &part, program).ok()?;
             }
         }
         Some(())
     }
 
     /// Puts a record, the second, under the number of a version that is absent.
-    pub fn put(&mut self, version: usize, record: &[u8], room: usize) -> Result<(), Refusal> {
+    fn put(&mut self, version: usize, record: &[u8], room: usize) -> Result<(), Refusal> {
         let mut graph = Graph::empty();
-        let second = |number| Refusal {
-            number,
-            second: true,
-        };
-        graph.read(self.table.n, record).map_err(second)?;
+        let read = graph.read(self.types.table.n, record);
+        read.map_err(Refusal::of_second)?;
         let place = self.programs.get_mut(version);
         let place = place.filter(|program| program.is_none());
         renumber(&graph, place.ok_or(Refusal::of(20))?.insert(Graph::empty()));
@@ -103,7 +164,7 @@ impl Store {
     }
 
     /// Drops a version that exists.
-    pub fn drop(&mut self, version: usize, room: usize) -> Result<(), Refusal> {
+    fn drop(&mut self, version: usize, room: usize) -> Result<(), Refusal> {
         let place = self.programs.get_mut(version);
         let place = place.filter(|program| program.is_some());
         *place.ok_or(Refusal::of(20))? = None;
@@ -111,13 +172,13 @@ impl Store {
     }
 
     /// The program of a version that exists.
-    pub fn program(&self, version: usize) -> Result<&Graph, Refusal> {
+    fn program(&self, version: usize) -> Result<&Graph, Refusal> {
         let program = self.programs.get(version).and_then(Option::as_ref);
         program.ok_or(Refusal::of(20))
     }
 
     /// The bytes of the state.
-    pub fn used(&self) -> &[u8] {
+    fn used(&self) -> &[u8] {
         &self.state.bytes[..self.state.used]
     }
 
@@ -136,12 +197,11 @@ impl Store {
     /// Goes one step further, to the program of a version.
     fn step(&mut self, version: usize, room: usize) -> Result<(), Refusal> {
         let Store {
-            table,
-            meets,
-            joins,
+            types,
             programs,
             state,
         } = self;
+        let Types { table, joins, .. } = types;
         let program = programs[version].as_ref().expect("a program");
         if state.used == MAP {
             state.common = program.clone();
@@ -156,7 +216,7 @@ impl Store {
         for program in programs[..=version].iter().flatten() {
             let below = node_map(table, program, common).expect("below the common part");
             let mut rest = Graph::empty();
-            difference(table, meets, common, program, &below, &mut rest)?;
+            difference(table, BY_NUMBER, common, program, &below, &mut rest, None)?;
             end = end.and_then(|place| write_part(&rest, output, place));
         }
         state.used = end.ok_or(Refusal::of(21))?;

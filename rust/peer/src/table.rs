@@ -1,148 +1,130 @@
-//! The type table: each type's set of lower types and of upper types as a word,
-//! and the bounds of every two types on the side that a call asks for.
+//! The type table: each type's lower types as a word, and the wanted types of a difference.
 
 use crate::Refusal;
 
+/// An accepted table.
 pub struct Table {
+    /// How many types there are.
     pub n: usize,
     /// Bit j of word i: type j is below or equal to type i.
     pub down: [u64; 64],
-    /// Bit j of word i: type i is below or equal to type j.
-    up: [u64; 64],
 }
 
-/// The meet, or the join, of every two types.
-pub type Bounds = [[u8; 64]; 64];
-
 impl Table {
-    pub fn empty() -> Table {
-        Table {
-            n: 0,
-            down: [0; 64],
-            up: [0; 64],
+    /// The table of some bytes, or 1, 2 or 3.
+    pub fn open(n: usize, bytes: &[u8]) -> Result<Table, Refusal> {
+        let table = Table::read(n, bytes)?;
+        match table.has_bounds() {
+            true => Ok(table),
+            false => Err(Refusal::of(3)),
         }
     }
 
-    /// Takes in an order of types with a least and a greatest, or gives 1 or 2.
-    fn read(&mut self, n: usize, bytes: &[u8]) -> Result<(), Refusal> {
+    /// An order of types with a least and a greatest, or 1 or 2.
+    pub fn read(n: usize, bytes: &[u8]) -> Result<Table, Refusal> {
         if !(2..=64).contains(&n) || bytes.len() != 8 * n {
             return Err(Refusal::of(1));
         }
-        self.n = n;
-        for (word, row) in self.down.iter_mut().zip(bytes.chunks_exact(8)) {
+        let mut down = [0; 64];
+        for (word, row) in down.iter_mut().zip(bytes.chunks_exact(8)) {
             *word = u64::from_le_bytes(row.try_into().expect("8 bytes"));
         }
-        self.up = upper(n, &self.down).ok_or(Refusal::of(2))?;
-        Ok(())
+        match is_order(n, &down) {
+            true => Ok(Table { n, down }),
+            false => Err(Refusal::of(2)),
+        }
     }
 
-    /// Takes in the table, or gives 1, 2 or 3. Where every two types have a meet and one type
-    /// is the greatest, every two have a join.
-    pub fn open(&mut self, n: usize, bytes: &[u8]) -> Result<(), Refusal> {
-        self.read(n, bytes)?;
+    /// Whether every two types have a meet, and so a join, since one type is the greatest. It is
+    /// enough that every two have one that one type covers.
+    pub fn has_bounds(&self) -> bool {
         let down = &self.down;
-        let bounded = (1..n).all(|a| (0..a).all(|b| word_of(down, down[a] & down[b]).is_some()));
-        if bounded { Ok(()) } else { Err(Refusal::of(3)) }
-    }
-
-    /// The same, with the meets.
-    pub fn open_meets(
-        &mut self,
-        n: usize,
-        bytes: &[u8],
-        meets: &mut Bounds,
-    ) -> Result<(), Refusal> {
-        self.read(n, bytes)?;
-        fill(n, &self.down, End::High, meets).ok_or(Refusal::of(3))
-    }
-
-    /// The same, with the joins: where every two types have one, every two have a meet.
-    pub fn open_joins(
-        &mut self,
-        n: usize,
-        bytes: &[u8],
-        joins: &mut Bounds,
-    ) -> Result<(), Refusal> {
-        self.read(n, bytes)?;
-        fill(n, &self.up, End::Low, joins).ok_or(Refusal::of(3))
-    }
-
-    /// The same, with both.
-    pub fn open_both(
-        &mut self,
-        n: usize,
-        bytes: &[u8],
-        meets: &mut Bounds,
-        joins: &mut Bounds,
-    ) -> Result<(), Refusal> {
-        self.open_meets(n, bytes, meets)?;
-        fill(n, &self.up, End::Low, joins).ok_or(Refusal::of(3))
+        (0..self.n).all(|i| {
+            let covered = covered(down, i);
+            bits(covered).all(|a| {
+                let higher = covered & (!1 << a);
+                bits(higher).all(|b| type_of(down, down[a] & down[b]).is_some())
+            })
+        })
     }
 
     pub fn is_below(&self, lower: u8, upper: u8) -> bool {
         self.down[usize::from(upper)] >> lower & 1 == 1
     }
 
-    /// The greatest type whose meet with q is p, for p below q, if there is one.
-    pub fn wanted(&self, p: u8, q: u8) -> Option<u8> {
-        let top = (self.n - 1) as u8;
-        if q == p {
-            return Some(top);
+    /// The greatest type whose meet with q is p, if there is one; q is told by its word.
+    pub fn wanted(&self, p: u8, over: u64) -> Option<u8> {
+        let top = self.n - 1;
+        let lower = self.down[usize::from(p)];
+        if over == lower {
+            return Some(top as u8);
         }
-        if q == top {
+        if over == self.down[top] {
             return Some(p);
         }
-        let (lower, over) = (self.down[usize::from(p)], self.down[usize::from(q)]);
         // What is below some type that restores; the greatest has all of it below.
         let mut types = 0;
         for &down in &self.down[..self.n] {
             types |= if down & over == lower { down } else { 0 };
         }
-        word_of(&self.down, types)
+        type_of(&self.down, types)
     }
 }
 
-/// The sets of upper types, if the words are an order with 0 least and n − 1 greatest.
-fn upper(n: usize, down: &[u64; 64]) -> Option<[u64; 64]> {
+/// Whether the words are an order with 0 least and n − 1 greatest.
+fn is_order(n: usize, down: &[u64; 64]) -> bool {
     let all = u64::MAX >> (64 - n);
-    let mut up = [0; 64];
-    for i in 0..n {
-        let row = down[i];
-        if row & !all != 0 || row >> i & 1 == 0 || row & 1 == 0 {
-            return None;
-        }
-        let mut left = row;
-        while left != 0 {
-            let j = left.trailing_zeros() as usize;
-            left &= left - 1;
-            let is_order = down[j] & !row == 0 && (j == i || down[j] >> i & 1 == 0);
-            if !is_order {
-                return None;
-            }
-            up[j] |= 1 << i;
-        }
+    down[n - 1] == all
+        && down[..n].iter().enumerate().all(|(i, &row)| {
+            let lower = row & !(1 << i);
+            // What is below a type strictly below i is strictly below i.
+            let below = bits(lower).fold(0, |below, j| below | down[j]);
+            row & !all == 0 && row >> i & 1 == 1 && row & 1 == 1 && below & !lower == 0
+        })
+}
+
+/// The types that type i covers: of those strictly below it the highest numbered is taken, all
+/// below that are put aside, and so on.
+fn covered(down: &[u64; 64], i: usize) -> u64 {
+    let mut left = down[i] & !(1 << i);
+    let mut taken = 0;
+    while left != 0 {
+        let c = End::High.bit(left);
+        taken = taken & !down[c] | 1 << c;
+        left &= !down[c];
     }
-    (down[n - 1] == all).then_some(up)
+    taken
+}
+
+/// The places of a word's bits, the lowest first.
+pub fn bits(mut word: u64) -> impl Iterator<Item = usize> {
+    std::iter::from_fn(move || {
+        let bit = word.trailing_zeros() as usize;
+        (word != 0).then(|| {
+            word &= word - 1;
+            bit
+        })
+    })
 }
 
 /// An end of a word: where the type of a word is in it, if the table is numbered along the
 /// order, the highest bit for lower types and the lowest for upper ones.
 #[derive(Clone, Copy)]
-enum End {
+pub enum End {
     Low,
     High,
 }
 
 impl End {
     /// The bit at this end; the word is not 0.
-    fn bit(self, word: u64) -> usize {
+    pub fn bit(self, word: u64) -> usize {
         match self {
             End::Low => word.trailing_zeros() as usize,
             End::High => 63 - word.leading_zeros() as usize,
         }
     }
 
-    fn other(self) -> End {
+    pub fn other(self) -> End {
         match self {
             End::Low => End::High,
             End::High => End::Low,
@@ -150,31 +132,8 @@ impl End {
     }
 }
 
-/// Fills in the bound of every two types, if each two have one.
-fn fill(n: usize, words: &[u64; 64], end: End, bounds: &mut Bounds) -> Option<()> {
-    for a in 0..n {
-        for b in 0..=a {
-            let word = words[a] & words[b];
-            let bound = bound(words, word, [a, b], end)?;
-            bounds[a][b] = bound;
-            bounds[b][a] = bound;
-        }
-    }
-    Some(())
-}
-
-/// The bound of two types with this word in common, if there is one: at once where it is at the
-/// end, or one of the two. The word is not 0, since the least type, or the greatest, is in both.
-fn bound(words: &[u64; 64], word: u64, [a, b]: [usize; 2], end: End) -> Option<u8> {
-    let likely = [end.bit(word), a, b];
-    match likely.into_iter().find(|&t| words[t] == word) {
-        Some(found) => Some(found as u8),
-        None => search(words, word, word, end),
-    }
-}
-
 /// The type whose word of lower types it is, if there is one.
-fn word_of(down: &[u64; 64], word: u64) -> Option<u8> {
+pub fn type_of(down: &[u64; 64], word: u64) -> Option<u8> {
     if word == 0 {
         return None;
     }
@@ -187,7 +146,7 @@ fn word_of(down: &[u64; 64], word: u64) -> Option<u8> {
 
 /// The type of a part of a word whose word it is, if there is one. It is sought from both ends
 /// in turn, and a type that is not it is put aside with all on its side.
-fn search(words: &[u64; 64], word: u64, part: u64, first: End) -> Option<u8> {
+pub fn search(words: &[u64; 64], word: u64, part: u64, first: End) -> Option<u8> {
     let (mut left, mut end) = (part, first);
     while left != 0 {
         let bit = end.bit(left);

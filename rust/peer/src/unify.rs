@@ -1,25 +1,42 @@
 //! The combination: classes of the nodes of both graphs, merged down equal features.
 
 use crate::Refusal;
+use crate::bounds::Bounds;
 use crate::classes::Classes;
-use crate::graph::Graph;
+use crate::graph::{Graph, Link};
 use crate::range::Range;
-use crate::table::Bounds;
 use crate::write::{renumber, write};
 
-/// Up to 255 nodes of each graph, and their links.
-const NODES: usize = 510;
+/// Up to 255 nodes of each graph, rounded up to a power of two, and their links.
+const NODES: usize = 512;
 const LINKS: usize = 4096;
 /// Room for any links: a merge appends a row of up to 64, and there are fewer merges than nodes.
 const LARGE: usize = LINKS + 64 * NODES;
 /// Room for those of most graphs.
 const SMALL: usize = 5376;
 
+/// A feature, and the node of both graphs that it leads to, in one word.
+#[derive(Clone, Copy)]
+struct ClassLink(u16);
+
+impl ClassLink {
+    fn new(feature: u8, target: u16) -> ClassLink {
+        ClassLink(u16::from(feature) << 9 | target)
+    }
+
+    fn feature(self) -> u8 {
+        (self.0 >> 9) as u8
+    }
+
+    fn target(self) -> u16 {
+        self.0 & 0x1FF
+    }
+}
+
 /// The links of each class: a span of places, features ascending.
 struct Rows<const ROOM: usize> {
     span: [(u16, u16); NODES],
-    features: [u8; ROOM],
-    targets: [u16; ROOM],
+    links: [ClassLink; ROOM],
     end: usize,
 }
 
@@ -44,7 +61,7 @@ fn unify_with<T>(
     b: &Graph,
     finish: impl FnOnce(&Graph) -> Result<T, Refusal>,
 ) -> Result<T, Refusal> {
-    let most = a.links() + b.links() + 64 * (a.nodes + b.nodes - 1);
+    let most = a.all_links().len() + b.all_links().len() + 64 * (a.nodes + b.nodes - 1);
     if most <= SMALL {
         unify_within::<SMALL, T>(meets, a, b, finish)
     } else {
@@ -61,8 +78,7 @@ fn unify_within<const ROOM: usize, T>(
 ) -> Result<T, Refusal> {
     let mut rows: Rows<ROOM> = Rows {
         span: [(0, 0); NODES],
-        features: [0; ROOM],
-        targets: [0; ROOM],
+        links: [ClassLink(0); ROOM],
         end: 0,
     };
     rows.place(a, 0);
@@ -83,8 +99,8 @@ fn unify_within<const ROOM: usize, T>(
         }
     }
     // Each class gets a number, the root's the first, the meet of its types and the overlap of
-    // its ranges.
-    let mut number = [u16::MAX; NODES];
+    // its ranges; each node has the number of its class, whose least node comes first.
+    let mut number = [0u16; NODES];
     let mut representative = [0u16; NODES];
     let mut types = [0u8; NODES];
     let mut ranges = [Range::FULL; NODES];
@@ -96,16 +112,16 @@ fn unify_within<const ROOM: usize, T>(
         } else {
             (b.types[node - a.nodes], b.ranges[node - a.nodes])
         };
-        if number[class] == u16::MAX {
-            number[class] = count as u16;
-            representative[count] = class as u16;
+        if class == node {
+            number[node] = count as u16;
+            representative[count] = node as u16;
             types[count] = node_type;
             ranges[count] = range;
             count += 1;
         } else {
+            number[node] = number[class];
             let number = usize::from(number[class]);
-            let met = &mut types[number];
-            *met = meets[usize::from(*met)][usize::from(node_type)];
+            types[number] = meets.meet(types[number], node_type);
             ranges[number] = ranges[number].overlap(range);
         }
     }
@@ -113,9 +129,10 @@ fn unify_within<const ROOM: usize, T>(
     let mut incoming = [0u16; NODES];
     for &class in &representative[..count] {
         let (start, end) = rows.span[usize::from(class)];
-        for target in &mut rows.targets[usize::from(start)..usize::from(end)] {
-            *target = number[usize::from(classes.find(*target))];
-            incoming[usize::from(*target)] += 1;
+        for link in &mut rows.links[usize::from(start)..usize::from(end)] {
+            let target = number[usize::from(link.target())];
+            *link = ClassLink::new(link.feature(), target);
+            incoming[usize::from(target)] += 1;
             links += 1;
         }
     }
@@ -134,12 +151,11 @@ fn unify_within<const ROOM: usize, T>(
     graph.ranges[..count].copy_from_slice(&ranges[..count]);
     let mut place = 0;
     for (node, &class) in representative[..count].iter().enumerate() {
-        let (start, end) = rows.span[usize::from(class)];
-        for from in usize::from(start)..usize::from(end) {
-            graph.features[place] = rows.features[from];
-            graph.targets[place] = rows.targets[from] as u8;
-            place += 1;
+        let row = rows.row(class);
+        for (to, from) in graph.links[place..].iter_mut().zip(row) {
+            *to = Link::new(from.feature(), from.target() as u8);
         }
+        place += row.len();
         graph.first[node + 1] = place as u16;
     }
     finish(&graph)
@@ -162,11 +178,11 @@ fn has_cycle<const ROOM: usize>(
     }
     let mut next = 0;
     while next < end {
-        let (start, last) = rows.span[usize::from(representative[usize::from(queue[next])])];
-        for &target in &rows.targets[usize::from(start)..usize::from(last)] {
-            incoming[usize::from(target)] -= 1;
-            if incoming[usize::from(target)] == 0 {
-                queue[end] = target;
+        for link in rows.row(representative[usize::from(queue[next])]) {
+            let count = &mut incoming[usize::from(link.target())];
+            *count -= 1;
+            if *count == 0 {
+                queue[end] = link.target();
                 end += 1;
             }
         }
@@ -176,18 +192,26 @@ fn has_cycle<const ROOM: usize>(
 }
 
 impl<const ROOM: usize> Rows<ROOM> {
+    /// The links of a class.
+    fn row(&self, class: u16) -> &[ClassLink] {
+        let (start, end) = self.span[usize::from(class)];
+        &self.links[usize::from(start)..usize::from(end)]
+    }
+
     /// The links of a graph whose node 0 has this number.
     #[inline(always)]
     fn place(&mut self, graph: &Graph, root: usize) {
-        for node in 0..graph.nodes {
-            let start = self.end;
-            for place in graph.row(node) {
-                self.features[self.end] = graph.features[place];
-                self.targets[self.end] = (root + usize::from(graph.targets[place])) as u16;
-                self.end += 1;
-            }
-            self.span[root + node] = (start as u16, self.end as u16);
+        let start = self.end;
+        let links = graph.all_links();
+        for (to, from) in self.links[start..].iter_mut().zip(links) {
+            *to = ClassLink::new(from.feature(), (root + from.target()) as u16);
         }
+        for node in 0..graph.nodes {
+            let places = graph.places(node);
+            let span = ((start + places.start) as u16, (start + places.end) as u16);
+            self.span[root + node] = span;
+        }
+        self.end += links.len();
     }
 
     /// Appends the links of two classes as those of the lower. Two links by one
@@ -200,44 +224,37 @@ impl<const ROOM: usize> Rows<ROOM> {
         pending: &mut [(u16, u16); LINKS + 1],
         waiting: &mut usize,
     ) {
-        let (mut i, i_end) = self.span[usize::from(lower)];
-        let (mut j, j_end) = self.span[usize::from(higher)];
-        if j == j_end {
+        let [of_lower, of_higher] = [lower, higher].map(|class| self.span[usize::from(class)]);
+        if of_higher.0 == of_higher.1 {
             return;
         }
-        if i == i_end {
-            self.span[usize::from(lower)] = (j, j_end);
+        if of_lower.0 == of_lower.1 {
+            self.span[usize::from(lower)] = of_higher;
             return;
         }
         let start = self.end;
-        while i < i_end || j < j_end {
-            let left = if i < i_end {
-                self.features[usize::from(i)]
-            } else {
-                64
-            };
-            let right = if j < j_end {
-                self.features[usize::from(j)]
-            } else {
-                64
-            };
-            if left <= right {
-                self.features[self.end] = left;
-                self.targets[self.end] = self.targets[usize::from(i)];
-                i += 1;
-            } else {
-                self.features[self.end] = right;
-                self.targets[self.end] = self.targets[usize::from(j)];
-            }
-            if left == right {
-                pending[*waiting] = (self.targets[self.end], self.targets[usize::from(j)]);
+        let (known, merged) = self.links.split_at_mut(start);
+        let [left, right] =
+            [of_lower, of_higher].map(|(start, end)| &known[usize::from(start)..usize::from(end)]);
+        let (mut i, mut j) = (0, 0);
+        let mut places = merged.iter_mut();
+        while i < left.len() && j < right.len() {
+            let (one, other) = (left[i], right[j]);
+            let is_first = one.feature() <= other.feature();
+            if one.feature() == other.feature() {
+                pending[*waiting] = (one.target(), other.target());
                 *waiting += 1;
             }
-            if right <= left {
-                j += 1;
-            }
-            self.end += 1;
+            j += usize::from(other.feature() <= one.feature());
+            i += usize::from(is_first);
+            let place = places.next().expect("a place");
+            *place = if is_first { one } else { other };
         }
+        let rest = left[i..].iter().chain(&right[j..]);
+        for (&link, place) in rest.zip(places.by_ref()) {
+            *place = link;
+        }
+        self.end = ROOM - places.len();
         self.span[usize::from(lower)] = (start as u16, self.end as u16);
     }
 }

@@ -1,49 +1,68 @@
-//! The peer keeps a store as the reference does: the same replies and the same bytes on
-//! random calls, in buffers that hold a state and in damaged ones.
+//! The peer keeps a store as the engine and the reference do: the same replies and the same
+//! bytes on random calls, in buffers that hold a state and in damaged ones.
 
-use peer::Refusal;
+mod told;
+
+use comparison::Told;
 use reference::random::{self, Ranges, Shape, StoreCall, TableBytes, Template, Xorshift};
 use reference::record;
-use reference::reply::{self, Reply, Side};
 use reference::store::{self, EMPTY, LONGEST_STORE};
+use told::told;
 
-/// One call by both: the same reply, and the same bytes in the store and the output. Gives
-/// the number of the refusal, 0 for a length.
+/// One call by all three: the same reply, and the same bytes in the store and the output.
+/// Gives the number of the refusal, 0 for a length.
 fn check(table: &TableBytes, stored: &mut Vec<u8>, call: &StoreCall) -> usize {
     let (n, bytes) = (table.n, &table.bytes[..]);
     let room = match call {
         StoreCall::Read(_, room) => *room,
         _ => 0,
     };
-    let (mut ours, mut output) = (stored.clone(), vec![7; room]);
-    let (mut theirs, mut judged) = (stored.clone(), vec![7; room]);
-    let (told, reply) = match call {
-        StoreCall::Put(version, record) => (
-            peer::store_put(n, bytes, &mut ours, *version, record),
-            store::put(n, bytes, &mut theirs, *version, record),
-        ),
-        StoreCall::Read(version, _) => (
-            peer::store_read(n, bytes, &ours, *version, &mut output),
-            store::read(n, bytes, &theirs, *version, &mut judged),
-        ),
-        StoreCall::Drop(version) => (
-            peer::store_drop(n, bytes, &mut ours, *version),
-            store::drop(n, bytes, &mut theirs, *version),
-        ),
+    let run = |work: &dyn Fn(&mut [u8], &mut [u8]) -> Told| {
+        let (mut store, mut output) = (stored.clone(), vec![7; room]);
+        (work(&mut store, &mut output), store, output)
     };
-    let expected = match reply {
-        Reply::Length(length) => Ok(length),
-        Reply::Refused(refusal) => Err(Refusal {
-            number: refusal.number(),
-            second: matches!(refusal, reply::Refusal::Graph(_, Side::Second)),
-        }),
-        other => panic!("{other:?}"),
-    };
-    assert_eq!(told, expected, "{call:?} {table:?} {stored:?}");
-    assert!(ours == theirs, "{call:?} {table:?} {stored:?}");
-    assert!(output == judged, "{call:?} {table:?} {stored:?}");
-    *stored = ours;
-    usize::from(reply.number().unwrap_or(0))
+    let by_peer = run(&|store, output| {
+        let result = match call {
+            StoreCall::Put(version, record) => peer::store_put(n, bytes, store, *version, record),
+            StoreCall::Read(version, _) => peer::store_read(n, bytes, store, *version, output),
+            StoreCall::Drop(version) => peer::store_drop(n, bytes, store, *version),
+        };
+        told(result, Told::Length)
+    });
+    let by_engine = run(&|store, output| {
+        let result = match call {
+            StoreCall::Put(version, record) => {
+                record_engine::store_put(n, bytes, store, *version, record)
+            }
+            StoreCall::Read(version, _) => {
+                record_engine::store_read(n, bytes, store, *version, output)
+            }
+            StoreCall::Drop(version) => record_engine::store_drop(n, bytes, store, *version),
+        };
+        result.into()
+    });
+    let by_reference = run(&|store, output| {
+        let reply = match call {
+            StoreCall::Put(version, record) => store::put(n, bytes, store, *version, record),
+            StoreCall::Read(version, _) => store::read(n, bytes, store, *version, output),
+            StoreCall::Drop(version) => store::drop(n, bytes, store, *version),
+        };
+        reply.into()
+    });
+    let reply = by_peer.0;
+    assert!(
+        by_peer == by_engine,
+        "{reply:?} {call:?} {table:?} {stored:?}"
+    );
+    assert!(
+        by_peer == by_reference,
+        "{reply:?} {call:?} {table:?} {stored:?}"
+    );
+    *stored = by_peer.1;
+    match reply {
+        Told::Refused(number, _) => usize::from(number),
+        _ => 0,
+    }
 }
 
 #[test]
