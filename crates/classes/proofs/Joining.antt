@@ -7,14 +7,15 @@ use mathlib.Core.List.{List}
 use mathlib.Core.Logic.{_⊎_, inl, inr, ⊎-elim}
 use Prim.Native.Nat.{ℕ, suc, _+_, _-_, _*_, _≤_, _<_}
 use native.Mathlib.Decide.{decLt, ℕ-discrete}
+use native.Mathlib.Nat.{mul-suc, mul-le-mul-left}
 use native.Mathlib.Omega.{arith}
 use borrow.Author.Tests.{eq-eqb, ne-eqb}
 use lib.Dec.{eqb}
 use lib.ListN.{length, getD, set, length-set}
 use Rattle.classes.specs.Forest.{rootOf, Forest, SameRoots}
 use Rattle.layout.specs.Layout.{featureAt, targetAt}
-use Rattle.classes.specs.Merge.{Span, Merged, leftAt, rightAt}
-use Rattle.classes.specs.Classes.{sumTo, rowLength, At, Rows, Same, roots, itself, back, next, down, Closed}
+use Rattle.classes.specs.Merge.{Places, Span, Merged, leftAt, rightAt}
+use Rattle.classes.specs.Classes.{sumTo, rowLength, linksOf, Roomy, At, Rows, Same, roots, itself, back, next, down, Closed}
 use Rattle.classes.proofs.Roots.{
   stored,
   unstored,
@@ -39,6 +40,53 @@ ownRoot parent x = cond (eqb (rootOf parent x) x) 1 0
 pub rootCount : ℕ → List ℕ → ℕ
 rootCount nodes parent = sumTo nodes (ownRoot parent)
 
+-- Room for the joins that are left: for as many classes or fewer, at the next join, and after it.
+
+room-fewer : {classes less links used room : ℕ} → less ≤ classes → Roomy classes links used room → Roomy less links used room
+room-fewer {classes} {less} h r =
+    record {
+      width = r .width;
+      enough = r .enough;
+      fits = omega (arith, r .fits, mul-le-mul-left {m = less - 1} {n = classes - 1} (r .width) (omega arith));
+    }
+
+-- one class less is so many places less
+width-once : (width classes : ℕ) → 2 ≤ classes → width * (classes - 1) ≡ width * ((classes - 1) - 1) + width
+width-once width classes h =
+    let e : classes - 1 ≡ suc ((classes - 1) - 1) = omega arith in ap (λ (n : ℕ). width * n) e ∙ mul-suc width ((classes - 1) - 1)
+
+room-next : {classes links used room : ℕ} → 2 ≤ classes → Roomy classes links used room → (k : ℕ) → k < used + 64 → k < used + links →
+    k < room
+room-next {classes} two r k short few =
+    ⊎-elim (λ (h : 64 ≤ r .width). omega (arith, r .fits, width-once (r .width) classes two))
+    (λ h. omega (arith, r .fits, width-once (r .width) classes two)) (r .enough)
+
+room-after : {classes left links used room at room′ : ℕ} → left + 1 ≡ classes → 1 ≤ left → Roomy classes links used room →
+    at ≤ used + 64 → at ≤ used + links → room′ ≡ room → Roomy left links at room′
+room-after {classes} {left} {links} {used} {room} {at} {room′} one some r short few same =
+    record { width = r .width; enough = r .enough; fits = fits }
+  where
+    once : r .width * (classes - 1) ≡ r .width * (left - 1) + r .width
+    once =
+        let e : (classes - 1) - 1 ≡ left - 1 = omega arith in
+        width-once (r .width) classes (omega arith) ∙ ap (λ (n : ℕ). r .width * n + r .width) e
+
+    fits : at + r .width * (left - 1) ≤ room′
+    fits =
+        ⊎-elim (λ (h : 64 ≤ r .width). omega (arith, r .fits, once))
+        (λ (h : links ≤ r .width). omega (arith, r .fits, once)) (r .enough)
+
+-- What joining two classes asks for.
+pub record Asks (start end pool waiting : List ℕ) (used count lo hi : ℕ) : Type 0 where
+  pub lo-in : lo < 510
+  pub hi-in : hi < 510
+  pub lo-span : Span pool used (getD start lo 0) (getD end lo 0)
+  pub hi-span : Span pool used (getD start hi 0) (getD end hi 0)
+  pub bounded : used + 64 ≤ 37692
+  pub fits : used ≤ length pool
+  pub places : Places (length pool) used (getD start lo 0) (getD end lo 0) (getD start hi 0) (getD end hi 0)
+  pub pairs : count + getD end hi 0 ≤ length waiting + getD start hi 0
+
 -- What joining two classes leaves: their rows merged, the greater's node below the lesser's.
 pub record Joins (lo hi : ℕ) (parent start end pool waiting : List ℕ) (used count : ℕ) (parent′ start′ end′ pool′ waiting′ : List ℕ)
     (at top : ℕ) : Type 0 where
@@ -56,14 +104,15 @@ module _ (nodes second : ℕ) (start₀ end₀ pool₀ : List ℕ) where
   pub record Joining (parent start end pool waiting : List ℕ) (used count : ℕ) : Type 0 where
     pub rows : Rows nodes start end pool used
     pub pool-long : length pool ≡ length pool₀
-    pub forest : Forest parent
-    pub waiting-long : length waiting ≡ 4097
+    pub forest : Forest nodes parent
+    pub waiting-long : linksOf nodes start₀ end₀ < length waiting
     -- a join takes at most 64 places and leaves one class less
     pub bounded : used + 64 * rootCount nodes parent ≤ 5116 + 64 * nodes
-    pub room : used + 64 * (rootCount nodes parent - 1) ≤ length pool
+    pub room : Roomy (rootCount nodes parent) (linksOf nodes start₀ end₀) used (length pool)
     -- a join adds no more pairs than the rows lose links
-    pub few : sumTo nodes (rowLength (rootOf parent) start end) ≤ 4096
-    pub short : sumTo nodes (rowLength (rootOf parent) start end) + count ≤ 4097
+    pub linked : linksOf nodes start₀ end₀ ≤ 4096
+    pub few : sumTo nodes (rowLength (rootOf parent) start end) ≤ linksOf nodes start₀ end₀
+    pub short : sumTo nodes (rowLength (rootOf parent) start end) + count ≤ linksOf nodes start₀ end₀ + 1
     pub left-in : (i : ℕ) → i < count → leftAt waiting i < nodes
     pub right-in : (i : ℕ) → i < count → rightAt waiting i < nodes
     pub related : (x : ℕ) → x < nodes → Same nodes second start₀ end₀ pool₀ x (rootOf parent x)
@@ -78,9 +127,9 @@ module _ (nodes second : ℕ) (start₀ end₀ pool₀ : List ℕ) where
 
 -- Every node is a class of its own, and the two roots wait.
 pub join-start : {nodes second : ℕ} {start end pool : List ℕ} {links : ℕ} → Rows nodes start end pool links →
-    second < nodes → links ≤ 5116 → sumTo nodes (rowLength (λ x. x) start end) ≤ 4096 →
-    links + 64 * (nodes - 1) ≤ length pool → (parent waiting : List ℕ) →
-    length parent ≡ 510 → ((x : ℕ) → x < 510 → getD parent x 0 ≡ x) → length waiting ≡ 4097 →
+    second < nodes → links ≤ 5116 → linksOf nodes start end ≤ 4096 → Roomy nodes (linksOf nodes start end) links (length pool) →
+    (parent waiting : List ℕ) → length parent ≡ 510 → ((x : ℕ) → x < nodes → getD parent x 0 ≡ x) →
+    linksOf nodes start end < length waiting →
     Joining nodes second start end pool parent start end pool (set waiting 0 second) links 1
 unfolding rootCount
 join-start {nodes} {second} {start} {end} {pool} {links} rows inside small few room parent waiting long own waiting-long =
@@ -88,9 +137,10 @@ join-start {nodes} {second} {start} {end} {pool} {links} rows inside small few r
       rows = rows;
       pool-long = refl;
       forest = forest;
-      waiting-long = length-set waiting 0 second ∙ waiting-long;
+      waiting-long = omega (arith, length-set waiting 0 second);
       bounded = omega (arith, most);
-      room = omega (arith, most, room);
+      room = room-fewer most room;
+      linked = few;
       few = omega (arith, same-lengths);
       short = omega (arith, same-lengths);
       left-in = λ i h. omega (arith, left-is i h, rows .some);
@@ -104,11 +154,11 @@ join-start {nodes} {second} {start} {end} {pool} {links} rows inside small few r
       together = λ f r. ap f (sym (left-is 0 (omega arith))) ∙ r .pairs 0 (omega arith) ∙ ap f (right-is 0 (omega arith));
     }
   where
-    forest : Forest parent
-    forest = separate-forest long own
+    forest : Forest nodes parent
+    forest = separate-forest (rows .few) long own
 
     root : (x : ℕ) → x < nodes → rootOf parent x ≡ x
-    root x h = fixed-root forest x (own x (omega (arith, rows .few)))
+    root x h = fixed-root forest x (own x h)
 
     at-most : (t : Bool) → cond t 1 0 ≤ 1
     at-most true = omega arith
@@ -139,14 +189,11 @@ module _ {nodes second : ℕ} {start₀ end₀ pool₀ parent start end pool wai
   abbrev Alike : ℕ → ℕ → Type 0
   Alike = Same nodes second start₀ end₀ pool₀
 
-  small : (x : ℕ) → x < nodes → x < 510
-  small x h = omega (arith, s .rows .few)
-
   root-in : (x : ℕ) → x < nodes → rootOf parent x < nodes
-  root-in x h = omega (arith, root-low (s .forest) x (small x h))
+  root-in x h = omega (arith, root-low (s .forest) x h)
 
   -- Another forest with the same roots.
-  pub join-roots : {later : List ℕ} → SameRoots parent later →
+  pub join-roots : {later : List ℕ} → SameRoots nodes parent later →
       Joining nodes second start₀ end₀ pool₀ later start end pool waiting used count
   unfolding rootCount
   join-roots {later} r =
@@ -156,33 +203,34 @@ module _ {nodes second : ℕ} {start₀ end₀ pool₀ parent start end pool wai
         forest = r .forest;
         waiting-long = s .waiting-long;
         bounded = omega (arith, s .bounded, same-count);
-        room = omega (arith, s .room, same-count);
+        room = room-fewer (omega (arith, same-count)) (s .room);
+        linked = s .linked;
         few = omega (arith, s .few, same-lengths);
         short = omega (arith, s .short, same-lengths);
         left-in = s .left-in;
         right-in = s .right-in;
-        related = λ x h. subst (Alike x) (sym (r .same x (small x h))) (s .related x h);
+        related = λ x h. subst (Alike x) (sym (r .same x h)) (s .related x h);
         alike = s .alike;
         source = s .source;
         kept = λ x j h at.
             let (k, row, e, joint) = s .kept x j h at in
-            (k, subst (λ (y : ℕ). At start end y k) (sym (r .same x (small x h))) row, e, λ f q. joint f (respects f q));
+            (k, subst (λ (y : ℕ). At start end y k) (sym (r .same x h)) row, e, λ f q. joint f (respects f q));
         together = λ f q. s .together f (respects f q);
       }
     where
       same-count : rootCount nodes later ≡ rootCount nodes parent
       same-count =
           sum-same nodes (ownRoot later) (ownRoot parent)
-          (λ x h. ap {B = ℕ} (λ (c : ℕ). cond (eqb c x) 1 0) (r .same x (small x h)))
+          (λ x h. ap {B = ℕ} (λ (c : ℕ). cond (eqb c x) 1 0) (r .same x h))
 
       same-lengths : sumTo nodes (rowLength (rootOf later) start end) ≡ sumTo nodes (rowLength (rootOf parent) start end)
       same-lengths =
           sum-same nodes (rowLength (rootOf later) start end) (rowLength (rootOf parent) start end)
-          (λ x h. ap (λ (c : ℕ). cond (eqb c x) (getD end x 0 - getD start x 0) 0) (r .same x (small x h)))
+          (λ x h. ap (λ (c : ℕ). cond (eqb c x) (getD end x 0 - getD start x 0) 0) (r .same x h))
 
       respects : (f : ℕ → ℕ) → Respects nodes later waiting count f → Respects nodes parent waiting count f
       respects f q =
-          record { classes = λ x h. ap f (sym (r .same x (small x h))) ∙ q .classes x h; pairs = q .pairs }
+          record { classes = λ x h. ap f (sym (r .same x h)) ∙ q .classes x h; pairs = q .pairs }
 
   -- The last pair is of one class already.
   pub join-skip : 0 < count → rootOf parent (leftAt waiting (count - 1)) ≡ rootOf parent (rightAt waiting (count - 1)) →
@@ -195,6 +243,7 @@ module _ {nodes second : ℕ} {start₀ end₀ pool₀ parent start end pool wai
         waiting-long = s .waiting-long;
         bounded = s .bounded;
         room = s .room;
+        linked = s .linked;
         few = s .few;
         short = omega (arith, s .short);
         left-in = λ i h. s .left-in i (omega arith);
@@ -229,7 +278,7 @@ module _ {nodes second : ℕ} {start₀ end₀ pool₀ parent start end pool wai
     root-of : (c x : ℕ) → x < nodes → c ≡ rootOf parent x → (c < nodes) × (rootOf parent c ≡ c) × Alike x c
     root-of c x h e = (
       subst (λ (n : ℕ). n < nodes) (sym e) (root-in x h),
-      subst (λ (n : ℕ). rootOf parent n ≡ n) (sym e) (root-twice (s .forest) x (small x h)),
+      subst (λ (n : ℕ). rootOf parent n ≡ n) (sym e) (root-twice (s .forest) x h),
       subst (Alike x) (sym e) (s .related x h),
     )
 
@@ -271,27 +320,47 @@ module _ {nodes second : ℕ} {start₀ end₀ pool₀ parent start end pool wai
     unfolding rootCount
     two = omega (arith, sum-two nodes lo hi (ownRoot parent) less hi-in, own-one lo (found .2), own-one hi (found .3))
 
-    pub join-asks : (lo < 510) × (hi < 510) × Span pool used (getD start lo 0) (getD end lo 0) ×
-        Span pool used (getD start hi 0) (getD end hi 0) × (used + 64 ≤ 37692) × (used + 64 ≤ length pool) ×
-        ((count - 1) + getD end hi 0 ≤ 4097 + getD start hi 0)
-    join-asks = (
-      small lo lo-in,
-      small hi hi-in,
-      lo-span,
-      hi-span,
-      omega (arith, two, s .bounded, s .rows .few),
-      omega (arith, two, s .room),
-      omega (arith, sum-one nodes hi (rowLength (rootOf parent) start end) hi-in, own-length hi (found .3), s .short, hi-span .rising),
-    )
+    -- both rows together have no more links than all
+    both-few : (getD end lo 0 - getD start lo 0) + (getD end hi 0 - getD start hi 0) ≤ linksOf nodes start₀ end₀
+    both-few =
+        omega (
+          arith,
+          sum-two nodes lo hi (rowLength (rootOf parent) start end) less hi-in,
+          own-length lo (found .2),
+          own-length hi (found .3),
+          s .few,
+        )
+
+    pub join-asks : Asks start end pool waiting used (count - 1) lo hi
+    join-asks =
+        record {
+          lo-in = omega (arith, lo-in, s .rows .few);
+          hi-in = omega (arith, hi-in, s .rows .few);
+          lo-span = lo-span;
+          hi-span = hi-span;
+          bounded = omega (arith, two, s .bounded, s .rows .few);
+          fits = omega (arith, s .room .fits);
+          places = λ k short both.
+              room-next two (s .room) k short (omega (arith, both-few, lo-span .rising, hi-span .rising));
+          pairs =
+              omega (
+                arith,
+                sum-one nodes hi (rowLength (rootOf parent) start end) hi-in,
+                own-length hi (found .3),
+                s .short,
+                s .waiting-long,
+                hi-span .rising,
+              );
+        }
 
     module _ {pool′ waiting′ : List ℕ} {at top : ℕ}
         (m : Merged (getD start lo 0) (getD end lo 0) (getD start hi 0) (getD end hi 0) pool waiting used (count - 1)
         pool′ waiting′ at top) where
-      forest′ : Forest (set parent hi lo)
-      forest′ = hung-forest (s .forest) lo hi less (small hi hi-in) (found .2) (found .3)
+      forest′ : Forest nodes (set parent hi lo)
+      forest′ = hung-forest (s .forest) lo hi less hi-in (found .2) (found .3)
 
       root′ : (x : ℕ) → x < nodes → rootOf (set parent hi lo) x ≡ joined lo hi (rootOf parent x)
-      root′ x h = hung-roots (s .forest) lo hi less (small hi hi-in) (found .2) (found .3) x (small x h)
+      root′ x h = hung-roots (s .forest) lo hi less hi-in (found .2) (found .3) x h
 
       root-hi : (x : ℕ) → x < nodes → rootOf parent x ≡ hi → rootOf (set parent hi lo) x ≡ lo
       root-hi x h e = root′ x h ∙ joined-here lo hi (rootOf parent x) e
@@ -300,10 +369,10 @@ module _ {nodes second : ℕ} {start₀ end₀ pool₀ parent start end pool wai
       root-other x h d = root′ x h ∙ joined-other lo hi (rootOf parent x) d
 
       start-lo : getD (set start lo used) lo 0 ≡ used
-      start-lo = stored start lo used (omega (arith, s .rows .start-long, small lo lo-in))
+      start-lo = stored start lo used (omega (arith, s .rows .start-long, s .rows .few, lo-in))
 
       end-lo : getD (set end lo at) lo 0 ≡ at
-      end-lo = stored end lo at (omega (arith, s .rows .end-long, small lo lo-in))
+      end-lo = stored end lo at (omega (arith, s .rows .end-long, s .rows .few, lo-in))
 
       start-other : (x : ℕ) → (x ≡ lo → ⊥) → getD (set start lo used) x 0 ≡ getD start x 0
       start-other x d = unstored start lo used x d
@@ -480,9 +549,10 @@ module _ {nodes second : ℕ} {start₀ end₀ pool₀ parent start end pool wai
             rows = rows′;
             pool-long = m .pool-long ∙ s .pool-long;
             forest = forest′;
-            waiting-long = m .waiting-long ∙ s .waiting-long;
+            waiting-long = omega (arith, m .waiting-long, s .waiting-long);
             bounded = omega (arith, s .bounded, fewer, merged-short m lo-span hi-span);
-            room = omega (arith, s .room, two, fewer, merged-short m lo-span hi-span, m .pool-long);
+            room = room′;
+            linked = s .linked;
             few = omega (arith, s .few, lengths, m .counted, m .grows, m .rises, lo-span .rising, hi-span .rising);
             short = omega (arith, s .short, lengths, m .counted, m .rises, lo-span .rising, hi-span .rising);
             left-in = λ i h. left-in i h (decLt i (count - 1));
@@ -494,6 +564,11 @@ module _ {nodes second : ℕ} {start₀ end₀ pool₀ parent start end pool wai
             together = λ f q. s .together f (respects f q);
           }
         where
+          room′ : Roomy (rootCount nodes (set parent hi lo)) (linksOf nodes start₀ end₀) at (length pool′)
+          room′ =
+              room-after fewer (omega (arith, two, fewer)) (s .room) (merged-short m lo-span hi-span)
+              (omega (arith, both-few, m .counted, m .grows, lo-span .rising, hi-span .rising)) (m .pool-long)
+
           left-in : (i : ℕ) → i < top → Dec (i < count - 1) → leftAt waiting′ i < nodes
           left-in i h (yes e) = omega (arith, feature-same (m .waiting-kept i e), s .left-in i (omega arith))
           left-in i h (no n) =
@@ -590,25 +665,25 @@ module _ {nodes second : ℕ} {start₀ end₀ pool₀ parent start end pool wai
         Joins lo hi parent start end pool waiting used (count - 1) parent′ start′ end′ pool′ waiting′ at top →
         4098 * rootCount nodes parent′ + top < 4098 * rootCount nodes parent + count
     join-fewer {parent′} {top = top} j =
-        omega (arith, fewer (j .merged), ap (rootCount nodes) (j .parent-is), joined-state (j .merged) .short)
+        omega (arith, fewer (j .merged), ap (rootCount nodes) (j .parent-is), joined-state (j .merged) .short, s .linked)
 
   -- Nothing waits, and each node is right below its root.
   pub join-done : {links : ℕ} → Rows nodes start₀ end₀ pool₀ links → second < nodes → count ≡ 0 → {class : List ℕ} → length class ≡ 510 →
-      ((x : ℕ) → x < 510 → getD class x 0 ≡ rootOf parent x) →
+      ((x : ℕ) → x < nodes → getD class x 0 ≡ rootOf parent x) →
       Closed nodes second start₀ end₀ pool₀ class start end pool used
   unfolding rootCount
   join-done rows₀ inside none {class} long is =
       record {
         class-long = long;
-        lowest = λ x h. omega (arith, class-is x h, root-low (s .forest) x (small x h));
+        lowest = λ x h. omega (arith, class-is x h, root-low (s .forest) x h);
         itself = λ x h.
             ap (λ (c : ℕ). getD class c 0) (class-is x h) ∙ class-is (rootOf parent x) (root-in x h) ∙
-            root-twice (s .forest) x (small x h) ∙ sym (class-is x h);
+            root-twice (s .forest) x h ∙ sym (class-is x h);
         related = λ x h. subst (Alike x) (sym (class-is x h)) (s .related x h);
         together = class-is 0 (s .rows .some) ∙ s .together (rootOf parent) settled ∙ sym (class-is second inside);
         rows = s .rows;
         bounded = omega (arith, s .bounded, s .rows .few, one);
-        room = omega (arith, s .room);
+        room = omega (arith, s .room .fits);
         short =
             omega (
               arith,
@@ -628,10 +703,10 @@ module _ {nodes second : ℕ} {start₀ end₀ pool₀ parent start end pool wai
       }
     where
       class-is : (x : ℕ) → x < nodes → getD class x 0 ≡ rootOf parent x
-      class-is x h = is x (small x h)
+      class-is x h = is x h
 
       settled : Respects nodes parent waiting count (rootOf parent)
-      settled = record { classes = λ x h. root-twice (s .forest) x (small x h); pairs = λ i h. absurd (omega arith) }
+      settled = record { classes = λ x h. root-twice (s .forest) x h; pairs = λ i h. absurd (omega arith) }
 
       one : 1 ≤ rootCount nodes parent
       one =
@@ -639,22 +714,33 @@ module _ {nodes second : ℕ} {start₀ end₀ pool₀ parent start end pool wai
             arith,
             sum-one nodes 0 (ownRoot parent) (s .rows .some),
             ap {B = ℕ} (λ (t : Bool). cond t 1 0)
-                (eq-eqb (rootOf parent 0) 0 (omega (arith, root-low (s .forest) 0 (omega arith)))),
+                (eq-eqb (rootOf parent 0) 0 (omega (arith, root-low (s .forest) 0 (s .rows .some)))),
           )
 
 -- One round: the roots x and y of the last pair are found, each on the way up through a forest with the same roots.
 module _ {nodes second : ℕ} {start₀ end₀ pool₀ parent start end pool waiting : List ℕ} {used count : ℕ}
     (s : Joining nodes second start₀ end₀ pool₀ parent start end pool waiting used count) (some : 0 < count) where
-  pub left-small : leftAt waiting (count - 1) < 510
-  left-small = small s (leftAt waiting (count - 1)) (s .left-in (count - 1) (omega arith))
+  pub left-small : leftAt waiting (count - 1) < nodes
+  left-small = s .left-in (count - 1) (omega arith)
 
-  pub right-small : rightAt waiting (count - 1) < 510
-  right-small = small s (rightAt waiting (count - 1)) (s .right-in (count - 1) (omega arith))
+  pub right-small : rightAt waiting (count - 1) < nodes
+  right-small = s .right-in (count - 1) (omega arith)
 
-  module _ {parent₁ parent₂ : List ℕ} {x y : ℕ} (x-is : x ≡ rootOf parent (leftAt waiting (count - 1))) (same₁ : SameRoots parent parent₁)
-      (y-is : y ≡ rootOf parent₁ (rightAt waiting (count - 1))) (same₂ : SameRoots parent₁ parent₂) where
+  module _ {parent₁ parent₂ : List ℕ} {x y : ℕ} (x-is : x ≡ rootOf parent (leftAt waiting (count - 1)))
+      (to-x : (n : ℕ) → Forest n parent → leftAt waiting (count - 1) < n → SameRoots n parent parent₁)
+      (y-is : y ≡ rootOf parent₁ (rightAt waiting (count - 1)))
+      (to-y : (n : ℕ) → Forest n parent₁ → rightAt waiting (count - 1) < n → SameRoots n parent₁ parent₂) where
+    same₁ : SameRoots nodes parent parent₁
+    same₁ = to-x nodes (s .forest) left-small
+
+    same₂ : SameRoots nodes parent₁ parent₂
+    same₂ = to-y nodes (same₁ .forest) right-small
+
     state : Joining nodes second start₀ end₀ pool₀ parent₂ start end pool waiting used count
     state = join-roots (join-roots s same₁) same₂
+
+    pub later : Forest nodes parent₂
+    later = same₂ .forest
 
     x-found : x ≡ rootOf parent₂ (leftAt waiting (count - 1))
     x-found = x-is ∙ sym (same₂ .same (leftAt waiting (count - 1)) left-small ∙ same₁ .same (leftAt waiting (count - 1)) left-small)
@@ -667,7 +753,7 @@ module _ {nodes second : ℕ} {start₀ end₀ pool₀ parent start end pool wai
     as-many =
         sum-same nodes (ownRoot parent₂) (ownRoot parent)
         (λ z h.
-        ap {B = ℕ} (λ (c : ℕ). cond (eqb c z) 1 0) (same₂ .same z (small s z h) ∙ same₁ .same z (small s z h)))
+        ap {B = ℕ} (λ (c : ℕ). cond (eqb c z) 1 0) (same₂ .same z h ∙ same₁ .same z h))
 
     pub round-even : y ≤ x → x ≤ y →
         Joining nodes second start₀ end₀ pool₀ parent₂ start end pool waiting used (count - 1)
@@ -678,9 +764,7 @@ module _ {nodes second : ℕ} {start₀ end₀ pool₀ parent start end pool wai
 
     -- What a join of x to y, or of y to x, asks and leaves.
     pub record Round (lo hi : ℕ) : Type 0 where
-      pub asks : (lo < 510) × (hi < 510) × Span pool used (getD start lo 0) (getD end lo 0) ×
-          Span pool used (getD start hi 0) (getD end hi 0) × (used + 64 ≤ 37692) × (used + 64 ≤ length pool) ×
-          ((count - 1) + getD end hi 0 ≤ 4097 + getD start hi 0)
+      pub asks : Asks start end pool waiting used (count - 1) lo hi
       pub goes : {parent′ start′ end′ pool′ waiting′ : List ℕ} {at top : ℕ} →
           Joins lo hi parent₂ start end pool waiting used (count - 1) parent′ start′ end′ pool′ waiting′ at top →
           Joining nodes second start₀ end₀ pool₀ parent′ start′ end′ pool′ waiting′ at top

@@ -11,7 +11,7 @@ use native.Mathlib.Omega.{arith}
 use borrow.Author.Tests.{lt-ltb, le-ltb}
 use lib.ListN.{length, getD, set, length-set}
 use Rattle.layout.specs.Layout.{scale, featureAt, targetAt}
-use Rattle.classes.specs.Merge.{Span, Merged, featureOr, pairWord, leftAt, rightAt}
+use Rattle.classes.specs.Merge.{Places, Span, Merged, featureOr, pairWord, leftAt, rightAt}
 use Rattle.classes.proofs.Roots.{stored, unstored}
 
 -- the feature at a place, inside a row and past its end
@@ -38,11 +38,11 @@ pair-right x y h = omega arith
 module _ (a₀ a₁ b₀ b₁ : ℕ) (ws ps : List ℕ) (used count : ℕ) where
   -- What a merge asks for.
   pub record Mergeable : Type 0 where
-    pub places : used + 64 ≤ length ws
-    pub long : length ps ≡ 4097
+    pub fits : used ≤ length ws
+    pub places : Places (length ws) used a₀ a₁ b₀ b₁
     pub a : Span ws used a₀ a₁
     pub b : Span ws used b₀ b₁
-    pub room : count + b₁ ≤ 4097 + b₀
+    pub room : count + b₁ ≤ length ps + b₀
 
   pub record Merging (ws′ ps′ : List ℕ) (i j at top : ℕ) : Type 0 where
     pub asked : Mergeable
@@ -288,8 +288,9 @@ module _ (a₀ a₁ b₀ b₁ : ℕ) (ws ps : List ℕ) (used count : ℕ) where
           go (no h) = let e : g ≡ 64 = g-is ∙ feature-out ws′ j b₁ (omega arith) in (omega arith, λ l. absurd (omega arith))
 
       -- the next place is there
-      space : (h : ℕ) → h < 64 → ((k : ℕ) → used ≤ k → k < at → featureAt ws′ k < h) → at < length ws′
-      space h small above = omega (arith, room h above, m .pool-long, s .asked .places)
+      space : i + j < a₁ + b₁ → (h : ℕ) → h < 64 → ((k : ℕ) → used ≤ k → k < at → featureAt ws′ k < h) → at < length ws′
+      space left h small above =
+          omega (arith, m .pool-long, s .asked .places at (omega (arith, room h above)) (omega (arith, m .counted, m .grows)))
 
       over-f : i < a₁ → (k : ℕ) → used ≤ k → k < at → featureAt ws′ k < f
       over-f h k low high = omega (arith, f-in h, s .under-a k low high h)
@@ -297,21 +298,28 @@ module _ (a₀ a₁ b₀ b₁ : ℕ) (ws ps : List ℕ) (used count : ℕ) where
       over-g : j < b₁ → (k : ℕ) → used ≤ k → k < at → featureAt ws′ k < g
       over-g h k low high = omega (arith, g-in h, s .under-b k low high h)
 
+      -- a place of either row is there
+      pub in-a : i < a₁ → i < length ws′
+      in-a h = omega (arith, a .before, s .asked .fits, m .pool-long)
+
+      pub in-b : j < b₁ → j < length ws′
+      in-b h = omega (arith, b .before, s .asked .fits, m .pool-long)
+
       pub left-in : f < g → (i < a₁) × (at < length ws′)
       left-in h =
           let l : i < a₁ = f-most .1 (omega (arith, g-most .0)) in
-          (l, space f (omega (arith, g-most .0)) (over-f l))
+          (l, space (omega (arith, s .b-high)) f (omega (arith, g-most .0)) (over-f l))
 
       pub right-in : g < f → (j < b₁) × (at < length ws′)
       right-in h =
           let l : j < b₁ = g-most .1 (omega (arith, f-most .0)) in
-          (l, space g (omega (arith, f-most .0)) (over-g l))
+          (l, space (omega (arith, s .a-high)) g (omega (arith, f-most .0)) (over-g l))
 
       pub both-in : i + j < a₁ + b₁ → f ≡ g → (i < a₁) × (j < b₁) × (at < length ws′)
       both-in h e = go (decLt f 64)
         where
           go : Dec (f < 64) → (i < a₁) × (j < b₁) × (at < length ws′)
-          go (yes l) = let k : i < a₁ = f-most .1 l in (k, g-most .1 (omega arith), space f l (over-f k))
+          go (yes l) = let k : i < a₁ = f-most .1 l in (k, g-most .1 (omega arith), space h f l (over-f k))
           go (no n) = some (decLt i a₁) (decLt j b₁)
             where
               some : Dec (i < a₁) → Dec (j < b₁) → (i < a₁) × (j < b₁) × (at < length ws′)
@@ -375,10 +383,8 @@ module _ (a₀ a₁ b₀ b₁ : ℕ) (ws ps : List ℕ) (used count : ℕ) where
           l : j < b₁
           l = right-in less .0
 
-      pub pair-room : i + j < a₁ + b₁ → f ≡ g → (top < 4097) × (top < length ps′)
-      pair-room left e =
-          let h : top < 4097 = omega (arith, both-in left e .1, s .pairs, s .asked .room) in
-          (h, omega (arith, m .waiting-long, s .asked .long))
+      pub pair-room : i + j < a₁ + b₁ → f ≡ g → top < length ps′
+      pair-room left e = omega (arith, both-in left e .1, s .pairs, s .asked .room, m .waiting-long)
 
       pub merge-both : i + j < a₁ + b₁ → f ≡ g → {w : ℕ} → w ≡ pairWord (targetAt ws′ i) (targetAt ws′ j) →
           Merging (set ws′ at (getD ws′ i 0)) (set ps′ top w) (i + 1) (j + 1) (at + 1) (top + 1)
@@ -427,10 +433,10 @@ module _ (a₀ a₁ b₀ b₁ : ℕ) (ws ps : List ℕ) (used count : ℕ) where
           k = both-in left e .1
 
           left-new : leftAt (set ps′ top w) top ≡ targetAt ws′ i
-          left-new = feature-same (stored ps′ top w (pair-room left e .1) ∙ word) ∙ pair-left (targetAt ws′ i) (targetAt ws′ j) (omega arith)
+          left-new = feature-same (stored ps′ top w (pair-room left e) ∙ word) ∙ pair-left (targetAt ws′ i) (targetAt ws′ j) (omega arith)
 
           right-new : rightAt (set ps′ top w) top ≡ targetAt ws′ j
-          right-new = target-same (stored ps′ top w (pair-room left e .1) ∙ word) ∙ pair-right (targetAt ws′ i) (targetAt ws′ j) (omega arith)
+          right-new = target-same (stored ps′ top w (pair-room left e) ∙ word) ∙ pair-right (targetAt ws′ i) (targetAt ws′ j) (omega arith)
 
 -- What is merged.
 module _ {a₀ a₁ b₀ b₁ : ℕ} {ws ps : List ℕ} {used count : ℕ} {ws′ ps′ : List ℕ} {at top : ℕ}

@@ -3,7 +3,8 @@
 use mathlib.Core.Path.{_≡_}
 use mathlib.Core.Bool.{cond}
 use mathlib.Core.List.{List}
-use Prim.Native.Nat.{ℕ, zero, suc, _+_, _-_, _≤_, _<_}
+use mathlib.Core.Logic.{_⊎_}
+use Prim.Native.Nat.{ℕ, zero, suc, _+_, _-_, _*_, _≤_, _<_}
 use lib.Dec.{eqb}
 use lib.ListN.{length, getD}
 use Rattle.layout.specs.Layout.{featureAt, targetAt}
@@ -17,6 +18,16 @@ sumTo (suc n) g = sumTo n g + g n
 -- the length of a class's row, 0 for a node that represents no class
 abbrev pub rowLength : (ℕ → ℕ) → List ℕ → List ℕ → ℕ → ℕ
 rowLength class start end x = cond (eqb (class x) x) (getD end x 0 - getD start x 0) 0
+
+-- the number of links of all nodes
+abbrev pub linksOf : ℕ → List ℕ → List ℕ → ℕ
+linksOf nodes start end = sumTo nodes (rowLength (λ x. x) start end)
+
+-- There is room for all joins, of which there are fewer than nodes. A join takes at most 64 places, and no more than there are links.
+pub record Roomy (nodes links used room : ℕ) : Type 0 where
+  pub width : ℕ
+  pub enough : (64 ≤ width) ⊎ (links ≤ width)
+  pub fits : used + width * (nodes - 1) ≤ room
 
 -- Place k is one of node x.
 abbrev pub At : List ℕ → List ℕ → ℕ → ℕ → Type 0
@@ -50,7 +61,7 @@ pub record Closed (nodes second : ℕ) (start end pool : List ℕ) (class start�
   pub rows : Rows nodes start′ end′ pool′ used
   pub bounded : used ≤ 37692
   pub room : used ≤ length pool′
-  pub short : sumTo nodes (rowLength (λ x. getD class x 0) start′ end′) ≤ 4096
+  pub short : sumTo nodes (rowLength (λ x. getD class x 0) start′ end′) ≤ linksOf nodes start end
   pub source : (c k : ℕ) → c < nodes → At start′ end′ c k →
       (x : ℕ) × (j : ℕ) × (x < nodes) × At start end x j × Same nodes second start end pool c x × (getD pool j 0 ≡ getD pool′ k 0)
   pub kept : (x j : ℕ) → x < nodes → At start end x j →

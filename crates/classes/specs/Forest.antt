@@ -15,25 +15,27 @@ climb (suc k) parent x = climb k parent (getD parent x 0)
 unfoldable pub rootOf : List ℕ → ℕ → ℕ
 rootOf parent x = climb x parent x
 
-pub record Forest (parent : List ℕ) : Type 0 where
+-- The first `nodes` places are such a forest.
+pub record Forest (nodes : ℕ) (parent : List ℕ) : Type 0 where
+  pub few : nodes ≤ 510
   pub long : length parent ≡ 510
-  pub down : (x : ℕ) → x < 510 → getD parent x 0 ≤ x
+  pub down : (x : ℕ) → x < nodes → getD parent x 0 ≤ x
 
 -- A later forest has the same roots above all nodes.
-pub record SameRoots (parent later : List ℕ) : Type 0 where
-  pub forest : Forest later
-  pub same : (x : ℕ) → x < 510 → rootOf later x ≡ rootOf parent x
+pub record SameRoots (nodes : ℕ) (parent later : List ℕ) : Type 0 where
+  pub forest : Forest nodes later
+  pub same : (x : ℕ) → x < nodes → rootOf later x ≡ rootOf parent x
 
 -- In a later forest the classes of a and b are one, and the others are as they were.
-pub record United (parent : List ℕ) (a b : ℕ) (later : List ℕ) : Type 0 where
-  pub forest : Forest later
+pub record United (nodes : ℕ) (parent : List ℕ) (a b : ℕ) (later : List ℕ) : Type 0 where
+  pub forest : Forest nodes later
   pub merged : rootOf later a ≡ rootOf later b
-  pub kept : (x y : ℕ) → x < 510 → y < 510 → rootOf parent x ≡ rootOf parent y → rootOf later x ≡ rootOf later y
-  pub only : (x y : ℕ) → x < 510 → y < 510 → rootOf later x ≡ rootOf later y →
+  pub kept : (x y : ℕ) → x < nodes → y < nodes → rootOf parent x ≡ rootOf parent y → rootOf later x ≡ rootOf later y
+  pub only : (x y : ℕ) → x < nodes → y < nodes → rootOf later x ≡ rootOf later y →
       (rootOf parent x ≡ rootOf parent y) ⊎ ((rootOf parent x ≡ rootOf parent a) × (rootOf parent y ≡ rootOf parent b)) ⊎
       ((rootOf parent x ≡ rootOf parent b) × (rootOf parent y ≡ rootOf parent a))
 
 -- Each node's parent is its root.
-pub record Flat (parent : List ℕ) : Type 0 where
-  pub forest : Forest parent
-  pub near : (x : ℕ) → x < 510 → getD parent x 0 ≡ rootOf parent x
+pub record Flat (nodes : ℕ) (parent : List ℕ) : Type 0 where
+  pub forest : Forest nodes parent
+  pub near : (x : ℕ) → x < nodes → getD parent x 0 ≡ rootOf parent x

@@ -17,6 +17,10 @@ pub record Span (pool : List ℕ) (used start end : ℕ) : Type 0 where
   pub known : (k : ℕ) → start ≤ k → k < end → featureAt pool k < 64
   pub ascending : (k : ℕ) → start ≤ k → suc k < end → featureAt pool k < featureAt pool (suc k)
 
+-- There is room for the row that two rows are merged into: at most 64 places, and no more than both have.
+abbrev pub Places : ℕ → ℕ → ℕ → ℕ → ℕ → ℕ → Type 0
+Places room used a₀ a₁ b₀ b₁ = (k : ℕ) → k < used + 64 → k + (a₀ + b₀) < used + (a₁ + b₁) → k < room
+
 -- the feature at a place of a row, 64 past its end
 abbrev pub featureOr : List ℕ → ℕ → ℕ → ℕ
 featureOr pool k end = cond (ltb k end) (featureAt pool k) 64

@@ -1,18 +1,18 @@
 // The forest of classes: each node has a parent of no greater number, and the root above a node represents its class.
 
-ghost use Prim.Native.Nat.{ℕ, _<_};
+ghost use Prim.Native.Nat.{ℕ, _≤_, _<_};
 ghost use lib.ListN.{length, getD};
 ghost use mathlib.Core.Path.{_≡_};
 ghost use Rattle.classes.specs.Forest.{Forest, SameRoots, United, rootOf};
 
-// Makes each node a class of its own.
-pub fn separate(parent: &mut [u16; 510])
-    requires { ⌜ length (now parent) ≡ 510 ⌝ }
+// Makes each of the first `nodes` nodes a class of its own.
+pub fn separate(nodes: usize, parent: &mut [u16; 510])
+    requires { ⌜ (nodes ≤ 510) × (length (now parent) ≡ 510) ⌝ }
     ensures { λ _. ⌜ length (now (parent .exit)) ≡ 510 ⌝ }
-    ensures { λ _. ⌜ ((x : ℕ) → x < 510 → getD (now (parent .exit)) x 0 ≡ x) ⌝ }
+    ensures { λ _. ⌜ ((x : ℕ) → x < nodes → getD (now (parent .exit)) x 0 ≡ x) ⌝ }
 {
     let mut x = 0;
-    while x < 510 {
+    while x < nodes {
         parent[x] = x as u16;
         x += 1;
     }
@@ -20,10 +20,9 @@ pub fn separate(parent: &mut [u16; 510])
 
 // The root above x. On the way up each second node is moved one step nearer to it.
 pub fn find(parent: &mut [u16; 510], x: usize) -> usize
-    requires { ⌜ Forest (now parent) ⌝ }
-    requires { ⌜ x < 510 ⌝ }
+    requires { ⌜ ((nodes : ℕ) × Forest nodes (now parent) × (x < nodes)) ⌝ }
     ensures { λ r. ⌜ r ≡ rootOf (now (parent .entry)) x ⌝ }
-    ensures { λ r. ⌜ SameRoots (now (parent .entry)) (now (parent .exit)) ⌝ }
+    ensures { λ r. ⌜ ((nodes : ℕ) → Forest nodes (now (parent .entry)) → x < nodes → SameRoots nodes (now (parent .entry)) (now (parent .exit))) ⌝ }
 {
     let mut v = x;
     let mut up = parent[v] as usize;
@@ -38,9 +37,8 @@ pub fn find(parent: &mut [u16; 510], x: usize) -> usize
 
 // Makes one class of those of a and b.
 pub fn unite(parent: &mut [u16; 510], a: usize, b: usize)
-    requires { ⌜ Forest (now parent) ⌝ }
-    requires { ⌜ (a < 510) × (b < 510) ⌝ }
-    ensures { λ _. ⌜ United (now (parent .entry)) a b (now (parent .exit)) ⌝ }
+    requires { ⌜ ((nodes : ℕ) × Forest nodes (now parent) × (a < nodes) × (b < nodes)) ⌝ }
+    ensures { λ _. ⌜ ((nodes : ℕ) → Forest nodes (now (parent .entry)) → a < nodes → b < nodes → United nodes (now (parent .entry)) a b (now (parent .exit))) ⌝ }
 {
     let x = find(parent, a);
     let y = find(parent, b);
@@ -51,14 +49,14 @@ pub fn unite(parent: &mut [u16; 510], a: usize, b: usize)
     }
 }
 
-// Puts each node right below its root.
-pub fn flatten(parent: &mut [u16; 510])
-    requires { ⌜ Forest (now parent) ⌝ }
+// Puts each of the first `nodes` nodes right below its root.
+pub fn flatten(nodes: usize, parent: &mut [u16; 510])
+    requires { ⌜ Forest nodes (now parent) ⌝ }
     ensures { λ _. ⌜ length (now (parent .exit)) ≡ 510 ⌝ }
-    ensures { λ _. ⌜ ((x : ℕ) → x < 510 → getD (now (parent .exit)) x 0 ≡ rootOf (now (parent .entry)) x) ⌝ }
+    ensures { λ _. ⌜ ((x : ℕ) → x < nodes → getD (now (parent .exit)) x 0 ≡ rootOf (now (parent .entry)) x) ⌝ }
 {
     let mut x = 0;
-    while x < 510 {
+    while x < nodes {
         let up = parent[x] as usize;
         parent[x] = parent[up];
         x += 1;

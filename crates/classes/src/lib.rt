@@ -6,11 +6,11 @@ pub mod rows;
 
 use crate::rows::Reach;
 use layout::SCALE;
-ghost use Prim.Native.Nat.{_+_, _*_, _-_, _≤_, _<_};
+ghost use Prim.Native.Nat.{_+_, _≤_, _<_};
 ghost use lib.ListN.{length, getD, set};
 ghost use mathlib.Core.Path.{_≡_};
-ghost use Rattle.classes.specs.Merge.{MergesRows, Span};
-ghost use Rattle.classes.specs.Classes.{Closed, Rows, rowLength, sumTo};
+ghost use Rattle.classes.specs.Merge.{MergesRows, Places, Span};
+ghost use Rattle.classes.specs.Classes.{Closed, Roomy, Rows, linksOf};
 
 // Joins the class of `hi` to that of `lo`: the merged row comes at the end of the places used.
 fn join(
@@ -18,16 +18,16 @@ fn join(
     start: &mut [u16; 510],
     end: &mut [u16; 510],
     pool: &mut [u16],
-    waiting: &mut [u32; 4097],
+    waiting: &mut [u32],
     lo: usize,
     hi: usize,
     reach: Reach,
 ) -> Reach
     requires { ⌜ (lo < 510) × (hi < 510) × (length (now class) ≡ 510) × (length (now start) ≡ 510) × (length (now end) ≡ 510) ⌝ }
-    requires { ⌜ (reach .used + 64 ≤ length (now pool)) × (length (now waiting) ≡ 4097) ⌝ }
+    requires { ⌜ (reach .used ≤ length (now pool)) × Places (length (now pool)) (reach .used) (getD (now start) lo 0) (getD (now end) lo 0) (getD (now start) hi 0) (getD (now end) hi 0) ⌝ }
     requires { ⌜ Span (now pool) (reach .used) (getD (now start) lo 0) (getD (now end) lo 0) ⌝ }
     requires { ⌜ Span (now pool) (reach .used) (getD (now start) hi 0) (getD (now end) hi 0) ⌝ }
-    requires { ⌜ (reach .used + 64 ≤ 37692) × (reach .count + getD (now end) hi 0 ≤ 4097 + getD (now start) hi 0) ⌝ }
+    requires { ⌜ (reach .used + 64 ≤ 37692) × (reach .count + getD (now end) hi 0 ≤ length (now waiting) + getD (now start) hi 0) ⌝ }
     ensures { λ r. ⌜ MergesRows lo hi (now (start .entry)) (now (end .entry)) (now (pool .entry)) (now (waiting .entry)) reach (now (pool .exit)) (now (waiting .exit)) r ⌝ }
     ensures { λ r. ⌜ now (class .exit) ≡ set (now (class .entry)) hi lo ⌝ }
     ensures { λ r. ⌜ now (start .exit) ≡ set (now (start .entry)) lo (reach .used) ⌝ }
@@ -45,7 +45,7 @@ fn join(
 }
 
 // Merges from the nodes 0 and `second` down. Then `class` gives the lowest node of each class. The rows stand before the place
-// `used`. A join takes up to 64 places, and there are fewer joins than nodes.
+// `used`. No more pairs wait at once than there are links, but for the first.
 pub fn close(
     nodes: usize,
     second: usize,
@@ -53,16 +53,16 @@ pub fn close(
     start: &mut [u16; 510],
     end: &mut [u16; 510],
     pool: &mut [u16],
+    waiting: &mut [u32],
     used: usize,
 ) -> usize
     requires { ⌜ Rows nodes (now start) (now end) (now pool) used ⌝ }
     requires { ⌜ (second < nodes) × (used ≤ 5116) × (length (now class) ≡ 510) ⌝ }
-    requires { ⌜ sumTo nodes (rowLength (λ x. x) (now start) (now end)) ≤ 4096 ⌝ }
-    requires { ⌜ used + 64 * (nodes - 1) ≤ length (now pool) ⌝ }
+    requires { ⌜ (linksOf nodes (now start) (now end) ≤ 4096) × (linksOf nodes (now start) (now end) < length (now waiting)) ⌝ }
+    requires { ⌜ Roomy nodes (linksOf nodes (now start) (now end)) used (length (now pool)) ⌝ }
     ensures { λ r. ⌜ Closed nodes second (now (start .entry)) (now (end .entry)) (now (pool .entry)) (now (class .exit)) (now (start .exit)) (now (end .exit)) (now (pool .exit)) r ⌝ }
 {
-    let mut waiting = [0u32; 4097];
-    forest::separate(class);
+    forest::separate(nodes, class);
     waiting[0] = second as u32;
     let mut reach = Reach { used, count: 1 };
     while 0 < reach.count {
@@ -75,13 +75,13 @@ pub fn close(
             count,
         };
         if x < y {
-            reach = join(class, start, end, pool, &mut waiting, x, y, rest);
+            reach = join(class, start, end, pool, waiting, x, y, rest);
         } else if y < x {
-            reach = join(class, start, end, pool, &mut waiting, y, x, rest);
+            reach = join(class, start, end, pool, waiting, y, x, rest);
         } else {
             reach = rest;
         }
     }
-    forest::flatten(class);
+    forest::flatten(nodes, class);
     reach.used
 }

@@ -5,7 +5,7 @@ ghost use Prim.Native.Nat.{_+_, _%_, _≤_};
 ghost use lib.ListN.{length};
 ghost use mathlib.Core.Path.{_≡_};
 ghost use Rattle.layout.specs.Layout.{scale};
-ghost use Rattle.classes.specs.Merge.{Merges, Span, featureOr, pairWord};
+ghost use Rattle.classes.specs.Merge.{Merges, Places, Span, featureOr, pairWord};
 
 // How many places are used, and how many pairs wait.
 pub struct Reach {
@@ -35,17 +35,17 @@ fn pair(v: u16, w: u16) -> u32
 // Merges a row and a second one into one at the places behind those used.
 pub fn merge(
     pool: &mut [u16],
-    waiting: &mut [u32; 4097],
+    waiting: &mut [u32],
     a_start: usize,
     a_end: usize,
     b_start: usize,
     b_end: usize,
     reach: Reach,
 ) -> Reach
-    requires { ⌜ (reach .used + 64 ≤ length (now pool)) × (length (now waiting) ≡ 4097) ⌝ }
+    requires { ⌜ (reach .used ≤ length (now pool)) × Places (length (now pool)) (reach .used) «a_start» «a_end» «b_start» «b_end» ⌝ }
     requires { ⌜ Span (now pool) (reach .used) «a_start» «a_end» ⌝ }
     requires { ⌜ Span (now pool) (reach .used) «b_start» «b_end» ⌝ }
-    requires { ⌜ (reach .used + 64 ≤ 37692) × (reach .count + «b_end» ≤ 4097 + «b_start») ⌝ }
+    requires { ⌜ (reach .used + 64 ≤ 37692) × (reach .count + «b_end» ≤ length (now waiting) + «b_start») ⌝ }
     ensures { λ r. ⌜ Merges «a_start» «a_end» «b_start» «b_end» (now (pool .entry)) (now (waiting .entry)) reach (now (pool .exit)) (now (waiting .exit)) r ⌝ }
 {
     let mut i = a_start;

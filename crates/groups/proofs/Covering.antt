@@ -58,26 +58,28 @@ module _ {s g map : List ℕ} (lying : Lying s g map) where
   over-within {k} {j} o =
       omega (arith, o .under .high, lying .lower .sound .shaped .node (getD map (o .node) 0) (o .under .inside) .ended, lying .short)
 
-  entered-low : {bound j z : ℕ} → Covers s g map bound j z → z < 255
+  entered-low : {bound j z : ℕ} → Covers s g map bound j z → z < size g
   entered-low (i, h, o, e) =
       omega (
         arith,
         e,
         lying .upper .sound .targets (o .node) i (o .place .inside) (o .place .low) (o .place .high),
-        lying .upper .small,
       )
 
   pub owner-low : {bound : ℕ} {owner parent : List ℕ} → Grouping s g map bound owner parent → (j : ℕ) → j < longest →
-      (getD owner j 0 ≡ 65535 → ⊥) → getD owner j 0 < 255
+      (getD owner j 0 ≡ 65535 → ⊥) → getD owner j 0 < size g
   owner-low group j h d = entered-low (group .owned j h d)
 
   -- what the marks ask of owners and classes
-  pub grouping-owned : {bound : ℕ} {owner parent : List ℕ} → Grouping s g map bound owner parent → Flat parent → Owned s owner parent
+  pub grouping-owned : {bound : ℕ} {owner parent : List ℕ} → Grouping s g map bound owner parent → Flat (size g) parent →
+      Owned s owner parent
   grouping-owned group flat =
       record {
         shaped = lying .lower .sound .shaped;
         short = lying .short;
         long = group .owner-long;
+        nodes = size g;
+        few = lying .upper .small;
         flat = flat;
         low = owner-low group;
         linked = λ j h d. let (i, l, o, e) = group .owned j h d in (getD map (o .node) 0, o .under);
@@ -97,7 +99,7 @@ module _ {s g map : List ℕ} (lying : Lying s g map) where
 
   -- no place yet
   pub grouping-start : {owner parent : List ℕ} → length owner ≡ longest → ((j : ℕ) → j < longest → getD owner j 0 ≡ 65535) →
-      length parent ≡ 510 → ((x : ℕ) → x < 510 → getD parent x 0 ≡ x) → Grouping s g map (rowFrom g 0) owner parent
+      length parent ≡ 510 → ((x : ℕ) → x < size g → getD parent x 0 ≡ x) → Grouping s g map (rowFrom g 0) owner parent
   grouping-start {owner} {parent} long free parent-long apart =
       record {
         owner-long = long;
@@ -105,14 +107,14 @@ module _ {s g map : List ℕ} (lying : Lying s g map) where
         owned = λ j h d. absurd (d (free j h));
         covered = λ j z c. absurd (omega (arith, place-from (lying .upper .sound .shaped) (c .2 .place), c .1));
         tied = λ x y h l e.
-            let z : x ≡ y = sym (alone x (omega arith)) ∙ e ∙ alone y (omega arith) in
+            let z : x ≡ y = sym (alone x h) ∙ e ∙ alone y l in
             rw z same;
       }
     where
-      forest : Forest parent
-      forest = separate-forest parent-long apart
+      forest : Forest (size g) parent
+      forest = separate-forest (omega (arith, lying .upper .small)) parent-long apart
 
-      alone : (x : ℕ) → x < 510 → rootOf parent x ≡ x
+      alone : (x : ℕ) → x < size g → rootOf parent x ≡ x
       alone x h = fixed-root forest x (apart x h)
 
   -- One place more.
@@ -152,14 +154,14 @@ module _ {s g map : List ℕ} (lying : Lying s g map) where
             let at : Over s g map k i = rw (sym r) q in
             let same : i ≡ j = over-one at o in
             let value : getD new i 0 ≡ z = ap (λ (x : ℕ). getD new x 0) same ∙ here ∙ ap (λ (x : ℕ). targetAt g x) (sym r) ∙ e in
-            (λ x. omega (arith, sym value ∙ x, entered-low (p, h, q, e)), ap (rootOf parent) value)
+            (λ x. omega (arith, sym value ∙ x, entered-low (p, h, q, e), lying .upper .small), ap (rootOf parent) value)
         covered i z (p, h, q, e) (no r) =
             let old = group .covered i z (p, omega arith, q, e) in
             let same : getD new i 0 ≡ getD owner i 0 =
             getD-set-other owner j i z₀ 0 (λ s. old .0 (ap (λ (x : ℕ). getD owner x 0) s ∙ free)) in
             (λ x. old .0 (sym same ∙ x), ap (rootOf parent) same ∙ old .1)
 
-    grouping-united : {parent′ : List ℕ} → (getD owner j 0 ≡ 65535 → ⊥) → United parent (getD owner j 0) (targetAt g k) parent′ →
+    grouping-united : {parent′ : List ℕ} → (getD owner j 0 ≡ 65535 → ⊥) → United (size g) parent (getD owner j 0) (targetAt g k) parent′ →
         Grouping s g map (k + 1) owner parent′
     grouping-united {parent′} held u =
         record {
@@ -167,7 +169,7 @@ module _ {s g map : List ℕ} (lying : Lying s g map) where
           forest = u .forest;
           owned = group .owned;
           covered = λ i z c. covered i z c (ℕ-discrete (c .0) k);
-          tied = λ x y h l e. tied x y h l (u .only x y (omega arith) (omega arith) e);
+          tied = λ x y h l e. tied x y h l (u .only x y h l e);
         }
       where
         first : Covers s g map (rowsEnd g) j (getD owner j 0)
@@ -185,14 +187,14 @@ module _ {s g map : List ℕ} (lying : Lying s g map) where
         covered i z (p, h, q, e) (no r) =
             let old = group .covered i z (p, omega arith, q, e) in (
               old .0,
-              u .kept (getD owner i 0) z (omega (arith, entered-low (group .owned i (over-within q) (old .0))))
-                  (omega (arith, entered-low (p, h, q, e))) (old .1),
+              u .kept (getD owner i 0) z (entered-low (group .owned i (over-within q) (old .0)))
+                  (entered-low (p, h, q, e)) (old .1),
             )
 
         link : Tied s g map (getD owner j 0) (targetAt g k)
         link = shared j first enters
 
-        tied : (x y : ℕ) → x < 255 → y < 255 →
+        tied : (x y : ℕ) → x < size g → y < size g →
             (rootOf parent x ≡ rootOf parent y) ⊎ ((rootOf parent x ≡ rootOf parent (getD owner j 0)) × (rootOf parent y ≡ rootOf parent (targetAt g k))) ⊎
             ((rootOf parent x ≡ rootOf parent (targetAt g k)) × (rootOf parent y ≡ rootOf parent (getD owner j 0))) →
             Tied s g map x y
@@ -210,7 +212,9 @@ module _ {s g map : List ℕ} (lying : Lying s g map) where
       where
         go : Dec (getD owner j 0 ≡ 65535) → Grouping s g map (k + 1) owner′ parent′
         go (yes e) = let (a, b) = w .first e in rw (a, b) (grouping-new e)
-        go (no d) = let (a, b) = w .later d in rw a (grouping-united d b)
+        go (no d) =
+            let (a, b) = w .later d in
+            rw a (grouping-united d (b (size g) (group .forest) (owner-low group j (over-within o) d) (entered-low enters)))
 
   -- The loop over a row of g.
 
@@ -269,10 +273,10 @@ module _ {s g map : List ℕ} {y k j place : ℕ} {owner parent : List ℕ} (c :
   pub place-within : place < longest
   place-within = over-within (c .lying) sought-over
 
-  pub target-low : targetAt g k < 255
+  pub target-low : targetAt g k < size g
   target-low = entered-low (c .lying) (k, over-in (c .lying) sought-over, sought-over, refl)
 
-  pub place-owner : (getD owner place 0 ≡ 65535 → ⊥) → getD owner place 0 < 255
+  pub place-owner : (getD owner place 0 ≡ 65535 → ⊥) → getD owner place 0 < size g
   place-owner = owner-low (c .lying) (c .grouping) place place-within
 
   pub covering-next : {owner′ parent′ : List ℕ} → Owns owner parent place (targetAt g k) owner′ parent′ →
@@ -296,7 +300,7 @@ covering-done {s} {g} {map} {y} {k} {j} {owner} {parent} c h =
 
 -- the same roots
 pub grouping-same : {s g map : List ℕ} {bound : ℕ} {owner parent later : List ℕ} → Lying s g map → Grouping s g map bound owner parent →
-    SameRoots parent later → Grouping s g map bound owner later
+    SameRoots (size g) parent later → Grouping s g map bound owner later
 grouping-same {s} {g} {map} {bound} {owner} {parent} {later} lying group roots =
     record {
       owner-long = group .owner-long;
@@ -306,11 +310,11 @@ grouping-same {s} {g} {map} {bound} {owner} {parent} {later} lying group roots =
           let (o, e) = group .covered j z c in (
             o,
             roots .same (getD owner j 0)
-                (omega (arith, owner-low lying group j (over-within lying (c .2)) o)) ∙ e ∙
-                sym (roots .same z (omega (arith, entered-low lying c))),
+                (owner-low lying group j (over-within lying (c .2)) o) ∙ e ∙
+                sym (roots .same z (entered-low lying c)),
           );
       tied = λ x y h l e.
-          group .tied x y h l (sym (roots .same x (omega arith)) ∙ e ∙ roots .same y (omega arith));
+          group .tied x y h l (sym (roots .same x h) ∙ e ∙ roots .same y l);
     }
 
 -- the next row

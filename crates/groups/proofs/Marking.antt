@@ -31,12 +31,12 @@ use Rattle.groups.specs.Marks.{
 }
 
 -- the class of an owner
-module _ {parent : List ℕ} (flat : Flat parent) {x : ℕ} (small : x < 255) where
-  pub class-low : getD parent x 0 < 255
-  class-low = omega (arith, flat .forest .down x (omega arith))
+module _ {nodes : ℕ} {parent : List ℕ} (flat : Flat nodes parent) {x : ℕ} (small : x < nodes) where
+  pub class-low : getD parent x 0 < nodes
+  class-low = omega (arith, flat .forest .down x small)
 
   pub class-is : getD parent x 0 ≡ rootOf parent x
-  class-is = flat .near x (omega arith)
+  class-is = flat .near x small
 
 -- By rank, then by place.
 
@@ -59,7 +59,7 @@ module _ {s owner parent : List ℕ} (o : Owned s owner parent) where
   class-small : (k : ℕ) → k < longest → Has owner k → classAt owner parent k < 255
   class-small k h has =
       let low = o .low k h has in
-      omega (arith, class-is (o .flat) low, class-low (o .flat) low)
+      omega (arith, class-is (o .flat) low, class-low (o .flat) low, o .few)
 
 -- What is known when place k is met.
 abbrev pub Turn : (s owner parent rank : List ℕ) (k : ℕ) (lead marks : List ℕ) → Type 0
@@ -109,7 +109,7 @@ module _ {s owner parent rank : List ℕ} {k : ℕ} {lead marks : List ℕ} (tur
     c = getD parent (getD owner k 0) 0
 
     pub here-class : c < 255
-    here-class = class-low (o .flat) (o .low k here-within has)
+    here-class = omega (arith, class-low (o .flat) (o .low k here-within has), o .few)
 
     class : c ≡ classAt owner parent k
     class = class-is (o .flat) (o .low k here-within has)

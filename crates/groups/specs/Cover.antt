@@ -37,12 +37,13 @@ module _ (s g map : List ℕ) where
   -- none; nodes that places over one link enter are in one class, and nodes of one class are tied.
   pub record Grouping (bound : ℕ) (owner parent : List ℕ) : Type 0 where
     pub owner-long : length owner ≡ longest
-    pub forest : Forest parent
+    pub forest : Forest (size g) parent
     pub owned : (j : ℕ) → j < longest → (getD owner j 0 ≡ 65535 → ⊥) → Covers (rowsEnd g) j (getD owner j 0)
     pub covered : (j z : ℕ) → Covers bound j z → (getD owner j 0 ≡ 65535 → ⊥) × (rootOf parent (getD owner j 0) ≡ rootOf parent z)
-    pub tied : (x y : ℕ) → x < 255 → y < 255 → rootOf parent x ≡ rootOf parent y → Tied x y
+    pub tied : (x y : ℕ) → x < size g → y < size g → rootOf parent x ≡ rootOf parent y → Tied x y
 
 -- z is an owner of place j, or in one class with the one that there is
 pub record Owns (owner parent : List ℕ) (j z : ℕ) (owner′ parent′ : List ℕ) : Type 0 where
   pub first : getD owner j 0 ≡ 65535 → (owner′ ≡ set owner j z) × (parent′ ≡ parent)
-  pub later : (getD owner j 0 ≡ 65535 → ⊥) → (owner′ ≡ owner) × United parent (getD owner j 0) z parent′
+  pub later : (getD owner j 0 ≡ 65535 → ⊥) → (owner′ ≡ owner) ×
+      ((nodes : ℕ) → Forest nodes parent → getD owner j 0 < nodes → z < nodes → United nodes parent (getD owner j 0) z parent′)

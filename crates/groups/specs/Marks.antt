@@ -36,8 +36,10 @@ pub record Owned (s owner parent : List ℕ) : Type 0 where
   pub shaped : Shaped s
   pub short : length s ≤ longest
   pub long : length owner ≡ longest
-  pub flat : Flat parent
-  pub low : (j : ℕ) → j < longest → Has owner j → getD owner j 0 < 255
+  pub nodes : ℕ
+  pub few : nodes ≤ 255
+  pub flat : Flat nodes parent
+  pub low : (j : ℕ) → j < longest → Has owner j → getD owner j 0 < nodes
   pub linked : (j : ℕ) → j < longest → Has owner j → (u : ℕ) × Place s u j
 
 module _ (owner parent : List ℕ) where

@@ -2,7 +2,7 @@
 // enter are in one class. A link is its place in the words.
 
 ghost use mathlib.Core.Path.{_≡_};
-ghost use Prim.Native.Nat.{_<_};
+ghost use Prim.Native.Nat.{ℕ, _<_};
 ghost use lib.ListN.{length, getD};
 ghost use Rattle.layout.specs.Layout.{longest, size, rowFrom, rowEnd};
 ghost use Rattle.classes.specs.Forest.{Forest};
@@ -14,9 +14,8 @@ pub const NONE: u16 = 0xFFFF;
 // A link over place j enters z.
 pub fn own(owner: &mut [u16; layout::LONGEST], parent: &mut [u16; 510], j: usize, z: u16)
     requires { ⌜ length (now owner) ≡ longest ⌝ }
-    requires { ⌜ Forest (now parent) ⌝ }
-    requires { ⌜ (j < longest) × (z < 255) ⌝ }
-    requires { ⌜ ((getD (now owner) j 0 ≡ 65535 → ⊥) → getD (now owner) j 0 < 255) ⌝ }
+    requires { ⌜ j < longest ⌝ }
+    requires { ⌜ ((nodes : ℕ) × Forest nodes (now parent) × (z < nodes) × ((getD (now owner) j 0 ≡ 65535 → ⊥) → getD (now owner) j 0 < nodes)) ⌝ }
     ensures { λ _. ⌜ Owns (now (owner .entry)) (now (parent .entry)) j z (now (owner .exit)) (now (parent .exit)) ⌝ }
 {
     let x = owner[j];

@@ -97,14 +97,14 @@ pub fn mark_links<'a>(
 {
     let mut owner = [cover::NONE; layout::LONGEST];
     let mut parent = [0u16; 510];
-    forest::separate(&mut parent);
     let nodes = g[0] as usize;
+    forest::separate(nodes, &mut parent);
     let mut y = 0;
     while y < nodes {
         cover::cover_row(s, g, map, y, &mut owner, &mut parent);
         y += 1;
     }
-    forest::flatten(&mut parent);
+    forest::flatten(nodes, &mut parent);
     let rank = link_orders::ranks(order);
     mark(s, &owner, &parent, &rank, marks)
 }

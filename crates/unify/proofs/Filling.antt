@@ -18,13 +18,13 @@ use Rattle.classes.specs.Classes.{rowLength, sumTo}
 use Rattle.classes.proofs.Roots.{stored, unstored}
 use Rattle.classes.proofs.Sums.{sum-prefix}
 use Rattle.unify.specs.Lowered.{Below, labelOfClass}
-use Rattle.unify.specs.Rows.{classWords, Fillable, RowCopied, ClassRows, ClassGraph, classWord, endOfRow}
+use Rattle.unify.specs.Rows.{Fillable, RowCopied, ClassRows, ClassGraph, classWord, endOfRow}
 
 pub record Filling (nodes : ℕ) (class labels start end pool graph : List ℕ) (at x : ℕ) : Type 0 where
-  pub given : Fillable nodes class start end pool
+  pub given : Fillable nodes class start end pool (length graph)
   pub labelled : Below 128 labels
   pub most : x ≤ nodes
-  pub long : length graph ≡ classWords
+  pub long : length graph ≤ 65535
   pub sized : size graph ≡ nodes
   pub built : Built graph (nodes + 2) x at
   pub counted : at ≡ ((nodes + 2) + x * header) + sumTo x (rowLength (λ y. getD class y 0) start end)
@@ -41,17 +41,17 @@ row-end-is class start end x h = go (eqb (getD class x 0) x)
     go true = (omega arith, omega arith)
     go false = (omega arith, omega arith)
 
-pub fill-start : {nodes : ℕ} {class start end pool : List ℕ} → Fillable nodes class start end pool → {labels : List ℕ} → Below 128 labels →
-    (graph : List ℕ) → length graph ≡ classWords → Filling nodes class labels start end pool (set (set graph 0 nodes) 1 (nodes + 2)) (nodes + 2) 0
+pub fill-start : {nodes : ℕ} {class start end pool : List ℕ} (graph : List ℕ) → Fillable nodes class start end pool (length graph) →
+    {labels : List ℕ} → Below 128 labels → length graph ≤ 65535 → Filling nodes class labels start end pool (set (set graph 0 nodes) 1 (nodes + 2)) (nodes + 2) 0
 unfolding sumTo
-fill-start {nodes} {class} {start} {end} given labelled graph long =
+fill-start {nodes} {class} {start} {end} {pool} graph given labelled long =
     record {
-      given = given;
+      given = subst (Fillable nodes class start end pool) (sym long″) given;
       labelled = labelled;
       most = omega arith;
-      long = length-set (set graph 0 nodes) 1 (nodes + 2) ∙ long′;
-      sized = unstored (set graph 0 nodes) 1 (nodes + 2) 0 (λ e. omega arith) ∙ stored graph 0 nodes (omega (arith, long));
-      built = built-begin (set graph 0 nodes) (nodes + 2) (omega arith) (omega (arith, long′, given .few));
+      long = omega (arith, long″);
+      sized = unstored (set graph 0 nodes) 1 (nodes + 2) 0 (λ e. omega arith) ∙ stored graph 0 nodes (omega (arith, given .fits));
+      built = built-begin (set graph 0 nodes) (nodes + 2) (omega arith) (omega (arith, long′, given .fits));
       counted = omega arith;
       rows =
           record {
@@ -61,8 +61,11 @@ fill-start {nodes} {class} {start} {end} given labelled graph long =
           };
     }
   where
-    long′ : length (set graph 0 nodes) ≡ classWords
-    long′ = length-set graph 0 nodes ∙ long
+    long′ : length (set graph 0 nodes) ≡ length graph
+    long′ = length-set graph 0 nodes
+
+    long″ : length (set (set graph 0 nodes) 1 (nodes + 2)) ≡ length graph
+    long″ = length-set (set graph 0 nodes) 1 (nodes + 2) ∙ long′
 
 module _ {nodes : ℕ} {class labels start end pool graph : List ℕ} {at x : ℕ} (s : Filling nodes class labels start end pool graph at x)
     (more : x < nodes) where
@@ -78,19 +81,18 @@ module _ {nodes : ℕ} {class labels start end pool graph : List ℕ} {at x : �
   ends : (getD start x 0 + rowSize ≡ endOfRow class start end x) × (endOfRow class start end x ≤ getD end x 0)
   ends = row-end-is class start end x (s .given .rising x more .0)
 
-  fits : at + header + rowSize ≤ classWords
+  fits : at + header + rowSize ≤ length graph
   unfolding sumTo
   fits =
       omega (
         arith,
         s .counted,
         sum-prefix nodes (suc x) (rowLength (λ y. getD class y 0) start end) more,
-        s .given .short,
-        s .given .few,
+        s .given .fits,
       )
 
   pub fill-room : at + header ≤ length graph
-  fill-room = omega (arith, fits, s .long)
+  fill-room = omega (arith, fits)
 
   module _ {opened : List ℕ} (opens : opened ≡ putLabel graph at label) where
     opened-long : length opened ≡ length graph
@@ -98,14 +100,14 @@ module _ {nodes : ℕ} {class labels start end pool graph : List ℕ} {at x : �
 
     -- what copying the row asks
     pub fill-asks : ((getD start x 0 ≤ endOfRow class start end x) × (endOfRow class start end x ≤ length pool) ×
-        (at + header + endOfRow class start end x ≤ classWords + getD start x 0) × (length opened ≡ classWords)) ×
+        (at + header + endOfRow class start end x ≤ length opened + getD start x 0) × (length opened ≤ 65535)) ×
         ((k : ℕ) → getD start x 0 ≤ k → k < endOfRow class start end x → (targetAt pool k < 510) × (getD class (targetAt pool k) 0 < 510))
     fill-asks = (
       (
         omega (arith, ends .0),
         omega (arith, ends .1, s .given .rising x more .2),
-        omega (arith, ends .0, fits),
-        opened-long ∙ s .long,
+        omega (arith, ends .0, fits, opened-long),
+        omega (arith, opened-long, s .long),
       ),
       λ k low high. s .given .within x k more (low, omega (arith, ends .1)),
     )
@@ -115,11 +117,17 @@ module _ {nodes : ℕ} {class labels start end pool graph : List ℕ} {at x : �
     length-is : next ≡ at + header + rowSize
     length-is = omega (arith, copied .counted, ends .0)
 
-    pub fill-bound : next ≤ classWords
+    pub fill-bound : next ≤ length graph
     fill-bound = omega (arith, length-is, fits)
 
     long′ : length graph′ ≡ length graph
     long′ = copied .long ∙ opened-long opens
+
+    pub fill-place : x + 2 < length graph′
+    fill-place = omega (arith, long′, s .given .fits)
+
+    pub fill-long : length (set graph′ (x + 2) next) ≡ length graph
+    fill-long = length-set graph′ (x + 2) next ∙ long′
 
     kept : (k : ℕ) → k < at → getD graph′ k 0 ≡ getD graph k 0
     kept k h =
@@ -133,7 +141,7 @@ module _ {nodes : ℕ} {class labels start end pool graph : List ℕ} {at x : �
         record {
           built = built-kept (s .built) graph′ long′ (λ k _ h. kept k (omega (arith, low)));
           headed = omega (arith, length-is);
-          inside = omega (arith, fill-bound, long′, s .long);
+          inside = omega (arith, fill-bound, long′);
         }
 
     after : (k : ℕ) → (k ≡ x + 2 → ⊥) → getD (set graph′ (x + 2) next) k 0 ≡ getD graph′ k 0
@@ -153,7 +161,7 @@ module _ {nodes : ℕ} {class labels start end pool graph : List ℕ} {at x : �
     from-new = still (x + 1) (omega (arith, low)) (λ e. omega arith) ∙ s .built .next
 
     end-new : rowEnd (set graph′ (x + 2) next) x ≡ next
-    end-new = stored graph′ (x + 2) next (omega (arith, long′, s .long, s .given .few))
+    end-new = stored graph′ (x + 2) next (omega (arith, long′, s .given .fits))
 
     own-end : getD class x 0 ≡ x → endOfRow class start end x ≡ getD end x 0
     own-end own = ap (λ (t : Bool). cond t (getD end x 0) (getD start x 0)) (eq-eqb (getD class x 0) x own)
@@ -214,10 +222,10 @@ module _ {nodes : ℕ} {class labels start end pool graph : List ℕ} {at x : �
     unfolding sumTo
     fill-step =
         record {
-          given = s .given;
+          given = subst (Fillable nodes class start end pool) (sym fill-long) (s .given);
           labelled = s .labelled;
           most = omega arith;
-          long = length-set graph′ (x + 2) next ∙ long′ ∙ s .long;
+          long = omega (arith, fill-long, s .long);
           sized = still 0 (omega (arith, low)) (λ e. omega arith) ∙ s .sized;
           built = row-closes row-open (omega arith);
           counted = counted;
@@ -240,7 +248,6 @@ fill-done {nodes} {class} {labels} {start} {end} {pool} {graph} {at} {x} s h =
     let e : x ≡ nodes = omega (arith, s .most) in
     record {
       sized = s .sized;
-      long = s .long;
       begun = λ y i. s .built .lower y (omega arith);
       ended = λ y i. omega (arith, s .built .ended y (omega arith), s .built .high);
       rows = subst (λ (n : ℕ). ClassRows n class labels start end pool graph) e (s .rows);

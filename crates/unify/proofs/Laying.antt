@@ -2,20 +2,21 @@
 use mathlib.Core.Path.{_≡_, refl, sym, _∙_, ap, subst}
 use mathlib.Core.Bool.{Bool, cond}
 use mathlib.Core.List.{List}
-use Prim.Native.Nat.{ℕ, zero, suc, _+_, _-_, _%_, _≤_, _<_}
+use mathlib.Core.Logic.{inl, inr, ⊎-elim}
+use Prim.Native.Nat.{ℕ, zero, suc, _+_, _-_, _*_, _%_, _≤_, _<_}
 use native.Mathlib.Decide.{decLt}
 use native.Mathlib.Omega.{arith}
 use borrow.Author.Tests.{eq-eqb}
 use lib.ListN.{length, getD}
 use Rattle.graphs.specs.Large.{linksIn}
-use Rattle.layout.specs.Layout.{Recorded, scale, size, rowFrom, linksFrom, rowEnd, featureAt, targetAt, rowsFrom, rowsEnd}
+use Rattle.layout.specs.Layout.{Recorded, header, scale, size, rowFrom, linksFrom, rowEnd, featureAt, targetAt, rowsFrom, rowsEnd}
 use Rattle.layout.proofs.Sums.{links-of-more}
 use Rattle.classes.specs.Merge.{Span}
-use Rattle.classes.specs.Classes.{sumTo, rowLength, At, Rows, Closed}
+use Rattle.classes.specs.Classes.{sumTo, rowLength, linksOf, Roomy, At, Rows, Closed}
 use Rattle.classes.proofs.Merging.{feature-same, target-same}
-use Rattle.unify.specs.Rows.{Fillable, WordsCopied, SpansCopied, Placed, wordsIn}
+use Rattle.unify.specs.Rows.{Fillable, WordsCopied, SpansCopied, Placed, linksBoth, wordsIn}
 use Rattle.layout.proofs.Order.{row-low, row-last}
-use Rattle.layout.proofs.Sums.{words-few}
+use Rattle.layout.proofs.Sums.{rows-end, words-few}
 use Rattle.unify.proofs.Words.{moved-feature, moved-link, moved-target}
 
 -- What is copied is placed, and stays so where its words and spans are kept.
@@ -151,17 +152,23 @@ module _ {a b : List ℕ} (ra : Recorded a) (rb : Recorded b) {start end pool : 
   none : 0 ≤ 255
   none = omega arith
 
-  pub lay-short : sumTo (size a + size b) (rowLength (λ y. y) start end) ≤ 4096
+  pub lay-links : (linksOf (size a + size b) start end + header * (size a + size b) ≡ wordsIn a + wordsIn b) ×
+      (linksOf (size a + size b) start end ≤ 4096)
   unfolding sumTo
-  lay-short =
+  lay-links =
       let e : 0 + size a ≡ size a = omega arith in
-      omega (
-        arith,
-        ap (λ (n : ℕ). sumTo n (rowLength (λ y. y) start end)) e,
-        placed-sum ra none pa (size a) (omega arith),
-        placed-sum rb (ra .small) pb (size b) (omega arith),
-        ra .short,
-        rb .short,
+      let first = ap (λ (n : ℕ). sumTo n (rowLength (λ y. y) start end)) e in
+      let second = placed-sum ra none pa (size a) (omega arith) in
+      let third = placed-sum rb (ra .small) pb (size b) (omega arith) in (
+        omega (
+          arith,
+          first,
+          second,
+          third,
+          rows-end a (ra .sound .shaped) (size a) (omega arith),
+          rows-end b (rb .sound .shaped) (size b) (omega arith),
+        ),
+        omega (arith, first, second, third, ra .short, rb .short),
       )
 
   pub lay-rows : {used : ℕ} → length start ≡ 510 → length end ≡ 510 → ((v : ℕ) → v < size a → getD end (0 + v) 0 ≤ used) →
@@ -199,7 +206,9 @@ pub record Laid (a b start end pool : List ℕ) (used : ℕ) : Type 0 where
   pub first : Placed a 0 start end pool
   pub second : Placed b (size a) start end pool
   pub rows : Rows (size a + size b) start end pool used
-  pub short : sumTo (size a + size b) (rowLength (λ y. y) start end) ≤ 4096
+  pub links-are : linksOf (size a + size b) start end ≡ linksBoth a b
+  pub headed : linksOf (size a + size b) start end + header * (size a + size b) ≡ wordsIn a + wordsIn b
+  pub short : linksOf (size a + size b) start end ≤ 4096
   pub used-is : used ≡ wordsIn a + wordsIn b
   pub few : used ≤ 5116
 
@@ -215,7 +224,9 @@ lay {a} {b} ra rb {p₀} {p₁} {pool} {s₀} {e₀} {s₁} {e₁} {start} {end}
           lay-rows ra rb first second start-long end-long
           (λ v h. omega (arith, placed-before ra wa sa start end pool pool-kept start-kept end-kept v h, wb .counted, row-low (rb .sound .shaped) (size b) (omega arith)))
           (λ v h. placed-before rb wb sb start end pool (λ k h. refl) (λ k h. refl) (λ k h. refl) v h);
-      short = lay-short ra rb first second;
+      links-are = omega (arith, lay-links ra rb first second .0);
+      headed = lay-links ra rb first second .0;
+      short = lay-links ra rb first second .1;
       used-is = omega (arith, wa .counted, wb .counted, row-low (ra .sound .shaped) (size a) (omega arith), row-low (rb .sound .shaped) (size b) (omega arith));
       few = omega (arith, wa .counted, wb .counted, words-few ra, words-few rb);
     }
@@ -235,13 +246,30 @@ lay {a} {b} ra rb {p₀} {p₁} {pool} {s₀} {e₀} {s₁} {e₁} {start} {end}
     second : Placed b (size a) start end pool
     second = placed rb wb sb start end pool (λ k h. refl) (λ k h. refl) (λ k h. refl) (ra .small)
 
+-- there is room for the joins of what is laid
+pub laid-roomy : {a b start end pool : List ℕ} {used room : ℕ} → Laid a b start end pool used →
+    Roomy (size a + size b) (linksBoth a b) (wordsIn a + wordsIn b) room → length pool ≡ room →
+    Roomy (size a + size b) (linksOf (size a + size b) start end) used (length pool)
+laid-roomy {a} {b} {start} {end} {pool} {used} {room} s r same =
+    record {
+      width = r .width;
+      enough = ⊎-elim inl (λ (h : linksBoth a b ≤ r .width). inr (omega (arith, s .links-are))) (r .enough);
+      fits = omega (arith, r .fits, s .used-is);
+    }
+
+-- a class is a node
+pub closed-classed : {nodes second : ℕ} {start end pool class start′ end′ pool′ : List ℕ} {used : ℕ} →
+    Closed nodes second start end pool class start′ end′ pool′ used → (x : ℕ) → x < nodes → getD class x 0 < 510
+closed-classed c x h = omega (arith, c .lowest x h, c .rows .few)
+
 -- the graph of the classes can be built
 pub closed-fillable : {nodes second : ℕ} {start end pool class start′ end′ pool′ : List ℕ} {used : ℕ} →
-    Closed nodes second start end pool class start′ end′ pool′ used → Fillable nodes class start′ end′ pool′
-closed-fillable c =
+    Closed nodes second start end pool class start′ end′ pool′ used → linksOf nodes start end ≤ 4096 → {words : ℕ} →
+    (nodes + 2) + nodes * header + linksOf nodes start end ≤ words → Fillable nodes class start′ end′ pool′ words
+closed-fillable c few fits =
     record {
       few = c .rows .few;
-      classed = λ x h. omega (arith, c .lowest x h, c .rows .few);
+      classed = closed-classed c;
       rising = λ x h. (
         c .rows .span x h .rising,
         omega (arith, c .rows .span x h .before, c .bounded),
@@ -250,5 +278,6 @@ closed-fillable c =
       within = λ x k h place.
           let t = c .rows .within x k h place in
           (omega (arith, t, c .rows .few), omega (arith, c .lowest _ t, t, c .rows .few));
-      short = c .short;
+      short = omega (arith, c .short);
+      fits = omega (arith, c .short);
     }

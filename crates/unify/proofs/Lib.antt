@@ -4,6 +4,7 @@ pub mod Copying
 pub mod Lowering
 pub mod Filling
 pub mod Laying
+pub mod Sizes
 pub mod Sides
 pub mod Sharing
 pub mod Result

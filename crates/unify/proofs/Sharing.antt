@@ -210,7 +210,14 @@ module _ {n : ℕ} {meets : ℕ → ℕ → ℕ} {a b graph : List ℕ} (left : 
           node = λ x h.
               record {
                 inside = h;
-                listed = omega (arith, inside-graph h, m .built .long, m .closed .rows .few);
+                listed =
+                    omega (
+                      arith,
+                      inside-graph h,
+                      m .built .begun x (inside-graph h),
+                      m .built .rows .lengths x (inside-graph h),
+                      m .built .ended x (inside-graph h),
+                    );
                 begun = omega (arith, m .built .rows .lengths x (inside-graph h));
                 ended = m .built .ended x (inside-graph h);
               };

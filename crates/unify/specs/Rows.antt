@@ -8,7 +8,7 @@ use lib.ListN.{length, getD}
 use Rattle.graphs.specs.Graph.{Reached}
 use Rattle.lattice.specs.Labels.{Known}
 use Rattle.layout.specs.Layout.{Recorded, header, scale, linkWord, size, rowFrom, linksFrom, rowEnd, rowsEnd, labelAt, targetAt, graphIn}
-use Rattle.classes.specs.Classes.{At, rowLength, sumTo, Closed}
+use Rattle.classes.specs.Classes.{At, rowLength, sumTo, linksOf, Roomy, Closed}
 use Rattle.unify.specs.Lowered.{Below, ClassLabels, labelOfClass}
 
 -- A graph to unify over n types: that of a record, all its nodes reached.
@@ -21,9 +21,15 @@ pub record Operand (n : ℕ) (ws : List ℕ) : Type 0 where
 abbrev pub wordsIn : List ℕ → ℕ
 wordsIn ws = rowsEnd ws - rowFrom ws 0
 
--- the places that merging two graphs may take: their words, and up to 64 for each merge, of which there are fewer than nodes
-abbrev pub placesFor : List ℕ → List ℕ → ℕ
-placesFor a b = (wordsIn a + wordsIn b) + 64 * ((size a + size b) - 1)
+-- the number of links of two graphs
+abbrev pub linksBoth : List ℕ → List ℕ → ℕ
+linksBoth a b = (wordsIn a + wordsIn b) - header * (size a + size b)
+
+-- Lent arrays have the places that merging two graphs may take: a pool, pairs that wait, and the graph of the classes.
+pub record Spacious (a b : List ℕ) (pool waiting graph : ℕ) : Type 0 where
+  pub joins : Roomy (size a + size b) (linksBoth a b) (wordsIn a + wordsIn b) pool
+  pub pairs : linksBoth a b < waiting
+  pub words : ((size a + size b) + 2) + (wordsIn a + wordsIn b) ≤ graph
 
 -- The words of a graph's rows up to `end` stand at the places from `at` to `next`, each moved by `shift`; what stood before is kept. A
 -- word of a header may wrap; it stands in no span.
@@ -71,25 +77,21 @@ pub record ClassRows (nodes : ℕ) (class labels start end pool graph : List ℕ
   pub words-are : (x i : ℕ) → x < nodes → getD class x 0 ≡ x → getD start x 0 + i < getD end x 0 →
       getD graph (linksFrom graph x + i) 0 ≡ classWord class (getD pool (getD start x 0 + i) 0)
 
--- the words of the graph of the classes of up to 510 nodes: the number of nodes, 511 places, 510 headers and 4,096 links
-abbrev pub classWords : ℕ
-classWords = 512 + 510 * header + 4096
-
 -- The graph of the classes stands whole.
 pub record ClassGraph (nodes : ℕ) (class labels start end pool graph : List ℕ) : Type 0 where
   pub sized : size graph ≡ nodes
-  pub long : length graph ≡ classWords
   pub begun : (x : ℕ) → x < nodes → nodes + 2 ≤ rowFrom graph x
   pub ended : (x : ℕ) → x < nodes → rowEnd graph x ≤ length graph
   pub rows : ClassRows nodes class labels start end pool graph
 
--- What building it asks of the classes' rows.
-pub record Fillable (nodes : ℕ) (class start end pool : List ℕ) : Type 0 where
+-- What building it in so many words asks of the classes' rows: a word for their number, `nodes` + 1 places, headers and links fit.
+pub record Fillable (nodes : ℕ) (class start end pool : List ℕ) (words : ℕ) : Type 0 where
   pub few : nodes ≤ 510
   pub classed : (x : ℕ) → x < nodes → getD class x 0 < 510
   pub rising : (x : ℕ) → x < nodes → (getD start x 0 ≤ getD end x 0) × (getD end x 0 ≤ 37692) × (getD end x 0 ≤ length pool)
   pub within : (x k : ℕ) → x < nodes → At start end x k → (targetAt pool k < 510) × (getD class (targetAt pool k) 0 < 510)
   pub short : sumTo nodes (rowLength (λ y. getD class y 0) start end) ≤ 4096
+  pub fits : ((nodes + 2) + nodes * header) + sumTo nodes (rowLength (λ y. getD class y 0) start end) ≤ words
 
 -- The graphs side by side, their nodes merged into classes with the meets of their labels, and the graph of the classes.
 pub record Merges (n : ℕ) (meets : ℕ → ℕ → ℕ) (a b graph : List ℕ) : Type 0 where

@@ -7,14 +7,17 @@ pub mod operands;
 pub mod quotient;
 
 use encode::Written;
+use layout::HEADER;
 ghost use mathlib.Core.Path.{_≡_};
-ghost use Prim.Native.Nat.{_≤_, _<_};
+ghost use mathlib.Core.List.{List};
+ghost use Prim.Native.Nat.{ℕ, _+_, _≤_, _<_};
 ghost use lib.ListN.{length};
 ghost use Rattle.bounds.specs.Sets.{meetIn};
+ghost use Rattle.layout.specs.Layout.{Sound, size};
 ghost use Rattle.encode.specs.Encode.{yielding};
 ghost use Rattle.unify.specs.Lowered.{Meeting};
 ghost use Rattle.unify.specs.Outcome.{unifyingOut};
-ghost use Rattle.unify.specs.Rows.{Merges, Operand, classWords, placesFor};
+ghost use Rattle.unify.specs.Rows.{Merges, Operand, Spacious, linksBoth};
 
 // What unifying answers: what writing the result answers, or document 01's refusals 9 and 10.
 pub enum Combined {
@@ -23,27 +26,36 @@ pub enum Combined {
     Clash,
 }
 
-// The places of a pool for two graphs with 80 nodes and 240 links together, and for any two: two words and 64 places for a merge of each
-// node but the first, one for each link.
-const SMALL: usize = 80 * layout::HEADER + 240 + 64 * 79;
+// How many nodes and links two graphs have together in each of three sizes, so that what is cleared goes by their size. No two have more
+// than the largest.
+const SMALL_NODES: usize = 20;
 
-const LARGE: usize = 510 * layout::HEADER + 4096 + 64 * 509;
+const SMALL_LINKS: usize = 48;
+
+const MIDDLE_NODES: usize = 80;
+
+const MIDDLE_LINKS: usize = 240;
+
+const NODES: usize = 510;
+
+const LINKS: usize = 4096;
 
 // Builds the graph of the classes of both graphs' nodes. The pool takes the words of both graphs and the rows of merged classes.
-fn merge_within<'a>(
+fn merge<'a>(
     n: usize,
     sets: &'a [u64; bounds::sets::WORDS],
     cells: &'a [[u8; 64]; 64],
     a: &'a [u16],
     b: &'a [u16],
     pool: &mut [u16],
-    graph: &mut [u16; quotient::GRAPH],
+    waiting: &mut [u32],
+    graph: &mut [u16],
 )
     requires { ⌜ (0 < n) × (n ≤ 64) ⌝ }
     requires { ⌜ Meeting n (now sets) (now cells) ⌝ }
     requires { ⌜ Operand n (now a) ⌝ }
     requires { ⌜ Operand n (now b) ⌝ }
-    requires { ⌜ (placesFor (now a) (now b) ≤ length (now pool)) × (length (now graph) ≡ classWords) ⌝ }
+    requires { ⌜ Spacious (now a) (now b) (length (now pool)) (length (now waiting)) (length (now graph)) × (length (now graph) ≤ 65535) ⌝ }
     ensures { λ _. ⌜ Merges n (meetIn n (now (sets .entry)) (now (cells .entry))) (now (a .entry)) (now (b .entry)) (now (graph .exit)) ⌝ }
 {
     let mut start = [0u16; 510];
@@ -55,36 +67,102 @@ fn merge_within<'a>(
     let used = operands::copy_words(b, at, second, pool);
     operands::copy_spans(a, 0, 0, &mut start, &mut end);
     operands::copy_spans(b, at, second, &mut start, &mut end);
-    classes::close(nodes, second, &mut class, &mut start, &mut end, pool, used);
+    classes::close(
+        nodes,
+        second,
+        &mut class,
+        &mut start,
+        &mut end,
+        pool,
+        waiting,
+        used,
+    );
     let labels = labels::class_labels(n, sets, cells, a, b, &class);
     quotient::quotient(nodes, &class, &labels, &start, &end, pool, graph);
 }
 
-// The same with a pool no larger than the graphs ask for: a merge takes up to 64 places, and there are fewer merges than nodes.
-fn merge<'a>(
+// Tells a cycle or a clash of the graph of the classes, else writes it.
+fn tell(graph: &[u16], out: &mut [u8]) -> Combined
+    requires { ⌜ Sound (now graph) ⌝ }
+    ensures { λ r. ⌜ ((n : ℕ) (meets : ℕ → ℕ → ℕ) (a b : List ℕ) → Operand n a → Operand n b → Merges n meets a b (now (graph .entry)) →
+        yielding r (now (out .exit)) ≡ unifyingOut n meets a b (now (out .entry))) ⌝ }
+{
+    let mut order = [0u16; 510];
+    if visits::sorting::sort_targets_first(graph, &mut order) {
+        return Combined::Cycle;
+    }
+    if labels::has_clash(graph) {
+        return Combined::Clash;
+    }
+    Combined::Written(encode::canonical::write(graph, out))
+}
+
+// Writes the unification of two small graphs. A merge takes no more places than there are links.
+fn unify_small<'a>(
     n: usize,
     sets: &'a [u64; bounds::sets::WORDS],
     cells: &'a [[u8; 64]; 64],
     a: &'a [u16],
     b: &'a [u16],
-    graph: &mut [u16; quotient::GRAPH],
-)
+    out: &mut [u8],
+) -> Combined
     requires { ⌜ (0 < n) × (n ≤ 64) ⌝ }
     requires { ⌜ Meeting n (now sets) (now cells) ⌝ }
     requires { ⌜ Operand n (now a) ⌝ }
     requires { ⌜ Operand n (now b) ⌝ }
-    requires { ⌜ length (now graph) ≡ classWords ⌝ }
-    ensures { λ _. ⌜ Merges n (meetIn n (now (sets .entry)) (now (cells .entry))) (now (a .entry)) (now (b .entry)) (now (graph .exit)) ⌝ }
+    requires { ⌜ (size (now a) + size (now b) ≤ 20) × (linksBoth (now a) (now b) ≤ 48) ⌝ }
+    ensures { λ r. ⌜ yielding r (now (out .exit)) ≡ unifyingOut n (meetIn n (now (sets .entry)) (now (cells .entry))) (now (a .entry)) (now (b .entry)) (now (out .entry)) ⌝ }
 {
-    let words = operands::word_count(a) + operands::word_count(b);
-    let nodes = a[0] as usize + b[0] as usize;
-    if words + 64 * (nodes - 1) <= SMALL {
-        let mut pool = [0u16; SMALL];
-        merge_within(n, sets, cells, a, b, &mut pool, graph);
-    } else {
-        let mut pool = [0u16; LARGE];
-        merge_within(n, sets, cells, a, b, &mut pool, graph);
-    }
+    let mut pool = [0u16; HEADER * SMALL_NODES + SMALL_LINKS + SMALL_LINKS * (SMALL_NODES - 1)];
+    let mut waiting = [0u32; SMALL_LINKS + 1];
+    let mut graph = [0u16; 2 + (1 + HEADER) * SMALL_NODES + SMALL_LINKS];
+    merge(n, sets, cells, a, b, &mut pool, &mut waiting, &mut graph);
+    tell(&graph, out)
+}
+
+// The same for two graphs of middle size. A merge takes up to 64 places.
+fn unify_middle<'a>(
+    n: usize,
+    sets: &'a [u64; bounds::sets::WORDS],
+    cells: &'a [[u8; 64]; 64],
+    a: &'a [u16],
+    b: &'a [u16],
+    out: &mut [u8],
+) -> Combined
+    requires { ⌜ (0 < n) × (n ≤ 64) ⌝ }
+    requires { ⌜ Meeting n (now sets) (now cells) ⌝ }
+    requires { ⌜ Operand n (now a) ⌝ }
+    requires { ⌜ Operand n (now b) ⌝ }
+    requires { ⌜ (size (now a) + size (now b) ≤ 80) × (linksBoth (now a) (now b) ≤ 240) ⌝ }
+    ensures { λ r. ⌜ yielding r (now (out .exit)) ≡ unifyingOut n (meetIn n (now (sets .entry)) (now (cells .entry))) (now (a .entry)) (now (b .entry)) (now (out .entry)) ⌝ }
+{
+    let mut pool = [0u16; HEADER * MIDDLE_NODES + MIDDLE_LINKS + 64 * (MIDDLE_NODES - 1)];
+    let mut waiting = [0u32; MIDDLE_LINKS + 1];
+    let mut graph = [0u16; 2 + (1 + HEADER) * MIDDLE_NODES + MIDDLE_LINKS];
+    merge(n, sets, cells, a, b, &mut pool, &mut waiting, &mut graph);
+    tell(&graph, out)
+}
+
+// The same for any two graphs.
+fn unify_large<'a>(
+    n: usize,
+    sets: &'a [u64; bounds::sets::WORDS],
+    cells: &'a [[u8; 64]; 64],
+    a: &'a [u16],
+    b: &'a [u16],
+    out: &mut [u8],
+) -> Combined
+    requires { ⌜ (0 < n) × (n ≤ 64) ⌝ }
+    requires { ⌜ Meeting n (now sets) (now cells) ⌝ }
+    requires { ⌜ Operand n (now a) ⌝ }
+    requires { ⌜ Operand n (now b) ⌝ }
+    ensures { λ r. ⌜ yielding r (now (out .exit)) ≡ unifyingOut n (meetIn n (now (sets .entry)) (now (cells .entry))) (now (a .entry)) (now (b .entry)) (now (out .entry)) ⌝ }
+{
+    let mut pool = [0u16; HEADER * NODES + LINKS + 64 * (NODES - 1)];
+    let mut waiting = [0u32; LINKS + 1];
+    let mut graph = [0u16; 2 + (1 + HEADER) * NODES + LINKS];
+    merge(n, sets, cells, a, b, &mut pool, &mut waiting, &mut graph);
+    tell(&graph, out)
 }
 
 // Writes the unification of two graphs over n types, with the meets of types as they are held.
@@ -102,14 +180,18 @@ pub fn unify<'a>(
     requires { ⌜ Operand n (now b) ⌝ }
     ensures { λ r. ⌜ yielding r (now (out .exit)) ≡ unifyingOut n (meetIn n (now (sets .entry)) (now (cells .entry))) (now (a .entry)) (now (b .entry)) (now (out .entry)) ⌝ }
 {
-    let mut graph = [0u16; quotient::GRAPH];
-    merge(n, sets, cells, a, b, &mut graph);
-    let mut order = [0u16; 510];
-    if visits::sorting::sort_targets_first(&graph, &mut order) {
-        return Combined::Cycle;
+    let words = operands::word_count(a) + operands::word_count(b);
+    let nodes = a[0] as usize + b[0] as usize;
+    let links = words - HEADER * nodes;
+    if nodes <= SMALL_NODES {
+        if links <= SMALL_LINKS {
+            return unify_small(n, sets, cells, a, b, out);
+        }
     }
-    if labels::has_clash(&graph) {
-        return Combined::Clash;
+    if nodes <= MIDDLE_NODES {
+        if links <= MIDDLE_LINKS {
+            return unify_middle(n, sets, cells, a, b, out);
+        }
     }
-    Combined::Written(encode::canonical::write(&graph, out))
+    unify_large(n, sets, cells, a, b, out)
 }

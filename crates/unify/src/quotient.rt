@@ -8,10 +8,7 @@ ghost use lib.ListN.{length, getD};
 ghost use mathlib.Core.Path.{_≡_};
 ghost use Rattle.layout.specs.Layout.{targetAt};
 ghost use Rattle.unify.specs.Lowered.{Below, labelWords};
-ghost use Rattle.unify.specs.Rows.{ClassGraph, Fillable, RowCopied, classWords, endOfRow};
-
-// The words of the graph of the classes of up to 510 nodes: the number of nodes, 511 places, 510 headers and 4,096 links.
-pub const GRAPH: usize = 512 + 510 * HEADER + 4096;
+ghost use Rattle.unify.specs.Rows.{ClassGraph, Fillable, RowCopied, endOfRow};
 
 // Copies a row to the places from `at` on, each target by its class. Answers the next place.
 pub fn copy_row<'a>(
@@ -20,9 +17,9 @@ pub fn copy_row<'a>(
     start: usize,
     end: usize,
     at: usize,
-    graph: &mut [u16; GRAPH],
+    graph: &mut [u16],
 ) -> usize
-    requires { ⌜ (start ≤ end) × (end ≤ length (now pool)) × (at + end ≤ classWords + start) × (length (now graph) ≡ classWords) ⌝ }
+    requires { ⌜ (start ≤ end) × (end ≤ length (now pool)) × (at + end ≤ length (now graph) + start) × (length (now graph) ≤ 65535) ⌝ }
     requires { ⌜ ((k : ℕ) → start ≤ k → k < end → (targetAt (now pool) k < 510) × (getD (now class) (targetAt (now pool) k) 0 < 510)) ⌝ }
     ensures { λ r. ⌜ RowCopied (now (class .entry)) (now (pool .entry)) start end at (now (graph .entry)) (now (graph .exit)) r ⌝ }
 {
@@ -64,10 +61,10 @@ pub fn quotient<'a>(
     start: &'a [u16; 510],
     end: &'a [u16; 510],
     pool: &'a [u16],
-    graph: &mut [u16; GRAPH],
+    graph: &mut [u16],
 )
-    requires { ⌜ (length (now graph) ≡ classWords) × (length (now labels) ≡ labelWords) × Below 128 (now labels) ⌝ }
-    requires { ⌜ Fillable nodes (now class) (now start) (now end) (now pool) ⌝ }
+    requires { ⌜ (length (now graph) ≤ 65535) × (length (now labels) ≡ labelWords) × Below 128 (now labels) ⌝ }
+    requires { ⌜ Fillable nodes (now class) (now start) (now end) (now pool) (length (now graph)) ⌝ }
     ensures { λ _. ⌜ ClassGraph nodes (now (class .entry)) (now (labels .entry)) (now (start .entry)) (now (end .entry)) (now (pool .entry)) (now (graph .exit)) ⌝ }
 {
     let mut at = nodes + 2;

@@ -63,7 +63,7 @@ merge-requires : tie.Need-merge-requires
 merge-requires c κs = search needs
 
 cast-end : tie.Need-cast-end
-cast-end c = omega (arith, merged-short (c .before .before .before .merge .ensures) (c .before .before .before .before .before .before .before .before .before .before .before .before .pre .1 .1 .0) (c .before .before .before .before .before .before .before .before .before .before .before .before .pre .1 .1 .1 .0), c .before .before .before .before .before .before .before .before .before .before .before .before .pre .1 .1 .1 .1 .0)
+cast-end c = omega (arith, merged-short (c .before .before .before .before .before .merge .ensures) (c .before .before .before .before .before .before .before .before .before .before .before .before .before .before .before .pre .1 .1 .0) (c .before .before .before .before .before .before .before .before .before .before .before .before .before .before .before .pre .1 .1 .1 .0), c .before .before .before .before .before .before .before .before .before .before .before .before .before .before .before .pre .1 .1 .1 .1 .0)
 
 mul-end : tie.Need-mul-end
 mul-end c = search needs
@@ -74,8 +74,11 @@ element-write-end c = search needs
 same-length : tie.Need-same-length
 same-length c = search needs
 
+same-length-2 : tie.Need-same-length-2
+same-length-2 c = search needs
+
 returns : tie.Need-returns
-returns c = (c .before .before .before .merge .ensures, (refl, (refl, refl)))
+returns c = (c .before .before .before .before .before .merge .ensures, (refl, (refl, refl)))
 
 pub join-spec : {M : Type 1} → statement M
 join-spec =
@@ -104,4 +107,5 @@ join-spec =
     mul-end
     element-write-end
     same-length
+    same-length-2
     returns)

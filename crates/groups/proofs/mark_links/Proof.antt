@@ -21,17 +21,17 @@ Inv-loop s g map order marks owner₀ parent₀ nodes y₀ owner parent y = (y �
 abbrev μ-loop : tie.MeasureT-loop
 μ-loop s g map order marks owner₀ parent₀ nodes y₀ owner parent y = nodes - y
 
-separate-requires : tie.Need-separate-requires Inv-loop μ-loop
-separate-requires c κs = length-replicate {A = ℕ} 510 0
-
 shared-slice-read-nodes : tie.Need-shared-slice-read-nodes Inv-loop μ-loop
-shared-slice-read-nodes c = let shaped = c .before .before .before .before .before .pre .0 .upper .sound .shaped in omega (arith, shaped .node 0 (shaped .nonempty) .listed)
+shared-slice-read-nodes c = let shaped = c .before .before .before .pre .0 .upper .sound .shaped in omega (arith, shaped .node 0 (shaped .nonempty) .listed)
 
 cast-nodes : tie.Need-cast-nodes Inv-loop μ-loop
-cast-nodes c = omega (arith, c .before .before .before .before .before .pre .0 .upper .small)
+cast-nodes c = omega (arith, c .before .before .before .pre .0 .upper .small)
+
+separate-requires : tie.Need-separate-requires Inv-loop μ-loop
+separate-requires c κs = (omega (arith, c .before .before .before .before .pre .0 .upper .small), length-replicate {A = ℕ} 510 0)
 
 loop-holds : tie.Need-loop-holds Inv-loop μ-loop
-loop-holds c = (omega arith, grouping-start (c .before .before .before .before .before .pre .0) (length-replicate {A = ℕ} longest 65535) (λ j h. getD-replicate {A = ℕ} longest j 65535 0 h) (c .before .separate .ensures .0) (c .before .separate .ensures .1))
+loop-holds c = (omega arith, grouping-start (c .before .before .before .before .before .pre .0) (length-replicate {A = ℕ} longest 65535) (λ j h. getD-replicate {A = ℕ} longest j 65535 0 h) (c .separate .ensures .0) (c .separate .ensures .1))
 
 cover-row-requires : tie.Need-cover-row-requires Inv-loop μ-loop
 cover-row-requires c κs = ((c .before .before .before .before .before .before .before .before .before .pre .0, c .before .before .loop-test .taken), c .before .before .before .loop .inv .1)
@@ -77,9 +77,9 @@ mark-links-spec =
     (tie.spec
     Inv-loop
     μ-loop
-    separate-requires
     shared-slice-read-nodes
     cast-nodes
+    separate-requires
     loop-holds
     cover-row-requires
     add-y

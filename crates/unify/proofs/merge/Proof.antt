@@ -1,83 +1,82 @@
--- `merge` meets its contract: the pool has a place for each word and 64 for each merge.
+-- `merge` meets its contract, by those of its parts.
+use mathlib.Core.Path.{_∙_}
 use Prim.Native.Nat.{ℕ}
+use borrow.Author.Needs.{needs}
 use native.Mathlib.Omega.{arith}
 use lib.ListN.{length-replicate}
+use Rattle.lattice.proofs.Lawful.{known-more}
 use Rattle.layout.proofs.Order.{directory}
 use Rattle.layout.proofs.Sums.{words-few}
 use Rattle.unify.proofs.Words.{words-are}
-use borrow.Author.Needs.{needs}
+use Rattle.unify.proofs.Laying.{lay, laid-roomy, closed-classed, closed-fillable}
 use Rattle.unify.proofs.merge.Statement.{statement}
 use Rattle.unify.proofs.merge.Tie as tie
 
-word-count-requires : tie.Need-word-count-requires
-word-count-requires c κs = c .before .before .pre .1 .1 .0 .recorded
+shared-slice-read-second : tie.Need-shared-slice-read-second
+shared-slice-read-second c = omega (arith, directory (c .before .before .before .before .before .before .pre .1 .1 .0 .recorded .sound .shaped))
 
-word-count-requires-2 : tie.Need-word-count-requires-2
-word-count-requires-2 c κs = c .before .before .before .pre .1 .1 .1 .0 .recorded
-
-add-words : tie.Need-add-words
-add-words c = omega (arith, c .before .word-count .ensures, c .word-count2 .ensures, words-few (c .before .before .before .before .pre .1 .1 .0 .recorded), words-few (c .before .before .before .before .pre .1 .1 .1 .0 .recorded), words-are (c .before .before .before .before .pre .1 .1 .0 .recorded), words-are (c .before .before .before .before .pre .1 .1 .1 .0 .recorded))
+cast-second : tie.Need-cast-second
+cast-second c = omega (arith, c .before .before .before .before .before .before .pre .1 .1 .0 .recorded .small)
 
 shared-slice-read-nodes : tie.Need-shared-slice-read-nodes
-shared-slice-read-nodes c = omega (arith, directory (c .before .before .before .before .before .pre .1 .1 .0 .recorded .sound .shaped))
+shared-slice-read-nodes c = omega (arith, directory (c .before .before .before .before .before .before .before .pre .1 .1 .1 .0 .recorded .sound .shaped))
 
 cast-nodes : tie.Need-cast-nodes
-cast-nodes c = omega (arith, c .before .before .before .before .before .pre .1 .1 .0 .recorded .small)
-
-shared-slice-read-nodes-2 : tie.Need-shared-slice-read-nodes-2
-shared-slice-read-nodes-2 c = omega (arith, directory (c .before .before .before .before .before .before .pre .1 .1 .1 .0 .recorded .sound .shaped))
-
-cast-nodes-2 : tie.Need-cast-nodes-2
-cast-nodes-2 c = omega (arith, c .before .before .before .before .before .before .pre .1 .1 .1 .0 .recorded .small)
+cast-nodes c = omega (arith, c .before .before .before .before .before .before .before .pre .1 .1 .1 .0 .recorded .small)
 
 add-nodes : tie.Need-add-nodes
-add-nodes c = omega (arith, c .before .before .before .before .before .before .pre .1 .1 .0 .recorded .small, c .before .before .before .before .before .before .pre .1 .1 .1 .0 .recorded .small)
+add-nodes c = omega (arith, c .before .before .before .before .before .before .before .pre .1 .1 .0 .recorded .small, c .before .before .before .before .before .before .before .pre .1 .1 .1 .0 .recorded .small)
 
-sub-if1 : tie.Need-sub-if1
-sub-if1 c = omega (arith, c .before .before .before .before .before .before .pre .1 .1 .0 .recorded .sound .shaped .nonempty)
+copy-words-requires : tie.Need-copy-words-requires
+copy-words-requires c κs = (c .before .before .before .before .before .before .before .before .pre .1 .1 .0 .recorded, (omega arith, omega arith, omega (arith, c .before .before .before .before .before .before .before .before .pre .1 .1 .1 .1 .0 .joins .fits)))
 
-mul-if1 : tie.Need-mul-if1
-mul-if1 c = omega (arith, c .before .before .before .before .before .before .pre .1 .1 .0 .recorded .small, c .before .before .before .before .before .before .pre .1 .1 .1 .0 .recorded .small)
+copy-words-requires-2 : tie.Need-copy-words-requires-2
+copy-words-requires-2 c κs = (c .before .before .before .before .before .before .before .before .before .before .before .before .pre .1 .1 .1 .0 .recorded, (omega (arith, c .before .before .before .copy-words .ensures .counted, words-few (c .before .before .before .before .before .before .before .before .before .before .before .before .pre .1 .1 .0 .recorded)), c .before .before .before .before .before .before .before .before .before .before .before .before .pre .1 .1 .0 .recorded .small, omega (arith, c .before .before .before .before .before .before .before .before .before .before .before .before .pre .1 .1 .1 .1 .0 .joins .fits, c .before .before .before .copy-words .ensures .counted, c .before .before .before .copy-words .ensures .long, words-are (c .before .before .before .before .before .before .before .before .before .before .before .before .pre .1 .1 .0 .recorded))))
 
-add-if1 : tie.Need-add-if1
-add-if1 c = omega (arith, c .before .before .before .before .before .before .pre .1 .1 .0 .recorded .small, c .before .before .before .before .before .before .pre .1 .1 .1 .0 .recorded .small, c .before .before .before .word-count .ensures, c .before .before .word-count2 .ensures, words-few (c .before .before .before .before .before .before .pre .1 .1 .0 .recorded), words-few (c .before .before .before .before .before .before .pre .1 .1 .1 .0 .recorded), words-are (c .before .before .before .before .before .before .pre .1 .1 .0 .recorded), words-are (c .before .before .before .before .before .before .pre .1 .1 .1 .0 .recorded))
+copy-spans-requires : tie.Need-copy-spans-requires
+copy-spans-requires c κs = (c .before .before .before .before .before .before .before .before .before .before .before .before .before .before .before .before .before .pre .1 .1 .0 .recorded, (omega arith, omega arith, length-replicate {A = ℕ} 510 0, length-replicate {A = ℕ} 510 0))
 
-slice-aggregate-merge-within : tie.Need-slice-aggregate-merge-within
-slice-aggregate-merge-within c = search needs
+copy-spans-requires-2 : tie.Need-copy-spans-requires-2
+copy-spans-requires-2 c κs = (c .before .before .before .before .before .before .before .before .before .before .before .before .before .before .before .before .before .before .before .before .pre .1 .1 .1 .0 .recorded, (omega (arith, c .before .before .before .before .before .before .before .before .before .before .before .copy-words .ensures .counted, words-few (c .before .before .before .before .before .before .before .before .before .before .before .before .before .before .before .before .before .before .before .before .pre .1 .1 .0 .recorded)), c .before .before .before .before .before .before .before .before .before .before .before .before .before .before .before .before .before .before .before .before .pre .1 .1 .0 .recorded .small, c .before .before .copy-spans .ensures .start-long ∙ length-replicate {A = ℕ} 510 0, c .before .before .copy-spans .ensures .end-long ∙ length-replicate {A = ℕ} 510 0))
 
-merge-within-requires : tie.Need-merge-within-requires
-merge-within-requires c κs = (c .before .before .before .before .before .before .before .before .before .pre .0, (c .before .before .before .before .before .before .before .before .before .pre .1 .0, (c .before .before .before .before .before .before .before .before .before .pre .1 .1 .0, (c .before .before .before .before .before .before .before .before .before .pre .1 .1 .1 .0, (omega (arith, c .before .before .if1 .taken, c .before .before .before .before .before .before .word-count .ensures, c .before .before .before .before .before .word-count2 .ensures, length-replicate {A = ℕ} 5456 0), c .before .before .before .before .before .before .before .before .before .pre .1 .1 .1 .1)))))
+close-requires : tie.Need-close-requires
+close-requires c κs = let s = lay (c .before .before .before .before .before .before .before .before .before .before .before .before .before .before .before .before .before .before .before .before .before .before .before .before .before .before .pre .1 .1 .0 .recorded) (c .before .before .before .before .before .before .before .before .before .before .before .before .before .before .before .before .before .before .before .before .before .before .before .before .before .before .pre .1 .1 .1 .0 .recorded) (c .before .before .before .before .before .before .before .before .before .before .before .before .before .before .before .before .before .copy-words .ensures) (c .before .before .before .before .before .before .before .before .before .before .before .before .before .copy-words2 .ensures) (c .before .before .before .before .before .before .before .before .copy-spans .ensures) (c .before .before .before .before .before .copy-spans2 .ensures) (c .before .before .before .before .before .copy-spans2 .ensures .start-long ∙ c .before .before .before .before .before .before .before .before .copy-spans .ensures .start-long ∙ length-replicate {A = ℕ} 510 0) (c .before .before .before .before .before .copy-spans2 .ensures .end-long ∙ c .before .before .before .before .before .before .before .before .copy-spans .ensures .end-long ∙ length-replicate {A = ℕ} 510 0) in let room = c .before .before .before .before .before .before .before .before .before .before .before .before .before .before .before .before .before .before .before .before .before .before .before .before .before .before .pre .1 .1 .1 .1 .0 in (s .rows, ((omega (arith, c .before .before .before .before .before .before .before .before .before .before .before .before .before .before .before .before .before .before .before .before .before .before .before .before .before .before .pre .1 .1 .1 .0 .recorded .sound .shaped .nonempty), s .few, length-replicate {A = ℕ} 510 0), ((s .short, omega (arith, s .links-are, room .pairs)), laid-roomy s (room .joins) (c .before .before .before .before .before .before .before .before .before .before .before .before .before .copy-words2 .ensures .long ∙ c .before .before .before .before .before .before .before .before .before .before .before .before .before .before .before .before .before .copy-words .ensures .long))))
 
-slice-aggregate-merge-within-2 : tie.Need-slice-aggregate-merge-within-2
-slice-aggregate-merge-within-2 c = search needs
+class-labels-requires : tie.Need-class-labels-requires
+class-labels-requires c κs = (c .before .before .before .before .before .before .before .before .before .before .before .before .before .before .before .before .before .before .before .before .before .before .before .before .before .before .before .before .before .before .before .before .pre .0, (c .before .before .before .before .before .before .before .before .before .before .before .before .before .before .before .before .before .before .before .before .before .before .before .before .before .before .before .before .before .before .before .before .pre .1 .0, (c .before .before .before .before .before .before .before .before .before .before .before .before .before .before .before .before .before .before .before .before .before .before .before .before .before .before .before .before .before .before .before .before .pre .1 .1 .0, (c .before .before .before .before .before .before .before .before .before .before .before .before .before .before .before .before .before .before .before .before .before .before .before .before .before .before .before .before .before .before .before .before .pre .1 .1 .1 .0, closed-classed (c .before .before .before .before .before .close .ensures)))))
 
-merge-within-requires-2 : tie.Need-merge-within-requires-2
-merge-within-requires-2 c κs = (c .before .before .before .before .before .before .before .before .before .pre .0, (c .before .before .before .before .before .before .before .before .before .pre .1 .0, (c .before .before .before .before .before .before .before .before .before .pre .1 .1 .0, (c .before .before .before .before .before .before .before .before .before .pre .1 .1 .1 .0, (omega (arith, c .before .before .before .before .before .before .before .before .before .pre .1 .1 .0 .recorded .small, c .before .before .before .before .before .before .before .before .before .pre .1 .1 .1 .0 .recorded .small, words-few (c .before .before .before .before .before .before .before .before .before .pre .1 .1 .0 .recorded), words-few (c .before .before .before .before .before .before .before .before .before .pre .1 .1 .1 .0 .recorded), words-are (c .before .before .before .before .before .before .before .before .before .pre .1 .1 .0 .recorded), words-are (c .before .before .before .before .before .before .before .before .before .pre .1 .1 .1 .0 .recorded), length-replicate {A = ℕ} 37692 0), c .before .before .before .before .before .before .before .before .before .pre .1 .1 .1 .1)))))
+quotient-requires : tie.Need-quotient-requires
+quotient-requires c κs = let s = lay (c .before .before .before .before .before .before .before .before .before .before .before .before .before .before .before .before .before .before .before .before .before .before .before .before .before .before .before .before .before .before .before .before .before .before .before .before .before .before .before .pre .1 .1 .0 .recorded) (c .before .before .before .before .before .before .before .before .before .before .before .before .before .before .before .before .before .before .before .before .before .before .before .before .before .before .before .before .before .before .before .before .before .before .before .before .before .before .before .pre .1 .1 .1 .0 .recorded) (c .before .before .before .before .before .before .before .before .before .before .before .before .before .before .before .before .before .before .before .before .before .before .before .before .before .before .before .before .before .before .copy-words .ensures) (c .before .before .before .before .before .before .before .before .before .before .before .before .before .before .before .before .before .before .before .before .before .before .before .before .before .before .copy-words2 .ensures) (c .before .before .before .before .before .before .before .before .before .before .before .before .before .before .before .before .before .before .before .before .before .copy-spans .ensures) (c .before .before .before .before .before .before .before .before .before .before .before .before .before .before .before .before .before .before .copy-spans2 .ensures) (c .before .before .before .before .before .before .before .before .before .before .before .before .before .before .before .before .before .before .copy-spans2 .ensures .start-long ∙ c .before .before .before .before .before .before .before .before .before .before .before .before .before .before .before .before .before .before .before .before .before .copy-spans .ensures .start-long ∙ length-replicate {A = ℕ} 510 0) (c .before .before .before .before .before .before .before .before .before .before .before .before .before .before .before .before .before .before .copy-spans2 .ensures .end-long ∙ c .before .before .before .before .before .before .before .before .before .before .before .before .before .before .before .before .before .before .before .before .before .copy-spans .ensures .end-long ∙ length-replicate {A = ℕ} 510 0) in ((c .before .before .before .before .before .before .before .before .before .before .before .before .before .before .before .before .before .before .before .before .before .before .before .before .before .before .before .before .before .before .before .before .before .before .before .before .before .before .before .pre .1 .1 .1 .1 .1, c .before .before .before .before .before .before .class-labels .ensures .0 .1, λ x h. known-more (omega (arith, c .before .before .before .before .before .before .before .before .before .before .before .before .before .before .before .before .before .before .before .before .before .before .before .before .before .before .before .before .before .before .before .before .before .before .before .before .before .before .before .pre .0 .1)) (c .before .before .before .before .before .before .class-labels .ensures .0 .0 x h)), closed-fillable (c .before .before .before .before .before .before .before .before .before .before .before .before .close .ensures) (s .short) (omega (arith, s .headed, c .before .before .before .before .before .before .before .before .before .before .before .before .before .before .before .before .before .before .before .before .before .before .before .before .before .before .before .before .before .before .before .before .before .before .before .before .before .before .before .pre .1 .1 .1 .1 .0 .words)))
+
+same-length : tie.Need-same-length
+same-length c = c .before .before .before .before .before .before .before .before .before .before .before .before .before .before .before .close .kept .1 .1 .1 .1 .1 .0 ∙ c .before .before .before .before .before .before .before .before .before .before .before .before .before .before .before .before .before .before .before .before .before .before .before .before .before .before .before .before .before .copy-words2 .ensures .long ∙ c .before .before .before .before .before .before .before .before .before .before .before .before .before .before .before .before .before .before .before .before .before .before .before .before .before .before .before .before .before .before .before .before .before .copy-words .ensures .long
+
+same-length-2 : tie.Need-same-length-2
+same-length-2 c = search needs
+
+same-length-3 : tie.Need-same-length-3
+same-length-3 c = search needs
 
 returns : tie.Need-returns
-returns c = c .before .merge-within .ensures
-
-returns-2 : tie.Need-returns-2
-returns-2 c = c .before .merge-within2 .ensures
+returns c = let s = lay (c .before .before .before .before .before .before .before .before .before .before .before .before .before .before .before .before .before .before .before .before .before .before .before .before .before .before .before .before .before .before .before .before .before .before .before .before .before .before .before .before .before .before .pre .1 .1 .0 .recorded) (c .before .before .before .before .before .before .before .before .before .before .before .before .before .before .before .before .before .before .before .before .before .before .before .before .before .before .before .before .before .before .before .before .before .before .before .before .before .before .before .before .before .before .pre .1 .1 .1 .0 .recorded) (c .before .before .before .before .before .before .before .before .before .before .before .before .before .before .before .before .before .before .before .before .before .before .before .before .before .before .before .before .before .before .before .before .before .copy-words .ensures) (c .before .before .before .before .before .before .before .before .before .before .before .before .before .before .before .before .before .before .before .before .before .before .before .before .before .before .before .before .before .copy-words2 .ensures) (c .before .before .before .before .before .before .before .before .before .before .before .before .before .before .before .before .before .before .before .before .before .before .before .before .copy-spans .ensures) (c .before .before .before .before .before .before .before .before .before .before .before .before .before .before .before .before .before .before .before .before .before .copy-spans2 .ensures) (c .before .before .before .before .before .before .before .before .before .before .before .before .before .before .before .before .before .before .before .before .before .copy-spans2 .ensures .start-long ∙ c .before .before .before .before .before .before .before .before .before .before .before .before .before .before .before .before .before .before .before .before .before .before .before .before .copy-spans .ensures .start-long ∙ length-replicate {A = ℕ} 510 0) (c .before .before .before .before .before .before .before .before .before .before .before .before .before .before .before .before .before .before .before .before .before .copy-spans2 .ensures .end-long ∙ c .before .before .before .before .before .before .before .before .before .before .before .before .before .before .before .before .before .before .before .before .before .before .before .before .copy-spans .ensures .end-long ∙ length-replicate {A = ℕ} 510 0) in record { class = _; labels = c .before .before .before .before .before .before .before .before .before .class-labels .result; start = _; end = _; pool = _; start′ = _; end′ = _; pool′ = _; used = _; first = s .first; second = s .second; closed = c .before .before .before .before .before .before .before .before .before .before .before .before .before .before .before .close .ensures; lowers = c .before .before .before .before .before .before .before .before .before .class-labels .ensures .1; below = λ x h. known-more (omega (arith, c .before .before .before .before .before .before .before .before .before .before .before .before .before .before .before .before .before .before .before .before .before .before .before .before .before .before .before .before .before .before .before .before .before .before .before .before .before .before .before .before .before .before .pre .0 .1)) (c .before .before .before .before .before .before .before .before .before .class-labels .ensures .0 .0 x h); built = c .before .before .quotient .ensures }
 
 pub merge-spec : {M : Type 1} → statement M
 merge-spec =
     tie.close
     (tie.spec
-    word-count-requires
-    word-count-requires-2
-    add-words
+    shared-slice-read-second
+    cast-second
     shared-slice-read-nodes
     cast-nodes
-    shared-slice-read-nodes-2
-    cast-nodes-2
     add-nodes
-    sub-if1
-    mul-if1
-    add-if1
-    slice-aggregate-merge-within
-    merge-within-requires
-    slice-aggregate-merge-within-2
-    merge-within-requires-2
-    returns
-    returns-2)
+    copy-words-requires
+    copy-words-requires-2
+    copy-spans-requires
+    copy-spans-requires-2
+    close-requires
+    class-labels-requires
+    quotient-requires
+    same-length
+    same-length-2
+    same-length-3
+    returns)

@@ -1,62 +1,90 @@
--- `unify` meets its contract: what is told of the graph of the classes is told of the unification.
-use mathlib.Core.Path.{sym, _∙_}
-use Prim.Native.Nat.{ℕ}
-use lib.ListN.{length-replicate}
-use Rattle.bounds.specs.Sets.{meetIn}
-use Rattle.unify.proofs.Sharing.{class-sound}
-use Rattle.unify.proofs.Result.{answers-cycle, answers-clash, answers-written}
+-- `unify` meets its contract: of the sizes, the least that the graphs fit in.
+use native.Mathlib.Omega.{arith}
+use Rattle.layout.proofs.Order.{directory}
+use Rattle.layout.proofs.Sums.{words-few}
+use Rattle.unify.proofs.Words.{words-are}
+use Rattle.unify.proofs.Sizes.{words-both}
 use borrow.Author.Needs.{needs}
 use Rattle.unify.proofs.unify.Statement.{statement}
 use Rattle.unify.proofs.unify.Tie as tie
 
-merge-requires : tie.Need-merge-requires
-merge-requires c κs = (c .before .before .before .before .pre .0, (c .before .before .before .before .pre .1 .0, (c .before .before .before .before .pre .1 .1 .0, (c .before .before .before .before .pre .1 .1 .1, length-replicate {A = ℕ} 5628 0))))
+word-count-requires : tie.Need-word-count-requires
+word-count-requires c κs = c .before .before .before .pre .1 .1 .0 .recorded
 
-slice-aggregate-sort-targets-first : tie.Need-slice-aggregate-sort-targets-first
-slice-aggregate-sort-targets-first c = sym (c .before .merge .ensures .built .long)
+word-count-requires-2 : tie.Need-word-count-requires-2
+word-count-requires-2 c κs = c .before .before .before .before .pre .1 .1 .1 .recorded
 
-sort-targets-first-requires : tie.Need-sort-targets-first-requires
-sort-targets-first-requires c κs = (class-sound (c .before .before .before .before .before .before .before .pre .1 .1 .0) (c .before .before .before .before .before .before .before .pre .1 .1 .1) (c .before .before .merge .ensures), length-replicate {A = ℕ} 510 0)
+add-words : tie.Need-add-words
+add-words c = let p = c .before .before .before .before .before .pre in omega (arith, c .before .word-count .ensures, c .word-count2 .ensures, words-few (p .1 .1 .0 .recorded), words-few (p .1 .1 .1 .recorded), words-are (p .1 .1 .0 .recorded), words-are (p .1 .1 .1 .recorded))
 
-returns : tie.Need-returns
-returns c = let l = c .before .sort-targets-first .ensures .0 .looped (c .if1 .taken) in answers-cycle (c .before .before .before .before .before .before .before .before .before .args .n) (meetIn (c .before .before .before .before .before .before .before .before .before .args .n) (c .before .before .before .before .before .before .before .before .before .args .sets .now) (c .before .before .before .before .before .before .before .before .before .args .cells .now)) (c .before .before .before .before .before .before .before .before .before .pre .1 .1 .0) (c .before .before .before .before .before .before .before .before .before .pre .1 .1 .1) (c .before .before .before .before .merge .ensures) (l .0) (l .1) (c .before .before .before .before .before .before .before .before .before .args .out .now)
+shared-slice-read-nodes : tie.Need-shared-slice-read-nodes
+shared-slice-read-nodes c = omega (arith, directory (c .before .before .before .before .before .before .pre .1 .1 .0 .recorded .sound .shaped))
 
-slice-aggregate-has-clash : tie.Need-slice-aggregate-has-clash
-slice-aggregate-has-clash c = sym (c .before .before .before .before .before .merge .ensures .built .long)
+cast-nodes : tie.Need-cast-nodes
+cast-nodes c = omega (arith, c .before .before .before .before .before .before .pre .1 .1 .0 .recorded .small)
 
-has-clash-requires : tie.Need-has-clash-requires
-has-clash-requires c κs = class-sound (c .before .before .before .before .before .before .before .before .before .before .pre .1 .1 .0) (c .before .before .before .before .before .before .before .before .before .before .pre .1 .1 .1) (c .before .before .before .before .before .merge .ensures) .shaped
+shared-slice-read-nodes-2 : tie.Need-shared-slice-read-nodes-2
+shared-slice-read-nodes-2 c = omega (arith, directory (c .before .before .before .before .before .before .before .pre .1 .1 .1 .recorded .sound .shaped))
 
-returns-2 : tie.Need-returns-2
-returns-2 c = answers-clash (c .before .before .before .before .before .before .before .before .before .before .before .before .args .n) (meetIn (c .before .before .before .before .before .before .before .before .before .before .before .before .args .n) (c .before .before .before .before .before .before .before .before .before .before .before .before .args .sets .now) (c .before .before .before .before .before .before .before .before .before .before .before .before .args .cells .now)) (c .before .before .before .before .before .before .before .before .before .before .before .before .pre .1 .1 .0) (c .before .before .before .before .before .before .before .before .before .before .before .before .pre .1 .1 .1) (c .before .before .before .before .before .before .before .merge .ensures) (c .before .before .before .before .sort-targets-first .ensures .0 .sorted (c .before .before .before .if1 .left) .1) (sym (c .before .has-clash .ensures) ∙ c .if2 .taken) (c .before .before .before .before .before .before .before .before .before .before .before .before .args .out .now)
+cast-nodes-2 : tie.Need-cast-nodes-2
+cast-nodes-2 c = omega (arith, c .before .before .before .before .before .before .before .pre .1 .1 .1 .recorded .small)
 
-slice-aggregate-write : tie.Need-slice-aggregate-write
-slice-aggregate-write c = sym (c .before .before .before .before .before .before .before .before .merge .ensures .built .long)
+add-nodes : tie.Need-add-nodes
+add-nodes c = omega (arith, c .before .before .before .before .before .before .before .pre .1 .1 .0 .recorded .small, c .before .before .before .before .before .before .before .pre .1 .1 .1 .recorded .small)
 
-write-requires : tie.Need-write-requires
-write-requires c κs = class-sound (c .before .before .before .before .before .before .before .before .before .before .before .before .before .before .pre .1 .1 .0) (c .before .before .before .before .before .before .before .before .before .before .before .before .before .before .pre .1 .1 .1) (c .before .before .before .before .before .before .before .before .before .merge .ensures)
+mul-links : tie.Need-mul-links
+mul-links c = omega (arith, c .before .before .before .before .before .before .before .pre .1 .1 .0 .recorded .small, c .before .before .before .before .before .before .before .pre .1 .1 .1 .recorded .small)
+
+sub-links : tie.Need-sub-links
+sub-links c = let p = c .before .before .before .before .before .before .before .pre in omega (arith, c .before .before .before .word-count .ensures, c .before .before .word-count2 .ensures, words-both (p .1 .1 .0 .recorded) (p .1 .1 .1 .recorded))
+
+unify-small-requires : tie.Need-unify-small-requires
+unify-small-requires c κs = let p = c .before .before .before .before .before .before .before .before .before .before .pre in (p .0, (p .1 .0, (p .1 .1 .0, (p .1 .1 .1, (c .before .before .if1 .taken, omega (arith, c .before .if2 .taken, c .before .before .before .before .before .before .word-count .ensures, c .before .before .before .before .before .word-count2 .ensures))))))
 
 same-length : tie.Need-same-length
 same-length c = search needs
 
+returns : tie.Need-returns
+returns c = search needs
+
+unify-middle-requires : tie.Need-unify-middle-requires
+unify-middle-requires c κs = let p = c .before .before .before .before .before .before .before .before .before .before .before .pre in (p .0, (p .1 .0, (p .1 .1 .0, (p .1 .1 .1, (c .before .before .if3 .taken, omega (arith, c .before .if4 .taken, c .before .before .before .before .before .before .before .word-count .ensures, c .before .before .before .before .before .before .word-count2 .ensures))))))
+
+same-length-2 : tie.Need-same-length-2
+same-length-2 c = search needs
+
+returns-2 : tie.Need-returns-2
+returns-2 c = search needs
+
+unify-large-requires : tie.Need-unify-large-requires
+unify-large-requires c κs = c .before .before .before .before .before .before .before .before .before .before .pre
+
+same-length-3 : tie.Need-same-length-3
+same-length-3 c = search needs
+
 returns-3 : tie.Need-returns-3
-returns-3 c =
-    let start = c .before .before .before .before .before .before .before .before .before .before .before .before .before .before .before .before .before in
-    answers-written (start .args .n) (meetIn (start .args .n) (start .args .sets .now) (start .args .cells .now)) (start .pre .1 .1 .0) (start .pre .1 .1 .1) (c .before .before .before .before .before .before .before .before .before .before .before .before .merge .ensures) (c .before .before .before .before .before .before .before .before .before .sort-targets-first .ensures .0 .sorted (c .before .before .before .before .before .before .before .before .if1 .left) .1)
-    (sym (c .before .before .before .before .before .before .has-clash .ensures) ∙ c .before .before .before .before .before .if2 .left) (start .args .out .now) (c .before .before .write .ensures)
+returns-3 c = search needs
 
 pub unify-spec : {M : Type 1} → statement M
 unify-spec =
     tie.close
     (tie.spec
-    merge-requires
-    slice-aggregate-sort-targets-first
-    sort-targets-first-requires
-    returns
-    slice-aggregate-has-clash
-    has-clash-requires
-    returns-2
-    slice-aggregate-write
-    write-requires
+    word-count-requires
+    word-count-requires-2
+    add-words
+    shared-slice-read-nodes
+    cast-nodes
+    shared-slice-read-nodes-2
+    cast-nodes-2
+    add-nodes
+    mul-links
+    sub-links
+    unify-small-requires
     same-length
+    returns
+    unify-middle-requires
+    same-length-2
+    returns-2
+    unify-large-requires
+    same-length-3
     returns-3)

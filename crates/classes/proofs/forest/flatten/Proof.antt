@@ -8,34 +8,34 @@ use Rattle.classes.proofs.forest.flatten.Statement.{statement}
 use Rattle.classes.proofs.forest.flatten.Tie as tie
 
 abbrev Inv-loop : tie.InvT-loop
-Inv-loop parent₀ x₀ parent x = Flattening parent₀ parent x × (x ≤ 510)
+Inv-loop nodes parent₀ x₀ parent x = Flattening nodes parent₀ parent x × (x ≤ nodes)
 
 abbrev μ-loop : tie.MeasureT-loop
-μ-loop parent₀ x₀ parent x = 510 - x
+μ-loop nodes parent₀ x₀ parent x = nodes - x
 
 loop-holds : tie.Need-loop-holds Inv-loop μ-loop
 loop-holds c = (flat-start (c .pre), omega arith)
 
 mul-up : tie.Need-mul-up Inv-loop μ-loop
-mul-up c = search needs
+mul-up c = omega (arith, c .loop-test .taken, c .before .before .pre .few)
 
 element-copy-out-up : tie.Need-element-copy-out-up Inv-loop μ-loop
-element-copy-out-up c = search needs
+element-copy-out-up c = omega (arith, c .loop-test .taken, c .before .before .pre .few)
 
 cast-up : tie.Need-cast-up Inv-loop μ-loop
-cast-up c = let l = c .before .before in omega (arith, flat-up (l .before .pre) (l .loop .x) (c .before .loop-test .taken) (l .loop .inv .0), c .before .loop-test .taken)
+cast-up c = let l = c .before .before in omega (arith, flat-up (l .before .pre) (l .loop .x) (c .before .loop-test .taken) (l .loop .inv .0), c .before .loop-test .taken, c .before .before .before .pre .few)
 
 mul-parent : tie.Need-mul-parent Inv-loop μ-loop
-mul-parent c = let l = c .before .before in omega (arith, flat-up (l .before .pre) (l .loop .x) (c .before .loop-test .taken) (l .loop .inv .0), c .before .loop-test .taken)
+mul-parent c = let l = c .before .before in omega (arith, flat-up (l .before .pre) (l .loop .x) (c .before .loop-test .taken) (l .loop .inv .0), c .before .loop-test .taken, c .before .before .before .pre .few)
 
 element-copy-out-parent : tie.Need-element-copy-out-parent Inv-loop μ-loop
-element-copy-out-parent c = let l = c .before .before in omega (arith, flat-up (l .before .pre) (l .loop .x) (c .before .loop-test .taken) (l .loop .inv .0), c .before .loop-test .taken)
+element-copy-out-parent c = let l = c .before .before in omega (arith, flat-up (l .before .pre) (l .loop .x) (c .before .loop-test .taken) (l .loop .inv .0), c .before .loop-test .taken, c .before .before .before .pre .few)
 
 mul-parent-2 : tie.Need-mul-parent-2 Inv-loop μ-loop
-mul-parent-2 c = search needs
+mul-parent-2 c = omega (arith, c .before .before .loop-test .taken, c .before .before .before .before .pre .few)
 
 element-write-parent : tie.Need-element-write-parent Inv-loop μ-loop
-element-write-parent c = search needs
+element-write-parent c = omega (arith, c .before .before .loop-test .taken, c .before .before .before .before .pre .few)
 
 add-x : tie.Need-add-x Inv-loop μ-loop
 add-x c = search needs

@@ -10,10 +10,10 @@ use Rattle.classes.proofs.forest.separate.Statement.{statement}
 use Rattle.classes.proofs.forest.separate.Tie as tie
 
 abbrev Inv-loop : tie.InvT-loop
-Inv-loop parent₀ x₀ parent x = (length parent ≡ 510) × (x ≤ 510) × ((y : ℕ) → y < x → getD parent y 0 ≡ y)
+Inv-loop nodes parent₀ x₀ parent x = (length parent ≡ 510) × (x ≤ nodes) × ((y : ℕ) → y < x → getD parent y 0 ≡ y)
 
 abbrev μ-loop : tie.MeasureT-loop
-μ-loop parent₀ x₀ parent x = 510 - x
+μ-loop nodes parent₀ x₀ parent x = nodes - x
 
 loop-holds : tie.Need-loop-holds Inv-loop μ-loop
 loop-holds c = search needs

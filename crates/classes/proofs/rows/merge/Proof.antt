@@ -8,6 +8,8 @@ use Rattle.classes.proofs.Merging.{
   left-in,
   right-in,
   both-in,
+  in-a,
+  in-b,
   pair-room,
   merge-left,
   merge-right,
@@ -25,7 +27,7 @@ abbrev μ-loop : tie.MeasureT-loop
 μ-loop pool₀ waiting₀ a-start a-end b-start b-end i₀ j₀ at₀ top₀ pool waiting i j at top = (a-end + b-end) - (i + j)
 
 loop-holds : tie.Need-loop-holds Inv-loop μ-loop
-loop-holds c = merge-start _ _ _ _ _ _ _ _ (record { places = c .before .pre .0 .0; long = c .before .pre .0 .1; a = c .before .pre .1 .0; b = c .before .pre .1 .1 .0; room = c .before .pre .1 .1 .1 .1 })
+loop-holds c = let p = c .before .before .pre in merge-start _ _ _ _ _ _ _ _ (record { fits = p .0 .0; places = p .0 .1; a = p .1 .0; b = p .1 .1 .0; room = p .1 .1 .1 .1 })
 
 add-loop : tie.Need-add-loop Inv-loop μ-loop
 add-loop c = search needs
@@ -34,16 +36,16 @@ add-loop-2 : tie.Need-add-loop-2 Inv-loop μ-loop
 add-loop-2 c = search needs
 
 feature-at-requires : tie.Need-feature-at-requires Inv-loop μ-loop
-feature-at-requires c κs = search needs
+feature-at-requires c κs = let s = c .before .before .loop .inv in omega (arith, s .asked .a .before, s .asked .fits, s .merged .pool-long)
 
 feature-at-requires-2 : tie.Need-feature-at-requires-2 Inv-loop μ-loop
-feature-at-requires-2 c κs = search needs
+feature-at-requires-2 c κs = let s = c .before .before .before .before .loop .inv in omega (arith, s .asked .b .before, s .asked .fits, s .merged .pool-long)
 
 mul-pool : tie.Need-mul-pool Inv-loop μ-loop
 mul-pool c = search needs
 
 slice-read-pool : tie.Need-slice-read-pool Inv-loop μ-loop
-slice-read-pool c = search needs
+slice-read-pool c = in-a _ _ _ _ _ _ _ _ (c .before .before .before .before .before .before .before .loop .inv) (c .before .before .before .before .feature-at .ensures) (c .before .before .feature-at2 .ensures) (left-in _ _ _ _ _ _ _ _ (c .before .before .before .before .before .before .before .loop .inv) (c .before .before .before .before .feature-at .ensures) (c .before .before .feature-at2 .ensures) (c .before .if1 .taken) .0)
 
 mul-pool-2 : tie.Need-mul-pool-2 Inv-loop μ-loop
 mul-pool-2 c = search needs
@@ -67,7 +69,7 @@ mul-pool-3 : tie.Need-mul-pool-3 Inv-loop μ-loop
 mul-pool-3 c = search needs
 
 slice-read-pool-2 : tie.Need-slice-read-pool-2 Inv-loop μ-loop
-slice-read-pool-2 c = search needs
+slice-read-pool-2 c = in-b _ _ _ _ _ _ _ _ (c .before .before .before .before .before .before .before .before .loop .inv) (c .before .before .before .before .before .feature-at .ensures) (c .before .before .before .feature-at2 .ensures) (right-in _ _ _ _ _ _ _ _ (c .before .before .before .before .before .before .before .before .loop .inv) (c .before .before .before .before .before .feature-at .ensures) (c .before .before .before .feature-at2 .ensures) (c .before .if2 .taken) .0)
 
 mul-pool-4 : tie.Need-mul-pool-4 Inv-loop μ-loop
 mul-pool-4 c = search needs
@@ -91,13 +93,13 @@ mul-pair : tie.Need-mul-pair Inv-loop μ-loop
 mul-pair c = search needs
 
 slice-read-pair : tie.Need-slice-read-pair Inv-loop μ-loop
-slice-read-pair c = search needs
+slice-read-pair c = in-a _ _ _ _ _ _ _ _ (c .before .before .before .before .before .before .before .before .loop .inv) (c .before .before .before .before .before .feature-at .ensures) (c .before .before .before .feature-at2 .ensures) (both-in _ _ _ _ _ _ _ _ (c .before .before .before .before .before .before .before .before .loop .inv) (c .before .before .before .before .before .feature-at .ensures) (c .before .before .before .feature-at2 .ensures) (c .before .before .before .before .before .before .before .loop-test .taken) (omega (arith, c .before .if2 .left, c .before .before .if1 .left)) .0)
 
 mul-pair-2 : tie.Need-mul-pair-2 Inv-loop μ-loop
 mul-pair-2 c = search needs
 
 slice-read-pair-2 : tie.Need-slice-read-pair-2 Inv-loop μ-loop
-slice-read-pair-2 c = search needs
+slice-read-pair-2 c = in-b _ _ _ _ _ _ _ _ (c .before .before .before .before .before .before .before .before .before .loop .inv) (c .before .before .before .before .before .before .feature-at .ensures) (c .before .before .before .before .feature-at2 .ensures) (both-in _ _ _ _ _ _ _ _ (c .before .before .before .before .before .before .before .before .before .loop .inv) (c .before .before .before .before .before .before .feature-at .ensures) (c .before .before .before .before .feature-at2 .ensures) (c .before .before .before .before .before .before .before .before .loop-test .taken) (omega (arith, c .before .before .if2 .left, c .before .before .before .if1 .left)) .1)
 
 pair-requires : tie.Need-pair-requires Inv-loop μ-loop
 pair-requires c κs = search needs
@@ -105,8 +107,8 @@ pair-requires c κs = search needs
 mul-waiting : tie.Need-mul-waiting Inv-loop μ-loop
 mul-waiting c = search needs
 
-element-write-waiting : tie.Need-element-write-waiting Inv-loop μ-loop
-element-write-waiting c = pair-room _ _ _ _ _ _ _ _ (c .before .before .before .before .before .before .before .before .before .before .loop .inv) (c .before .before .before .before .before .before .before .feature-at .ensures) (c .before .before .before .before .before .feature-at2 .ensures) (c .before .before .before .before .before .before .before .before .before .loop-test .taken) (omega (arith, c .before .before .before .if2 .left, c .before .before .before .before .if1 .left)) .0
+slice-write-waiting : tie.Need-slice-write-waiting Inv-loop μ-loop
+slice-write-waiting c = pair-room _ _ _ _ _ _ _ _ (c .before .before .before .before .before .before .before .before .before .before .loop .inv) (c .before .before .before .before .before .before .before .feature-at .ensures) (c .before .before .before .before .before .feature-at2 .ensures) (c .before .before .before .before .before .before .before .before .before .loop-test .taken) (omega (arith, c .before .before .before .if2 .left, c .before .before .before .before .if1 .left))
 
 add-top : tie.Need-add-top Inv-loop μ-loop
 add-top c = search needs
@@ -115,7 +117,7 @@ mul-pool-5 : tie.Need-mul-pool-5 Inv-loop μ-loop
 mul-pool-5 c = search needs
 
 slice-read-pool-3 : tie.Need-slice-read-pool-3 Inv-loop μ-loop
-slice-read-pool-3 c = search needs
+slice-read-pool-3 c = in-a _ _ _ _ _ _ _ _ (c .before .before .before .before .before .before .before .before .before .before .before .loop .inv) (c .before .before .before .before .before .before .before .before .feature-at .ensures) (c .before .before .before .before .before .before .feature-at2 .ensures) (both-in _ _ _ _ _ _ _ _ (c .before .before .before .before .before .before .before .before .before .before .before .loop .inv) (c .before .before .before .before .before .before .before .before .feature-at .ensures) (c .before .before .before .before .before .before .feature-at2 .ensures) (c .before .before .before .before .before .before .before .before .before .before .loop-test .taken) (omega (arith, c .before .before .before .before .if2 .left, c .before .before .before .before .before .if1 .left)) .0)
 
 mul-pool-6 : tie.Need-mul-pool-6 Inv-loop μ-loop
 mul-pool-6 c = search needs
@@ -140,6 +142,9 @@ loop-again-3 c = merge-both _ _ _ _ _ _ _ _ (c .before .before .before .before .
 
 same-length : tie.Need-same-length Inv-loop μ-loop
 same-length c = search needs
+
+same-length-2 : tie.Need-same-length-2 Inv-loop μ-loop
+same-length-2 c = search needs
 
 returns : tie.Need-returns Inv-loop μ-loop
 returns c = merge-done _ _ _ _ _ _ _ _ (c .before .loop .inv) (c .loop-test .left)
@@ -177,7 +182,7 @@ merge-spec =
     slice-read-pair-2
     pair-requires
     mul-waiting
-    element-write-waiting
+    slice-write-waiting
     add-top
     mul-pool-5
     slice-read-pool-3
@@ -189,4 +194,5 @@ merge-spec =
     loop-less-3
     loop-again-3
     same-length
+    same-length-2
     returns)

@@ -90,7 +90,7 @@ seek-requires : tie.Need-seek-requires Inv-loop μ-loop
 seek-requires c κs = let rows = rows-known (c .before .before .loop .inv .lying) _ (c .before .before .loop .inv .inside) in (c .before .before .loop .inv .s-high, rows .under .ended, omega (arith, c .shared-slice-known7 .given (c .before .before .loop .k)))
 
 own-requires : tie.Need-own-requires Inv-loop μ-loop
-own-requires c κs = let covering = c .before .before .before .before .before .loop .inv in (covering .grouping .owner-long, (covering .grouping .forest, ((place-within (c .before .before .before .before .before .loop .inv) (c .before .before .before .before .loop-test .taken) (c .before .before .seek .ensures), target-low (c .before .before .before .before .before .loop .inv) (c .before .before .before .before .loop-test .taken) (c .before .before .seek .ensures)), place-owner (c .before .before .before .before .before .loop .inv) (c .before .before .before .before .loop-test .taken) (c .before .before .seek .ensures))))
+own-requires c κs = let covering = c .before .before .before .before .before .loop .inv in let turn = c .before .before .before .before .loop-test .taken in (covering .grouping .owner-long, (place-within covering turn (c .before .before .seek .ensures), (_, covering .grouping .forest, target-low covering turn (c .before .before .seek .ensures), place-owner covering turn (c .before .before .seek .ensures))))
 
 add-k-3 : tie.Need-add-k-3 Inv-loop μ-loop
 add-k-3 c = let rows = rows-known (c .before .before .before .before .before .before .loop .inv .lying) _ (c .before .before .before .before .before .before .loop .inv .inside) in omega (arith, rows .node .ended, c .before .before .before .before .before .loop-test .taken)

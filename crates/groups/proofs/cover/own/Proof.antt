@@ -19,10 +19,10 @@ element-write-owner : tie.Need-element-write-owner
 element-write-owner c = search needs
 
 cast-unite : tie.Need-cast-unite
-cast-unite c = omega (arith, c .before .before .before .pre .1 .1 .1 (λ e. omega (arith, c .before .if1 .left, e)))
+cast-unite c = let f = c .before .before .before .pre .1 .1 in omega (arith, f .3 (λ e. omega (arith, c .before .if1 .left, e)), f .1 .few)
 
 unite-requires : tie.Need-unite-requires
-unite-requires c κs = let start = c .before .before .before in let first = start .pre .1 .1 .1 (λ e. omega (arith, c .before .if1 .left, e)) in let second = start .pre .1 .1 .0 .1 in (start .pre .1 .0, (omega (arith, first, second), omega (arith, first, second)))
+unite-requires c κs = let f = c .before .before .before .pre .1 .1 in (f .0, f .1, f .3 (λ e. omega (arith, c .before .if1 .left, e)), f .2)
 
 returns : tie.Need-returns
 returns c = record { first = λ e. (refl, refl); later = λ d. absurd (d (c .if1 .taken)) }

@@ -1,0 +1,49 @@
+-- `unify_small` meets its contract: the arrays have room.
+use Prim.Native.Nat.{ℕ}
+use native.Mathlib.Omega.{arith}
+use lib.ListN.{length-replicate}
+use mathlib.Core.Logic.{inl, inr}
+use borrow.Author.Needs.{needs}
+use Rattle.unify.proofs.Sharing.{class-sound}
+use Rattle.unify.proofs.Sizes.{spacious}
+use Rattle.unify.proofs.unify_small.Statement.{statement}
+use Rattle.unify.proofs.unify_small.Tie as tie
+
+slice-aggregate-merge : tie.Need-slice-aggregate-merge
+slice-aggregate-merge c = search needs
+
+slice-aggregate-merge-2 : tie.Need-slice-aggregate-merge-2
+slice-aggregate-merge-2 c = search needs
+
+slice-aggregate-merge-3 : tie.Need-slice-aggregate-merge-3
+slice-aggregate-merge-3 c = search needs
+
+merge-requires : tie.Need-merge-requires
+merge-requires c κs =
+    let p = c .before .before .before .before .before .before .pre in
+    (p .0, (p .1 .0, (p .1 .1 .0, (p .1 .1 .1 .0, (spacious (p .1 .1 .0 .recorded) (p .1 .1 .1 .0 .recorded) {nodes = 20} {links = 48} {width = 48} (p .1 .1 .1 .1 .0) (p .1 .1 .1 .1 .1) (inr (omega arith)) (omega (arith, length-replicate {A = ℕ} 1000 0)) (omega (arith, length-replicate {A = ℕ} 49 0)) (omega (arith, length-replicate {A = ℕ} 110 0)), omega (arith, length-replicate {A = ℕ} 110 0))))))
+
+slice-aggregate-tell : tie.Need-slice-aggregate-tell
+slice-aggregate-tell c = search needs
+
+tell-requires : tie.Need-tell-requires
+tell-requires c κs = class-sound (c .before .before .before .before .before .before .before .before .before .before .before .before .pre .1 .1 .0) (c .before .before .before .before .before .before .before .before .before .before .before .before .pre .1 .1 .1 .0) (c .before .before .before .before .before .merge .ensures)
+
+same-length : tie.Need-same-length
+same-length c = search needs
+
+returns : tie.Need-returns
+returns c = c .before .before .tell .ensures _ _ _ _ (c .before .before .before .before .before .before .before .before .before .before .before .before .before .before .before .pre .1 .1 .0) (c .before .before .before .before .before .before .before .before .before .before .before .before .before .before .before .pre .1 .1 .1 .0) (c .before .before .before .before .before .before .before .before .merge .ensures)
+
+pub unify-small-spec : {M : Type 1} → statement M
+unify-small-spec =
+    tie.close
+    (tie.spec
+    slice-aggregate-merge
+    slice-aggregate-merge-2
+    slice-aggregate-merge-3
+    merge-requires
+    slice-aggregate-tell
+    tell-requires
+    same-length
+    returns)
