@@ -16,6 +16,7 @@ use Rattle.graphs.specs.Generalize.{IsGeneralization}
 use Rattle.graphs.specs.Unify as unify
 use Rattle.graphs.specs.Difference.{Link, byNumber, groupOf}
 use Rattle.graphs.specs.Relations.{Into, LiesOver, Grouped, KeptLink}
+use Rattle.graphs.specs.OfRows.{samePair}
 use Rattle.graphs.proofs.Difference.ByNumber.{by-number-order}
 use Rattle.lattice.specs.Label.{Label}
 use Rattle.lattice.specs.declared.Opened.the-variants.{Accepted}
@@ -26,7 +27,6 @@ use Rattle.lattice.proofs.Acceptance.{opened-accepted}
 use Rattle.lattice.proofs.AnySize.{combination-greatest}
 use Rattle.encode.specs.Encode.{fitted}
 use Rattle.record.specs.Read.{reading, accepted, graphOfRows}
-use Rattle.generalize.specs.Pairs.{samePair}
 use Rattle.replies.specs.declared.Reply.the-variants.{Length, Same, Cycle, Clash, TooLarge, NotBelow, NoWantedType}
 use Rattle.replies.specs.Reply.{Result, resultOf}
 use Rattle.difference.specs.Difference.{over}

@@ -15,6 +15,7 @@ use Rattle.graphs.specs.Order.{subsumes}
 use Rattle.graphs.specs.Generalize.{generalization}
 use Rattle.graphs.specs.Unify.{Unified, cycle, clash, unified, unification}
 use Rattle.graphs.specs.Difference.{byNumber, meetOver, difference}
+use Rattle.graphs.specs.OfRows.{samePair, sameEither}
 use Rattle.graphs.proofs.Lists.{tells-eqb}
 use Rattle.graphs.proofs.Difference.ByNumber.{by-number-order}
 use Rattle.lattice.specs.Label.{Label, plain, noLabel}
@@ -42,7 +43,6 @@ use Rattle.record.proofs.Accepted.{Rules, accepted-rules}
 use Rattle.record.proofs.Rewritten.{written-injective}
 use Rattle.record.proofs.Theorems.{accepted-of-any-size, accepted-nodes, accepted-types}
 use Rattle.record.proofs.Unranged.{reading-unranged, reading-plain, written-unranged}
-use Rattle.generalize.specs.Pairs.{samePair}
 use Rattle.generalize.proofs.Sides.{tells-pair}
 use Rattle.difference.specs.Promise.{wantedAlong, allWantedAlong, differenceAlong}
 use Rattle.replies.specs.declared.Side.{Side}
@@ -55,7 +55,7 @@ use Rattle.pairs.specs.Pair.{readBoth}
 use Rattle.engine.specs.Rewriting.{rewritten}
 use Rattle.engine.specs.Ordering.{compared, ordered}
 use Rattle.engine.specs.Generalizing.{generalized}
-use Rattle.engine.specs.Unifying.{sameEither, combined, unifiedRows}
+use Rattle.engine.specs.Unifying.{combinedBy, combined, unifiedRows}
 use Rattle.difference.specs.Difference.{over, wantedAt, allWanted, differenceRows, differed, numbered, differedRows}
 use Rattle.demands.specs.Demand.{Given, common, remainder}
 use Rattle.demands.specs.Unranged.{
@@ -70,13 +70,11 @@ use Rattle.demands.specs.Unranged.{
   orderingTypes,
   generalizedTypes,
   generalizingTypes,
-  combinedTypes,
   unifiedTypes,
   unifyingTypes,
   wantedTypeAt,
   differenceTypes,
   differedTypes,
-  numberedTypes,
   differingTypes,
   WritesUnranged,
 }
@@ -98,7 +96,8 @@ form-plain same g = canonical-plain same g ∙ go (canonical same g)
     go (written rows) = refl
 
 -- a graph without ranges is written as over types alone
-result-plain : {A : Type 0} (same : A → A → Bool) (g : Graph ℕ A) (out : List ℕ) → resultFor same (relabel plain g) out ≡ typesResult same g out
+result-plain : {A : Type 0} (same : A → A → Bool) (g : Graph ℕ A) (out : List ℕ) →
+    resultFor same (relabel plain g) out ≡ typesResult (canonical same g) out
 result-plain same g out = ap (λ (c : Canonical Label). resultOf (writtenOut c out)) (form-plain same g)
 
 -- What a call does with rows without ranges is what it does with their types.
@@ -106,12 +105,13 @@ result-plain same g out = ap (λ (c : Canonical Label). resultOf (writtenOut c o
 length-plain : (rows : List (Row ℕ)) → length (plainRows rows) ≡ length rows
 length-plain rows = length-map rows (λ r. (plain (r .0), r .1))
 
-rewritten-plain : (out : List ℕ) (rows : List (Row ℕ)) → resultFor eqb (graphOfRows (plainRows rows)) out ≡ typesResult eqb (graphOfTypes rows) out
+rewritten-plain : (out : List ℕ) (rows : List (Row ℕ)) →
+    resultFor eqb (graphOfRows (plainRows rows)) out ≡ typesResult (canonical eqb (graphOfTypes rows)) out
 rewritten-plain out rows = ap (λ (g : Graph Label ℕ). resultFor eqb g out) (rows-plain rows) ∙ result-plain eqb (graphOfTypes rows) out
 
 -- rows of types, numbered as written
 abbrev form : List (Row ℕ) → List (Row ℕ)
-form s = numberedTypes (canonical eqb (graphOfTypes s))
+form s = numbered (canonical eqb (graphOfTypes s))
 
 numbered-plain : (s : List (Row ℕ)) → numbered (canonical eqb (graphOfRows (plainRows s))) ≡ plainRows (form s)
 numbered-plain s =
@@ -119,7 +119,7 @@ numbered-plain s =
     ap numbered (form-plain eqb (graphOfTypes s)) ∙
     go (canonical eqb (graphOfTypes s))
   where
-    go : (c : Canonical ℕ) → numbered (plainForm c) ≡ plainRows (numberedTypes c)
+    go : (c : Canonical ℕ) → numbered (plainForm c) ≡ plainRows (numbered c)
     go manyNodes = refl
     go manyLinks = refl
     go (written rows) = refl
@@ -161,7 +161,7 @@ module _ (n : ℕ) (t : List ℕ) where
   unfolding unifiedRows
   unified-plain out g h = ap (λ (o : Unified Label (ℕ ⊎ ℕ)). combined o out) (joint-plain g h) ∙ go (jointTypes g h)
     where
-      go : (o : Unified ℕ (ℕ ⊎ ℕ)) → combined (relabelUnified plain o) out ≡ combinedTypes o out
+      go : (o : Unified ℕ (ℕ ⊎ ℕ)) → combined (relabelUnified plain o) out ≡ combinedBy (λ u old. typesResult (canonical sameEither u) old) o out
       go cycle = refl
       go clash = refl
       go (unified u) = result-plain sameEither u out

@@ -5,11 +5,11 @@ use mathlib.Core.List.{List}
 use mathlib.Core.Option.{Option, Option·map, Option·getD}
 use Prim.Native.Nat.{ℕ}
 use lib.Dec.{eqb}
-use lib.ListN.{length}
 use Rattle.graphs.specs.Graph.{Graph}
-use Rattle.graphs.specs.Rows.{Row, from}
+use Rattle.graphs.specs.Rows.{Row}
 use Rattle.graphs.specs.Number.{canonical}
-use Rattle.graphs.specs.Difference.{byNumber, meetOver, difference}
+use Rattle.graphs.specs.Difference.{byNumber}
+use Rattle.graphs.specs.OfRows.{wantedOver, differenceOver}
 use Rattle.lattice.specs.Label.{Label, noLabel}
 use Rattle.lattice.specs.Table.{residual, admits}
 use Rattle.lattice.specs.Reply.{opened}
@@ -30,9 +30,8 @@ residualLabel n t p q = Option·map (wantedRange p q) (residual n t (p .type) (q
 -- the difference by residuals
 unfoldable pub residualRows : ℕ → List ℕ → List (Row Label) → List (Row Label) → Graph Label ℕ
 residualRows n t g s =
-    difference (tableLabels n t) eqb eqb byNumber (graphOfRows s) (from 0 (length s)) (graphOfRows g) (from 0 (length g)) (over s g)
-    (λ v. Option·getD (residualLabel n t (graphOfRows s .label v)
-    (meetOver (tableLabels n t) eqb (graphOfRows g) (from 0 (length g)) (over s g) v)) noLabel)
+    differenceOver (tableLabels n t) noLabel s g (over s g) byNumber
+    (λ v. Option·getD (wantedOver (tableLabels n t) noLabel s g (over s g) (residualLabel n t) v) noLabel)
 
 -- 13, then 12, else the difference
 unfoldable pub differedBefore : ℕ → List ℕ → List ℕ → List (Row Label) → List (Row Label) → Result

@@ -12,7 +12,7 @@ use Rattle.graphs.specs.Graph.{Graph, TellsApart, Below, SameMeaning}
 use Rattle.graphs.specs.Rows.{Row}
 use Rattle.graphs.specs.Number.{Canonical, manyNodes, manyLinks, written, canonical}
 use Rattle.graphs.specs.Large.{ManyNodes, ManyLinks}
-use Rattle.graphs.specs.Generalize.{IsGeneralization, generalization}
+use Rattle.graphs.specs.Generalize.{IsGeneralization, generalizationBy}
 use Rattle.graphs.specs.Difference.{Link}
 use Rattle.lattice.specs.Label.{Label}
 use Rattle.lattice.specs.declared.Opened.the-variants.{Accepted}
@@ -95,7 +95,7 @@ pub record Rewritten (n : ℕ) (t a : List ℕ) (rows : List (Row Label)) (bytes
 
 -- the common part of two graphs, of whatever size
 abbrev pub common : ℕ → List ℕ → List (Row Label) → List (Row Label) → Graph Label (ℕ × ℕ)
-common n t s g = generalization (tableLabels n t) (graphOfRows s) (graphOfRows g)
+common n t s g = generalizationBy (tableLabels n t .join) (graphOfRows s) (graphOfRows g)
 
 -- What stands in the output beside a length of the common part: a record that is read as "the paths in both, each with the join of its two
 -- types, two sharing exactly when they share in both", and this is the least graph of any size above both. The order's own answers agree:

@@ -2,19 +2,16 @@
 -- without ranges give what they gave (document 02, Paper 7).
 use mathlib.Core.Path.{_≡_}
 use mathlib.Core.Bool.{Bool, true, cond}
-use mathlib.Core.List.{List, [], map}
-use mathlib.Core.Logic.{_⊎_}
+use mathlib.Core.List.{List, map}
 use mathlib.Core.Option.{Option, Option·getD}
 use Prim.Native.Nat.{ℕ}
 use lib.Dec.{eqb}
 use lib.ListN.{length, take}
 use Rattle.graphs.specs.Graph.{Graph}
-use Rattle.graphs.specs.Rows.{Row, from, graphOf}
+use Rattle.graphs.specs.Rows.{Row, graphOf}
 use Rattle.graphs.specs.Number.{Canonical, manyNodes, manyLinks, written, canonical}
-use Rattle.graphs.specs.Order.{subsumes}
-use Rattle.graphs.specs.Generalize.{generalization}
-use Rattle.graphs.specs.Unify.{Unified, cycle, clash, unified, unification}
-use Rattle.graphs.specs.Difference.{byNumber, meetOver, difference}
+use Rattle.graphs.specs.Difference.{byNumber}
+use Rattle.graphs.specs.OfRows.{sameEither, liesBelow, commonForm, combinationOf, wantedOver, differenceOver}
 use Rattle.lattice.specs.Label.{Label}
 use Rattle.lattice.specs.Table.{every, found, wanted}
 use Rattle.lattice.specs.Reply.{opened}
@@ -22,7 +19,6 @@ use Rattle.lattice.specs.Labels.{typeLabels}
 use Rattle.encode.specs.Encode.{writtenOut}
 use Rattle.record.specs.Read.{Reading, refused, accepted}
 use Rattle.record.specs.Unranged.{unranged, plainRows, readingTypes}
-use Rattle.generalize.specs.Pairs.{samePair}
 use Rattle.replies.specs.declared.Side.the-variants.{First}
 use Rattle.replies.specs.declared.Reply.{Reply}
 use Rattle.replies.specs.declared.Reply.the-variants as reply
@@ -30,8 +26,8 @@ use Rattle.replies.specs.Reply.{Result, resultOf, refusing}
 use Rattle.calls.specs.Calls.{checked}
 use Rattle.pairs.specs.Pair.{readBoth}
 use Rattle.engine.specs.Ordering.{compared}
-use Rattle.engine.specs.Unifying.{sameEither}
-use Rattle.difference.specs.Difference.{over}
+use Rattle.engine.specs.Unifying.{combinedBy}
+use Rattle.difference.specs.Difference.{over, numbered}
 
 -- the types of rows
 abbrev pub typesIn : List (Row Label) → List (Row ℕ)
@@ -47,14 +43,14 @@ plainForm manyNodes = manyNodes
 plainForm manyLinks = manyLinks
 plainForm (written rows) = written (plainRows rows)
 
--- a graph of types as a call's result
-abbrev pub typesResult : {A : Type 0} → (A → A → Bool) → Graph ℕ A → List ℕ → Result
-typesResult same g out = resultOf (writtenOut (plainForm (canonical same g)) out)
+-- a written form of types as a call's result
+abbrev pub typesResult : Canonical ℕ → List ℕ → Result
+typesResult form out = resultOf (writtenOut (plainForm form) out)
 
 -- rewriting
 abbrev pub rewrittenTypes : Reading → List ℕ → Result
 rewrittenTypes (refused fault) out = refusing (reply.Graph fault First) out
-rewrittenTypes (accepted rows) out = typesResult eqb (graphOfTypes (typesIn rows)) out
+rewrittenTypes (accepted rows) out = typesResult (canonical eqb (graphOfTypes (typesIn rows))) out
 
 unfoldable pub rewritingTypes : ℕ → List ℕ → List ℕ → List ℕ → Result
 rewritingTypes n t bytes out = checked (λ r. refusing r out) (opened n t) (rewrittenTypes (readingTypes n bytes) out)
@@ -65,7 +61,7 @@ onTypes next g h = next (typesIn g) (typesIn h)
 
 -- the order
 abbrev pub typesBelow : ℕ → List ℕ → List (Row ℕ) → List (Row ℕ) → Bool
-typesBelow n t s g = subsumes (typeLabels n t) eqb eqb (graphOfTypes s) (graphOfTypes g) (length g)
+typesBelow n t s g = liesBelow (typeLabels n t) 0 s g
 
 abbrev pub orderedTypes : ℕ → List ℕ → List (Row ℕ) → List (Row ℕ) → Reply
 orderedTypes n t s g = compared (typesBelow n t s g) (typesBelow n t g s)
@@ -82,21 +78,16 @@ callTypes n t a b out next =
 
 -- the common part
 abbrev pub generalizedTypes : ℕ → List ℕ → List ℕ → List (Row ℕ) → List (Row ℕ) → Result
-generalizedTypes n t out g h = typesResult samePair (generalization (typeLabels n t) (graphOfTypes g) (graphOfTypes h)) out
+generalizedTypes n t out g h = typesResult (commonForm (typeLabels n t .join) 0 g h) out
 
 unfoldable pub generalizingTypes : ℕ → List ℕ → List ℕ → List ℕ → List ℕ → Result
 generalizingTypes n t a b out = callTypes n t a b out (generalizedTypes n t out)
 
 -- the combination
-abbrev pub combinedTypes : Unified ℕ (ℕ ⊎ ℕ) → List ℕ → Result
-combinedTypes cycle out = refusing reply.Cycle out
-combinedTypes clash out = refusing reply.Clash out
-combinedTypes (unified u) out = typesResult sameEither u out
-
 abbrev pub unifiedTypes : ℕ → List ℕ → List ℕ → List (Row ℕ) → List (Row ℕ) → Result
 unifiedTypes n t out g h =
-    combinedTypes
-    (unification (typeLabels n t) eqb eqb (graphOfTypes g) (from 0 (length g)) (graphOfTypes h) (from 0 (length h)))
+    combinedBy (λ u old. typesResult (canonical sameEither u) old)
+    (combinationOf (typeLabels n t .meet) (typeLabels n t .top) (typeLabels n t .contradiction) 0 g h)
     out
 
 unfoldable pub unifyingTypes : ℕ → List ℕ → List ℕ → List ℕ → List ℕ → Result
@@ -104,31 +95,23 @@ unifyingTypes n t a b out = callTypes n t a b out (unifiedTypes n t out)
 
 -- the difference: which node of s lies under one of g does not depend on labels
 abbrev pub wantedTypeAt : ℕ → List ℕ → List (Row ℕ) → List (Row ℕ) → ℕ → Option ℕ
-wantedTypeAt n t s g v =
-    wanted n t (graphOfTypes s .label v)
-    (meetOver (typeLabels n t) eqb (graphOfTypes g) (from 0 (length g)) (over (plainRows s) (plainRows g)) v)
+wantedTypeAt n t s g v = wantedOver (typeLabels n t) 0 s g (over (plainRows s) (plainRows g)) (wanted n t) v
 
 abbrev pub differenceTypes : ℕ → List ℕ → List (Row ℕ) → List (Row ℕ) → Graph ℕ ℕ
 differenceTypes n t g s =
-    difference (typeLabels n t) eqb eqb byNumber (graphOfTypes s) (from 0 (length s)) (graphOfTypes g) (from 0 (length g))
-    (over (plainRows s) (plainRows g)) (λ v. Option·getD (wantedTypeAt n t s g v) 0)
+    differenceOver (typeLabels n t) 0 s g (over (plainRows s) (plainRows g)) byNumber λ v. Option·getD (wantedTypeAt n t s g v) 0
 
 abbrev pub differedTypes : ℕ → List ℕ → List ℕ → List (Row ℕ) → List (Row ℕ) → Result
 differedTypes n t out g s =
     cond (typesBelow n t s g)
-    (cond (every (length s) λ v. found (wantedTypeAt n t s g v)) (typesResult eqb (differenceTypes n t g s) out)
+    (cond (every (length s) λ v. found (wantedTypeAt n t s g v)) (typesResult (canonical eqb (differenceTypes n t g s)) out)
     (refusing reply.NoWantedType out))
     (refusing reply.NotBelow out)
 
--- s numbered as written
-abbrev pub numberedTypes : Canonical ℕ → List (Row ℕ)
-numberedTypes manyNodes = []
-numberedTypes manyLinks = []
-numberedTypes (written rows) = rows
-
+-- with s numbered as written
 unfoldable pub differingTypes : ℕ → List ℕ → List ℕ → List ℕ → List ℕ → Result
 differingTypes n t a b out =
-    callTypes n t a b out λ g s. differedTypes n t out g (numberedTypes (canonical eqb (graphOfTypes s)))
+    callTypes n t a b out λ g s. differedTypes n t out g (numbered (canonical eqb (graphOfTypes s)))
 
 -- the record that stands in the output beside a length has no type byte with bit 7
 abbrev pub WritesUnranged : Result → Type 0

@@ -48,7 +48,7 @@ differed earlier n t out g s =
     (refusing NotBelow out)
 
 -- "Number s as written": the rows of a written form; an accepted graph has one
-abbrev pub numbered : Canonical Label → List (Row Label)
+abbrev pub numbered : {L : Type 0} → Canonical L → List (Row L)
 numbered manyNodes = []
 numbered manyLinks = []
 numbered (written rows) = rows

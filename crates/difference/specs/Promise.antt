@@ -8,8 +8,9 @@ use lib.Dec.{eqb}
 use lib.ListN.{length}
 use Rattle.graphs.specs.Graph.{Graph}
 use Rattle.graphs.specs.Rows.{Row, from}
-use Rattle.graphs.specs.Difference.{Link, difference, meetOver}
+use Rattle.graphs.specs.Difference.{Link}
 use Rattle.graphs.specs.Reasons.{reasonAt, alongLinks, writtenOrder}
+use Rattle.graphs.specs.OfRows.{wantedOver, differenceOver}
 use Rattle.lattice.specs.Table.{every, found}
 use Rattle.lattice.specs.Label.{Label, noLabel}
 use Rattle.lattice.specs.Labels.{tableLabels, wantedLabel}
@@ -19,9 +20,7 @@ module _ (n : ℕ) (t : List ℕ) (s g : List (Row Label)) (over : ℕ → ℕ) 
   -- "The wanted type is the greatest type whose meet with the meet of all g types over this node (top if none) equals the type in s", and
   -- with it the wanted range (document 02, Paper 7); none where "none is the greatest"
   unfoldable pub wantedAlong : ℕ → Option Label
-  wantedAlong v =
-      wantedLabel n t (graphOfRows s .label v)
-      (meetOver (tableLabels n t) eqb (graphOfRows g) (from 0 (length g)) over v)
+  wantedAlong v = wantedOver (tableLabels n t) noLabel s g over (wantedLabel n t) v
 
   -- every node of s, kept or not, has a wanted label
   unfoldable pub allWantedAlong : Bool
@@ -32,8 +31,7 @@ module _ (earlier : Link ℕ → Link ℕ → Bool) (n : ℕ) (t : List ℕ) (s 
   -- the difference
   unfoldable pub differenceAlong : Graph Label ℕ
   differenceAlong =
-      difference (tableLabels n t) eqb eqb earlier (graphOfRows s) (from 0 (length s)) (graphOfRows g) (from 0 (length g))
-      over (λ v. Option·getD (wantedAlong n t s g over v) noLabel)
+      differenceOver (tableLabels n t) noLabel s g over earlier λ v. Option·getD (wantedAlong n t s g over v) noLabel
 
   -- the reasons for the links of the difference "in record order" (document 02, Paper 13)
   unfoldable pub reasonsAlong : List ℕ

@@ -1,28 +1,28 @@
 -- From the combination by meets as they are held to what is answered: they are the meets of the accepted table.
-use mathlib.Core.Path.{_≡_, refl, sym, _∙_, ap, ap₂}
+use mathlib.Core.Path.{_≡_, refl, _∙_, ap}
 use mathlib.Core.Bool.{false}
 use mathlib.Core.List.{List}
 use mathlib.Core.Logic.{_⊎_}
-use Prim.Native.Nat.{ℕ, _≤_, _<_}
+use Prim.Native.Nat.{ℕ, _-_, _≤_, _<_}
 use lib.Dec.{eqb}
 use lib.ListN.{length}
 use Rattle.graphs.specs.Rows.{Row, from}
-use Rattle.graphs.specs.Unify.{Unified, cycle, clash, unified, unification}
-use Rattle.lattice.specs.Label.{Label}
+use Rattle.graphs.specs.Unify.{Unified, cycle, clash, unified}
+use Rattle.graphs.specs.OfRows.{combinationOf}
+use Rattle.lattice.specs.Label.{Label, plain, noLabel}
 use Rattle.bounds.specs.Opening.{OpenedFor}
 use Rattle.bounds.specs.Sets.{meetIn}
-use Rattle.lattice.specs.Labels.{tableLabels}
+use Rattle.lattice.specs.Labels.{meetRanged}
 use Rattle.lattice.proofs.Laws.{accepted-size, zero-type}
 use Rattle.lattice.proofs.Transfer.{same-unification}
 use Rattle.bounds.proofs.Types.{meets-known}
-use Rattle.layout.specs.Layout.{size, graphOfRows, graphIn, rowsOf}
-use Rattle.layout.proofs.Rows.{length-rows}
+use Rattle.layout.specs.Layout.{graphOfRows, rowsOf}
 use Rattle.encode.specs.Encode.{Yield, yielding}
 use Rattle.record.specs.Reads.{Loaded}
 use Rattle.record.proofs.Accepted.{Rules}
 use Rattle.unify.specs.declared.Combined.{Combined}
 use Rattle.unify.specs.Lowered.{Meeting}
-use Rattle.unify.specs.Outcome.{meetsOf, unifiedOut}
+use Rattle.unify.specs.Outcome.{contradicts, unifiedOut, unifyingOut}
 use Rattle.unify.specs.Rows.{Operand}
 use Rattle.replies.specs.declared.Reply.{Reply}
 use Rattle.replies.specs.Reply.{Result, resulting}
@@ -40,9 +40,9 @@ combined-is cycle out = refl
 combined-is clash out = refl
 combined-is (unified u) out = refl
 
--- the unification of two graphs by given meets
-abbrev byMeets : ℕ → (ℕ → ℕ → ℕ) → List ℕ → List ℕ → Unified Label (ℕ ⊎ ℕ)
-byMeets n meets g h = unification (meetsOf n meets) eqb eqb (graphIn g) (from 0 (size g)) (graphIn h) (from 0 (size h))
+-- the unification of rows by given meets
+abbrev byMeets : ℕ → (ℕ → ℕ → ℕ) → List (Row Label) → List (Row Label) → Unified Label (ℕ ⊎ ℕ)
+byMeets n meets g h = combinationOf (meetRanged meets) (plain (n - 1)) contradicts noLabel g h
 
 module _ {n : ℕ} {t sets : List ℕ} {cells : List (List ℕ)} (meets : OpenedFor false n t sets cells) where
   -- what combining asks of a graph
@@ -70,24 +70,20 @@ module _ {n : ℕ} {t sets : List ℕ} {cells : List (List ℕ)} (meets : Opened
 
   -- the combination by the meets as they are held is that by the table's types
   held-unified : (out : List ℕ) (g h : List (Row Label)) → Rules n g → Rules n h →
-      combined
-      (unification (meetsOf n (meetIn n sets cells)) eqb eqb (graphOfRows g) (from 0 (length g)) (graphOfRows h) (from 0 (length h))) out ≡
-      unifiedRows n t out g h
+      combined (byMeets n (meetIn n sets cells) g h) out ≡ unifiedRows n t out g h
   unfolding unifiedRows
   held-unified out g h left right =
       ap (λ (u : Unified Label (ℕ ⊎ ℕ)). combined u out)
-      (same-unification n t (meets .ok) eqb (meetIn n sets cells) (λ a b. a)
+      (same-unification n t (meets .ok) (meetIn n sets cells)
       (λ i j l s. meets-known n t (meets .ok) sets (meets .lent) cells (meets .long) i j l s (meets .holding) .0) eqb eqb
       (graphOfRows g) (from 0 (length g)) (graphOfRows h) (from 0 (length h)) (λ v _. label-known (zero-type n t (meets .ok)) left v)
       (λ w _. label-known (zero-type n t (meets .ok)) right w))
 
   -- what is written of two graphs in words
   pub unified-as : {g h : List ℕ} (out : List ℕ) → Loaded n g → Loaded n h → {answer : Combined} {r : Reply} {new : List ℕ} →
-      yielding answer new ≡ unifiedOut (byMeets n (meetIn n sets cells) g h) out → r ≡ combinedReply answer →
+      yielding answer new ≡ unifyingOut n (meetIn n sets cells) g h out → r ≡ combinedReply answer →
       resulting r new ≡ unifiedRows n t out (rowsOf g) (rowsOf h)
   unified-as {g} {h} out one other {new = new} yields said =
-      ap (λ (q : Reply). resulting q new) said ∙ ap combinedResult yields ∙ combined-is (byMeets n (meetIn n sets cells) g h) out ∙
-      sym
-      (ap₂ (λ (k l : ℕ). combined (unification (meetsOf n (meetIn n sets cells)) eqb eqb (graphIn g) (from 0 k) (graphIn h) (from 0 l)) out)
-      (length-rows g 0 (size g)) (length-rows h 0 (size h))) ∙
+      ap (λ (q : Reply). resulting q new) said ∙ ap combinedResult yields ∙
+      combined-is (byMeets n (meetIn n sets cells) (rowsOf g) (rowsOf h)) out ∙
       held-unified out (rowsOf g) (rowsOf h) (loaded-rules one) (loaded-rules other)

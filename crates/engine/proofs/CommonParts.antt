@@ -4,13 +4,14 @@ use mathlib.Core.Bool.{true}
 use mathlib.Core.List.{List}
 use Prim.Native.Nat.{ℕ}
 use Rattle.graphs.specs.Rows.{Row}
-use Rattle.graphs.specs.Number.{Canonical, canonical}
-use Rattle.graphs.specs.Generalize.{generalization}
-use Rattle.lattice.specs.Label.{Label}
-use Rattle.layout.specs.Layout.{Recorded, graphOfRows, graphIn, rowsOf}
+use Rattle.graphs.specs.Number.{Canonical}
+use Rattle.graphs.specs.Generalize.{generalizationBy, generalization}
+use Rattle.graphs.specs.OfRows.{commonForm}
+use Rattle.lattice.specs.Label.{Label, noLabel}
+use Rattle.layout.specs.Layout.{Recorded, graphOfRows, rowsOf}
 use Rattle.bounds.specs.Opening.{OpenedFor}
 use Rattle.bounds.specs.Sets.{Seekable, joinIn}
-use Rattle.lattice.specs.Labels.{tableLabels}
+use Rattle.lattice.specs.Labels.{joinRanged, tableLabels}
 use Rattle.lattice.proofs.Laws.{accepted-size, zero-type}
 use Rattle.lattice.proofs.Lawful.{label-parts}
 use Rattle.bounds.proofs.Types.{joins-known}
@@ -18,7 +19,8 @@ use Rattle.encode.specs.declared.Written.{Written}
 use Rattle.encode.specs.Encode.{yielding, writtenOut}
 use Rattle.record.specs.Reads.{Loaded}
 use Rattle.record.proofs.Accepted.{Rules}
-use Rattle.generalize.specs.Pairs.{Joinable, joinsOf, samePair}
+use Rattle.generalize.specs.Pairs.{Joinable}
+use Rattle.generalize.specs.Product.{productOut}
 use Rattle.generalize.proofs.Sides.{tells-pair}
 use Rattle.replies.specs.declared.Reply.{Reply}
 use Rattle.replies.specs.Reply.{resulting, resultOf, replyOf}
@@ -50,11 +52,10 @@ module _ {n : ℕ} {t sets : List ℕ} {cells : List (List ℕ)} (joins : Opened
 
   -- the common part by the joins as they are held is that by the table's types
   held-generalized : (g h : List (Row Label)) → Rules n g → Rules n h →
-      canonical samePair (generalization (joinsOf (joinIn n sets cells)) (graphOfRows g) (graphOfRows h)) ≡
-      canonical samePair (generalization (tableLabels n t) (graphOfRows g) (graphOfRows h))
-  unfolding generalization
+      commonForm (joinRanged (joinIn n sets cells)) noLabel g h ≡ commonForm (tableLabels n t .join) noLabel g h
+  unfolding generalizationBy
   held-generalized g h left right =
-      canonical-same tells-pair (generalization (joinsOf (joinIn n sets cells)) (graphOfRows g) (graphOfRows h))
+      canonical-same tells-pair (generalizationBy (joinRanged (joinIn n sets cells)) (graphOfRows g) (graphOfRows h))
       (generalization (tableLabels n t) (graphOfRows g) (graphOfRows h)) refl
       (λ x.
       label-parts
@@ -64,7 +65,7 @@ module _ {n : ℕ} {t sets : List ℕ} {cells : List (List ℕ)} (joins : Opened
 
   -- what is written of two graphs in words
   pub generalized-as : {g h : List ℕ} (out : List ℕ) → Loaded n g → Loaded n h → {w : Written} {r : Reply} {new : List ℕ} →
-      yielding w new ≡ writtenOut (canonical samePair (generalization (joinsOf (joinIn n sets cells)) (graphIn g) (graphIn h))) out →
+      yielding w new ≡ productOut (joinIn n sets cells) g h out →
       r ≡ replyOf w → resulting r new ≡ generalized n t out (rowsOf g) (rowsOf h)
   unfolding generalized
   generalized-as {g} {h} out one other yields said =

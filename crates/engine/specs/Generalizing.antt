@@ -2,20 +2,16 @@
 use mathlib.Core.List.{List}
 use Prim.Native.Nat.{ℕ}
 use Rattle.graphs.specs.Rows.{Row}
-use Rattle.graphs.specs.Number.{canonical}
-use Rattle.graphs.specs.Generalize.{generalization}
-use Rattle.lattice.specs.Label.{Label}
+use Rattle.graphs.specs.OfRows.{commonForm}
+use Rattle.lattice.specs.Label.{Label, noLabel}
 use Rattle.lattice.specs.Labels.{tableLabels}
 use Rattle.encode.specs.Encode.{writtenOut}
-use Rattle.record.specs.Read.{graphOfRows}
-use Rattle.generalize.specs.Pairs.{samePair}
 use Rattle.pairs.specs.Pair.{readBoth, readingBeside}
 use Rattle.replies.specs.Reply.{Result, resultOf, refusing}
 
 -- the common part of two graphs in written form
 unfoldable pub generalized : ℕ → List ℕ → List ℕ → List (Row Label) → List (Row Label) → Result
-generalized n t out g h =
-    resultOf (writtenOut (canonical samePair (generalization (tableLabels n t) (graphOfRows g) (graphOfRows h))) out)
+generalized n t out g h = resultOf (writtenOut (commonForm (tableLabels n t .join) noLabel g h) out)
 
 -- both graphs' refusals, then their common part
 abbrev pub generalizedBeside : ℕ → List ℕ → List ℕ → List ℕ → List ℕ → List ℕ → Result

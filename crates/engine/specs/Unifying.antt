@@ -2,16 +2,14 @@
 use mathlib.Core.List.{List}
 use mathlib.Core.Logic.{_⊎_}
 use Prim.Native.Nat.{ℕ}
-use lib.Dec.{eqb}
-use lib.ListN.{length}
-use Rattle.graphs.specs.Rows.{Row, from}
+use Rattle.graphs.specs.Graph.{Graph}
+use Rattle.graphs.specs.Rows.{Row}
 use Rattle.graphs.specs.Number.{canonical}
-use Rattle.graphs.specs.Unify.{Unified, cycle, clash, unified, unification}
-use Rattle.lattice.specs.Label.{Label}
+use Rattle.graphs.specs.Unify.{Unified, cycle, clash, unified}
+use Rattle.graphs.specs.OfRows.{sameEither, combinationOf}
+use Rattle.lattice.specs.Label.{Label, noLabel}
 use Rattle.lattice.specs.Labels.{tableLabels}
 use Rattle.encode.specs.Encode.{writtenOut}
-use Rattle.record.specs.Read.{graphOfRows}
-pub use Rattle.unify.specs.Outcome.{sameEither}
 use Rattle.unify.specs.declared.Combined.{Combined}
 use Rattle.unify.specs.declared.Combined.the-variants as unify
 use Rattle.pairs.specs.Pair.{readBoth, readingBeside}
@@ -19,17 +17,21 @@ use Rattle.replies.specs.declared.Reply.{Reply}
 use Rattle.replies.specs.declared.Reply.the-variants.{Cycle, Clash}
 use Rattle.replies.specs.Reply.{Result, replyOf, resultOf, refusing}
 
--- a loop, a clash and no loop, or the record in written form
+-- a loop, a clash and no loop, or what is written of the graph
+abbrev pub combinedBy : {L : Type 0} → (Graph L (ℕ ⊎ ℕ) → List ℕ → Result) → Unified L (ℕ ⊎ ℕ) → List ℕ → Result
+combinedBy write cycle out = refusing Cycle out
+combinedBy write clash out = refusing Clash out
+combinedBy write (unified u) out = write u out
+
+-- which is the record in written form
 abbrev pub combined : Unified Label (ℕ ⊎ ℕ) → List ℕ → Result
-combined cycle out = refusing Cycle out
-combined clash out = refusing Clash out
-combined (unified u) out = resultOf (writtenOut (canonical sameEither u) out)
+combined o out = combinedBy (λ u old. resultOf (writtenOut (canonical sameEither u) old)) o out
 
 -- the combination of two graphs in written form
 unfoldable pub unifiedRows : ℕ → List ℕ → List ℕ → List (Row Label) → List (Row Label) → Result
 unifiedRows n t out g h =
     combined
-    (unification (tableLabels n t) eqb eqb (graphOfRows g) (from 0 (length g)) (graphOfRows h) (from 0 (length h)))
+    (combinationOf (tableLabels n t .meet) (tableLabels n t .top) (tableLabels n t .contradiction) noLabel g h)
     out
 
 -- both graphs' refusals, then their combination

@@ -13,6 +13,7 @@ use lib.Seq.{take-append-seam}
 use Rattle.graphs.specs.Graph.{Graph}
 use Rattle.graphs.specs.Number.{Canonical, canonical, manyNodes, manyLinks, written}
 use Rattle.graphs.specs.Rows.{Row}
+use Rattle.graphs.specs.OfRows.{samePair}
 use Rattle.lattice.specs.Label.{Label}
 use Rattle.lattice.specs.declared.Opened.the-variants.{Accepted}
 use Rattle.lattice.specs.Reply.{opened}
@@ -22,7 +23,6 @@ use Rattle.encode.proofs.Lengths.{longest}
 use Rattle.record.specs.declared.GraphFault.{GraphFault}
 use Rattle.record.specs.Read.{Reading, refused, reading, accepted, graphOfRows}
 use Rattle.record.proofs.Accepted.{accepted-rules}
-use Rattle.generalize.specs.Pairs.{samePair}
 use Rattle.replies.specs.declared.Side.the-variants.{First}
 use Rattle.replies.specs.declared.Reply.{Reply}
 use Rattle.replies.specs.declared.Reply.the-variants.{Length, Graph as OfGraph, TooLarge}

@@ -6,8 +6,9 @@ use lib.ListN.{replicate, take}
 use Rattle.graphs.specs.Rows.{from, target, linksOf}
 use Rattle.graphs.specs.Order.{allOf, within as walks, fitsAt, subsumes}
 use Rattle.graphs.specs.Number.{canonical, visit, each, member, indexOf, outDegree, linkCount, rowOf}
-use Rattle.graphs.specs.Generalize.{generalization}
+use Rattle.graphs.specs.Generalize.{generalizationBy}
 use Rattle.graphs.specs.Unify.{anyOf, deep}
+use Rattle.graphs.specs.OfRows.{samePair}
 use Rattle.lattice.specs.Table.{every, last, below, sized, confined, reflexive, antisymmetric, transitive, least, greatest, ordered, isMeet, isJoin, meet, join, bounded}
 use Rattle.lattice.specs.declared.TableFault.the-variants.{Size}
 use Rattle.lattice.specs.Reply.{opened}
@@ -15,7 +16,6 @@ use Rattle.decode.specs.Decode.{bitOf, labelLength, labelOf, takeLinks, takeRow
 use Rattle.encode.specs.Encode.{bitsFrom, isFull, encodedLabel, encodedRow, encodedRows, encoded, fitted, writtenOut}
 use Rattle.record.specs.Read.{labelInRange, inRange, cyclic, reachesAll, reading}
 use Rattle.record.specs.declared.GraphFault.the-variants.{Malformed}
-use Rattle.generalize.specs.Pairs.{samePair}
 use Rattle.replies.specs.declared.Reply.the-variants.{Length, NoRoom, Same, Under, Above, Table, Graph, NothingGathered}
 use Rattle.replies.specs.declared.Side.the-variants.{First, Second}
 use Rattle.replies.specs.Reply.{resulting}
@@ -59,7 +59,7 @@ module _ where
       reading decoded takeRows takeRow labelLength labelOf takeLinks bitOf inRange labelInRange allOf cyclic anyOf deep reachesAll
       canonical visit each member target from linkCount outDegree rowOf linksOf indexOf
       writtenOut fitted encoded encodedRows encodedRow encodedLabel isFull bitsFrom
-      generalization samePair
+      generalizationBy samePair
       subsumes walks fitsAt flatMap
       twoBytes stateOf begun adding comparing finishing
   examples = (refl, refl, refl, refl, refl, refl, refl, refl, refl, refl, refl, refl, refl, refl, refl, refl, refl, refl)

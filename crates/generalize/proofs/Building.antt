@@ -11,13 +11,13 @@ use Rattle.graphs.specs.Graph.{Reached}
 use Rattle.graphs.specs.Rows.{Row}
 use Rattle.graphs.proofs.Walk.{reached-root, reached-link}
 use Rattle.lattice.specs.Label.{Label, noLabel}
-use Rattle.lattice.specs.Labels.{Known}
+use Rattle.lattice.specs.Labels.{Known, joinRanged}
 use Rattle.layout.specs.Layout.{Recorded, Node, header, size, labelFrom, labelAt, linksBetween, linksAt, rowsFrom}
 use Rattle.layout.specs.Builder.{Built, Open, Same, putLabel}
 use Rattle.layout.proofs.Rows.{row-at, length-rows}
 use Rattle.layout.proofs.Builder.{put-before, label-put, label-same, length-put, built-begin, built-kept, rows-kept, row-closes, closed-rows}
 use Rattle.generalize.specs.declared.Spread.{Spread}
-use Rattle.generalize.specs.Pairs.{Joinable, joinsOf}
+use Rattle.generalize.specs.Pairs.{Joinable}
 use Rattle.generalize.specs.Product.{product}
 use Rattle.generalize.specs.Queue.{clear, common, room, Marked, Matched, Numbered, Adds}
 use Rattle.generalize.proofs.Marking.{mark-root}
@@ -42,7 +42,7 @@ pair-numbered {queue} x i n =
 
 -- the join of the labels of a pair
 abbrev pub joined : (ℕ → ℕ → ℕ) → List ℕ → List ℕ → ℕ × ℕ → Label
-joined joins a b x = joinsOf joins .join (labelAt a (x .0)) (labelAt b (x .1))
+joined joins a b x = joinRanged joins (labelAt a (x .0)) (labelAt b (x .1))
 
 pub record Building (joins : ℕ → ℕ → ℕ) (a b : List ℕ) (head count at : ℕ) (marks queue words : List ℕ) : Type 0 where
   pub left : Recorded a

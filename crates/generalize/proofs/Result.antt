@@ -12,6 +12,7 @@ use Rattle.graphs.specs.Graph.{Reached}
 use Rattle.graphs.specs.Rows.{Row}
 use Rattle.graphs.specs.Number.{Canonical, canonical, manyNodes, manyLinks, written}
 use Rattle.graphs.specs.Large.{Distinct, Ascending, ManyNodes, ManyLinks}
+use Rattle.graphs.specs.OfRows.{samePair}
 use Rattle.graphs.proofs.Form.Bisimilar.{Alike, absent, present, Bisimilar}
 use Rattle.graphs.proofs.Form.Invariant.{bisimilar-canonical}
 use Rattle.graphs.proofs.Form.Large.{canonical-fits}
@@ -27,7 +28,6 @@ use Rattle.layout.proofs.Places.{label-at, link-at, link-place}
 use Rattle.layout.proofs.Builder.{Orderly, Aimed, size-kept, size-rows, size-is, built-shaped, built-sound}
 use Rattle.encode.specs.Encode.{yielding, writtenOut}
 use Rattle.encode.specs.declared.Written.the-variants as outcome
-use Rattle.generalize.specs.Pairs.{samePair}
 use Rattle.generalize.specs.Product.{product, productOut}
 use Rattle.generalize.specs.Queue.{clear, codeOf, common, Marked, Numbered, Full}
 use Rattle.generalize.proofs.Sides.{pairOf, product-root, product-link, product-label, common-known, tells-pair}

@@ -7,12 +7,13 @@ use Prim.Native.Nat.{ℕ, _/_, _%_, _<_}
 use borrow.Author.Tests.{eq-eqb, eqb-true}
 use lib.Dec.{eqb}
 use Rattle.graphs.specs.Graph.{TellsApart}
-use Rattle.graphs.specs.Generalize.{generalization}
+use Rattle.graphs.specs.Generalize.{generalizationBy}
+use Rattle.graphs.specs.OfRows.{samePair}
 use Rattle.graphs.proofs.Product.{both-some}
 use Rattle.graphs.proofs.Search.{both-true}
+use Rattle.lattice.specs.Labels.{joinRanged}
 use Rattle.layout.specs.Layout.{Recorded, size, labelAt, graphIn}
 use Rattle.layout.proofs.Places.{label-at, link-inside}
-use Rattle.generalize.specs.Pairs.{joinsOf, samePair}
 use Rattle.generalize.specs.Product.{product}
 use Rattle.generalize.specs.Queue.{common}
 
@@ -22,16 +23,16 @@ pairOf p = (p / 255, p % 255)
 
 module _ (joins : ℕ → ℕ → ℕ) (a b : List ℕ) where
   pub product-root : product joins a b .root ≡ (0, 0)
-  unfolding generalization
+  unfolding generalizationBy
   product-root = refl
 
   pub product-link : (x : ℕ × ℕ) (f : ℕ) → product joins a b .link x f ≡ common a b x f
-  unfolding generalization
+  unfolding generalizationBy
   product-link x f = refl
 
-  pub product-label : (u v : ℕ) → u < size a → v < size b → product joins a b .label (u, v) ≡ joinsOf joins .join (labelAt a u) (labelAt b v)
-  unfolding generalization
-  product-label u v i j = ap₂ (joinsOf joins .join) (label-at a u i) (label-at b v j)
+  pub product-label : (u v : ℕ) → u < size a → v < size b → product joins a b .label (u, v) ≡ joinRanged joins (labelAt a u) (labelAt b v)
+  unfolding generalizationBy
+  product-label u v i j = ap₂ (joinRanged joins) (label-at a u i) (label-at b v j)
 
 pub common-known : {a b : List ℕ} → Recorded a → Recorded b → (x y : ℕ × ℕ) (f : ℕ) → common a b x f ≡ some y →
     (f < 64) × (y .0 < size a) × (y .1 < size b)

@@ -7,11 +7,12 @@ ghost use mathlib.Core.Path.{_≡_};
 ghost use mathlib.Core.Bool.{true};
 ghost use Prim.Native.Nat.{_≤_, _<_};
 ghost use lib.ListN.{length};
+ghost use Rattle.lattice.specs.Labels.{joinRanged};
 ghost use Rattle.bounds.specs.Sets.{Seekable, joinIn};
 ghost use Rattle.layout.specs.Builder.{stated};
 ghost use Rattle.layout.specs.Layout.{Recorded, longest, size};
 ghost use Rattle.encode.specs.Encode.{yielding};
-ghost use Rattle.generalize.specs.Pairs.{Joinable, joinsOf};
+ghost use Rattle.generalize.specs.Pairs.{Joinable};
 ghost use Rattle.generalize.specs.Product.{productOut};
 ghost use Rattle.generalize.specs.Queue.{Marked, Offered, Spreads, common, room};
 
@@ -113,7 +114,7 @@ fn join<'a>(
 ) -> Label
     requires { ⌜ (a .kind < n) × (b .kind < n) × (n ≤ 64) ⌝ }
     requires { ⌜ Seekable true n (now sets) ⌝ }
-    ensures { λ r. ⌜ stated r ≡ joinsOf (joinIn n (now (sets .entry)) (now (cells .entry))) .join (stated a) (stated b) ⌝ }
+    ensures { λ r. ⌜ stated r ≡ joinRanged (joinIn n (now (sets .entry)) (now (cells .entry))) (stated a) (stated b) ⌝ }
 {
     Label {
         kind: bounds::sets::join(n, sets, cells, a.kind as usize, b.kind as usize),

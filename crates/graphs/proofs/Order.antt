@@ -11,7 +11,7 @@ use lib.ListN.{length}
 use Rattle.graphs.specs.Label.{Labels}
 use Rattle.graphs.specs.Graph.{Graph, TellsApart, follow, walk, Reached, Below}
 use Rattle.graphs.specs.Rows.{features}
-use Rattle.graphs.specs.Generalize.{both, generalization}
+use Rattle.graphs.specs.Generalize.{both, generalizationBy, generalization}
 use Rattle.graphs.specs.Order.{allOf, meetings, there, fitsAt, sharesAt, subsumes}
 use Rattle.graphs.proofs.Walk.{none-some, some-unique, snoc-induction, follow-nil, follow-last, walk-snoc}
 use Rattle.graphs.proofs.Lists.{mem-features}
@@ -56,14 +56,14 @@ module _ (𝓛 : Labels) {A B : Type 0} (sameA : A → A → Bool) (sameB : B �
   Together x = (p : List ℕ) × (walk s p ≡ some (x .0)) × (walk g p ≡ some (x .1))
 
   pub listed-together : (x : A × B) → List·Memᴰ x (meetings s g k) → Together x
-  unfolding generalization
+  unfolding generalizationBy
   listed-together x m =
       let (p, e) = within-reached (generalization 𝓛 s g .link) k (some (s .root, g .root)) x m in
       let (a, b) = both-some (walk s p) (walk g p) (sym (product-walk 𝓛 s g p) ∙ e) in
       (p, a, b)
 
   pub together-listed : (x : A × B) → Together x → List·Memᴰ x (meetings s g k)
-  unfolding generalization
+  unfolding generalizationBy
   together-listed x (p, a, b) =
       reached-within (generalization 𝓛 s g .link) k (some (s .root, g .root)) p x small (short p (x .1) b) (product-walk 𝓛 s g p ∙ joined)
     where

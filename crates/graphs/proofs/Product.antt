@@ -10,7 +10,7 @@ use Prim.Native.Nat.{ℕ}
 use Rattle.graphs.specs.Label.{Labels, Lattice}
 use Rattle.graphs.specs.Graph.{Graph, Below, SameMeaning, AnySize, walk, follow, step, Corefer}
 use Rattle.graphs.specs.Bounds.{LeastAbove, GreatestBelow}
-use Rattle.graphs.specs.Generalize.{both, IsGeneralization, generalization}
+use Rattle.graphs.specs.Generalize.{both, IsGeneralization, generalizationBy, generalization}
 use Rattle.graphs.proofs.Walk.{some-injective, none-some}
 use Rattle.graphs.proofs.Finite.{above-any-size}
 use Rattle.graphs.proofs.Below.{below-trans, below-labels, below-antisym}
@@ -43,7 +43,7 @@ module _ {A B : Type 0} where
 
 module _ (𝓛 : Labels) {A B : Type 0} (g : Graph (𝓛 .L) A) (h : Graph (𝓛 .L) B) where
   pub product-walk : (p : List ℕ) → walk (generalization 𝓛 g h) p ≡ both (walk g p) (walk h p)
-  unfolding generalization
+  unfolding generalizationBy
   product-walk p = pair-follow (g .link) (h .link) (some (g .root)) (some (h .root)) p
 
   -- The product walks where both graphs do.
@@ -53,7 +53,7 @@ module _ (𝓛 : Labels) {A B : Type 0} (g : Graph (𝓛 .L) A) (h : Graph (𝓛
       (λ e. both-some (walk g p) (walk h p) (sym (product-walk p) ∙ e), λ d. product-walk p ∙ ap₂ both (d .0) (d .1))
 
   pub product-is-generalization : IsGeneralization 𝓛 g h (generalization 𝓛 g h)
-  unfolding generalization
+  unfolding generalizationBy
   product-is-generalization =
       record {
         there = λ p x e.

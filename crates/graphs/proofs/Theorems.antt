@@ -238,7 +238,7 @@ module _ (𝓛 : Labels) (lattice : Lattice 𝓛) where
         (unification 𝓛 sameA sameB d (difference-any-size .nodes) g (b .nodes) ≡ unified u) × SameMeaning 𝓛 u s
     difference-unified =
         let given = any-size-operands tellsA tellsB difference-any-size b in
-        let u = classGraph 𝓛 sameA sameB d (difference-any-size .nodes) g (b .nodes) in
+        let u = classGraph (𝓛 .meet) (𝓛 .top) sameA sameB d (difference-any-size .nodes) g (b .nodes) in
         let found = Outcome.bounded-graph lattice given a (difference-restores .left) (difference-restores .right) in
         let is = Outcome.graph-right lattice given u found .1 in
         (u, found, Difference.difference-restores 𝓛 sameA sameB earlier s (a .nodes) g (b .nodes) over wanted set is)
@@ -249,7 +249,7 @@ module _ (𝓛 : Labels) (lattice : Lattice 𝓛) where
         (Below 𝓛 u s → ⊥)
     difference-most-general sameE tellsE e c above strict =
         let given = any-size-operands tellsE tellsB c b in
-        let u = classGraph 𝓛 sameE sameB e (c .nodes) g (b .nodes) in
+        let u = classGraph (𝓛 .meet) (𝓛 .top) sameE sameB e (c .nodes) g (b .nodes) in
         let found = Outcome.bounded-graph lattice given a (Below.below-trans lattice (difference-restores .left) above) (difference-restores .right) in
         let (x, y) = Difference.difference-nothing-more-general 𝓛 sameA sameB earlier s (a .nodes) g (b .nodes) over wanted set e u above strict
         (Outcome.graph-right lattice given u found .1) in

@@ -21,11 +21,15 @@ module _ (𝓛 : Labels) {A B : Type 0} where
     pub back : (p : List ℕ) (v : A) (w : B) → walk g p ≡ some v → walk h p ≡ some w → (x : C) × (walk k p ≡ some x)
     pub corefers : (p q : List ℕ) → Corefer k p q ↔ (Corefer g p q × Corefer h p q)
 
-  -- The product graph: its nodes are pairs of nodes, and a pair has the features that both have.
-  unfoldable pub generalization : Graph (𝓛 .L) A → Graph (𝓛 .L) B → Graph (𝓛 .L) (A × B)
-  generalization g h =
-      record {
-        root = (g .root, h .root);
-        label = λ x. 𝓛 .join (g .label (x .0)) (h .label (x .1));
-        link = λ x f. both (g .link (x .0) f) (h .link (x .1) f);
-      }
+-- The product graph by a join of labels: its nodes are pairs of nodes, and a pair has the features that both have.
+unfoldable pub generalizationBy : {L A B : Type 0} → (L → L → L) → Graph L A → Graph L B → Graph L (A × B)
+generalizationBy join g h =
+    record {
+      root = (g .root, h .root);
+      label = λ x. join (g .label (x .0)) (h .label (x .1));
+      link = λ x f. both (g .link (x .0) f) (h .link (x .1) f);
+    }
+
+-- by the join that labels have
+abbrev pub generalization : (𝓛 : Labels) {A B : Type 0} → Graph (𝓛 .L) A → Graph (𝓛 .L) B → Graph (𝓛 .L) (A × B)
+generalization 𝓛 g h = generalizationBy (𝓛 .join) g h

@@ -13,3 +13,4 @@ pub mod Difference
 pub mod Relations
 pub mod Reasons
 pub mod LeastPath
+pub mod OfRows

@@ -116,9 +116,8 @@ module _ {N : Type 0} (same : N → N → Bool) (link : N → ℕ → Option N) 
   classLink name c f = firstOf nodes λ x. cond (same (name x) c) (Option·map name (link x f)) none
 
 -- "a class has the meet of all types in it"
-unfoldable pub classLabel : (𝓛 : Labels) {N : Type 0} → (N → N → Bool) → List N → (N → 𝓛 .L) → (N → N) → N → 𝓛 .L
-classLabel 𝓛 same nodes label name c =
-    foldr (λ x a. cond (same (name x) c) (𝓛 .meet (label x) a) a) (𝓛 .top) nodes
+unfoldable pub classLabel : {L N : Type 0} → (L → L → L) → L → (N → N → Bool) → List N → (N → L) → (N → N) → N → L
+classLabel meet top same nodes label name c = foldr (λ x a. cond (same (name x) c) (meet (label x) a) a) top nodes
 
 -- What unification gives: a loop; a clash, and no loop; or a graph.
 pub data Unified (L N : Type 0) : Type 0 where
@@ -130,7 +129,7 @@ pub data Unified (L N : Type 0) : Type 0 where
 abbrev pub nodesBeside : {A B : Type 0} → List A → List B → List (A ⊎ B)
 nodesBeside gs hs = map inl gs ++ map inr hs
 
-module _ {A B : Type 0} (sameA : A → A → Bool) (sameB : B → B → Bool) {L : Type 0} where
+module _ {L A B : Type 0} (sameA : A → A → Bool) (sameB : B → B → Bool) where
   -- the classes of the nodes of both graphs, which the two lists give: the roots joined, and what follows from that
   unfoldable pub className : Graph L A → List A → Graph L B → List B → A ⊎ B → A ⊎ B
   className g gs h hs =
@@ -138,32 +137,42 @@ module _ {A B : Type 0} (sameA : A → A → Bool) (sameB : B → B → Bool) {L
       let nodes = nodesBeside gs hs in
       close same (beside (g .link) (h .link)) nodes (length nodes) (merge same (λ x. x) (inl (g .root)) (inr (h .root)))
 
-module _ (𝓛 : Labels) {A B : Type 0} (sameA : A → A → Bool) (sameB : B → B → Bool) where
+  -- whether a class reaches itself: a walk of as many links as there are nodes
+  unfoldable pub hasCycle : Graph L A → List A → Graph L B → List B → Bool
+  hasCycle g gs h hs =
+      let same = sameBeside sameA sameB in
+      let name = className g gs h hs in
+      deep (classLink same (beside (g .link) (h .link)) (nodesBeside gs hs) name) (length gs + length hs) (name (inl (g .root)))
+
+-- By a meet of labels, and the label that says nothing.
+module _ {L : Type 0} (meet : L → L → L) (top : L) where
   -- the graph of the classes
-  unfoldable pub classGraph : Graph (𝓛 .L) A → List A → Graph (𝓛 .L) B → List B → Graph (𝓛 .L) (A ⊎ B)
-  classGraph g gs h hs =
+  unfoldable pub classGraph : {A B : Type 0} → (A → A → Bool) → (B → B → Bool) → Graph L A → List A → Graph L B → List B → Graph L (A ⊎ B)
+  classGraph sameA sameB g gs h hs =
       let same = sameBeside sameA sameB in
       let nodes = nodesBeside gs hs in
       let name = className sameA sameB g gs h hs in
       record {
         root = name (inl (g .root));
-        label = classLabel 𝓛 same nodes (labelBeside (g .label) (h .label)) name;
+        label = classLabel meet top same nodes (labelBeside (g .label) (h .label)) name;
         link = classLink same (beside (g .link) (h .link)) nodes name;
       }
 
-  -- whether a class reaches itself: a walk of as many links as there are nodes
-  unfoldable pub hasCycle : Graph (𝓛 .L) A → List A → Graph (𝓛 .L) B → List B → Bool
-  hasCycle g gs h hs =
-      let u = classGraph g gs h hs in
-      deep (u .link) (length gs + length hs) (u .root)
-
+-- By these and a test for the contradiction.
+module _ {L : Type 0} (meet : L → L → L) (top : L) (contradiction : L → Bool) {A B : Type 0} (sameA : A → A → Bool) (sameB : B → B → Bool) where
   -- whether the meet of a class is the contradiction
-  unfoldable pub hasClash : Graph (𝓛 .L) A → List A → Graph (𝓛 .L) B → List B → Bool
+  unfoldable pub hasClash : Graph L A → List A → Graph L B → List B → Bool
   hasClash g gs h hs =
-      let u = classGraph g gs h hs in
+      let u = classGraph meet top sameA sameB g gs h hs in
       let name = className sameA sameB g gs h hs in
-      anyOf (nodesBeside gs hs) λ x. 𝓛 .contradiction (u .label (name x))
+      anyOf (nodesBeside gs hs) λ x. contradiction (u .label (name x))
 
-  unfoldable pub unification : Graph (𝓛 .L) A → List A → Graph (𝓛 .L) B → List B → Unified (𝓛 .L) (A ⊎ B)
-  unification g gs h hs =
-      cond (hasCycle g gs h hs) cycle (cond (hasClash g gs h hs) clash (unified (classGraph g gs h hs)))
+  unfoldable pub unificationBy : Graph L A → List A → Graph L B → List B → Unified L (A ⊎ B)
+  unificationBy g gs h hs =
+      cond (hasCycle sameA sameB g gs h hs) cycle
+      (cond (hasClash g gs h hs) clash (unified (classGraph meet top sameA sameB g gs h hs)))
+
+-- by the meet, the top and the contradiction that labels have
+abbrev pub unification : (𝓛 : Labels) {A B : Type 0} → (A → A → Bool) → (B → B → Bool) → Graph (𝓛 .L) A → List A → Graph (𝓛 .L) B → List B →
+    Unified (𝓛 .L) (A ⊎ B)
+unification 𝓛 sameA sameB g gs h hs = unificationBy (𝓛 .meet) (𝓛 .top) (𝓛 .contradiction) sameA sameB g gs h hs

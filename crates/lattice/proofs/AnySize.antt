@@ -444,7 +444,8 @@ module _ (n : ℕ) (t : List ℕ) (ok : accepted n t ≡ true) where
         let higher : Below law dᴸ (lift n t ok e) =
         below-lower n t ok .1 (subst (λ (k : Graph Label A). Below raw k (lower (lift n t ok e))) d-lower
         (same-below-right (lower-lift-same n t ok e (c .typed)) above)) in
-        let w = classGraph law eqb sameB (lift n t ok e) (lift-any-size n t ok e c .nodes) (lift n t ok g) (lift-any-size n t ok g b .nodes) in
+        let w = classGraph (law .meet) (law .top) eqb sameB (lift n t ok e) (lift-any-size n t ok e c .nodes)
+        (lift n t ok g) (lift-any-size n t ok g b .nodes) in
         let (size, is) =
         Outcome.graph-right lattice operands w
         (Outcome.bounded-graph lattice operands (set .sound)

@@ -10,8 +10,23 @@ use Rattle.graphs.specs.Label.{Labels}
 use Rattle.graphs.specs.Graph.{Graph, Below, SameMeaning, AnySize}
 use Rattle.graphs.specs.Rows.{features}
 use Rattle.graphs.specs.Order.{allOf, there, meetings, fitsAt, sharesAt, subsumes}
-use Rattle.graphs.specs.Generalize.{generalization}
-use Rattle.graphs.specs.Unify.{cycle, clash, unified, labelBeside, sameBeside, nodesBeside, classLabel, className, classGraph, hasCycle, hasClash, unification, anyOf}
+use Rattle.graphs.specs.Generalize.{generalizationBy, generalization}
+use Rattle.graphs.specs.Unify.{
+  cycle,
+  clash,
+  unified,
+  labelBeside,
+  sameBeside,
+  nodesBeside,
+  classLabel,
+  className,
+  classGraph,
+  hasCycle,
+  hasClash,
+  unificationBy,
+  unification,
+  anyOf,
+}
 use Rattle.graphs.specs.Difference.{
   Link,
   difference,
@@ -79,8 +94,14 @@ module _ {𝓚 𝓛 : Labels} {f : 𝓚 .L → 𝓛 .L} (embeds : MeetEmbedding 
   module _ {A B : Type 0} (sameA : A → A → Bool) (sameB : B → B → Bool) (g : Graph (𝓛 .L) A) (gs : List A) (h : Graph (𝓛 .L) B) (hs : List B)
       (first : A → 𝓚 .L) (second : B → 𝓚 .L)
       (left : (v : A) → List·Memᴰ v gs → f (first v) ≡ g .label v) (right : (w : B) → List·Memᴰ w hs → f (second w) ≡ h .label w) where
-    class-label : (c : A ⊎ B) →
-        classGraph 𝓛 sameA sameB g gs h hs .label c ≡ f (classGraph 𝓚 sameA sameB (labelled g first) gs (labelled h second) hs .label c)
+    abbrev classes : Graph (𝓛 .L) (A ⊎ B)
+    classes = classGraph (𝓛 .meet) (𝓛 .top) sameA sameB g gs h hs
+
+    -- the same with the other labels
+    abbrev others : Graph (𝓚 .L) (A ⊎ B)
+    others = classGraph (𝓚 .meet) (𝓚 .top) sameA sameB (labelled g first) gs (labelled h second) hs
+
+    class-label : (c : A ⊎ B) → classes .label c ≡ f (others .label c)
     unfolding classGraph classLabel className
     class-label c =
         meets-embedded (λ x. sameBeside sameA sameB (className sameA sameB g gs h hs x) c) (labelBeside (g .label) (h .label))
@@ -97,34 +118,35 @@ module _ {𝓚 𝓛 : Labels} {f : 𝓚 .L → 𝓛 .L} (embeds : MeetEmbedding 
             subst (λ (x : A ⊎ B). f (labelBeside first second x) ≡ labelBeside (g .label) (h .label) x) e (right w k))
             (List·Memᴰ·append-cases (map inl gs) m)
 
-    class-graph : classGraph 𝓛 sameA sameB g gs h hs ≡ relabel f (classGraph 𝓚 sameA sameB (labelled g first) gs (labelled h second) hs)
+    class-graph : classes ≡ relabel f others
     unfolding classGraph className
-    class-graph = ap (labelled (classGraph 𝓛 sameA sameB g gs h hs)) (fun-ext class-label)
+    class-graph = ap (labelled classes) (fun-ext class-label)
 
-    same-cycle : hasCycle 𝓛 sameA sameB g gs h hs ≡ hasCycle 𝓚 sameA sameB (labelled g first) gs (labelled h second) hs
+    same-cycle : hasCycle sameA sameB g gs h hs ≡ hasCycle sameA sameB (labelled g first) gs (labelled h second) hs
     unfolding hasCycle classGraph className
     same-cycle = refl
 
-    same-clash : hasClash 𝓛 sameA sameB g gs h hs ≡ hasClash 𝓚 sameA sameB (labelled g first) gs (labelled h second) hs
+    same-clash : hasClash (𝓛 .meet) (𝓛 .top) (𝓛 .contradiction) sameA sameB g gs h hs ≡
+        hasClash (𝓚 .meet) (𝓚 .top) (𝓚 .contradiction) sameA sameB (labelled g first) gs (labelled h second) hs
     unfolding hasClash className
     same-clash =
         ap (anyOf (nodesBeside gs hs)) (fun-ext λ (x : A ⊎ B).
         let c = className sameA sameB g gs h hs x in
         ap (𝓛 .contradiction) (class-label c) ∙
-        embeds .contradiction (classGraph 𝓚 sameA sameB (labelled g first) gs (labelled h second) hs .label c))
+        embeds .contradiction (others .label c))
 
     pub unification-embedded : unification 𝓛 sameA sameB g gs h hs ≡
         relabelUnified f (unification 𝓚 sameA sameB (labelled g first) gs (labelled h second) hs)
-    unfolding unification
+    unfolding unificationBy
     unification-embedded =
-        ap₂ (λ (b c : Bool). cond b cycle (cond c clash (unified (classGraph 𝓛 sameA sameB g gs h hs)))) same-cycle same-clash ∙
-        go (hasCycle 𝓚 sameA sameB (labelled g first) gs (labelled h second) hs)
-        (hasClash 𝓚 sameA sameB (labelled g first) gs (labelled h second) hs)
+        ap₂ (λ (b c : Bool). cond b cycle (cond c clash (unified classes))) same-cycle same-clash ∙
+        go (hasCycle sameA sameB (labelled g first) gs (labelled h second) hs)
+        (hasClash (𝓚 .meet) (𝓚 .top) (𝓚 .contradiction) sameA sameB (labelled g first) gs (labelled h second) hs)
       where
         go : (b c : Bool) →
-            cond b cycle (cond c clash (unified (classGraph 𝓛 sameA sameB g gs h hs))) ≡
+            cond b cycle (cond c clash (unified classes)) ≡
             relabelUnified f
-            (cond b cycle (cond c clash (unified (classGraph 𝓚 sameA sameB (labelled g first) gs (labelled h second) hs))))
+            (cond b cycle (cond c clash (unified others)))
         go true c = refl
         go false true = refl
         go false false = ap unified class-graph
@@ -207,7 +229,7 @@ module _ {𝓚 𝓛 : Labels} {f : 𝓚 .L → 𝓛 .L} (embeds : Embedding 𝓚
 
   pub generalization-embedded : {A B : Type 0} (g : Graph (𝓚 .L) A) (h : Graph (𝓚 .L) B) →
       generalization 𝓛 (relabel f g) (relabel f h) ≡ relabel f (generalization 𝓚 g h)
-  unfolding generalization
+  unfolding generalizationBy
   generalization-embedded {A} {B} g h =
       ap (labelled (generalization 𝓚 g h)) (fun-ext (λ (x : A × B). embeds .join (g .label (x .0)) (h .label (x .1))))
 

@@ -2,25 +2,24 @@
 -- the theory of graphs speaks of. `lift` and `lower` only change labels, so the two graphs have one root, the same links and the
 -- same paths; where every label is one of the table, order, equal meaning, generalization, unification and
 -- difference of the one are those of the other.
-use Prim.Native.Nat.{ℕ, _-_, _<_}
+use Prim.Native.Nat.{ℕ, _<_}
 use mathlib.Core.Path.{_≡_, refl, sym, ap, ap₂, subst, _∙_}
 use mathlib.Core.Bool.{Bool, true}
 use mathlib.Core.List.{List, List·Memᴰ}
 use mathlib.Core.Logic.{_↔_}
 use mathlib.Core.Option.{Option, some, Option·map, map-id}
-use lib.Dec.{eqb}
 use Rattle.graphs.specs.Label.{Labels}
 use Rattle.graphs.specs.Graph.{Graph, Below, SameMeaning, AnySize, Reached, walk}
 use Rattle.graphs.specs.Map.{NodeMap, Exact}
-use Rattle.graphs.specs.Generalize.{both, generalization}
-use Rattle.graphs.specs.Unify.{unification}
+use Rattle.graphs.specs.Generalize.{both, generalizationBy, generalization}
+use Rattle.graphs.specs.Unify.{unificationBy, unification}
 use Rattle.graphs.specs.Difference.{Link, difference, meetOver}
 use Rattle.graphs.proofs.Below.{exact-same, same-sym, same-trans, walk-map}
 use Rattle.graphs.proofs.Finite.{same-any-size}
 use Rattle.graphs.proofs.Product as Product
 use Rattle.lattice.specs.Label.{Label}
 use Rattle.lattice.specs.Table.{accepted, meet, cell}
-use Rattle.lattice.specs.Labels.{withRanges, tableLabels, Known, Typed, OfAnySize}
+use Rattle.lattice.specs.Labels.{meetRanged, tableLabels, Known, Typed, OfAnySize}
 use Rattle.lattice.proofs.Relabel.{relabel, relabelUnified, same-below-left, same-below-right}
 use Rattle.lattice.proofs.Embedding.{
   MeetEmbedding,
@@ -180,7 +179,7 @@ module _ (n : ℕ) (t : List ℕ) (ok : accepted n t ≡ true) where
   module _ {A B : Type 0} (g : Graph Label A) (h : Graph Label B) (left : Typed n g) (right : Typed n h) where
     -- the generalization over labels is that over labels of the table, lowered
     pub generalization-exact : Exact (λ (x : A × B). x) (generalization raw g h) (lower (generalization law (lift g) (lift h)))
-    unfolding generalization
+    unfolding generalizationBy
     generalization-exact =
         record {
           root = refl;
@@ -206,9 +205,18 @@ module _ (n : ℕ) (t : List ℕ) (ok : accepted n t ≡ true) where
       (λ v m. known-label n t ok (g .label v) (left v m)) (λ w m. known-label n t ok (h .label w) (right w m))
 
   -- unification by other meets of types, which are those of the table for its types, is the same
-  module _ (le : ℕ → ℕ → Bool) (meets joins : ℕ → ℕ → ℕ) (are : (i j : ℕ) → i < n → j < n → meets i j ≡ cell (meet n t i j)) where
-    abbrev pub agreeing : Labels
-    agreeing = withRanges (record { L = ℕ; le = le; meet = meets; join = joins; top = n - 1; contradiction = λ a. eqb a 0 })
+  module _ (meets : ℕ → ℕ → ℕ) (are : (i j : ℕ) → i < n → j < n → meets i j ≡ cell (meet n t i j)) where
+    -- the labels of the table with these meets
+    abbrev agreeing : Labels
+    agreeing =
+        record {
+          L = Label;
+          le = raw .le;
+          meet = meetRanged meets;
+          join = raw .join;
+          top = raw .top;
+          contradiction = raw .contradiction;
+        }
 
     agrees : MeetEmbedding law agreeing (λ x. x .0)
     agrees =
@@ -222,7 +230,7 @@ module _ (n : ℕ) (t : List ℕ) (ok : accepted n t ≡ true) where
     pub same-unification : {A B : Type 0} (sameA : A → A → Bool) (sameB : B → B → Bool) (g : Graph Label A) (gs : List A)
         (h : Graph Label B) (hs : List B) → ((v : A) → List·Memᴰ v gs → Known n (g .label v)) →
         ((w : B) → List·Memᴰ w hs → Known n (h .label w)) →
-        unification agreeing sameA sameB g gs h hs ≡ unification raw sameA sameB g gs h hs
+        unificationBy (meetRanged meets) (raw .top) (raw .contradiction) sameA sameB g gs h hs ≡ unification raw sameA sameB g gs h hs
     same-unification sameA sameB g gs h hs left right =
         unification-embedded agrees sameA sameB g gs h hs (lift g .label) (lift h .label)
         (λ v m. known-label n t ok (g .label v) (left v m)) (λ w m. known-label n t ok (h .label w) (right w m)) ∙

@@ -3,7 +3,7 @@
 -- combines two of them over paths, and the wanted labels of their difference.
 use Prim.Native.Nat.{ℕ, suc, _-_, _<_, _≤_, min, max}
 use mathlib.Core.Path.{_≡_}
-use mathlib.Core.Bool.{true, cond, _&&_, _||_}
+use mathlib.Core.Bool.{Bool, true, cond, _&&_, _||_}
 use mathlib.Core.List.{List}
 use mathlib.Core.Logic.{_↔_}
 use mathlib.Core.Option.{Option, some, Option·map}
@@ -29,25 +29,39 @@ typeLabels n t =
 -- Types with ranges. "Below now also asks that the range lies inside; the common part takes the smallest range holding both, the
 -- combination the overlap, and an empty overlap is a clash." A lowest level above the highest is a range like any other here, so
 -- each law holds for type, lowest and highest level alone.
+module _ {T : Type 0} where
+  -- by a join of types, with "the smallest range holding both"
+  abbrev pub joinRanged : (T → T → T) → Ranged T → Ranged T → Ranged T
+  joinRanged join x y =
+      record {
+        type = join (x .type) (y .type);
+        lowest = min (x .lowest) (y .lowest);
+        highest = max (x .highest) (y .highest);
+      }
+
+  -- by a meet of types, with "the overlap"
+  abbrev pub meetRanged : (T → T → T) → Ranged T → Ranged T → Ranged T
+  meetRanged meet x y =
+      record {
+        type = meet (x .type) (y .type);
+        lowest = max (x .lowest) (y .lowest);
+        highest = min (x .highest) (y .highest);
+      }
+
+  -- by a test for the contradiction among types, or for an empty range
+  abbrev pub contradictionRanged : (T → Bool) → Ranged T → Bool
+  contradictionRanged contradiction x = contradiction (x .type) || leb (suc (x .highest)) (x .lowest)
+
+-- the labels that types with ranges are
 abbrev pub withRanges : Labels → Labels
 withRanges 𝓣 =
     record {
       L = Ranged (𝓣 .L);
       le = λ x y. 𝓣 .le (x .type) (y .type) && leb (y .lowest) (x .lowest) && leb (x .highest) (y .highest);
-      meet = λ x y.
-          record {
-            type = 𝓣 .meet (x .type) (y .type);
-            lowest = max (x .lowest) (y .lowest);
-            highest = min (x .highest) (y .highest);
-          };
-      join = λ x y.
-          record {
-            type = 𝓣 .join (x .type) (y .type);
-            lowest = min (x .lowest) (y .lowest);
-            highest = max (x .highest) (y .highest);
-          };
+      meet = meetRanged (𝓣 .meet);
+      join = joinRanged (𝓣 .join);
       top = plain (𝓣 .top);
-      contradiction = λ x. 𝓣 .contradiction (x .type) || leb (suc (x .highest)) (x .lowest);
+      contradiction = contradictionRanged (𝓣 .contradiction);
     }
 
 -- the level l lies inside the range of x

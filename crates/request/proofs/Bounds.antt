@@ -15,6 +15,7 @@ use Rattle.graphs.specs.Order.{subsumes}
 use Rattle.graphs.specs.Difference.{byNumber}
 use Rattle.graphs.specs.Generalize.{generalization}
 use Rattle.graphs.specs.Unify.{Unified, cycle, clash, unified, unification}
+use Rattle.graphs.specs.OfRows.{samePair, sameEither}
 use Rattle.graphs.proofs.Walk.{none-some}
 use Rattle.lattice.specs.Label.{Label}
 use Rattle.lattice.specs.declared.Opened.{Opened}
@@ -24,7 +25,6 @@ use Rattle.lattice.specs.Labels.{tableLabels}
 use Rattle.record.specs.Read as graph
 use Rattle.encode.specs.Encode.{encoded, fitted, writtenOut}
 use Rattle.encode.specs.declared.Written.the-variants as outcome
-use Rattle.generalize.specs.Pairs.{samePair}
 use Rattle.replies.specs.declared.Side.{Side}
 use Rattle.replies.specs.declared.Side.the-variants.{First, Second}
 use Rattle.replies.specs.declared.answers.Answer.{Answer}
@@ -37,7 +37,7 @@ use Rattle.calls.specs.Calls.{checked, generalizing, ordering, unifying, differ
 use Rattle.pairs.specs.Pair.{readBoth}
 use Rattle.engine.specs.Generalizing.{generalized}
 use Rattle.engine.specs.Ordering.{compared, ordered}
-use Rattle.engine.specs.Unifying.{sameEither, combined, unifiedRows}
+use Rattle.engine.specs.Unifying.{combined, unifiedRows}
 use Rattle.difference.specs.Difference.{allWanted, differenceRows, differed, numbered, differedRows}
 use Rattle.replies.proofs.Numbers.{numberIn, number-small, answer-bounded}
 use Rattle.request.specs.declared.parse.Operation.{Operation}

@@ -10,9 +10,9 @@ use lib.ListN.{length}
 use Rattle.graphs.specs.Rows.{Row, from, target, linksOf}
 use Rattle.graphs.specs.Order.{allOf, within as walks, fitsAt, subsumes}
 use Rattle.graphs.specs.Number.{canonical, visit, each, member, indexOf, outDegree, linkCount, rowOf}
-use Rattle.graphs.specs.Generalize.{generalization}
+use Rattle.graphs.specs.Generalize.{generalizationBy}
 use Rattle.graphs.specs.Unify.{
-  unification,
+  unificationBy,
   classGraph,
   className,
   hasCycle,
@@ -52,6 +52,7 @@ use Rattle.graphs.specs.Difference.{
   byReading,
 }
 use Rattle.graphs.specs.Reasons.{reasonAt, writtenOrder, alongLinks}
+use Rattle.graphs.specs.OfRows.{samePair}
 use Rattle.lattice.specs.declared.TableFault.the-variants.{Bounds}
 use Rattle.lattice.specs.declared.Opened.the-variants.{Accepted, Refused}
 use Rattle.lattice.specs.Table.{every, last, below, sized, confined, reflexive, antisymmetric, transitive, least, greatest, ordered, isMeet, isJoin, meet, join, bounded, restores, isWanted, wanted, implies, found, upto}
@@ -68,7 +69,6 @@ use Rattle.record.specs.Read.{labelInRange, inRange, cyclic, reachesAll, readin
 use Rattle.record.specs.Appropriate.{listAccepted, readingAppropriate, appropriate, rowAppropriate}
 use Rattle.record.proofs.Accepted.{accepted-rules}
 use Rattle.record.proofs.Theorems.{accepted-of-any-size}
-use Rattle.generalize.specs.Pairs.{samePair}
 use Rattle.groups.specs.LinkOrders.{isReadingOrder}
 use Rattle.difference.specs.Promise.{wantedAlong, allWantedAlong, differenceAlong, reasonsAlong}
 use Rattle.calls.specs.Calls.{rewriting, generalizing, ordering, unifying, differing, differingBy}
@@ -95,8 +95,8 @@ unfolding
     reading decoded takeRows takeRow labelLength labelOf takeLinks bitOf inRange labelInRange allOf cyclic anyOf deep reachesAll
     canonical visit each member target from linkCount outDegree rowOf linksOf indexOf
     writtenOut fitted encoded encodedRows encodedRow encodedLabel isFull bitsFrom
-    generalization samePair
-    unification classGraph className hasCycle hasClash firstOf merge apart unsettled close classLink classLabel
+    generalizationBy samePair
+    unificationBy classGraph className hasCycle hasClash firstOf merge apart unsettled close classLink classLabel
     subsumes walks fitsAt flatMap
     difference differ keptLink keeps keptItself lead leaders groupOf spread touch bare covers incoming select linksFrom leastOf
     meetOver meetWhere byNumber

@@ -6,9 +6,10 @@ use lib.ListN.{replicate, drop}
 use Rattle.graphs.specs.Rows.{from, target, linksOf}
 use Rattle.graphs.specs.Order.{allOf, within as walks, fitsAt, subsumes}
 use Rattle.graphs.specs.Number.{canonical, visit, each, member, indexOf, outDegree, linkCount, rowOf}
-use Rattle.graphs.specs.Generalize.{generalization}
-use Rattle.graphs.specs.Unify.{unification, classGraph, className, hasCycle, hasClash, firstOf, anyOf, deep, merge, apart, unsettled, close, classLink, classLabel}
+use Rattle.graphs.specs.Generalize.{generalizationBy}
+use Rattle.graphs.specs.Unify.{unificationBy, classGraph, className, hasCycle, hasClash, firstOf, anyOf, deep, merge, apart, unsettled, close, classLink, classLabel}
 use Rattle.graphs.specs.Difference.{difference, keptLink, keeps, keptItself, differ, lead, leaders, groupOf, spread, touch, bare, covers, incoming, select, linksFrom, leastOf, meetOver, meetWhere, byNumber}
+use Rattle.graphs.specs.OfRows.{samePair}
 use Rattle.lattice.specs.Table.{every, last, below, sized, confined, reflexive, antisymmetric, transitive, least, greatest, ordered, isMeet, isJoin, meet, join, bounded, restores, isWanted, wanted}
 use Rattle.lattice.specs.Reply.{opened}
 use Rattle.lattice.specs.Labels.{wantedLabel}
@@ -16,7 +17,6 @@ use Rattle.decode.specs.Decode.{bitOf, labelLength, labelOf, takeLinks, takeRow
 use Rattle.encode.specs.Encode.{bitsFrom, isFull, encodedLabel, encodedRow, encodedRows, encoded, fitted, writtenOut}
 use Rattle.record.specs.Read.{labelInRange, inRange, cyclic, reachesAll, reading}
 use Rattle.record.specs.declared.GraphFault.the-variants.{Malformed}
-use Rattle.generalize.specs.Pairs.{samePair}
 use Rattle.difference.specs.Promise.{wantedAlong, allWantedAlong, differenceAlong}
 use Rattle.difference.specs.Difference.{firstAt, over, differed, differedRows}
 use Rattle.replies.specs.declared.Side.the-variants.{First, Second}
@@ -77,8 +77,8 @@ module _ where
       reading decoded takeRows takeRow labelLength labelOf takeLinks bitOf inRange labelInRange allOf cyclic anyOf deep reachesAll
       canonical visit each member target from linkCount outDegree rowOf linksOf indexOf
       writtenOut fitted encoded encodedRows encodedRow encodedLabel isFull bitsFrom
-      generalization samePair
-      unification classGraph className hasCycle hasClash firstOf merge apart unsettled close classLink classLabel
+      generalizationBy samePair
+      unificationBy classGraph className hasCycle hasClash firstOf merge apart unsettled close classLink classLabel
       subsumes walks fitsAt flatMap
       difference differ keptLink keeps keptItself lead leaders groupOf spread touch bare covers incoming select linksFrom leastOf
       meetOver meetWhere byNumber

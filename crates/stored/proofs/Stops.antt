@@ -14,6 +14,7 @@ use lib.Seq.{append-snoc, getD-append-seam}
 use Rattle.graphs.specs.Graph.{Below}
 use Rattle.graphs.specs.Rows.{Row}
 use Rattle.graphs.specs.Difference.{byNumber}
+use Rattle.graphs.specs.OfRows.{samePair}
 use Rattle.graphs.proofs.Below.{same-refl}
 use Rattle.graphs.proofs.Difference.ByNumber.{by-number-order}
 use Rattle.lattice.specs.Label.{Label}
@@ -25,7 +26,6 @@ use Rattle.lattice.proofs.Acceptance.{opened-accepted}
 use Rattle.lattice.proofs.AnySize.{below-transitive}
 use Rattle.record.specs.Read.{reading, accepted, graphOfRows}
 use Rattle.record.proofs.Theorems.{accepted-of-any-size}
-use Rattle.generalize.specs.Pairs.{samePair}
 use Rattle.replies.specs.declared.Reply.{Reply}
 use Rattle.replies.specs.declared.Reply.the-variants.{TooLarge, NoWantedType, NoStoreRoom}
 use Rattle.replies.specs.Reply.{Result, lengthOf}

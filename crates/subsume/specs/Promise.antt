@@ -3,13 +3,12 @@ use mathlib.Core.Path.{_≡_}
 use mathlib.Core.Bool.{Bool, true, false}
 use mathlib.Core.List.{List}
 use Prim.Native.Nat.{ℕ}
-use lib.Dec.{eqb}
-use lib.ListN.{length, getD}
+use lib.ListN.{getD}
 use Rattle.graphs.specs.Graph.{Below}
 use Rattle.graphs.specs.Map.{NodeMap}
-use Rattle.graphs.specs.Order.{subsumes}
 use Rattle.graphs.specs.Rows.{Row}
-use Rattle.lattice.specs.Label.{Label}
+use Rattle.graphs.specs.OfRows.{liesBelow}
+use Rattle.lattice.specs.Label.{Label, noLabel}
 use Rattle.lattice.specs.Labels.{tableLabels}
 use Rattle.layout.specs.Layout.{graphOfRows}
 use Rattle.subsume.specs.declared.Order.{Order}
@@ -22,7 +21,7 @@ pub record Orders (n : ℕ) (t : List ℕ) (s g : List (Row Label)) (answer : Or
 
 -- whether the first of two graphs is below the second
 abbrev pub rowsBelow : ℕ → List ℕ → List (Row Label) → List (Row Label) → Bool
-rowsBelow n t s g = subsumes (tableLabels n t) eqb eqb (graphOfRows s) (graphOfRows g) (length g)
+rowsBelow n t s g = liesBelow (tableLabels n t) noLabel s g
 
 -- the same, as a walk answers it
 abbrev pub isBelow : Order → Bool

@@ -11,12 +11,12 @@ use lib.ListN.{length, getD, replicate, getD-replicate}
 use Rattle.graphs.specs.Rows.{from}
 use Rattle.graphs.specs.Unify.{anyOf}
 use Rattle.lattice.specs.Label.{Label, plain}
-use Rattle.lattice.specs.Labels.{Known}
+use Rattle.lattice.specs.Labels.{Known, meetRanged}
 use Rattle.lattice.proofs.Lawful.{plain-known}
 use Rattle.layout.specs.Layout.{header, size, labelAt}
 use Rattle.layout.specs.Builder.{Same, putLabel}
 use Rattle.layout.proofs.Builder.{length-put, put-before, put-behind, label-put, label-same}
-use Rattle.unify.specs.Lowered.{MeetsBelow, labelOfClass, labelWords, meetLabels, lowerBy, Below, Lowerable}
+use Rattle.unify.specs.Lowered.{MeetsBelow, labelOfClass, labelWords, lowerBy, Below, Lowerable}
 
 pub from-cons : (x n : ℕ) → x < n → from x (n - x) ≡ x ∷ from (suc x) (n - suc x)
 unfolding from
@@ -30,7 +30,7 @@ from-empty n = let e : n - n ≡ 0 = omega arith in ap (from n) e
 
 -- the meet of two labels over n types is one
 pub meet-known : (n : ℕ) (meets : ℕ → ℕ → ℕ) → MeetsBelow n meets → (x y : Label) → Known n x → Known n y →
-    Known n (meetLabels meets x y)
+    Known n (meetRanged meets x y)
 meet-known n meets below x y k l =
     record {
       type = below (x .type) (y .type) (k .type) (l .type);
@@ -90,7 +90,7 @@ module _ {meets : ℕ → ℕ → ℕ} {ws class : List ℕ} {shift : ℕ} {labe
 
   pub lower-step : {n : ℕ} → Lowerable n meets ws labels₀ → 0 < v → getD class (shift + (v - 1)) 0 < 510 → {labels′ : List ℕ} →
       labels′ ≡ putLabel labels (header * getD class (shift + (v - 1)) 0)
-      (meetLabels meets (labelAt ws (v - 1)) (labelOfClass labels (getD class (shift + (v - 1)) 0))) →
+      (meetRanged meets (labelAt ws (v - 1)) (labelOfClass labels (getD class (shift + (v - 1)) 0))) →
       Lowering meets ws class shift labels₀ labels′ (v - 1)
   lower-step {n} able some placed {labels′} put =
       subst (λ (l : List ℕ). Lowering meets ws class shift labels₀ l (v - 1)) (sym put)
@@ -105,7 +105,7 @@ module _ {meets : ℕ → ℕ → ℕ} {ws class : List ℕ} {shift : ℕ} {labe
       c₀ = getD class (shift + (v - 1)) 0
 
       new : Label
-      new = meetLabels meets (labelAt ws (v - 1)) (labelOfClass labels (getD class (shift + (v - 1)) 0))
+      new = meetRanged meets (labelAt ws (v - 1)) (labelOfClass labels (getD class (shift + (v - 1)) 0))
 
       new-known : (n : ℕ) → Lowerable n meets ws labels₀ → Known n new
       new-known n given =
@@ -143,16 +143,16 @@ module _ {meets : ℕ → ℕ → ℕ} {ws class : List ℕ} {shift : ℕ} {labe
           foldr (lowerBy meets ws class shift c) (labelOfClass labels₀ c) (from (v - 1) (size ws - (v - 1)))
       is c h (yes e) =
           here c e ∙
-          ap (λ (i : ℕ). meetLabels meets (labelAt ws (v - 1)) (labelOfClass labels i)) (sym e) ∙
+          ap (λ (i : ℕ). meetRanged meets (labelAt ws (v - 1)) (labelOfClass labels i)) (sym e) ∙
           sym
           (unfolded c ∙ ap (lowerBy meets ws class shift c (v - 1)) (sym (s .is c h)) ∙
-          ap (λ (t : Bool). cond t (meetLabels meets (labelAt ws (v - 1)) (labelOfClass labels c)) (labelOfClass labels c))
+          ap (λ (t : Bool). cond t (meetRanged meets (labelAt ws (v - 1)) (labelOfClass labels c)) (labelOfClass labels c))
           (eq-eqb c₀ c (sym e)))
       is c h (no d) =
           elsewhere c d ∙
           sym
           (unfolded c ∙ ap (lowerBy meets ws class shift c (v - 1)) (sym (s .is c h)) ∙
-          ap (λ (t : Bool). cond t (meetLabels meets (labelAt ws (v - 1)) (labelOfClass labels c)) (labelOfClass labels c))
+          ap (λ (t : Bool). cond t (meetRanged meets (labelAt ws (v - 1)) (labelOfClass labels c)) (labelOfClass labels c))
           (ne-eqb c₀ c (λ q. d (sym q))))
 
 -- words of zeros

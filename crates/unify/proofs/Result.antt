@@ -28,8 +28,9 @@ use Rattle.graphs.specs.Unify.{
   cycle,
   clash,
   unified,
-  unification,
+  unificationBy,
 }
+use Rattle.graphs.specs.OfRows.{sameEither}
 use Rattle.graphs.proofs.Walk.{none-some, some-injective, snoc-induction, follow-start, follow-last, walk-snoc}
 use Rattle.graphs.proofs.Lists.{from-member, from-range, tells-eqb}
 use Rattle.graphs.proofs.Search.{not-true, anyOf-true, anyOf-finds}
@@ -48,14 +49,16 @@ use Rattle.graphs.proofs.Unification.Beside.{
 use Rattle.graphs.proofs.Unification.ClassGraph.{classLink-source, classLink-of, name-classes, name-related}
 use Rattle.graphs.proofs.Unification.Deep.{deep-walk, walk-deep, loop-walk}
 use Rattle.lattice.specs.Label.{Label, plain}
+use Rattle.lattice.specs.Labels.{meetRanged}
 use Rattle.layout.specs.Layout.{size, featureAt, labelAt, graphIn}
+use Rattle.layout.proofs.Rows.{length-rows}
 use Rattle.layout.proofs.Places.{label-at, link-at, link-place, link-known}
 use Rattle.visits.specs.Walks.{Reaches, one, more, TargetsFirst}
 use Rattle.encode.specs.declared.Written.{Written}
 use Rattle.encode.specs.Encode.{yielding, writtenOut}
 use Rattle.unify.specs.declared.Combined.the-variants as combined
-use Rattle.unify.specs.Lowered.{labelOfClass, meetLabels, lowerBy}
-use Rattle.unify.specs.Outcome.{contradicts, meetsOf, sameEither, combinedOf, unifiedOut, unifyingOut}
+use Rattle.unify.specs.Lowered.{labelOfClass, lowerBy}
+use Rattle.unify.specs.Outcome.{contradicts, combinedOf, unifiedOut, unifyingOut}
 use Rattle.unify.specs.Rows.{Operand, Merges}
 use Rattle.unify.proofs.Sides.{operands, number, Inside, inside-reached, reached-in, number-in, node-of, link-in}
 use Rattle.unify.proofs.Sharing.{classOf, one-related, related-one, class-sound, class-link, class-source, leads-own}
@@ -124,7 +127,14 @@ module _ (n : ℕ) (meets : ℕ → ℕ → ℕ) {a b graph : List ℕ} (left : 
   name = className eqb eqb (graphIn a) (from 0 (size a)) (graphIn b) (from 0 (size b))
 
   abbrev u : Graph Label (ℕ ⊎ ℕ)
-  u = classGraph (meetsOf n meets) eqb eqb (graphIn a) (from 0 (size a)) (graphIn b) (from 0 (size b))
+  u = classGraph (meetRanged meets) (plain (n - 1)) eqb eqb (graphIn a) (from 0 (size a)) (graphIn b) (from 0 (size b))
+
+  abbrev clashes : Bool
+  clashes = hasClash (meetRanged meets) (plain (n - 1)) contradicts eqb eqb (graphIn a) (from 0 (size a)) (graphIn b) (from 0 (size b))
+
+  -- the unification, by the numbers of nodes
+  abbrev joint : ℕ → ℕ → Unified Label (ℕ ⊎ ℕ)
+  joint k l = unificationBy (meetRanged meets) (plain (n - 1)) contradicts eqb eqb (graphIn a) (from 0 k) (graphIn b) (from 0 l)
 
   abbrev cls : ℕ ⊎ ℕ → ℕ
   cls = classOf left right m
@@ -218,9 +228,9 @@ module _ (n : ℕ) (meets : ℕ → ℕ → ℕ) {a b graph : List ℕ} (left : 
 
   -- "A loop is a class that reaches itself."
 
-  cycle-is : hasCycle (meetsOf n meets) eqb eqb (graphIn a) (from 0 (size a)) (graphIn b) (from 0 (size b)) ≡
+  cycle-is : hasCycle eqb eqb (graphIn a) (from 0 (size a)) (graphIn b) (from 0 (size b)) ≡
       deep (rows .link) (size a + size b) 0
-  unfolding hasCycle
+  unfolding hasCycle classGraph
   cycle-is =
       deep-alike Both u rows both-links (length (from 0 (size a)) + length (from 0 (size b))) (u .root) 0 both-root ∙
       ap₂ (λ (i j : ℕ). deep (rows .link) (i + j) 0) (length-from 0 (size a)) (length-from 0 (size b))
@@ -273,7 +283,7 @@ module _ (n : ℕ) (meets : ℕ → ℕ → ℕ) {a b graph : List ℕ} (left : 
       without (link-known (class-sound left right m) x f y (within (later x l)) d .1))
 
   pub cycle-found : (v : ℕ) → Reaches graph v v →
-      hasCycle (meetsOf n meets) eqb eqb (graphIn a) (from 0 (size a)) (graphIn b) (from 0 (size b)) ≡ true
+      hasCycle eqb eqb (graphIn a) (from 0 (size a)) (graphIn b) (from 0 (size b)) ≡ true
   cycle-found v r =
       let (v-in, own) = reach-own r in
       let (x, x-in, x-is) = node-of left right v v-in in
@@ -300,9 +310,9 @@ module _ (n : ℕ) (meets : ℕ → ℕ → ℕ) {a b graph : List ℕ} (left : 
           falls p w x (without (link-known (class-sound left right m) v f w (within i) d .1)) (ap (λ o. follow (rows .link) o p) (sym d) ∙ e),
         )
 
-    pub cycle-none : hasCycle (meetsOf n meets) eqb eqb (graphIn a) (from 0 (size a)) (graphIn b) (from 0 (size b)) ≡ false
+    pub cycle-none : hasCycle eqb eqb (graphIn a) (from 0 (size a)) (graphIn b) (from 0 (size b)) ≡ false
     cycle-none =
-        not-true (hasCycle (meetsOf n meets) eqb eqb (graphIn a) (from 0 (size a)) (graphIn b) (from 0 (size b)))
+        not-true (hasCycle eqb eqb (graphIn a) (from 0 (size a)) (graphIn b) (from 0 (size b)))
         (λ e.
         let (p, x, k, w) = deep-walk (rows .link) (size a + size b) 0 (sym cycle-is ∙ e) in
         omega (arith, k, falls p 0 x (m .closed .rows .some) w, sorted .inside 0 (within (m .closed .rows .some)), m .built .sized))
@@ -334,7 +344,7 @@ module _ (n : ℕ) (meets : ℕ → ℕ → ℕ) {a b graph : List ℕ} (left : 
 
       step : ℕ ⊎ ℕ → Label → Label
       step y d =
-          cond (sameEither (name y) c) (meetLabels meets (labelBeside (graphIn a .label) (graphIn b .label) y) d) d
+          cond (sameEither (name y) c) (meetRanged meets (labelBeside (graphIn a .label) (graphIn b .label) y) d) d
 
       -- a node is of the class by either account
       test : (y : ℕ ⊎ ℕ) → Inside left right y → sameEither (name y) c ≡ eqb (cls y) i
@@ -347,13 +357,13 @@ module _ (n : ℕ) (meets : ℕ → ℕ → ℕ) {a b graph : List ℕ} (left : 
       in-left v d k =
           let v-in : v < size a = omega (arith, from-range 0 (size a) v k) in
           let e : v ≡ 0 + v = omega arith in
-          ap₂ (λ (t : Bool) (l : Label). cond t (meetLabels meets l d) d)
+          ap₂ (λ (t : Bool) (l : Label). cond t (meetRanged meets l d) d)
           (test (inl v) v-in ∙ ap (λ (w : ℕ). eqb (getD class w 0) i) e) (label-at a v v-in)
 
       in-right : (v : ℕ) (d : Label) → List·Memᴰ v (from 0 (size b)) → step (inr v) d ≡ lowerBy meets b class (size a) i v d
       in-right v d k =
           let v-in : v < size b = omega (arith, from-range 0 (size b) v k) in
-          ap₂ (λ (t : Bool) (l : Label). cond t (meetLabels meets l d) d) (test (inr v) v-in) (label-at b v v-in)
+          ap₂ (λ (t : Bool) (l : Label). cond t (meetRanged meets l d) d) (test (inr v) v-in) (label-at b v v-in)
 
   alike : Bisimilar Both u rows
   unfolding classGraph
@@ -380,8 +390,7 @@ module _ (n : ℕ) (meets : ℕ → ℕ → ℕ) {a b graph : List ℕ} (left : 
       own-label (cls x) (both-in (name x) (cls x) (x, i, refl, refl)) (m .closed .itself (number (size a) x) h) ∙
       sym (node-label (number (size a) x) h)
 
-  pub clash-is : hasClash (meetsOf n meets) eqb eqb (graphIn a) (from 0 (size a)) (graphIn b) (from 0 (size b)) ≡
-      anyOf (from 0 (size graph)) (λ x. contradicts (labelAt graph x))
+  pub clash-is : clashes ≡ anyOf (from 0 (size graph)) (λ x. contradicts (labelAt graph x))
   unfolding hasClash
   clash-is =
       bool-same (anyOf (nodesBeside (from 0 (size a)) (from 0 (size b))) here)
@@ -413,29 +422,27 @@ module _ (n : ℕ) (meets : ℕ → ℕ → ℕ) {a b graph : List ℕ} (left : 
   abbrev answered : Bool → Bool → Unified Label (ℕ ⊎ ℕ)
   answered s t = cond s cycle (cond t clash (unified u))
 
+  -- as many nodes as rows
+  out-is : (old : List ℕ) → unifiedOut (joint (size a) (size b)) old ≡ unifyingOut n meets a b old
+  out-is old = sym (ap₂ (λ (k l : ℕ). unifiedOut (joint k l) old) (length-rows a 0 (size a)) (length-rows b 0 (size b)))
+
   pub answers-cycle : (v : ℕ) → Reaches graph v v → (old : List ℕ) → yielding combined.Cycle old ≡ unifyingOut n meets a b old
-  unfolding unification unifiedOut
-  answers-cycle v r old =
-      sym
-      (ap
-      (λ (s : Bool).
-      unifiedOut (answered s (hasClash (meetsOf n meets) eqb eqb (graphIn a) (from 0 (size a)) (graphIn b) (from 0 (size b)))) old)
-      (cycle-found v r))
+  unfolding unificationBy unifiedOut
+  answers-cycle v r old = sym (ap (λ (s : Bool). unifiedOut (answered s clashes) old) (cycle-found v r)) ∙ out-is old
 
   module _ {order : List ℕ} {place : ℕ → ℕ} (sorted : TargetsFirst graph order place) where
-    answered-none : (t : Bool) → hasClash (meetsOf n meets) eqb eqb (graphIn a) (from 0 (size a)) (graphIn b) (from 0 (size b)) ≡ t →
-        unification (meetsOf n meets) eqb eqb (graphIn a) (from 0 (size a)) (graphIn b) (from 0 (size b)) ≡ answered false t
-    unfolding unification
+    answered-none : (t : Bool) → clashes ≡ t → joint (size a) (size b) ≡ answered false t
+    unfolding unificationBy
     answered-none t e = ap₂ answered (cycle-none sorted) e
 
     pub answers-clash : anyOf (from 0 (size graph)) (λ x. contradicts (labelAt graph x)) ≡ true → (old : List ℕ) →
         yielding combined.Clash old ≡ unifyingOut n meets a b old
     unfolding unifiedOut
-    answers-clash found old = sym (ap (λ z. unifiedOut z old) (answered-none true (clash-is ∙ found)))
+    answers-clash found old = sym (ap (λ z. unifiedOut z old) (answered-none true (clash-is ∙ found))) ∙ out-is old
 
     pub answers-written : anyOf (from 0 (size graph)) (λ x. contradicts (labelAt graph x)) ≡ false → (old : List ℕ) {w : Written} {new : List ℕ} →
         yielding w new ≡ writtenOut (canonical eqb (graphIn graph)) old → yielding (combined.Written w) new ≡ unifyingOut n meets a b old
     unfolding unifiedOut
     answers-written clear old yields =
         ap combinedOf (yields ∙ ap (λ (k : Canonical Label). writtenOut k old) (sym same-form)) ∙
-        sym (ap (λ z. unifiedOut z old) (answered-none false (clash-is ∙ clear)))
+        sym (ap (λ z. unifiedOut z old) (answered-none false (clash-is ∙ clear))) ∙ out-is old

@@ -7,18 +7,13 @@ use lib.Dec.{eqb}
 use lib.ListN.{getD}
 use Rattle.graphs.specs.Rows.{from}
 use Rattle.lattice.specs.Label.{Label, plain}
-use Rattle.lattice.specs.Labels.{Known}
+use Rattle.lattice.specs.Labels.{Known, meetRanged}
 use Rattle.bounds.specs.Sets.{Seekable, meetIn}
 use Rattle.layout.specs.Layout.{size, header, labelAt, labelFrom}
-use Rattle.unify.specs.Outcome.{meetsOf}
-
--- the meet of two labels: that of their types, and the overlap of their ranges
-abbrev pub meetLabels : (ℕ → ℕ → ℕ) → Label → Label → Label
-meetLabels meets a b = meetsOf 0 meets .meet a b
 
 -- the label of the class c met with the label of node v, where the node is of that class
 abbrev pub lowerBy : (ℕ → ℕ → ℕ) → List ℕ → List ℕ → ℕ → ℕ → ℕ → Label → Label
-lowerBy meets ws class shift c v a = cond (eqb (getD class (shift + v) 0) c) (meetLabels meets (labelAt ws v) a) a
+lowerBy meets ws class shift c v a = cond (eqb (getD class (shift + v) 0) c) (meetRanged meets (labelAt ws v) a) a
 
 -- the label of the class c met with the labels of the nodes in it, the last node first
 abbrev pub lowered : (ℕ → ℕ → ℕ) → List ℕ → List ℕ → ℕ → ℕ → Label → Label

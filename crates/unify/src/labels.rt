@@ -12,13 +12,14 @@ ghost use lib.ListN.{length, getD};
 ghost use mathlib.Core.Path.{_≡_};
 ghost use mathlib.Core.Bool.{false};
 ghost use Rattle.lattice.specs.Label.{plain};
+ghost use Rattle.lattice.specs.Labels.{meetRanged};
 ghost use Rattle.bounds.specs.Sets.{Seekable, meetIn};
 ghost use Rattle.layout.specs.Builder.{stated};
 ghost use Rattle.graphs.specs.Rows.{from};
 ghost use Rattle.graphs.specs.Unify.{anyOf};
 ghost use Rattle.layout.specs.Layout.{Recorded, Shaped, size, labelAt};
 ghost use Rattle.unify.specs.Outcome.{contradicts};
-ghost use Rattle.unify.specs.Lowered.{Below, ClassLabels, Lowerable, Lowers, Meeting, labelOfClass, labelWords, meetLabels};
+ghost use Rattle.unify.specs.Lowered.{Below, ClassLabels, Lowerable, Lowers, Meeting, labelOfClass, labelWords};
 ghost use Rattle.unify.specs.Rows.{Operand};
 
 // The meet of two labels over n types: the meet of their types, and the overlap of their ranges.
@@ -31,7 +32,7 @@ fn meet<'a>(
 ) -> Label
     requires { ⌜ (a .kind < n) × (b .kind < n) × (n ≤ 64) ⌝ }
     requires { ⌜ Seekable false n (now sets) ⌝ }
-    ensures { λ r. ⌜ stated r ≡ meetLabels (meetIn n (now (sets .entry)) (now (cells .entry))) (stated a) (stated b) ⌝ }
+    ensures { λ r. ⌜ stated r ≡ meetRanged (meetIn n (now (sets .entry)) (now (cells .entry))) (stated a) (stated b) ⌝ }
 {
     Label {
         kind: bounds::sets::meet(n, sets, cells, a.kind as usize, b.kind as usize),

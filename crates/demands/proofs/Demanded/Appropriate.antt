@@ -12,6 +12,7 @@ use Rattle.graphs.specs.Rows.{Row, from}
 use Rattle.graphs.specs.Number.{canonical}
 use Rattle.graphs.specs.Generalize.{generalization}
 use Rattle.graphs.specs.Unify.{Unified, cycle, clash, unified, unification}
+use Rattle.graphs.specs.OfRows.{samePair, sameEither}
 use Rattle.graphs.proofs.Search.{not-true}
 use Rattle.graphs.proofs.Difference.ByNumber.{by-number-order}
 use Rattle.lattice.specs.Label.{Label}
@@ -30,7 +31,6 @@ use Rattle.record.proofs.Accepted.{accepted-rules}
 use Rattle.record.proofs.Theorems.{accepted-of-any-size}
 use Rattle.record.proofs.Allowed.{refused-appropriate, judged-appropriate, accepted-appropriate}
 use Rattle.record.proofs.Obeying.{appropriate-exact, appropriate-same, common-obeys, combination-obeys}
-use Rattle.generalize.specs.Pairs.{samePair}
 use Rattle.replies.specs.declared.Side.the-variants.{First, Second}
 use Rattle.replies.specs.declared.Reply.the-variants.{Length, Graph, TypeList}
 use Rattle.replies.specs.Reply.{Result, refusal, replyOf, refusing}
@@ -38,7 +38,7 @@ use Rattle.calls.specs.Calls.{checked, rewriting, generalizing, unifying, diffe
 use Rattle.pairs.specs.Pair.{readBoth}
 use Rattle.engine.specs.Rewriting.{rewritten}
 use Rattle.engine.specs.Generalizing.{generalized}
-use Rattle.engine.specs.Unifying.{sameEither, combined, unifiedRows}
+use Rattle.engine.specs.Unifying.{combined, unifiedRows}
 use Rattle.calls.specs.Appropriate.{rewritingAppropriate, generalizingAppropriate, unifyingAppropriate}
 use Rattle.demands.specs.Appropriate.{Passes, Breaks, Fits, Obeys}
 use Rattle.demands.specs.Demand.{Given, WrittenRecord}

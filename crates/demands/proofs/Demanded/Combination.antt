@@ -13,6 +13,7 @@ use Rattle.graphs.specs.Graph.{Graph, TellsApart}
 use Rattle.graphs.specs.Rows.{Row}
 use Rattle.graphs.specs.Number.{Canonical, canonical}
 use Rattle.graphs.specs.Unify.{Cycle, Unified, cycle, clash, unified, unification}
+use Rattle.graphs.specs.OfRows.{sameEither}
 use Rattle.graphs.proofs.Lists.{tells-eqb}
 use Rattle.graphs.proofs.Below.{same-refl}
 use Rattle.graphs.proofs.Form.Invariant.{same-canonical}
@@ -42,7 +43,7 @@ use Rattle.record.specs.Read.{reading, accepted, graphOfRows}
 use Rattle.record.proofs.Theorems.{accepted-of-any-size, accepted-nodes}
 use Rattle.replies.specs.declared.Reply.the-variants as replies
 use Rattle.replies.specs.Reply.{Result, refusal, refusing, replyOf, resultOf}
-use Rattle.engine.specs.Unifying.{sameEither, combined, unifiedRows}
+use Rattle.engine.specs.Unifying.{combined, unifiedRows}
 use Rattle.calls.specs.Calls.{unifying}
 use Rattle.demands.specs.Demand.{Given, NoneBelow, Combination}
 use Rattle.demands.proofs.Results.{Writes, resultFor, result-writes, seven-bits}

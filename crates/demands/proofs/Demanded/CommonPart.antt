@@ -7,6 +7,7 @@ use Prim.Native.Nat.{ℕ}
 use lib.ListN.{take}
 use Rattle.graphs.specs.Rows.{Row}
 use Rattle.graphs.specs.Generalize.{IsGeneralization}
+use Rattle.graphs.specs.OfRows.{samePair}
 use Rattle.graphs.proofs.Product.{product-is-generalization, same-generalization}
 use Rattle.lattice.specs.Label.{Label}
 use Rattle.lattice.specs.Table as table
@@ -16,7 +17,6 @@ use Rattle.lattice.proofs.Acceptance.{opened-accepted}
 use Rattle.lattice.proofs.AnySize.{generalization-least, same-least}
 use Rattle.record.specs.Read.{reading, accepted, graphOfRows}
 use Rattle.record.proofs.Theorems.{accepted-of-any-size}
-use Rattle.generalize.specs.Pairs.{samePair}
 use Rattle.generalize.proofs.Sides.{tells-pair}
 use Rattle.replies.specs.declared.Reply.the-variants.{Length}
 use Rattle.engine.specs.Generalizing.{generalized}

@@ -13,6 +13,7 @@ use Rattle.graphs.specs.Rows.{Row, from}
 use Rattle.graphs.specs.Number.{canonical}
 use Rattle.graphs.specs.Generalize.{generalization}
 use Rattle.graphs.specs.Unify.{Unified, cycle, clash, unified, unification}
+use Rattle.graphs.specs.OfRows.{samePair, sameEither}
 use Rattle.graphs.proofs.Search.{true-false}
 use Rattle.lattice.specs.Label.{Label}
 use Rattle.lattice.specs.declared.Opened.{Opened}
@@ -28,7 +29,6 @@ use Rattle.record.specs.Appropriate.{listAccepted, appropriate, readingAppropri
 use Rattle.record.proofs.Accepted.{accepted-rules}
 use Rattle.record.proofs.Allowed.{refused-appropriate, judged-appropriate}
 use Rattle.record.proofs.Obeying.{appropriate-exact}
-use Rattle.generalize.specs.Pairs.{samePair}
 use Rattle.replies.specs.declared.Side.{Side}
 use Rattle.replies.specs.declared.Side.the-variants.{First, Second}
 use Rattle.replies.specs.declared.Reply.{Reply}
@@ -41,7 +41,7 @@ use Rattle.calls.proofs.Listed.{Checks, table-before-list, list-refused, list-p
 use Rattle.pairs.specs.Pair.{readBoth}
 use Rattle.engine.specs.Rewriting.{rewritten}
 use Rattle.engine.specs.Generalizing.{generalized}
-use Rattle.engine.specs.Unifying.{sameEither, combined, unifiedRows}
+use Rattle.engine.specs.Unifying.{combined, unifiedRows}
 use Rattle.demands.specs.Appropriate.{Breaks, Fits}
 use Rattle.demands.specs.Demand.{Leaves}
 use Rattle.demands.proofs.Demanded.Output.{refusing-leaves, rewriting-leaves, generalizing-leaves, unifying-leaves}

@@ -12,6 +12,7 @@ use lib.ListN.{length, take}
 use Rattle.graphs.specs.Graph.{Graph, TellsApart, Reached}
 use Rattle.graphs.specs.Rows.{Row}
 use Rattle.graphs.specs.Difference.{Link, StrictOrder, byNumber, byReading}
+use Rattle.graphs.specs.OfRows.{samePair, sameEither}
 use Rattle.graphs.proofs.Lists.{tells-eqb}
 use Rattle.graphs.proofs.Difference.ByNumber.{by-number-order}
 use Rattle.graphs.proofs.Difference.ByReading.{by-reading-order}
@@ -32,7 +33,6 @@ use Rattle.record.proofs.Accepted.{rules-linked, accepted-rules}
 use Rattle.record.proofs.Rewritten.{written-injective, form-again}
 use Rattle.record.proofs.Theorems.{accepted-of-any-size, accepted-types}
 use Rattle.groups.specs.LinkOrders.{isReadingOrder}
-use Rattle.generalize.specs.Pairs.{samePair}
 use Rattle.generalize.proofs.Sides.{tells-pair}
 use Rattle.replies.specs.declared.Side.{Side}
 use Rattle.replies.specs.declared.Side.the-variants.{First, Second}
@@ -43,7 +43,7 @@ use Rattle.calls.specs.Calls.{checked, checkedList, rewriting, generalizing, un
 use Rattle.pairs.specs.Pair.{readBoth}
 use Rattle.engine.specs.Rewriting.{rewritten}
 use Rattle.engine.specs.Generalizing.{generalized}
-use Rattle.engine.specs.Unifying.{sameEither, unifiedRows}
+use Rattle.engine.specs.Unifying.{unifiedRows}
 use Rattle.difference.specs.Difference.{differedRows}
 use Rattle.demands.specs.Demand.{Given, Leaves, Large, common, remainder}
 use Rattle.demands.proofs.Results.{resultFor, result-writes, seven-bits}

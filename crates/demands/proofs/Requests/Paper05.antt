@@ -7,9 +7,9 @@ use native.Mathlib.Omega.{arith}
 use lib.ListN.{length}
 use Rattle.graphs.specs.Rows.{Row}
 use Rattle.graphs.specs.Number.{canonical, written}
+use Rattle.graphs.specs.OfRows.{samePair}
 use Rattle.graphs.proofs.Form.Rules.{form-short}
 use Rattle.lattice.specs.Label.{Label}
-use Rattle.generalize.specs.Pairs.{samePair}
 use Rattle.generalize.proofs.Sides.{tells-pair}
 use Rattle.replies.specs.declared.Reply.the-variants.{TooLarge}
 use Rattle.calls.specs.Calls.{generalizing}

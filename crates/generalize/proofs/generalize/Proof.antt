@@ -6,12 +6,12 @@ use native.Mathlib.Omega.{arith}
 use lib.ListN.{length, replicate, length-replicate, getD-replicate}
 use Rattle.graphs.specs.Number.{Canonical}
 use Rattle.lattice.specs.Label.{Label}
+use Rattle.lattice.specs.Labels.{joinRanged}
 use Rattle.bounds.specs.Sets.{joinIn}
 use Rattle.layout.specs.Layout.{header}
 use Rattle.layout.specs.Builder.{putLabel}
 use Rattle.layout.proofs.Builder.{length-put}
 use Rattle.encode.specs.Encode.{writtenOut}
-use Rattle.generalize.specs.Pairs.{joinsOf}
 use Rattle.generalize.proofs.Building.{Building, base, build-start, build-step}
 use Rattle.generalize.proofs.Result.{too-large, many-pairs, many-links, build-sound, build-canonical}
 use borrow.Author.Needs.{needs}
@@ -106,13 +106,13 @@ add-if2-2 : tie.Need-add-if2-2 Inv-loop μ-loop
 add-if2-2 c = omega (arith, c .before .before .before .before .before .before .before .before .before .before .before .loop-test .taken, c .before .before .before .before .before .before .before .before .before .before .before .before .loop .inv .0 .marked .few)
 
 returns-2 : tie.Need-returns-2 Inv-loop μ-loop
-returns-2 c = let s = c .before .before .before .before .before .before .before .before .before .before .before .before .before .loop .inv .0 in let st = c .before .before .before .before .before .before .before .before .before .before .before .before .before .before .before .before .before in sym (too-large (joinIn (st .args .n) (st .args .sets .now) (st .args .cells .now)) (s .left) (s .right) (st .args .out .now) (inr (many-links (build-step (c .before .before .before .before .before .before .before .before .before .before .before .before .before .loop .inv .0) (c .before .before .before .before .before .before .before .before .before .before .before .before .loop-test .taken) (c .before .before .before .before .before .before .before .before .before .before .before .before .before .loop .inv .1) _ refl _ (c .before .before .before .before .before .before .before .put-label .ensures ∙ ap (putLabel (c .before .before .before .before .before .before .before .before .before .before .before .before .before .loop .words) (c .before .before .before .before .before .before .before .before .before .before .before .before .before .loop .at)) (c .before .before .before .before .before .before .before .before .before .join .ensures ∙ ap₂ (joinsOf (joinIn (c .before .before .before .before .before .before .before .before .before .before .before .before .before .before .before .before .before .args .n) (c .before .before .before .before .before .before .before .before .before .before .before .before .before .before .before .before .before .args .sets .now) (c .before .before .before .before .before .before .before .before .before .before .before .before .before .before .before .before .before .args .cells .now)) .join) (c .before .before .before .before .before .before .before .before .before .before .before .label-at .ensures) (c .before .before .before .before .before .before .before .before .before .before .label-at2 .ensures))) _ _ _ _ (c .before .before .pair-links .ensures .added (omega (arith, c .before .if1 .left)))) (omega (arith, c .if2 .taken)))))
+returns-2 c = let s = c .before .before .before .before .before .before .before .before .before .before .before .before .before .loop .inv .0 in let st = c .before .before .before .before .before .before .before .before .before .before .before .before .before .before .before .before .before in sym (too-large (joinIn (st .args .n) (st .args .sets .now) (st .args .cells .now)) (s .left) (s .right) (st .args .out .now) (inr (many-links (build-step (c .before .before .before .before .before .before .before .before .before .before .before .before .before .loop .inv .0) (c .before .before .before .before .before .before .before .before .before .before .before .before .loop-test .taken) (c .before .before .before .before .before .before .before .before .before .before .before .before .before .loop .inv .1) _ refl _ (c .before .before .before .before .before .before .before .put-label .ensures ∙ ap (putLabel (c .before .before .before .before .before .before .before .before .before .before .before .before .before .loop .words) (c .before .before .before .before .before .before .before .before .before .before .before .before .before .loop .at)) (c .before .before .before .before .before .before .before .before .before .join .ensures ∙ ap₂ (joinRanged (joinIn (c .before .before .before .before .before .before .before .before .before .before .before .before .before .before .before .before .before .args .n) (c .before .before .before .before .before .before .before .before .before .before .before .before .before .before .before .before .before .args .sets .now) (c .before .before .before .before .before .before .before .before .before .before .before .before .before .before .before .before .before .args .cells .now))) (c .before .before .before .before .before .before .before .before .before .before .before .label-at .ensures) (c .before .before .before .before .before .before .before .before .before .before .label-at2 .ensures))) _ _ _ _ (c .before .before .pair-links .ensures .added (omega (arith, c .before .if1 .left)))) (omega (arith, c .if2 .taken)))))
 
 loop-less : tie.Need-loop-less Inv-loop μ-loop
 loop-less c = omega (arith, c .before .before .before .before .before .before .before .before .before .before .before .before .loop-test .taken, c .before .before .before .before .before .before .before .before .before .before .before .before .before .loop .inv .0 .marked .few)
 
 loop-again : tie.Need-loop-again Inv-loop μ-loop
-loop-again c = (build-step (c .before .before .before .before .before .before .before .before .before .before .before .before .before .loop .inv .0) (c .before .before .before .before .before .before .before .before .before .before .before .before .loop-test .taken) (c .before .before .before .before .before .before .before .before .before .before .before .before .before .loop .inv .1) _ refl _ (c .before .before .before .before .before .before .before .put-label .ensures ∙ ap (putLabel (c .before .before .before .before .before .before .before .before .before .before .before .before .before .loop .words) (c .before .before .before .before .before .before .before .before .before .before .before .before .before .loop .at)) (c .before .before .before .before .before .before .before .before .before .join .ensures ∙ ap₂ (joinsOf (joinIn (c .before .before .before .before .before .before .before .before .before .before .before .before .before .before .before .before .before .args .n) (c .before .before .before .before .before .before .before .before .before .before .before .before .before .before .before .before .before .args .sets .now) (c .before .before .before .before .before .before .before .before .before .before .before .before .before .before .before .before .before .args .cells .now)) .join) (c .before .before .before .before .before .before .before .before .before .before .before .label-at .ensures) (c .before .before .before .before .before .before .before .before .before .before .label-at2 .ensures))) _ _ _ _ (c .before .before .pair-links .ensures .added (omega (arith, c .before .if1 .left))), omega (arith, c .if2 .left))
+loop-again c = (build-step (c .before .before .before .before .before .before .before .before .before .before .before .before .before .loop .inv .0) (c .before .before .before .before .before .before .before .before .before .before .before .before .loop-test .taken) (c .before .before .before .before .before .before .before .before .before .before .before .before .before .loop .inv .1) _ refl _ (c .before .before .before .before .before .before .before .put-label .ensures ∙ ap (putLabel (c .before .before .before .before .before .before .before .before .before .before .before .before .before .loop .words) (c .before .before .before .before .before .before .before .before .before .before .before .before .before .loop .at)) (c .before .before .before .before .before .before .before .before .before .join .ensures ∙ ap₂ (joinRanged (joinIn (c .before .before .before .before .before .before .before .before .before .before .before .before .before .before .before .before .before .args .n) (c .before .before .before .before .before .before .before .before .before .before .before .before .before .before .before .before .before .args .sets .now) (c .before .before .before .before .before .before .before .before .before .before .before .before .before .before .before .before .before .args .cells .now))) (c .before .before .before .before .before .before .before .before .before .before .before .label-at .ensures) (c .before .before .before .before .before .before .before .before .before .before .label-at2 .ensures))) _ _ _ _ (c .before .before .pair-links .ensures .added (omega (arith, c .before .if1 .left))), omega (arith, c .if2 .left))
 
 cast-words-3 : tie.Need-cast-words-3 Inv-loop μ-loop
 cast-words-3 c = omega (arith, c .before .loop .inv .0 .marked .few)

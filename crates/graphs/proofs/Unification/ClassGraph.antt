@@ -113,7 +113,7 @@ module _ {𝓛 : Labels} (lattice : Lattice 𝓛) {A B : Type 0} {sameA : A → 
   name = className sameA sameB g gs h hs
 
   abbrev u : Graph (𝓛 .L) (A ⊎ B)
-  u = classGraph 𝓛 sameA sameB g gs h hs
+  u = classGraph (𝓛 .meet) (𝓛 .top) sameA sameB g gs h hs
 
   pub class-quotient : Quotient 𝓛 g h name u
   unfolding classGraph classLabel

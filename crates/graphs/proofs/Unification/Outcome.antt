@@ -27,6 +27,7 @@ use Rattle.graphs.specs.Unify.{
   cycle,
   clash,
   unified,
+  unificationBy,
   unification,
 }
 use Rattle.graphs.specs.Difference.{select}
@@ -75,10 +76,13 @@ module _ {𝓛 : Labels} (lattice : Lattice 𝓛) {A B : Type 0} {sameA : A → 
   name = className sameA sameB g gs h hs
 
   abbrev u : Graph (𝓛 .L) (A ⊎ B)
-  u = classGraph 𝓛 sameA sameB g gs h hs
+  u = classGraph (𝓛 .meet) (𝓛 .top) sameA sameB g gs h hs
 
   abbrev nodes : List (A ⊎ B)
   nodes = nodesBeside gs hs
+
+  abbrev clashes : Bool
+  clashes = hasClash (𝓛 .meet) (𝓛 .top) (𝓛 .contradiction) sameA sameB g gs h hs
 
   tells : TellsApart (sameBeside sameA sameB)
   tells = tells-beside given
@@ -89,8 +93,8 @@ module _ {𝓛 : Labels} (lattice : Lattice 𝓛) {A B : Type 0} {sameA : A → 
   is : IsUnification 𝓛 g h u
   is = class-unification lattice given
 
-  pub has-cycle : (hasCycle 𝓛 sameA sameB g gs h hs ≡ true) ↔ Cycle 𝓛 g h
-  unfolding hasCycle
+  pub has-cycle : (hasCycle sameA sameB g gs h hs ≡ true) ↔ Cycle 𝓛 g h
+  unfolding hasCycle classGraph
   has-cycle = (found, finds)
     where
       n : ℕ
@@ -108,7 +112,7 @@ module _ {𝓛 : Labels} (lattice : Lattice 𝓛) {A B : Type 0} {sameA : A → 
           let (p, x, e, k) = loop-walk (u .link) (some (u .root)) (unification-cycle is .0 c) n in
           walk-deep (u .link) n (u .root) p x (λ q y z f d e. class-features lattice given y z f (q, d) e) e k
 
-  pub has-clash : (hasClash 𝓛 sameA sameB g gs h hs ≡ true) ↔ Clash 𝓛 g h
+  pub has-clash : (clashes ≡ true) ↔ Clash 𝓛 g h
   unfolding hasClash
   has-clash = (found, finds)
     where
@@ -151,26 +155,26 @@ module _ {𝓛 : Labels} (lattice : Lattice 𝓛) {A B : Type 0} {sameA : A → 
 
   -- The three answers.
 
-  no-cycle : (hasCycle 𝓛 sameA sameB g gs h hs ≡ false) ↔ (Cycle 𝓛 g h → ⊥)
+  no-cycle : (hasCycle sameA sameB g gs h hs ≡ false) ↔ (Cycle 𝓛 g h → ⊥)
   no-cycle = false-not has-cycle
 
-  no-clash : (hasClash 𝓛 sameA sameB g gs h hs ≡ false) ↔ (Clash 𝓛 g h → ⊥)
+  no-clash : (clashes ≡ false) ↔ (Clash 𝓛 g h → ⊥)
   no-clash = false-not has-clash
 
   pub answers-cycle : (unification 𝓛 sameA sameB g gs h hs ≡ cycle) ↔ Cycle 𝓛 g h
-  unfolding unification
-  answers-cycle = Iff·trans (answer-cycle (hasCycle 𝓛 sameA sameB g gs h hs) (hasClash 𝓛 sameA sameB g gs h hs) u) has-cycle
+  unfolding unificationBy
+  answers-cycle = Iff·trans (answer-cycle (hasCycle sameA sameB g gs h hs) clashes u) has-cycle
 
   pub answers-clash : (unification 𝓛 sameA sameB g gs h hs ≡ clash) ↔ ((Cycle 𝓛 g h → ⊥) × Clash 𝓛 g h)
-  unfolding unification
+  unfolding unificationBy
   answers-clash =
-      Iff·trans (answer-clash (hasCycle 𝓛 sameA sameB g gs h hs) (hasClash 𝓛 sameA sameB g gs h hs) u) (Iff·and no-cycle has-clash)
+      Iff·trans (answer-clash (hasCycle sameA sameB g gs h hs) clashes u) (Iff·and no-cycle has-clash)
 
   pub answers-graph : (v : Graph (𝓛 .L) (A ⊎ B)) →
       (unification 𝓛 sameA sameB g gs h hs ≡ unified v) ↔ ((Cycle 𝓛 g h → ⊥) × (Clash 𝓛 g h → ⊥) × (u ≡ v))
-  unfolding unification
+  unfolding unificationBy
   answers-graph v =
-      let (there, back) = answer-graph (hasCycle 𝓛 sameA sameB g gs h hs) (hasClash 𝓛 sameA sameB g gs h hs) u v in
+      let (there, back) = answer-graph (hasCycle sameA sameB g gs h hs) clashes u v in
       (λ e. let (a, b, c) = there e in (no-cycle .0 a, no-clash .0 b, c), λ (a, b, c). back (no-cycle .1 a, no-clash .1 b, c))
 
   -- An answered graph is of any size, and the unification; so it is the greatest below both (`unification-greatest`).
@@ -196,7 +200,7 @@ unification-monotone {𝓛} lattice {sameA′ = sameA′} {sameB′} {g′} {gs�
     let (size, is) = graph-right lattice given v e in
     let left = below-trans lattice (unification-left is) b in
     let right = below-trans lattice (unification-right is) c in (
-      classGraph 𝓛 sameA′ sameB′ g′ gs′ h′ hs′,
+      classGraph (𝓛 .meet) (𝓛 .top) sameA′ sameB′ g′ gs′ h′ hs′,
       bounded-graph lattice given′ size left right,
       unification-greatest left right (class-unification lattice given′),
     )

@@ -4,12 +4,12 @@ use Prim.Native.Nat.{_+_, _-_, _*_}
 use native.Mathlib.Omega.{arith}
 use lib.ListN.{getD}
 use Rattle.lattice.specs.Label.{Label}
+use Rattle.lattice.specs.Labels.{meetRanged}
 use Rattle.bounds.specs.Sets.{meetIn}
 use Rattle.lattice.proofs.Lawful.{known-more}
 use Rattle.layout.specs.Layout.{header}
 use Rattle.layout.specs.Builder.{putLabel}
 use Rattle.layout.proofs.Order.{directory}
-use Rattle.unify.specs.Lowered.{meetLabels}
 use Rattle.unify.proofs.Lowering.{Lowering, lower-start, lower-step, lower-done, node-known, class-known}
 use Rattle.unify.proofs.labels.lower.Statement.{statement}
 use Rattle.unify.proofs.labels.lower.Tie as tie
@@ -67,7 +67,7 @@ loop-less : tie.Need-loop-less Inv-loop μ-loop
 loop-less c = omega (arith, c .before .before .before .before .before .before .before .before .loop-test .taken)
 
 loop-again : tie.Need-loop-again Inv-loop μ-loop
-loop-again c = let w = c .before .before .before .before .before .before .before .before .before .before .before .before in let x = c .before .before .before .before .before .before .before .before .before .loop in lower-step (x .inv) (w .pre .1 .1 .0 .0) (c .before .before .before .before .before .before .before .before .loop-test .taken) (c .before .before .before .before .before .before .before .before .before .before .before .before .pre .1 .1 .1 (c .before .before .before .before .before .before .before .before .before .loop .v - 1) (omega (arith, c .before .before .before .before .before .before .before .before .loop-test .taken, c .before .before .before .before .before .before .before .before .before .loop .inv .most))) (c .put-label .ensures ∙ ap (putLabel (x .labels) (header * getD (w .args .class .now) (w .args .shift + (x .v - 1)) 0)) (c .before .before .meet .ensures ∙ ap₂ (meetLabels (meetIn (w .args .n) (w .args .sets .now) (w .args .cells .now))) (c .before .before .before .before .before .before .label-at .ensures) (c .before .before .before .label-from .ensures)))
+loop-again c = let w = c .before .before .before .before .before .before .before .before .before .before .before .before in let x = c .before .before .before .before .before .before .before .before .before .loop in lower-step (x .inv) (w .pre .1 .1 .0 .0) (c .before .before .before .before .before .before .before .before .loop-test .taken) (c .before .before .before .before .before .before .before .before .before .before .before .before .pre .1 .1 .1 (c .before .before .before .before .before .before .before .before .before .loop .v - 1) (omega (arith, c .before .before .before .before .before .before .before .before .loop-test .taken, c .before .before .before .before .before .before .before .before .before .loop .inv .most))) (c .put-label .ensures ∙ ap (putLabel (x .labels) (header * getD (w .args .class .now) (w .args .shift + (x .v - 1)) 0)) (c .before .before .meet .ensures ∙ ap₂ (meetRanged (meetIn (w .args .n) (w .args .sets .now) (w .args .cells .now))) (c .before .before .before .before .before .before .label-at .ensures) (c .before .before .before .label-from .ensures)))
 
 returns : tie.Need-returns Inv-loop μ-loop
 returns c = (c .before .loop .inv .long, (c .before .loop .inv .below _ (c .before .before .before .before .pre .1 .1 .0 .0), lower-done (c .before .loop .inv) (omega (arith, c .loop-test .left))))
