@@ -19,7 +19,7 @@ use Rattle.layout.proofs.Builder.{put-before, label-put, label-same, length-put
 use Rattle.generalize.specs.declared.Spread.{Spread}
 use Rattle.generalize.specs.Pairs.{Joinable}
 use Rattle.generalize.specs.Product.{product}
-use Rattle.generalize.specs.Queue.{clear, common, room, Marked, Matched, Numbered, Adds}
+use Rattle.generalize.specs.Queue.{clear, common, Marked, Matched, Numbered, Adds}
 use Rattle.generalize.proofs.Marking.{mark-root}
 use Rattle.generalize.proofs.Merging.{matched-on}
 use Rattle.generalize.proofs.Sides.{pairOf, product-root, product-link, common-known}
@@ -55,7 +55,7 @@ pub record Building (joins : ℕ → ℕ → ℕ) (a b : List ℕ) (head count a
   pub root : getD queue 0 0 ≡ 0
   pub inside : (i : ℕ) → i < count → (getD queue i 0 / 255 < size a) × (getD queue i 0 % 255 < size b)
   pub reached : (i : ℕ) → i < count → Reached (product joins a b) (pairOf (getD queue i 0))
-  pub long : length words ≡ room
+  pub long : length words ≤ 65535
   pub built : Built words base head at
   pub first : getD words 1 0 ≡ base
   pub labels : (i : ℕ) → i < head → labelAt words i ≡ joined joins a b (pairOf (getD queue i 0))
@@ -64,8 +64,8 @@ pub record Building (joins : ℕ → ℕ → ℕ) (a b : List ℕ) (head count a
 -- The root's pair is known, and has no row yet.
 pub build-start : (joins : ℕ → ℕ → ℕ) {a b : List ℕ} → Recorded a → Recorded b → ((n : ℕ) × Joinable n joins a b) → (marks queue words : List ℕ) →
     length marks ≡ 65025 → ((p : ℕ) → p < 65025 → getD marks p 0 ≡ clear) → length queue ≡ 255 → getD queue 0 0 ≡ 0 →
-    length words ≡ room → Building joins a b 0 1 base (set marks 0 0) queue (set words 1 base)
-build-start joins {a} {b} left right (n, able) marks queue words marks-long none queue-long root long =
+    512 ≤ length words → length words ≤ 65535 → Building joins a b 0 1 base (set marks 0 0) queue (set words 1 base)
+build-start joins {a} {b} left right (n, able) marks queue words marks-long none queue-long root least long =
     record {
       left = left;
       right = right;
@@ -81,7 +81,7 @@ build-start joins {a} {b} left right (n, able) marks queue words marks-long none
       );
       reached = λ i h.
           subst (Reached (product joins a b)) (product-root joins a b ∙ sym (ap pairOf (first-pair i h))) (reached-root (product joins a b));
-      long = length-set words 1 base ∙ long;
+      long = omega (arith, length-set words 1 base);
       built = built-begin words base (omega arith) (omega arith);
       first = getD-set-same words 1 base 0 (omega arith);
       labels = λ i h. absurd (omega arith);
@@ -134,7 +134,7 @@ module _ {joins : ℕ → ℕ → ℕ} {a b : List ℕ} {head count at : ℕ} {m
 
 module _ {joins : ℕ → ℕ → ℕ} {a b : List ℕ} {head count at : ℕ} {marks queue words : List ℕ}
     (s : Building joins a b head count at marks queue words) (next : head < count)
-    (short : at ≤ base + head * header + 2048) where
+    (fits : at + (header + 64) ≤ length words) where
   -- The next pair gets its row.
   module _ (label : Label) (is : label ≡ joined joins a b (pairOf (getD queue head 0))) (opened : List ℕ)
       (opens : opened ≡ putLabel words at label) (marks′ queue′ words′ : List ℕ) (now : Spread)
@@ -156,7 +156,7 @@ module _ {joins : ℕ → ℕ → ℕ} {a b : List ℕ} {head count at : ℕ} {m
         record {
           built = built-kept (s .built) words′ long-now (λ k l h. kept k (omega arith) (omega (arith, low)));
           headed = added .rises;
-          inside = omega (arith, added .short, long-now, s .long);
+          inside = omega (arith, added .short, long-now);
         }
 
     listed : head + 2 < base
@@ -168,7 +168,7 @@ module _ {joins : ℕ → ℕ → ℕ} {a b : List ℕ} {head count at : ℕ} {m
     label-now : labelFrom words′ at ≡ label
     label-now =
         label-same opened words′ at (λ k l h. added .kept k (omega arith) h) ∙ ap (λ (ws : List ℕ). labelFrom ws at) opens ∙
-        label-put words at label (omega (arith, s .long)) (subst (λ (l : Label). l .highest ≤ 255) (sym is) (joined-known s head next .highest))
+        label-put words at label (omega arith) (subst (λ (l : Label). l .highest ≤ 255) (sym is) (joined-known s head next .highest))
 
     rows-are : rowsFrom new 0 (head + 1) ≡ rowsFrom words 0 head ++ ((label, linksBetween words′ (at + header) (now .at)) ∷ [])
     rows-are =
@@ -228,6 +228,9 @@ module _ {joins : ℕ → ℕ → ℕ} {a b : List ℕ} {head count at : ℕ} {m
         (subst (λ (x : ℕ × ℕ). Matched (common a b x) queue′ (now .count) 64 (linksBetween words′ (at + header) (now .at)))
         (same-pair i head e next) (added .row))
 
+    pub build-long : length (set words′ (head + 2) (now .at)) ≡ length words
+    build-long = length-set words′ (head + 2) (now .at) ∙ long-now
+
     pub build-step : Building joins a b (head + 1) (now .count) (now .at) marks′ queue′ (set words′ (head + 2) (now .at))
     build-step =
         record {
@@ -241,7 +244,7 @@ module _ {joins : ℕ → ℕ → ℕ} {a b : List ℕ} {head count at : ℕ} {m
           root = added .queue-kept 0 (s .begun) ∙ s .root;
           inside = λ i h. inside i h (decLt i count);
           reached = pairs-reached s next added;
-          long = length-set words′ (head + 2) (now .at) ∙ long-now ∙ s .long;
+          long = omega (arith, build-long, s .long);
           built = row-closes filled listed;
           first =
               getD-set-other words′ (head + 2) 1 (now .at) 0 (λ (e : 1 ≡ head + 2). omega arith) ∙ kept 1 (omega arith) (omega (arith, low)) ∙

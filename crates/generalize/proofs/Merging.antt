@@ -24,12 +24,12 @@ use lib.Seq.{getD-set-other}
 use Rattle.graphs.specs.Generalize.{both}
 use Rattle.graphs.specs.Large.{Ascending}
 use Rattle.graphs.proofs.Walk.{none-some}
-use Rattle.layout.specs.Layout.{longest, Recorded, Sound, size, linksFrom, rowEnd, featureAt, targetAt, linkWord, graphIn}
+use Rattle.layout.specs.Layout.{Recorded, Sound, size, linksFrom, rowEnd, featureAt, targetAt, linkWord, graphIn}
 use Rattle.layout.proofs.Spans.{links-none, features-rise}
 use Rattle.layout.proofs.Places.{link-at, link-place}
 use Rattle.layout.proofs.Builder.{links-put}
 use Rattle.generalize.specs.declared.Spread.{Spread}
-use Rattle.generalize.specs.Queue.{clear, codeOf, room, Marked, Enlisted, common, Numbered, Matched, Adds, Full, Spreads}
+use Rattle.generalize.specs.Queue.{clear, codeOf, Marked, Enlisted, common, Numbered, Matched, Adds, Full, Spreads}
 
 -- The links of a pair.
 
@@ -280,8 +280,8 @@ pub record Begun (a b : List ℕ) (u v : ℕ) (words : List ℕ) (known : Spread
   pub right : Recorded b
   pub left-node : u < size a
   pub right-node : v < size b
-  pub long : length words ≡ room
-  pub low : known .at ≤ longest
+  pub long : length words ≤ 65535
+  pub low : known .at + 64 ≤ length words
   pub left-end : rowEnd a u < 65536
   pub right-end : rowEnd b v < 65536
 
@@ -378,7 +378,7 @@ module _ {a b : List ℕ} {u v : ℕ} {queue₀ words₀ : List ℕ} {known : Sp
         }
 
     -- there is room for one more link
-    pub merge-room : now .at < room
+    pub merge-room : now .at < length words₀
     merge-room = let k = s .left .from left-in in omega (arith, s .added .short, left-known, s .begun .low)
 
     -- the targets are nodes, and there is a mark for their pair
@@ -434,5 +434,5 @@ module _ {a b : List ℕ} {u v : ℕ} {queue₀ words₀ : List ℕ} {known : Sp
               subst (λ (f : ℕ). Read b v (j + 1) (suc f)) (sym same) (read-next right-sound (s .begun .right-node) (s .right) right-in);
           added = adds-link (s .added) (featureAt a i) (targetAt a i, targetAt b j) marks′ queue′ next (s .left .from left-in)
               (λ f low high. left-none f low (λ h. high)) (leads-both same) (merge-nodes .0) (merge-nodes .1)
-              (omega (arith, merge-room, s .added .long, s .begun .long)) listed;
+              (omega (arith, merge-room, s .added .long)) listed;
         }

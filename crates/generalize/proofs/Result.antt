@@ -26,10 +26,13 @@ use Rattle.layout.proofs.Spans.{linkAt, length-links, links-at, links-member}
 use Rattle.layout.proofs.Rows.{row-at, rows-source}
 use Rattle.layout.proofs.Places.{label-at, link-at, link-place}
 use Rattle.layout.proofs.Builder.{Orderly, Aimed, size-kept, size-rows, size-is, built-shaped, built-sound}
-use Rattle.encode.specs.Encode.{yielding, writtenOut}
+use Rattle.encode.specs.Encode.{Outcome, yielding, writtenOut}
+use Rattle.encode.specs.declared.Written.{Written}
 use Rattle.encode.specs.declared.Written.the-variants as outcome
 use Rattle.generalize.specs.Product.{product, productOut}
-use Rattle.generalize.specs.Queue.{clear, codeOf, common, Marked, Numbered, Full}
+use Rattle.generalize.specs.Queue.{clear, codeOf, common, room, Found, Marked, Numbered, Full}
+use Rattle.generalize.specs.declared.Common.{Common}
+use Rattle.generalize.specs.declared.Common.the-variants as variants
 use Rattle.generalize.proofs.Sides.{pairOf, product-root, product-link, product-label, common-known, tells-pair}
 use Rattle.generalize.proofs.Building.{Building, base, joined-known, pair-numbered, link-reached, pairs-reached}
 
@@ -318,3 +321,16 @@ module _ {joins : ℕ → ℕ → ℕ} {a b : List ℕ} {head count at : ℕ} {m
     pub build-canonical : canonical samePair (product joins a b) ≡ canonical eqb (graphIn (set words 0 count))
     build-canonical =
         bisimilar-canonical samePair eqb tells-pair tells-eqb (Numbered queue count) (product joins a b) (graphIn result) alike
+
+-- What building in lent words found.
+
+pub found-written : {w : Written} {outcome : Outcome} {words : ℕ} {old new : List ℕ} → yielding w new ≡ outcome →
+    Found (variants.Written w) outcome words old new
+found-written {w} {outcome} {words} {old} {new} h =
+    record {
+      written = λ v e. let same : w ≡ v = cc in subst (λ (x : Written). yielding x new ≡ outcome) same h;
+      too-few = λ e. absurd (let z : _≡_ {A = ℕ} 0 1 = cc in omega arith);
+    }
+
+pub found-too-few : {outcome : Outcome} {words : ℕ} {old : List ℕ} → words < room → Found variants.TooFew outcome words old old
+found-too-few h = record { written = λ w e. absurd (let z : _≡_ {A = ℕ} 0 1 = cc in omega arith); too-few = λ e. (refl, h) }

@@ -5,16 +5,16 @@ use encode::Written;
 use layout::Label;
 ghost use mathlib.Core.Path.{_≡_};
 ghost use mathlib.Core.Bool.{true};
-ghost use Prim.Native.Nat.{_≤_, _<_};
+ghost use Prim.Native.Nat.{_+_, _≤_, _<_};
 ghost use lib.ListN.{length};
 ghost use Rattle.lattice.specs.Labels.{joinRanged};
 ghost use Rattle.bounds.specs.Sets.{Seekable, joinIn};
 ghost use Rattle.layout.specs.Builder.{stated};
-ghost use Rattle.layout.specs.Layout.{Recorded, longest, size};
+ghost use Rattle.layout.specs.Layout.{Recorded, size};
 ghost use Rattle.encode.specs.Encode.{yielding};
 ghost use Rattle.generalize.specs.Pairs.{Joinable};
 ghost use Rattle.generalize.specs.Product.{productOut};
-ghost use Rattle.generalize.specs.Queue.{Marked, Offered, Spreads, common, room};
+ghost use Rattle.generalize.specs.Queue.{Found, Marked, Offered, Spreads, common, room};
 
 // The mark of a pair that has no number yet. Numbers are below it.
 pub const CLEAR: u8 = 255;
@@ -27,6 +27,12 @@ const BASE: usize = 257;
 
 // The words of a result: as many as a record's graph has, and the most links that one pair adds before they are counted.
 const ROOM: usize = layout::LONGEST + 64;
+
+// The words that are tried first where both graphs are small, and how many nodes these have together. They hold most of what two such
+// graphs have in common, though not all that they may.
+const SMALL_ROOM: usize = 1024;
+
+const SMALL_NODES: usize = 160;
 
 // Gives a pair that has no number yet the next one. Answers how many pairs then have one, FULL where the numbers are used up.
 fn enlist(marks: &mut [u8; 65025], queue: &mut [u16; 255], pair: usize, count: usize) -> usize
@@ -60,14 +66,14 @@ pub fn pair_links<'a>(
     v: usize,
     marks: &mut [u8; 65025],
     queue: &mut [u16; 255],
-    words: &mut [u16; ROOM],
+    words: &mut [u16],
     known: Spread,
 ) -> Spread
     requires { ⌜ Recorded (now a) ⌝ }
     requires { ⌜ Recorded (now b) ⌝ }
     requires { ⌜ (u < size (now a)) × (v < size (now b)) ⌝ }
     requires { ⌜ Marked (now marks) (now queue) (known .count) ⌝ }
-    requires { ⌜ (length (now words) ≡ room) × (known .at ≤ longest) ⌝ }
+    requires { ⌜ (known .at + 64 ≤ length (now words)) × (length (now words) ≤ 65535) ⌝ }
     ensures { λ r. ⌜ Spreads (common (now (a .entry)) (now (b .entry)) (u, v)) (now (queue .entry)) (now (words .entry)) known (now (marks .exit)) (now (queue .exit)) (now (words .exit)) r ⌝ }
 {
     let a_end = a[u + 2] as usize;
@@ -123,6 +129,93 @@ fn join<'a>(
     }
 }
 
+// What writing in lent words answers: what writing the result answers, or that the words are too few.
+pub enum Common {
+    Written(Written),
+    TooFew,
+}
+
+// Writes the generalization of two graphs over n types, with the joins of types as they are held. It is built in lent words.
+fn generalize_in<'a>(
+    n: usize,
+    sets: &'a [u64; bounds::sets::WORDS],
+    cells: &'a [[u8; 64]; 64],
+    a: &'a [u16],
+    b: &'a [u16],
+    words: &mut [u16],
+    out: &mut [u8],
+) -> Common
+    requires { ⌜ Recorded (now a) ⌝ }
+    requires { ⌜ Recorded (now b) ⌝ }
+    requires { ⌜ Joinable n (joinIn n (now sets) (now cells)) (now a) (now b) ⌝ }
+    requires { ⌜ Seekable true n (now sets) ⌝ }
+    requires { ⌜ (512 ≤ length (now words)) × (length (now words) ≤ 65535) ⌝ }
+    ensures { λ r. ⌜ Found r (productOut (joinIn n (now (sets .entry)) (now (cells .entry))) (now (a .entry)) (now (b .entry)) (now (out .entry))) (length (now (words .entry))) (now (out .entry)) (now (out .exit)) ⌝ }
+{
+    let mut marks = [CLEAR; 65025];
+    let mut queue = [0u16; 255];
+    marks[0] = 0;
+    words[1] = BASE as u16;
+    let mut at: usize = BASE;
+    let mut count: usize = 1;
+    let mut head: usize = 0;
+    while head < count {
+        if words.len() < at + (layout::HEADER + 64) {
+            return Common::TooFew;
+        }
+        let pair = queue[head] as usize;
+        let u = pair / 255;
+        let v = pair % 255;
+        let label = join(
+            n,
+            sets,
+            cells,
+            layout::label_at(a, u),
+            layout::label_at(b, v),
+        );
+        layout::put_label(words, at, label);
+        let known = Spread {
+            at: at + layout::HEADER,
+            count,
+        };
+        let spread = pair_links(a, b, u, v, &mut marks, &mut queue, words, known);
+        at = spread.at;
+        count = spread.count;
+        if 255 < count {
+            return Common::Written(Written::TooLarge); // more than 255 nodes
+        }
+        words[head + 2] = at as u16;
+        head += 1;
+        if BASE + head * layout::HEADER + 2048 < at {
+            return Common::Written(Written::TooLarge); // more than 2,048 links
+        }
+    }
+    words[0] = count as u16;
+    Common::Written(encode::canonical::write(words, out))
+}
+
+// The same in words that are enough for any two graphs.
+fn generalize_large<'a>(
+    n: usize,
+    sets: &'a [u64; bounds::sets::WORDS],
+    cells: &'a [[u8; 64]; 64],
+    a: &'a [u16],
+    b: &'a [u16],
+    out: &mut [u8],
+) -> Written
+    requires { ⌜ Recorded (now a) ⌝ }
+    requires { ⌜ Recorded (now b) ⌝ }
+    requires { ⌜ Joinable n (joinIn n (now sets) (now cells)) (now a) (now b) ⌝ }
+    requires { ⌜ Seekable true n (now sets) ⌝ }
+    ensures { λ r. ⌜ yielding r (now (out .exit)) ≡ productOut (joinIn n (now (sets .entry)) (now (cells .entry))) (now (a .entry)) (now (b .entry)) (now (out .entry)) ⌝ }
+{
+    let mut words = [0u16; ROOM];
+    match generalize_in(n, sets, cells, a, b, &mut words, out) {
+        Common::Written(written) => written,
+        Common::TooFew => Written::TooLarge, // never, in so many words
+    }
+}
+
 // Writes the generalization of two graphs over n types, with the joins of types as they are held.
 pub fn generalize<'a>(
     n: usize,
@@ -138,42 +231,12 @@ pub fn generalize<'a>(
     requires { ⌜ Seekable true n (now sets) ⌝ }
     ensures { λ r. ⌜ yielding r (now (out .exit)) ≡ productOut (joinIn n (now (sets .entry)) (now (cells .entry))) (now (a .entry)) (now (b .entry)) (now (out .entry)) ⌝ }
 {
-    let mut marks = [CLEAR; 65025];
-    let mut queue = [0u16; 255];
-    let mut words = [0u16; ROOM];
-    marks[0] = 0;
-    words[1] = BASE as u16;
-    let mut at: usize = BASE;
-    let mut count: usize = 1;
-    let mut head: usize = 0;
-    while head < count {
-        let pair = queue[head] as usize;
-        let u = pair / 255;
-        let v = pair % 255;
-        let label = join(
-            n,
-            sets,
-            cells,
-            layout::label_at(a, u),
-            layout::label_at(b, v),
-        );
-        layout::put_label(&mut words, at, label);
-        let known = Spread {
-            at: at + layout::HEADER,
-            count,
-        };
-        let spread = pair_links(a, b, u, v, &mut marks, &mut queue, &mut words, known);
-        at = spread.at;
-        count = spread.count;
-        if 255 < count {
-            return Written::TooLarge; // more than 255 nodes
-        }
-        words[head + 2] = at as u16;
-        head += 1;
-        if BASE + head * layout::HEADER + 2048 < at {
-            return Written::TooLarge; // more than 2,048 links
-        }
+    if SMALL_NODES < a[0] as usize + b[0] as usize {
+        return generalize_large(n, sets, cells, a, b, out);
     }
-    words[0] = count as u16;
-    encode::canonical::write(&words, out)
+    let mut words = [0u16; SMALL_ROOM];
+    match generalize_in(n, sets, cells, a, b, &mut words, out) {
+        Common::Written(written) => written,
+        Common::TooFew => generalize_large(n, sets, cells, a, b, out),
+    }
 }

@@ -7,7 +7,7 @@ use native.Mathlib.Nat.{mul-le-mul-left}
 use native.Mathlib.Omega.{arith}
 use Rattle.layout.specs.Layout.{Recorded, header, size}
 use Rattle.layout.proofs.Sums.{rows-end}
-use Rattle.unify.specs.Rows.{Spacious, linksBoth, wordsIn}
+use Rattle.unify.specs.Rows.{Holding, Spacious, linksBoth, wordsIn}
 
 module _ {a b : List ℕ} (ra : Recorded a) (rb : Recorded b) where
   -- the words of both are their headers and their links
@@ -25,10 +25,9 @@ module _ {a b : List ℕ} (ra : Recorded a) (rb : Recorded b) where
       )
 
   -- a merge takes up to `width` places
-  pub spacious : {nodes links width pool waiting graph : ℕ} → size a + size b ≤ nodes → linksBoth a b ≤ links →
-      (64 ≤ width) ⊎ (links ≤ width) → header * nodes + links + width * (nodes - 1) ≤ pool → links < waiting →
-      2 + 3 * nodes + links ≤ graph → Spacious a b pool waiting graph
-  spacious {nodes} {links} {width} few short enough pool-long waiting-long graph-long =
+  pub spacious : {nodes links width pool waiting : ℕ} → size a + size b ≤ nodes → linksBoth a b ≤ links →
+      (64 ≤ width) ⊎ (links ≤ width) → header * nodes + links + width * (nodes - 1) ≤ pool → links < waiting → Spacious a b pool waiting
+  spacious {nodes} {links} {width} few short enough pool-long waiting-long =
       record {
         joins =
             record {
@@ -42,5 +41,8 @@ module _ {a b : List ℕ} (ra : Recorded a) (rb : Recorded b) where
                   );
             };
         pairs = omega arith;
-        words = omega (arith, words-both);
       }
+
+  pub holding : {nodes links graph : ℕ} → size a + size b ≤ nodes → linksBoth a b ≤ links → 2 + 3 * nodes + links ≤ graph →
+      graph ≤ 65535 → Holding a b graph
+  holding few short long most = record { words = omega (arith, words-both); short = most }

@@ -25,11 +25,15 @@ wordsIn ws = rowsEnd ws - rowFrom ws 0
 abbrev pub linksBoth : List ℕ → List ℕ → ℕ
 linksBoth a b = (wordsIn a + wordsIn b) - header * (size a + size b)
 
--- Lent arrays have the places that merging two graphs may take: a pool, pairs that wait, and the graph of the classes.
-pub record Spacious (a b : List ℕ) (pool waiting graph : ℕ) : Type 0 where
+-- so many words hold the graph of the classes of two graphs, and a word can say where each of them stands
+pub record Holding (a b : List ℕ) (graph : ℕ) : Type 0 where
+  pub words : ((size a + size b) + 2) + (wordsIn a + wordsIn b) ≤ graph
+  pub short : graph ≤ 65535
+
+-- Lent arrays have the places that merging two graphs may take: a pool, and pairs that wait.
+pub record Spacious (a b : List ℕ) (pool waiting : ℕ) : Type 0 where
   pub joins : Roomy (size a + size b) (linksBoth a b) (wordsIn a + wordsIn b) pool
   pub pairs : linksBoth a b < waiting
-  pub words : ((size a + size b) + 2) + (wordsIn a + wordsIn b) ≤ graph
 
 -- The words of a graph's rows up to `end` stand at the places from `at` to `next`, each moved by `shift`; what stood before is kept. A
 -- word of a header may wrap; it stands in no span.

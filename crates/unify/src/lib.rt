@@ -17,7 +17,7 @@ ghost use Rattle.layout.specs.Layout.{Sound, size};
 ghost use Rattle.encode.specs.Encode.{yielding};
 ghost use Rattle.unify.specs.Lowered.{Meeting};
 ghost use Rattle.unify.specs.Outcome.{unifyingOut};
-ghost use Rattle.unify.specs.Rows.{Merges, Operand, Spacious, linksBoth};
+ghost use Rattle.unify.specs.Rows.{Holding, Merges, Operand, Spacious, linksBoth};
 
 // What unifying answers: what writing the result answers, or document 01's refusals 9 and 10.
 pub enum Combined {
@@ -41,7 +41,7 @@ const NODES: usize = 510;
 const LINKS: usize = 4096;
 
 // Builds the graph of the classes of both graphs' nodes. The pool takes the words of both graphs and the rows of merged classes.
-fn merge<'a>(
+fn merge_within<'a>(
     n: usize,
     sets: &'a [u64; bounds::sets::WORDS],
     cells: &'a [[u8; 64]; 64],
@@ -55,7 +55,7 @@ fn merge<'a>(
     requires { ⌜ Meeting n (now sets) (now cells) ⌝ }
     requires { ⌜ Operand n (now a) ⌝ }
     requires { ⌜ Operand n (now b) ⌝ }
-    requires { ⌜ Spacious (now a) (now b) (length (now pool)) (length (now waiting)) (length (now graph)) × (length (now graph) ≤ 65535) ⌝ }
+    requires { ⌜ Spacious (now a) (now b) (length (now pool)) (length (now waiting)) × Holding (now a) (now b) (length (now graph)) ⌝ }
     ensures { λ _. ⌜ Merges n (meetIn n (now (sets .entry)) (now (cells .entry))) (now (a .entry)) (now (b .entry)) (now (graph .exit)) ⌝ }
 {
     let mut start = [0u16; 510];
@@ -81,6 +81,104 @@ fn merge<'a>(
     quotient::quotient(nodes, &class, &labels, &start, &end, pool, graph);
 }
 
+// The same for two small graphs. A merge takes no more places than there are links.
+fn merge_small<'a>(
+    n: usize,
+    sets: &'a [u64; bounds::sets::WORDS],
+    cells: &'a [[u8; 64]; 64],
+    a: &'a [u16],
+    b: &'a [u16],
+    graph: &mut [u16],
+)
+    requires { ⌜ (0 < n) × (n ≤ 64) ⌝ }
+    requires { ⌜ Meeting n (now sets) (now cells) ⌝ }
+    requires { ⌜ Operand n (now a) ⌝ }
+    requires { ⌜ Operand n (now b) ⌝ }
+    requires { ⌜ Holding (now a) (now b) (length (now graph)) ⌝ }
+    requires { ⌜ (size (now a) + size (now b) ≤ 20) × (linksBoth (now a) (now b) ≤ 48) ⌝ }
+    ensures { λ _. ⌜ Merges n (meetIn n (now (sets .entry)) (now (cells .entry))) (now (a .entry)) (now (b .entry)) (now (graph .exit)) ⌝ }
+{
+    let mut pool = [0u16; HEADER * SMALL_NODES + SMALL_LINKS + SMALL_LINKS * (SMALL_NODES - 1)];
+    let mut waiting = [0u32; SMALL_LINKS + 1];
+    merge_within(n, sets, cells, a, b, &mut pool, &mut waiting, graph);
+}
+
+// The same for two graphs of middle size. A merge takes up to 64 places.
+fn merge_middle<'a>(
+    n: usize,
+    sets: &'a [u64; bounds::sets::WORDS],
+    cells: &'a [[u8; 64]; 64],
+    a: &'a [u16],
+    b: &'a [u16],
+    graph: &mut [u16],
+)
+    requires { ⌜ (0 < n) × (n ≤ 64) ⌝ }
+    requires { ⌜ Meeting n (now sets) (now cells) ⌝ }
+    requires { ⌜ Operand n (now a) ⌝ }
+    requires { ⌜ Operand n (now b) ⌝ }
+    requires { ⌜ Holding (now a) (now b) (length (now graph)) ⌝ }
+    requires { ⌜ (size (now a) + size (now b) ≤ 80) × (linksBoth (now a) (now b) ≤ 240) ⌝ }
+    ensures { λ _. ⌜ Merges n (meetIn n (now (sets .entry)) (now (cells .entry))) (now (a .entry)) (now (b .entry)) (now (graph .exit)) ⌝ }
+{
+    let mut pool = [0u16; HEADER * MIDDLE_NODES + MIDDLE_LINKS + 64 * (MIDDLE_NODES - 1)];
+    let mut waiting = [0u32; MIDDLE_LINKS + 1];
+    merge_within(n, sets, cells, a, b, &mut pool, &mut waiting, graph);
+}
+
+// The same for any two graphs.
+fn merge_large<'a>(
+    n: usize,
+    sets: &'a [u64; bounds::sets::WORDS],
+    cells: &'a [[u8; 64]; 64],
+    a: &'a [u16],
+    b: &'a [u16],
+    graph: &mut [u16],
+)
+    requires { ⌜ (0 < n) × (n ≤ 64) ⌝ }
+    requires { ⌜ Meeting n (now sets) (now cells) ⌝ }
+    requires { ⌜ Operand n (now a) ⌝ }
+    requires { ⌜ Operand n (now b) ⌝ }
+    requires { ⌜ Holding (now a) (now b) (length (now graph)) ⌝ }
+    ensures { λ _. ⌜ Merges n (meetIn n (now (sets .entry)) (now (cells .entry))) (now (a .entry)) (now (b .entry)) (now (graph .exit)) ⌝ }
+{
+    let mut pool = [0u16; HEADER * NODES + LINKS + 64 * (NODES - 1)];
+    let mut waiting = [0u32; LINKS + 1];
+    merge_within(n, sets, cells, a, b, &mut pool, &mut waiting, graph);
+}
+
+// The same, in arrays by the size of the graphs.
+fn merge<'a>(
+    n: usize,
+    sets: &'a [u64; bounds::sets::WORDS],
+    cells: &'a [[u8; 64]; 64],
+    a: &'a [u16],
+    b: &'a [u16],
+    graph: &mut [u16],
+)
+    requires { ⌜ (0 < n) × (n ≤ 64) ⌝ }
+    requires { ⌜ Meeting n (now sets) (now cells) ⌝ }
+    requires { ⌜ Operand n (now a) ⌝ }
+    requires { ⌜ Operand n (now b) ⌝ }
+    requires { ⌜ Holding (now a) (now b) (length (now graph)) ⌝ }
+    ensures { λ _. ⌜ Merges n (meetIn n (now (sets .entry)) (now (cells .entry))) (now (a .entry)) (now (b .entry)) (now (graph .exit)) ⌝ }
+{
+    let nodes = a[0] as usize + b[0] as usize;
+    let links = operands::link_count(a, b);
+    if nodes <= SMALL_NODES {
+        if links <= SMALL_LINKS {
+            merge_small(n, sets, cells, a, b, graph);
+            return;
+        }
+    }
+    if nodes <= MIDDLE_NODES {
+        if links <= MIDDLE_LINKS {
+            merge_middle(n, sets, cells, a, b, graph);
+            return;
+        }
+    }
+    merge_large(n, sets, cells, a, b, graph);
+}
+
 // Tells a cycle or a clash of the graph of the classes, else writes it.
 fn tell(graph: &[u16], out: &mut [u8]) -> Combined
     requires { ⌜ Sound (now graph) ⌝ }
@@ -97,30 +195,7 @@ fn tell(graph: &[u16], out: &mut [u8]) -> Combined
     Combined::Written(encode::canonical::write(graph, out))
 }
 
-// Writes the unification of two small graphs. A merge takes no more places than there are links.
-fn unify_small<'a>(
-    n: usize,
-    sets: &'a [u64; bounds::sets::WORDS],
-    cells: &'a [[u8; 64]; 64],
-    a: &'a [u16],
-    b: &'a [u16],
-    out: &mut [u8],
-) -> Combined
-    requires { ⌜ (0 < n) × (n ≤ 64) ⌝ }
-    requires { ⌜ Meeting n (now sets) (now cells) ⌝ }
-    requires { ⌜ Operand n (now a) ⌝ }
-    requires { ⌜ Operand n (now b) ⌝ }
-    requires { ⌜ (size (now a) + size (now b) ≤ 20) × (linksBoth (now a) (now b) ≤ 48) ⌝ }
-    ensures { λ r. ⌜ yielding r (now (out .exit)) ≡ unifyingOut n (meetIn n (now (sets .entry)) (now (cells .entry))) (now (a .entry)) (now (b .entry)) (now (out .entry)) ⌝ }
-{
-    let mut pool = [0u16; HEADER * SMALL_NODES + SMALL_LINKS + SMALL_LINKS * (SMALL_NODES - 1)];
-    let mut waiting = [0u32; SMALL_LINKS + 1];
-    let mut graph = [0u16; 2 + (1 + HEADER) * SMALL_NODES + SMALL_LINKS];
-    merge(n, sets, cells, a, b, &mut pool, &mut waiting, &mut graph);
-    tell(&graph, out)
-}
-
-// The same for two graphs of middle size. A merge takes up to 64 places.
+// Writes the unification of two graphs that are small or of middle size.
 fn unify_middle<'a>(
     n: usize,
     sets: &'a [u64; bounds::sets::WORDS],
@@ -136,10 +211,8 @@ fn unify_middle<'a>(
     requires { ⌜ (size (now a) + size (now b) ≤ 80) × (linksBoth (now a) (now b) ≤ 240) ⌝ }
     ensures { λ r. ⌜ yielding r (now (out .exit)) ≡ unifyingOut n (meetIn n (now (sets .entry)) (now (cells .entry))) (now (a .entry)) (now (b .entry)) (now (out .entry)) ⌝ }
 {
-    let mut pool = [0u16; HEADER * MIDDLE_NODES + MIDDLE_LINKS + 64 * (MIDDLE_NODES - 1)];
-    let mut waiting = [0u32; MIDDLE_LINKS + 1];
     let mut graph = [0u16; 2 + (1 + HEADER) * MIDDLE_NODES + MIDDLE_LINKS];
-    merge(n, sets, cells, a, b, &mut pool, &mut waiting, &mut graph);
+    merge(n, sets, cells, a, b, &mut graph);
     tell(&graph, out)
 }
 
@@ -158,10 +231,8 @@ fn unify_large<'a>(
     requires { ⌜ Operand n (now b) ⌝ }
     ensures { λ r. ⌜ yielding r (now (out .exit)) ≡ unifyingOut n (meetIn n (now (sets .entry)) (now (cells .entry))) (now (a .entry)) (now (b .entry)) (now (out .entry)) ⌝ }
 {
-    let mut pool = [0u16; HEADER * NODES + LINKS + 64 * (NODES - 1)];
-    let mut waiting = [0u32; LINKS + 1];
     let mut graph = [0u16; 2 + (1 + HEADER) * NODES + LINKS];
-    merge(n, sets, cells, a, b, &mut pool, &mut waiting, &mut graph);
+    merge(n, sets, cells, a, b, &mut graph);
     tell(&graph, out)
 }
 
@@ -180,16 +251,8 @@ pub fn unify<'a>(
     requires { ⌜ Operand n (now b) ⌝ }
     ensures { λ r. ⌜ yielding r (now (out .exit)) ≡ unifyingOut n (meetIn n (now (sets .entry)) (now (cells .entry))) (now (a .entry)) (now (b .entry)) (now (out .entry)) ⌝ }
 {
-    let words = operands::word_count(a) + operands::word_count(b);
-    let nodes = a[0] as usize + b[0] as usize;
-    let links = words - HEADER * nodes;
-    if nodes <= SMALL_NODES {
-        if links <= SMALL_LINKS {
-            return unify_small(n, sets, cells, a, b, out);
-        }
-    }
-    if nodes <= MIDDLE_NODES {
-        if links <= MIDDLE_LINKS {
+    if a[0] as usize + b[0] as usize <= MIDDLE_NODES {
+        if operands::link_count(a, b) <= MIDDLE_LINKS {
             return unify_middle(n, sets, cells, a, b, out);
         }
     }

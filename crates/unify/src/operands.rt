@@ -4,15 +4,24 @@ ghost use Prim.Native.Nat.{_+_, _≤_};
 ghost use lib.ListN.{length};
 ghost use mathlib.Core.Path.{_≡_};
 ghost use Rattle.layout.specs.Layout.{Recorded, size, rowsEnd};
-ghost use Rattle.unify.specs.Rows.{SpansCopied, WordsCopied, wordsIn};
+ghost use Rattle.unify.specs.Rows.{SpansCopied, WordsCopied, linksBoth, wordsIn};
 
 // The number of words of a graph's rows.
-pub fn word_count(graph: &[u16]) -> usize
+fn word_count(graph: &[u16]) -> usize
     requires { ⌜ Recorded (now graph) ⌝ }
     ensures { λ r. ⌜ r ≡ wordsIn (now (graph .entry)) ⌝ }
 {
     let nodes = graph[0] as usize;
     graph[nodes + 1] as usize - graph[1] as usize
+}
+
+// The number of links of two graphs.
+pub fn link_count<'a>(a: &'a [u16], b: &'a [u16]) -> usize
+    requires { ⌜ Recorded (now a) × Recorded (now b) ⌝ }
+    ensures { λ r. ⌜ r ≡ linksBoth (now (a .entry)) (now (b .entry)) ⌝ }
+{
+    let nodes = a[0] as usize + b[0] as usize;
+    word_count(a) + word_count(b) - layout::HEADER * nodes
 }
 
 // Copies the words of a graph's rows to the places from `at` on, each target moved by `shift`. Headers come along, wrapped where

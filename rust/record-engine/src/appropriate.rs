@@ -44,7 +44,7 @@ pub fn rewrite_appropriate(
 }
 
 /// Writes the common part of two records that obey an appropriateness list, as
-/// [`generalize`](crate::generalize) does. It obeys the list too. Takes 116 KiB of stack.
+/// [`generalize`](crate::generalize) does. It obeys the list too. Takes 120 KiB of stack.
 ///
 /// ```
 /// use record_engine::{FEATURES, GraphFault, Refusal, Side, generalize_appropriate};
@@ -83,7 +83,7 @@ pub fn generalize_appropriate(
 }
 
 /// Writes the combination of two records that obey an appropriateness list, as
-/// [`unify`](crate::unify) does. It obeys the list too. Takes 164 KiB of stack.
+/// [`unify`](crate::unify) does. It obeys the list too. Takes 128 KiB of stack.
 ///
 /// A difference need not obey the list and is combined by [`unify`](crate::unify):
 ///

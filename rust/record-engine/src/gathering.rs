@@ -137,7 +137,7 @@ pub fn gathering_begin(n: usize, table: &[u8], gathering: &mut [u8]) -> Result<u
 }
 
 /// Adds a record to a gathering in lent bytes, and gives the length of the common part.
-/// Takes 116 KiB of stack.
+/// Takes 120 KiB of stack.
 ///
 /// # Errors
 ///

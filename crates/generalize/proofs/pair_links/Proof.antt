@@ -24,10 +24,10 @@ mul-a-end : tie.Need-mul-a-end Inv-loop μ-loop
 mul-a-end c = search needs
 
 shared-slice-read-a-end : tie.Need-shared-slice-read-a-end Inv-loop μ-loop
-shared-slice-read-a-end c = let st = c .before .before .before in st .pre .0 .sound .shaped .node (st .args .u) (st .pre .1 .1 .0 .0) .listed
+shared-slice-read-a-end c = let st = c .before .before .before .before in st .pre .0 .sound .shaped .node (st .args .u) (st .pre .1 .1 .0 .0) .listed
 
 cast-a-end : tie.Need-cast-a-end Inv-loop μ-loop
-cast-a-end c = omega (arith, c .shared-slice-known3 .given (c .before .before .before .args .u + 2))
+cast-a-end c = omega (arith, c .shared-slice-known3 .given (c .before .before .before .before .args .u + 2))
 
 add-b-end : tie.Need-add-b-end Inv-loop μ-loop
 add-b-end c = search needs
@@ -36,10 +36,10 @@ mul-b-end : tie.Need-mul-b-end Inv-loop μ-loop
 mul-b-end c = search needs
 
 shared-slice-read-b-end : tie.Need-shared-slice-read-b-end Inv-loop μ-loop
-shared-slice-read-b-end c = let st = c .before .before .before .before in st .pre .1 .0 .sound .shaped .node (st .args .v) (st .pre .1 .1 .0 .1) .listed
+shared-slice-read-b-end c = let st = c .before .before .before .before .before in st .pre .1 .0 .sound .shaped .node (st .args .v) (st .pre .1 .1 .0 .1) .listed
 
 cast-b-end : tie.Need-cast-b-end Inv-loop μ-loop
-cast-b-end c = omega (arith, c .shared-slice-known4 .given (c .before .before .before .before .args .v + 2))
+cast-b-end c = omega (arith, c .shared-slice-known4 .given (c .before .before .before .before .before .args .v + 2))
 
 add-i : tie.Need-add-i Inv-loop μ-loop
 add-i c = search needs
@@ -48,13 +48,13 @@ mul-i : tie.Need-mul-i Inv-loop μ-loop
 mul-i c = search needs
 
 shared-slice-read-i : tie.Need-shared-slice-read-i Inv-loop μ-loop
-shared-slice-read-i c = let st = c .before .before .before .before .before in omega (arith, st .pre .0 .sound .shaped .node (st .args .u) (st .pre .1 .1 .0 .0) .listed)
+shared-slice-read-i c = let st = c .before .before .before .before .before .before in omega (arith, st .pre .0 .sound .shaped .node (st .args .u) (st .pre .1 .1 .0 .0) .listed)
 
 cast-i : tie.Need-cast-i Inv-loop μ-loop
-cast-i c = omega (arith, c .shared-slice-known5 .given (c .before .before .before .before .before .args .u + 1))
+cast-i c = omega (arith, c .shared-slice-known5 .given (c .before .before .before .before .before .before .args .u + 1))
 
 add-i-2 : tie.Need-add-i-2 Inv-loop μ-loop
-add-i-2 c = omega (arith, c .shared-slice-known5 .given (c .before .before .before .before .before .args .u + 1))
+add-i-2 c = omega (arith, c .shared-slice-known5 .given (c .before .before .before .before .before .before .args .u + 1))
 
 add-j : tie.Need-add-j Inv-loop μ-loop
 add-j c = search needs
@@ -63,16 +63,19 @@ mul-j : tie.Need-mul-j Inv-loop μ-loop
 mul-j c = search needs
 
 shared-slice-read-j : tie.Need-shared-slice-read-j Inv-loop μ-loop
-shared-slice-read-j c = let st = c .before .before .before .before .before .before in omega (arith, st .pre .1 .0 .sound .shaped .node (st .args .v) (st .pre .1 .1 .0 .1) .listed)
+shared-slice-read-j c = let st = c .before .before .before .before .before .before .before in omega (arith, st .pre .1 .0 .sound .shaped .node (st .args .v) (st .pre .1 .1 .0 .1) .listed)
 
 cast-j : tie.Need-cast-j Inv-loop μ-loop
-cast-j c = omega (arith, c .shared-slice-known6 .given (c .before .before .before .before .before .before .args .v + 1))
+cast-j c = omega (arith, c .shared-slice-known6 .given (c .before .before .before .before .before .before .before .args .v + 1))
 
 add-j-2 : tie.Need-add-j-2 Inv-loop μ-loop
-add-j-2 c = omega (arith, c .shared-slice-known6 .given (c .before .before .before .before .before .before .args .v + 1))
+add-j-2 c = omega (arith, c .shared-slice-known6 .given (c .before .before .before .before .before .before .before .args .v + 1))
 
 loop-holds : tie.Need-loop-holds Inv-loop μ-loop
-loop-holds c = let st = c .before .before .before .before .before .before in (refl, refl, merge-start (record { left = st .pre .0; right = st .pre .1 .0; left-node = st .pre .1 .1 .0 .0; right-node = st .pre .1 .1 .0 .1; long = st .pre .1 .1 .1 .1 .0; low = st .pre .1 .1 .1 .1 .1; left-end = omega (arith, c .before .before .before .shared-slice-known3 .given (st .args .u + 2)); right-end = omega (arith, c .before .before .shared-slice-known4 .given (st .args .v + 2)) }) (st .pre .1 .1 .1 .0))
+loop-holds c = let st = c .before .before .before .before .before .before .before in (refl, refl, merge-start (record { left = st .pre .0; right = st .pre .1 .0; left-node = st .pre .1 .1 .0 .0; right-node = st .pre .1 .1 .0 .1; long = st .pre .1 .1 .1 .1 .1; low = st .pre .1 .1 .1 .1 .0; left-end = omega (arith, c .before .before .before .shared-slice-known3 .given (st .args .u + 2)); right-end = omega (arith, c .before .before .shared-slice-known4 .given (st .args .v + 2)) }) (st .pre .1 .1 .1 .0))
+
+same-length : tie.Need-same-length Inv-loop μ-loop
+same-length c = c .before .before .loop .inv .2 .added .long
 
 returns : tie.Need-returns Inv-loop μ-loop
 returns c = merge-spreads (c .before .before .loop .inv .2) (inr (omega (arith, c .if1 .taken, c .before .before .loop .inv .1)))
@@ -122,6 +125,9 @@ add-pair c = omega arith
 enlist-requires : tie.Need-enlist-requires Inv-loop μ-loop
 enlist-requires c κs = (c .before .before .before .before .before .before .before .before .loop .inv .2 .added .after, omega (arith, merge-nodes (c .before .before .before .before .before .before .before .before .loop .inv .2) (omega (arith, c .before .before .before .before .before .before .before .loop-test .taken, c .before .before .before .before .before .before .before .before .loop .inv .0)) (omega (arith, c .before .before .before .before .before .before .if1 .left, c .before .before .before .before .before .before .before .before .loop .inv .1))))
 
+same-length-2 : tie.Need-same-length-2 Inv-loop μ-loop
+same-length-2 c = c .before .before .before .before .before .before .before .before .before .before .loop .inv .2 .added .long
+
 returns-2 : tie.Need-returns-2 Inv-loop μ-loop
 returns-2 c = let (given, free) = c .before .enlist .ensures .full (c .if4 .taken) in record { added = λ h. absurd (omega (arith, c .if4 .taken)); full = λ h. merge-full (c .before .before .before .before .before .before .before .before .before .before .loop .inv .2) (omega (arith, c .before .before .before .before .before .before .before .before .before .loop-test .taken, c .before .before .before .before .before .before .before .before .before .before .loop .inv .0)) (omega (arith, c .before .before .before .before .before .before .before .before .if1 .left, c .before .before .before .before .before .before .before .before .before .before .loop .inv .1)) (omega (arith, c .before .before .before .before .before .if2 .left, c .before .before .before .before .if3 .left)) given free }
 
@@ -137,8 +143,8 @@ link-requires c κs = let listed = c .before .before .enlist .ensures .listed (o
 mul-words : tie.Need-mul-words Inv-loop μ-loop
 mul-words c = omega (arith, merge-room (c .before .before .before .before .before .before .before .before .before .before .before .before .loop .inv .2) (omega (arith, c .before .before .before .before .before .before .before .before .before .before .before .loop-test .taken, c .before .before .before .before .before .before .before .before .before .before .before .before .loop .inv .0)) (omega (arith, c .before .before .before .before .before .before .before .before .before .before .if1 .left, c .before .before .before .before .before .before .before .before .before .before .before .before .loop .inv .1)))
 
-element-write-words : tie.Need-element-write-words Inv-loop μ-loop
-element-write-words c = merge-room (c .before .before .before .before .before .before .before .before .before .before .before .before .loop .inv .2) (omega (arith, c .before .before .before .before .before .before .before .before .before .before .before .loop-test .taken, c .before .before .before .before .before .before .before .before .before .before .before .before .loop .inv .0)) (omega (arith, c .before .before .before .before .before .before .before .before .before .before .if1 .left, c .before .before .before .before .before .before .before .before .before .before .before .before .loop .inv .1))
+slice-write-words : tie.Need-slice-write-words Inv-loop μ-loop
+slice-write-words c = omega (arith, merge-room (c .before .before .before .before .before .before .before .before .before .before .before .before .loop .inv .2) (omega (arith, c .before .before .before .before .before .before .before .before .before .before .before .loop-test .taken, c .before .before .before .before .before .before .before .before .before .before .before .before .loop .inv .0)) (omega (arith, c .before .before .before .before .before .before .before .before .before .before .if1 .left, c .before .before .before .before .before .before .before .before .before .before .before .before .loop .inv .1)), c .before .before .before .before .before .before .before .before .before .before .before .before .loop .inv .2 .added .long)
 
 add-at : tie.Need-add-at Inv-loop μ-loop
 add-at c = omega (arith, merge-room (c .before .before .before .before .before .before .before .before .before .before .before .before .loop .inv .2) (omega (arith, c .before .before .before .before .before .before .before .before .before .before .before .loop-test .taken, c .before .before .before .before .before .before .before .before .before .before .before .before .loop .inv .0)) (omega (arith, c .before .before .before .before .before .before .before .before .before .before .if1 .left, c .before .before .before .before .before .before .before .before .before .before .before .before .loop .inv .1)))
@@ -154,6 +160,9 @@ loop-less-3 c = omega (arith, c .before .before .before .before .before .before 
 
 loop-again-3 : tie.Need-loop-again-3 Inv-loop μ-loop
 loop-again-3 c = (c .before .before .before .before .before .before .before .before .before .before .before .before .loop .inv .0, c .before .before .before .before .before .before .before .before .before .before .before .before .loop .inv .1, merge-both (c .before .before .before .before .before .before .before .before .before .before .before .before .loop .inv .2) (omega (arith, c .before .before .before .before .before .before .before .before .before .before .before .loop-test .taken, c .before .before .before .before .before .before .before .before .before .before .before .before .loop .inv .0)) (omega (arith, c .before .before .before .before .before .before .before .before .before .before .if1 .left, c .before .before .before .before .before .before .before .before .before .before .before .before .loop .inv .1)) (omega (arith, c .before .before .before .before .before .before .before .if2 .left, c .before .before .before .before .before .before .if3 .left)) _ _ _ (c .before .before .before .enlist .ensures .listed (omega (arith, c .before .before .if4 .left))) _ (c .link .ensures))
+
+same-length-3 : tie.Need-same-length-3 Inv-loop μ-loop
+same-length-3 c = c .before .loop .inv .2 .added .long
 
 returns-3 : tie.Need-returns-3 Inv-loop μ-loop
 returns-3 c = merge-spreads (c .before .loop .inv .2) (inl (omega (arith, c .loop-test .left, c .before .loop .inv .0)))
@@ -183,6 +192,7 @@ pair-links-spec =
     cast-j
     add-j-2
     loop-holds
+    same-length
     returns
     mul-s
     shared-slice-read-s
@@ -199,15 +209,17 @@ pair-links-spec =
     cast-pair-2
     add-pair
     enlist-requires
+    same-length-2
     returns-2
     element-copy-out-number
     cast-link
     link-requires
     mul-words
-    element-write-words
+    slice-write-words
     add-at
     add-i-4
     add-j-4
     loop-less-3
     loop-again-3
+    same-length-3
     returns-3)

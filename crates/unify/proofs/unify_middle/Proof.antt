@@ -1,47 +1,36 @@
--- `unify_middle` meets its contract: the arrays have room.
+-- `unify_middle` meets its contract: the words hold the graph of the classes.
 use Prim.Native.Nat.{ℕ}
 use native.Mathlib.Omega.{arith}
 use lib.ListN.{length-replicate}
-use mathlib.Core.Logic.{inl, inr}
-use borrow.Author.Needs.{needs}
 use Rattle.unify.proofs.Sharing.{class-sound}
-use Rattle.unify.proofs.Sizes.{spacious}
+use Rattle.unify.proofs.Sizes.{holding}
+use borrow.Author.Needs.{needs}
 use Rattle.unify.proofs.unify_middle.Statement.{statement}
 use Rattle.unify.proofs.unify_middle.Tie as tie
 
 slice-aggregate-merge : tie.Need-slice-aggregate-merge
 slice-aggregate-merge c = search needs
 
-slice-aggregate-merge-2 : tie.Need-slice-aggregate-merge-2
-slice-aggregate-merge-2 c = search needs
-
-slice-aggregate-merge-3 : tie.Need-slice-aggregate-merge-3
-slice-aggregate-merge-3 c = search needs
-
 merge-requires : tie.Need-merge-requires
-merge-requires c κs =
-    let p = c .before .before .before .before .before .before .pre in
-    (p .0, (p .1 .0, (p .1 .1 .0, (p .1 .1 .1 .0, (spacious (p .1 .1 .0 .recorded) (p .1 .1 .1 .0 .recorded) {nodes = 80} {links = 240} {width = 64} (p .1 .1 .1 .1 .0) (p .1 .1 .1 .1 .1) (inl (omega arith)) (omega (arith, length-replicate {A = ℕ} 5456 0)) (omega (arith, length-replicate {A = ℕ} 241 0)) (omega (arith, length-replicate {A = ℕ} 482 0)), omega (arith, length-replicate {A = ℕ} 482 0))))))
+merge-requires c κs = let p = c .before .before .before .before .pre in (p .0, (p .1 .0, (p .1 .1 .0, (p .1 .1 .1 .0, holding (p .1 .1 .0 .recorded) (p .1 .1 .1 .0 .recorded) {nodes = 80} {links = 240} (p .1 .1 .1 .1 .0) (p .1 .1 .1 .1 .1) (omega (arith, length-replicate {A = ℕ} 482 0)) (omega (arith, length-replicate {A = ℕ} 482 0))))))
 
 slice-aggregate-tell : tie.Need-slice-aggregate-tell
 slice-aggregate-tell c = search needs
 
 tell-requires : tie.Need-tell-requires
-tell-requires c κs = class-sound (c .before .before .before .before .before .before .before .before .before .before .before .before .pre .1 .1 .0) (c .before .before .before .before .before .before .before .before .before .before .before .before .pre .1 .1 .1 .0) (c .before .before .before .before .before .merge .ensures)
+tell-requires c κs = class-sound (c .before .before .before .before .before .before .before .before .pre .1 .1 .0) (c .before .before .before .before .before .before .before .before .pre .1 .1 .1 .0) (c .before .before .before .merge .ensures)
 
 same-length : tie.Need-same-length
 same-length c = search needs
 
 returns : tie.Need-returns
-returns c = c .before .before .tell .ensures _ _ _ _ (c .before .before .before .before .before .before .before .before .before .before .before .before .before .before .before .pre .1 .1 .0) (c .before .before .before .before .before .before .before .before .before .before .before .before .before .before .before .pre .1 .1 .1 .0) (c .before .before .before .before .before .before .before .before .merge .ensures)
+returns c = c .before .before .tell .ensures _ _ _ _ (c .before .before .before .before .before .before .before .before .before .before .before .pre .1 .1 .0) (c .before .before .before .before .before .before .before .before .before .before .before .pre .1 .1 .1 .0) (c .before .before .before .before .before .before .merge .ensures)
 
 pub unify-middle-spec : {M : Type 1} → statement M
 unify-middle-spec =
     tie.close
     (tie.spec
     slice-aggregate-merge
-    slice-aggregate-merge-2
-    slice-aggregate-merge-3
     merge-requires
     slice-aggregate-tell
     tell-requires

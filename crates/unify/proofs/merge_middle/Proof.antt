@@ -1,0 +1,34 @@
+-- `merge_middle` meets its contract: the arrays have room.
+use mathlib.Core.Logic.{inl, inr}
+use Prim.Native.Nat.{ℕ}
+use native.Mathlib.Omega.{arith}
+use lib.ListN.{length-replicate}
+use Rattle.unify.proofs.Sizes.{spacious}
+use borrow.Author.Needs.{needs}
+use Rattle.unify.proofs.merge_middle.Statement.{statement}
+use Rattle.unify.proofs.merge_middle.Tie as tie
+
+slice-aggregate-merge-within : tie.Need-slice-aggregate-merge-within
+slice-aggregate-merge-within c = search needs
+
+slice-aggregate-merge-within-2 : tie.Need-slice-aggregate-merge-within-2
+slice-aggregate-merge-within-2 c = search needs
+
+merge-within-requires : tie.Need-merge-within-requires
+merge-within-requires c κs = let p = c .before .before .before .before .before .before .pre in (p .0, (p .1 .0, (p .1 .1 .0, (p .1 .1 .1 .0, (spacious (p .1 .1 .0 .recorded) (p .1 .1 .1 .0 .recorded) {nodes = 80} {links = 240} {width = 64} (p .1 .1 .1 .1 .1 .0) (p .1 .1 .1 .1 .1 .1) (inl (omega arith)) (omega (arith, length-replicate {A = ℕ} 5456 0)) (omega (arith, length-replicate {A = ℕ} 241 0)), p .1 .1 .1 .1 .0)))))
+
+same-length : tie.Need-same-length
+same-length c = search needs
+
+returns : tie.Need-returns
+returns c = search needs
+
+pub merge-middle-spec : {M : Type 1} → statement M
+merge-middle-spec =
+    tie.close
+    (tie.spec
+    slice-aggregate-merge-within
+    slice-aggregate-merge-within-2
+    merge-within-requires
+    same-length
+    returns)
