@@ -313,7 +313,7 @@ uint64_t record_rewrite(size_t n, const uint8_t *table, size_t table_length,
 /* Which of two records is the broader. A graph is below another when every path of the
  * other is one of its own, with a type below or equal and a range inside, and paths that
  * share in the other share in it. Answers RECORD_SAME, RECORD_UNDER, RECORD_ABOVE or
- * RECORD_NEITHER, or refuses by 1 to 7. Takes 20 KiB of stack. */
+ * RECORD_NEITHER, or refuses by 1 to 7. Takes 24 KiB of stack. */
 uint64_t record_order(size_t n, const uint8_t *table, size_t table_length,
                       const uint8_t *first, size_t first_length,
                       const uint8_t *second, size_t second_length);
@@ -338,7 +338,7 @@ uint64_t record_unify(size_t n, const uint8_t *table, size_t table_length,
 /* Writes the difference of a general record, the first, and a specific one below it,
  * the second: combined with the general one it gives the specific one again, byte
  * for byte in written form, and nothing strictly more general does. Answers the
- * length, or refuses by 1 to 7, 12, 13 and 8. Takes 64 KiB of stack. */
+ * length, or refuses by 1 to 7, 12, 13 and 8. Takes 72 KiB of stack. */
 uint64_t record_difference(size_t n, const uint8_t *table, size_t table_length,
                            const uint8_t *general, size_t general_length,
                            const uint8_t *specific, size_t specific_length,
@@ -374,7 +374,7 @@ uint64_t record_unify_appropriate(size_t n, const uint8_t *table, size_t table_l
  * reasons one byte for each of its links, RECORD_REASON_BARE, RECORD_REASON_GROUPS or
  * RECORD_REASON_WANTED, in the order of the links in the written record: node by node,
  * and for each node by feature. The other bytes of the reasons are unchanged. Answers
- * the record's length, or refuses by 1 to 7, 12, 13, 8 and 22. Takes 64 KiB of stack. */
+ * the record's length, or refuses by 1 to 7, 12, 13, 8 and 22. Takes 72 KiB of stack. */
 uint64_t record_difference_explained(size_t n, const uint8_t *table, size_t table_length,
                                      const uint8_t *general, size_t general_length,
                                      const uint8_t *specific, size_t specific_length,
@@ -385,7 +385,7 @@ uint64_t record_difference_explained(size_t n, const uint8_t *table, size_t tabl
  * feature's place in a reading order, then by the number of the node that they leave.
  * Whichever list is given, it restores the specific record, and nothing strictly more
  * general does. Answers the length, or refuses by 1 to 3, by 19, by 4 to 7, then by 12,
- * 13 and 8. Takes 64 KiB of stack. */
+ * 13 and 8. Takes 72 KiB of stack. */
 uint64_t record_difference_by(size_t n, const uint8_t *table, size_t table_length,
                               const uint8_t *list, size_t list_length,
                               const uint8_t *general, size_t general_length,
@@ -394,7 +394,7 @@ uint64_t record_difference_by(size_t n, const uint8_t *table, size_t table_lengt
 
 /* Writes the difference as `record_difference_by` does, and its reasons as
  * `record_difference_explained` does. Answers the record's length, or refuses by 1 to 3,
- * by 19, by 4 to 7, then by 12, 13, 8 and 22. Takes 64 KiB of stack. */
+ * by 19, by 4 to 7, then by 12, 13, 8 and 22. Takes 72 KiB of stack. */
 uint64_t record_difference_explained_by(size_t n, const uint8_t *table, size_t table_length,
                                         const uint8_t *list, size_t list_length,
                                         const uint8_t *general, size_t general_length,

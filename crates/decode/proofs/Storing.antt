@@ -3,7 +3,7 @@ use mathlib.Core.Path.{_≡_, refl, sym, ap, ap₂, _∙_, subst, subst₂}
 use mathlib.Core.Bool.{Bool, true, false, cond}
 use mathlib.Core.List.{List, [], _∷_, _++_, append-nil}
 use mathlib.Core.Option.{Option, none, some, Option·map, bind}
-use Prim.Native.Nat.{ℕ, suc, _+_, _-_, _*_, _^_, _≤_, _<_}
+use Prim.Native.Nat.{ℕ, suc, _+_, _-_, _*_, _^_, _≤_, _<_, min}
 use native.Mathlib.Numerals.{add-one}
 use native.Mathlib.Omega.{arith}
 use borrow.Author.Tests.{eq-eqb, ne-eqb}
@@ -23,7 +23,7 @@ use Rattle.layout.proofs.Spans.{links-none}
 use Rattle.layout.proofs.Builder.{same-before, same-trans, label-same, length-put, put-before, label-put, links-put, built-kept, rows-kept, built-begin, row-closes, closed-rows, built-shaped}
 use Rattle.decode.specs.declared.rows.RowEnd.{RowEnd}
 use Rattle.decode.specs.declared.rows.RowEnd.the-variants.{At, Short}
-use Rattle.decode.specs.Answers.{Held, Parses}
+use Rattle.decode.specs.Answers.{Held, Parses, Roomy}
 use Rattle.decode.specs.Decode.{Taken, changed, takeTarget, takeRow, takeRows, whole, decoded}
 use Rattle.decode.specs.Storing.{RowsFit, Stored, Took, TookLinks, TookRow, rowBetween}
 use Rattle.decode.specs.Word.{takeWord}
@@ -36,7 +36,7 @@ use Rattle.decode.proofs.Word.{first-digit, word-none}
 -- Links.
 
 -- `read` is the links that stand between `at` and `end`, and those that the digits of `left` state.
-pub record Linking (read : Option (Taken (List (ℕ × ℕ)))) (bytes : List ℕ) (at limit : ℕ) (ws₀ ws : List ℕ) (left next end : ℕ) : Type 0 where
+pub record Linking (read : Option (Taken (List (ℕ × ℕ)))) (bytes : List ℕ) (start at limit : ℕ) (ws₀ ws : List ℕ) (left next end : ℕ) : Type 0 where
   pub small : left < 2 ^ 64
   pub read-is : read ≡ after (linksBetween ws at end) (takeWord 64 0 left (limit - end) (drop next bytes))
   pub low : at ≤ end
@@ -44,11 +44,12 @@ pub record Linking (read : Option (Taken (List (ℕ × ℕ)))) (bytes : List ℕ
   pub inside : next ≤ length bytes
   pub before : Same ws₀ ws 0 at
   pub long : length ws ≡ length ws₀
-  pub full : length ws₀ ≡ longest
+  pub pace : end + start ≡ at + next
+  pub words : min limit (end + (length bytes - next)) ≤ length ws₀
   pub few : limit ≤ longest
 
 pub link-begin : (bytes : List ℕ) (word start at limit : ℕ) (ws : List ℕ) → word < 2 ^ 64 → RowsFit bytes start at limit ws →
-    Linking (takeWord 64 0 word (limit - at) (drop start bytes)) bytes at limit ws ws word start at
+    Linking (takeWord 64 0 word (limit - at) (drop start bytes)) bytes start at limit ws ws word start at
 link-begin bytes word start at limit ws small f =
     record {
       small = small;
@@ -60,12 +61,17 @@ link-begin bytes word start at limit ws small f =
       inside = f .inside;
       before = λ k low high. refl;
       long = refl;
-      full = f .full;
+      pace = omega arith;
+      words = f .words;
       few = f .few;
     }
 
-module _ {read : Option (Taken (List (ℕ × ℕ)))} {bytes : List ℕ} {at limit : ℕ} {ws₀ ws : List ℕ} {left next end : ℕ}
-    (s : Linking read bytes at limit ws₀ ws left next end) where
+-- a place below both bounds of words
+inside-words : {limit bytes words : ℕ} (end next : ℕ) → min limit (end + (bytes - next)) ≤ words → end < limit → next < bytes → end < words
+inside-words end next h low left = omega arith
+
+module _ {read : Option (Taken (List (ℕ × ℕ)))} {bytes : List ℕ} {start at limit : ℕ} {ws₀ ws : List ℕ} {left next end : ℕ}
+    (s : Linking read bytes start at limit ws₀ ws left next end) where
   pub link-feature : (left ≡ 0 → ⊥) → trailingZeros 64 left < 64
   link-feature n = lowest-bit 64 left (s .small) (omega arith) .0
 
@@ -78,6 +84,9 @@ module _ {read : Option (Taken (List (ℕ × ℕ)))} {bytes : List ℕ} {at limi
       ∙ ap (after (linksBetween ws at end)) (first-digit 64 0 left (s .small) n (limit - end) (drop next bytes)
       ∙ ap (λ (f : ℕ). takeTarget f (takeWord 64 0 (bitAnd left (left - 1))) (limit - end) (drop next bytes)) e)
 
+  pub link-room : end < limit → next < length bytes → end < length ws
+  link-room h l = omega (arith, inside-words end next (s .words) h l, s .long)
+
   pub link-full : (left ≡ 0 → ⊥) → limit ≤ end → read ≡ none
   unfolding after
   link-full n h = read-next n ∙ ap (after (linksBetween ws at end)) (no-room _ _ (limit - end) (drop next bytes) (omega arith))
@@ -88,11 +97,12 @@ module _ {read : Option (Taken (List (ℕ × ℕ)))} {bytes : List ℕ} {at limi
       read-next n ∙ ap (after (linksBetween ws at end)) (no-bytes _ _ (limit - end) (drop next bytes) (drop-of-length-le bytes h))
 
   link-step : (left ≡ 0 → ⊥) → end < limit → next < length bytes → getD bytes next 0 < 256 →
-      Linking read bytes at limit ws₀ (set ws end (linkWord (trailingZeros 64 left, getD bytes next 0)))
+      Linking read bytes start at limit ws₀ (set ws end (linkWord (trailingZeros 64 left, getD bytes next 0)))
       (bitAnd left (left - 1)) (next + 1) (end + 1)
   link-step n h l small =
       let link : ℕ × ℕ = (trailingZeros 64 left, getD bytes next 0) in
       let others : ℕ = bitAnd left (left - 1) in
+      let here : end < length ws = link-room h l in
       record {
         small = omega (arith, s .small, and-le-l left (left - 1));
         read-is =
@@ -105,23 +115,24 @@ module _ {read : Option (Taken (List (ℕ × ℕ)))} {bytes : List ℕ} {at limi
             ∙ ap (λ (k : ℕ). after (linksBetween ws at end ++ (link ∷ [])) (takeWord 64 0 others (limit - (end + 1)) (drop k bytes)))
             (sym (add-one next))
             ∙ ap (λ (ls : List (ℕ × ℕ)). after ls (takeWord 64 0 others (limit - (end + 1)) (drop (next + 1) bytes)))
-            (sym (links-put ws at end link (s .low) (omega (arith, s .few, s .full, s .long)) (omega arith)));
+            (sym (links-put ws at end link (s .low) here (omega arith)));
         low = omega (arith, s .low);
         room = omega arith;
         inside = omega arith;
         before = same-trans ws₀ ws (set ws end (linkWord link)) (s .before) (same-before ws end (linkWord link) 0 at (s .low));
         long = length-set ws end (linkWord link) ∙ s .long;
-        full = s .full;
+        pace = omega (arith, s .pace);
+        words = omega (arith, s .words);
         few = s .few;
       }
 
   pub link-next : {b behind word others : ℕ} → (left ≡ 0 → ⊥) → end < limit → b < 256 → ByteTaken bytes next b behind →
       word ≡ linkWord (trailingZeros 64 left, b) → others ≡ without left (2 ^ trailingZeros 64 left) →
-      Linking read bytes at limit ws₀ (set ws end word) others behind (end + 1)
+      Linking read bytes start at limit ws₀ (set ws end word) others behind (end + 1)
   link-next {b} {behind} {word} {others} n h small t e o =
-      subst (λ (l : ℕ). Linking read bytes at limit ws₀ (set ws end word) l behind (end + 1))
+      subst (λ (l : ℕ). Linking read bytes start at limit ws₀ (set ws end word) l behind (end + 1))
       (lowest-cleared left (s .small) (omega arith) ∙ sym o)
-      (subst₂ (λ (w k : ℕ). Linking read bytes at limit ws₀ (set ws end w) (bitAnd left (left - 1)) k (end + 1))
+      (subst₂ (λ (w k : ℕ). Linking read bytes start at limit ws₀ (set ws end w) (bitAnd left (left - 1)) k (end + 1))
       (ap (λ (b : ℕ). linkWord (trailingZeros 64 left, b)) (sym (t .byte-is)) ∙ sym e) (sym (t .next-is))
       (link-step n h (t .inside) (omega (arith, t .byte-is))))
 
@@ -140,25 +151,30 @@ module _ {read : Option (Taken (List (ℕ × ℕ)))} {bytes : List ℕ} {at limi
 
 -- What a function that stores answers.
 
-module _ {X : Type 0} {found : List ℕ → ℕ → ℕ → X} {least : ℕ} {read : Option (Taken X)} {bytes : List ℕ} {at limit : ℕ} {ws ws′ : List ℕ} where
-  pub took-none : read ≡ none → Same ws ws′ 0 at → length ws′ ≡ length ws → Took found least read bytes at limit ws Short ws′
+module _ {X : Type 0} {found : List ℕ → ℕ → ℕ → X} {least : ℕ} {read : Option (Taken X)} {bytes : List ℕ} {start at limit : ℕ} {ws ws′ : List ℕ} where
+  pub took-none : read ≡ none → Same ws ws′ 0 at → length ws′ ≡ length ws → Took found least read bytes start at limit ws Short ws′
   took-none e before long =
       record {
         short-stands = λ q. e;
         at-stands = λ next end q. absurd (let z : _≡_ {A = ℕ} 0 1 = cc in omega arith);
+        spare = λ next end q. absurd (let z : _≡_ {A = ℕ} 0 1 = cc in omega arith);
         before = before;
         long = long;
       }
 
-  pub took-all : {next end : ℕ} → at + least ≤ end → Stored (found ws′ at end) read bytes limit next end → Same ws ws′ 0 at →
-      length ws′ ≡ length ws → Took found least read bytes at limit ws (At next end) ws′
-  took-all {next} {end} low s before long =
+  pub took-all : {next end : ℕ} → at + least ≤ end → end + start ≤ at + next → Stored (found ws′ at end) read bytes limit next end →
+      Same ws ws′ 0 at → length ws′ ≡ length ws → Took found least read bytes start at limit ws (At next end) ws′
+  took-all {next} {end} low spare s before long =
       record {
         short-stands = λ q. absurd (let z : _≡_ {A = ℕ} 0 1 = cc in omega arith);
         at-stands = λ n m q.
             let d : next ≡ n = cc in
             let e : end ≡ m = cc in
             subst₂ (λ (a b : ℕ). (at + least ≤ b) × Stored (found ws′ at b) read bytes limit a b) d e (low, s);
+        spare = λ n m q.
+            let d : next ≡ n = cc in
+            let e : end ≡ m = cc in
+            omega arith;
         before = before;
         long = long;
       }
@@ -169,8 +185,8 @@ module _ {X : Type 0} {found : List ℕ → ℕ → ℕ → X} {least : ℕ} {re
 pub row-read : (bytes : List ℕ) (start at limit : ℕ) (ws : List ℕ) {opened : List ℕ} {answer : RowEnd} {ws′ : List ℕ} {l : Label}
     {behind word first : ℕ} → ((i : ℕ) → getD bytes i 0 < 256) → at + header ≤ length ws → LabelTaken bytes start l behind →
     MapTaken bytes behind word first → opened ≡ putLabel ws at l →
-    Took linksBetween 0 (takeWord 64 0 word (limit - (at + header)) (drop first bytes)) bytes (at + header) limit opened answer ws′ →
-    Took rowBetween header (takeRow (limit - (at + header)) (drop start bytes)) bytes at limit ws answer ws′
+    Took linksBetween 0 (takeWord 64 0 word (limit - (at + header)) (drop first bytes)) bytes first (at + header) limit opened answer ws′ →
+    Took rowBetween header (takeRow (limit - (at + header)) (drop start bytes)) bytes start at limit ws answer ws′
 row-read bytes start at limit ws {opened} {answer} {ws′} {l} {behind} {word} {first} small inside labelled mapped put t =
     record {
       short-stands = λ q. same ∙ ap (Option·map (changed more)) (t .short-stands q);
@@ -187,6 +203,7 @@ row-read bytes start at limit ws {opened} {answer} {ws′} {l} {behind} {word} {
               inside = s .inside;
             },
           );
+      spare = λ next end q. omega (arith, t .spare next end q, labelled .next-is, mapped .next-is);
       before =
           same-trans ws opened ws′ (subst (λ (new : List ℕ). Same ws new 0 at) (sym put) (put-before ws at l 0 at (omega arith)))
           (λ k low high. t .before k low (omega arith));
@@ -214,22 +231,31 @@ row-read bytes start at limit ws {opened} {answer} {ws′} {l} {behind} {word} {
 -- A record.
 
 -- What is to be read is the rows that stand and those still to be read.
-pub record Filling (bytes : List ℕ) (nodes : ℕ) (ws : List ℕ) (at limit next v : ℕ) : Type 0 where
+pub record Filling (bytes : List ℕ) (nodes room : ℕ) (ws : List ℕ) (at limit next v : ℕ) : Type 0 where
   pub todo : ℕ
   pub up-to : v + todo ≡ nodes
   pub read-is : takeRows nodes 2048 (drop 1 bytes) ≡ after (rowsFrom ws 0 v) (takeRows todo (limit - at) (drop next bytes))
   pub inside : next ≤ length bytes
   pub limited : limit ≡ nodes + 2 + 2048 + v * header
-  pub room : at ≤ limit
+  pub below : at ≤ limit
   pub built : Built ws (nodes + 2) v at
   pub sized : size ws ≡ nodes
-  pub long : length ws ≡ longest
+  pub long : length ws ≡ room
+  pub words : min longest (at + header + (length bytes - next)) ≤ room
 
-pub fill-begin : (bytes : List ℕ) (nodes next : ℕ) (ws : List ℕ) → Counted bytes nodes next → length ws ≡ longest →
-    Filling bytes nodes (set (set ws 0 nodes) 1 (nodes + 2)) (nodes + 2) (nodes + 2 + 2048) next 0
+-- the words with the number of nodes and the first row's beginning
+abbrev begun : List ℕ → ℕ → List ℕ
+begun ws nodes = set (set ws 0 nodes) 1 (nodes + 2)
+
+length-begun : (ws : List ℕ) (nodes : ℕ) → length (begun ws nodes) ≡ length ws
+length-begun ws nodes = length-set (set ws 0 nodes) 1 (nodes + 2) ∙ length-set ws 0 nodes
+
+pub fill-begin : (bytes : List ℕ) (nodes next : ℕ) (ws : List ℕ) → Counted bytes nodes next → Roomy bytes ws →
+    Filling bytes nodes (length (begun ws nodes)) (begun ws nodes) (nodes + 2) (nodes + 2 + 2048) next 0
 unfolding rowsFrom
-fill-begin bytes nodes next ws n long =
-    let longer : length (set ws 0 nodes) ≡ longest = length-set ws 0 nodes ∙ long in
+fill-begin bytes nodes next ws n roomy =
+    let longer : length (set ws 0 nodes) ≡ length ws = length-set ws 0 nodes in
+    let enough : nodes + 2 < length ws = omega (arith, n .small, n .taken .inside) in
     let room : nodes + 2 + 2048 - (nodes + 2) ≡ 2048 = omega arith in
     record {
       todo = nodes;
@@ -239,17 +265,23 @@ fill-begin bytes nodes next ws n long =
           ∙ ap₂ (λ (k r : ℕ). after [] (takeRows nodes r (drop k bytes))) (sym (n .taken .next-is)) (sym room);
       inside = omega (arith, n .taken .inside, n .taken .next-is);
       limited = omega arith;
-      room = omega arith;
-      built = built-begin (set ws 0 nodes) (nodes + 2) (omega arith) (omega (arith, n .small));
+      below = omega arith;
+      built = built-begin (set ws 0 nodes) (nodes + 2) (omega arith) (omega arith);
       sized =
           getD-set-other (set ws 0 nodes) 1 0 (nodes + 2) 0 (λ (e : 0 ≡ 1). omega arith) ∙ getD-set-same ws 0 nodes 0 (omega arith);
-      long = length-set (set ws 0 nodes) 1 (nodes + 2) ∙ longer;
+      long = refl;
+      words = omega (arith, n .small, n .taken .inside, n .taken .next-is, length-begun ws nodes);
     }
+
+-- filling keeps the length
+pub fill-same : {bytes : List ℕ} {nodes : ℕ} (ws : List ℕ) {now : List ℕ} {at limit next v : ℕ} →
+    Filling bytes nodes (length (begun ws nodes)) now at limit next v → length now ≡ length ws
+fill-same {nodes = nodes} ws s = s .long ∙ length-begun ws nodes
 
 pub parse-none : (bytes ws : List ℕ) → decoded bytes ≡ none → Parses bytes false ws
 parse-none bytes ws e = record { refuses = λ q. refl; holds = λ rows q. none-some (sym e ∙ q) }
 
-module _ {bytes : List ℕ} {nodes : ℕ} {ws : List ℕ} {at limit next v : ℕ} (s : Filling bytes nodes ws at limit next v) where
+module _ {bytes : List ℕ} {nodes room : ℕ} {ws : List ℕ} {at limit next v : ℕ} (s : Filling bytes nodes room ws at limit next v) where
   -- a header has room, and so have all links
   pub fill-room : nodes ≤ 255 → v < nodes → limit + header ≤ longest
   fill-room small h = omega (arith, s .limited)
@@ -270,9 +302,9 @@ module _ {bytes : List ℕ} {nodes : ℕ} {ws : List ℕ} {at limit next v : ℕ
 
   -- one row more
   pub fill-next : (behind end : ℕ) (answer : RowEnd) (ws′ : List ℕ) → nodes ≤ 255 → v < nodes →
-      Took rowBetween header (takeRow (limit + header - (at + header)) (drop next bytes)) bytes at (limit + header) ws answer ws′ →
+      Took rowBetween header (takeRow (limit + header - (at + header)) (drop next bytes)) bytes next at (limit + header) ws answer ws′ →
       answer ≡ At behind end →
-      Filling bytes nodes (set ws′ (v + 2) end) end (limit + header) behind (v + 1)
+      Filling bytes nodes room (set ws′ (v + 2) end) end (limit + header) behind (v + 1)
   unfolding bind
   fill-next behind end answer ws′ small h t e =
       record {
@@ -288,13 +320,14 @@ module _ {bytes : List ℕ} {nodes : ℕ} {ws : List ℕ} {at limit next v : ℕ
             ∙ ap (λ (l : List (Row Label)). after l (takeRows (s .todo - 1) (limit + header - end) (drop behind bytes))) (sym rows-are);
         inside = stored .inside;
         limited = omega (arith, s .limited);
-        room = stored .room;
+        below = stored .room;
         built = row-closes row (omega arith);
         sized =
             getD-set-other ws′ (v + 2) 0 end 0 (λ (z : 0 ≡ v + 2). omega arith)
             ∙ t .before 0 (omega arith) (omega (arith, s .built .low))
             ∙ s .sized;
         long = length-set ws′ (v + 2) end ∙ t .long ∙ s .long;
+        words = omega (arith, s .words, t .spare behind end e, s .inside, stored .inside);
       }
     where
       rows : List (Row Label)
@@ -311,7 +344,7 @@ module _ {bytes : List ℕ} {nodes : ℕ} {ws : List ℕ} {at limit next v : ℕ
           record {
             built = built-kept (s .built) ws′ (t .long) starts;
             headed = t .at-stands behind end e .0;
-            inside = omega (arith, stored .room, fill-room small h, t .long, s .long);
+            inside = omega (arith, stored .room, fill-room small h, t .long, s .long, s .words, t .spare behind end e, s .inside, stored .inside);
           }
 
       rows-are : rowsFrom (set ws′ (v + 2) end) 0 (v + 1) ≡ rows ++ (rowBetween ws′ at end ∷ [])

@@ -3,11 +3,16 @@ use mathlib.Core.Path.{_≡_}
 use mathlib.Core.Bool.{Bool, true, false}
 use mathlib.Core.List.{List}
 use mathlib.Core.Option.{none, some}
-use Prim.Native.Nat.{ℕ, _≤_}
+use Prim.Native.Nat.{ℕ, _+_, _≤_, min}
+use lib.ListN.{length}
 use Rattle.graphs.specs.Rows.{Row}
 use Rattle.lattice.specs.Label.{Label}
-use Rattle.layout.specs.Layout.{Shaped, size, rowsOf}
+use Rattle.layout.specs.Layout.{Shaped, longest, size, rowsOf}
 use Rattle.decode.specs.Decode.{decoded}
+
+-- The words have room for the graph of a record of these bytes: for that of the longest, or 258 words and one for each byte.
+abbrev pub Roomy : List ℕ → List ℕ → Type 0
+Roomy bytes ws = min longest (length bytes + 258) ≤ length ws
 
 -- the words hold these rows
 pub record Held (rows : List (Row Label)) (ws : List ℕ) : Type 0 where

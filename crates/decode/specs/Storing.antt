@@ -2,7 +2,7 @@
 use mathlib.Core.Path.{_≡_}
 use mathlib.Core.List.{List}
 use mathlib.Core.Option.{Option, none, some}
-use Prim.Native.Nat.{ℕ, _+_, _-_, _≤_}
+use Prim.Native.Nat.{ℕ, _+_, _-_, _≤_, min}
 use lib.ListN.{length, drop}
 use Rattle.graphs.specs.Rows.{Row}
 use Rattle.lattice.specs.Label.{Label}
@@ -13,12 +13,13 @@ use Rattle.decode.specs.declared.rows.RowEnd.the-variants.{At, Short}
 use Rattle.decode.specs.Decode.{Taken, takeRow}
 use Rattle.decode.specs.Word.{takeWord}
 
--- The byte `start` is one of the bytes or the end, and links from the place `at` on have room below `limit`.
+-- The byte `start` is one of the bytes or the end, links from the place `at` on have room below `limit`, and there are words up to it or
+-- for all the bytes that are left.
 pub record RowsFit (bytes : List ℕ) (start at limit : ℕ) (ws : List ℕ) : Type 0 where
   pub inside : start ≤ length bytes
   pub room : at ≤ limit
   pub few : limit ≤ longest
-  pub full : length ws ≡ longest
+  pub words : min limit (at + (length bytes - start)) ≤ length ws
 
 -- `value` was read up to the byte `next` and stands in front of the place `end`, behind which links have room up to `limit`.
 pub record Stored {X : Type 0} (value : X) (read : Option (Taken X)) (bytes : List ℕ) (limit next end : ℕ) : Type 0 where
@@ -30,21 +31,22 @@ pub record Stored {X : Type 0} (value : X) (read : Option (Taken X)) (bytes : Li
 abbrev pub rowBetween : List ℕ → ℕ → ℕ → Row Label
 rowBetween ws at end = (labelFrom ws at, linksBetween ws (at + header) end)
 
--- Something was read and stands in the words from `at` on, `least` words at least, or is not to be read; what stands in front of
--- it is kept.
-pub record Took {X : Type 0} (found : List ℕ → ℕ → ℕ → X) (least : ℕ) (read : Option (Taken X)) (bytes : List ℕ) (at limit : ℕ)
+-- Something was read from the byte `start` on and stands in the words from `at` on, `least` words at least and no more than bytes were
+-- read, or is not to be read; what stands in front of it is kept.
+pub record Took {X : Type 0} (found : List ℕ → ℕ → ℕ → X) (least : ℕ) (read : Option (Taken X)) (bytes : List ℕ) (start at limit : ℕ)
     (ws : List ℕ) (answer : RowEnd) (ws′ : List ℕ) : Type 0 where
   pub short-stands : answer ≡ Short → read ≡ none
   pub at-stands : (next end : ℕ) → answer ≡ At next end → (at + least ≤ end) × Stored (found ws′ at end) read bytes limit next end
+  pub spare : (next end : ℕ) → answer ≡ At next end → end + start ≤ at + next
   pub before : Same ws ws′ 0 at
   pub long : length ws′ ≡ length ws
 
 -- the links that a map states, read from the byte `start` on
 abbrev pub TookLinks : ℕ → List ℕ → ℕ → ℕ → ℕ → List ℕ → RowEnd → List ℕ → Type 0
 TookLinks map bytes start at limit ws answer ws′ =
-    Took linksBetween 0 (takeWord 64 0 map (limit - at) (drop start bytes)) bytes at limit ws answer ws′
+    Took linksBetween 0 (takeWord 64 0 map (limit - at) (drop start bytes)) bytes start at limit ws answer ws′
 
 -- the row at the byte `start`
 abbrev pub TookRow : List ℕ → ℕ → ℕ → ℕ → List ℕ → RowEnd → List ℕ → Type 0
 TookRow bytes start at limit ws answer ws′ =
-    Took rowBetween header (takeRow (limit - (at + header)) (drop start bytes)) bytes at limit ws answer ws′
+    Took rowBetween header (takeRow (limit - (at + header)) (drop start bytes)) bytes start at limit ws answer ws′

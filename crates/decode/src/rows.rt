@@ -7,14 +7,16 @@ use crate::reader::map_from;
 use layout::Label;
 ghost use mathlib.Core.Path.{_≡_};
 ghost use Prim.Native.Nat.{_+_};
-ghost use lib.ListN.{length};
-ghost use Rattle.layout.specs.Layout.{header, longest};
-ghost use Rattle.decode.specs.Answers.{Parses};
+ghost use Rattle.layout.specs.Layout.{header};
+ghost use Rattle.decode.specs.Answers.{Parses, Roomy};
 ghost use Rattle.decode.specs.Reader.{labelStep};
 ghost use Rattle.decode.specs.Storing.{RowsFit, TookLinks, TookRow};
 
 // The most links of a record.
 pub const LINKS: usize = 2048;
+
+// The most bytes of a short record, whose graph has room in `layout::SHORT` words.
+pub const SHORT: usize = 510;
 
 // Where a row ends: the next byte and the next word's place; or the bytes or the room for links ran out.
 pub enum RowEnd {
@@ -65,7 +67,7 @@ pub fn take_links(
     bytes: &[u8],
     map: u64,
     start: usize,
-    graph: &mut [u16; layout::LONGEST],
+    graph: &mut [u16],
     at: usize,
     limit: usize,
 ) -> RowEnd
@@ -92,13 +94,7 @@ pub fn take_links(
 }
 
 // Takes the row at a byte, and stores it from a place on, its links below a limit.
-pub fn take_row(
-    bytes: &[u8],
-    start: usize,
-    graph: &mut [u16; layout::LONGEST],
-    at: usize,
-    limit: usize,
-) -> RowEnd
+pub fn take_row(bytes: &[u8], start: usize, graph: &mut [u16], at: usize, limit: usize) -> RowEnd
     requires { ⌜ RowsFit (now bytes) start (at + header) limit (now graph) ⌝ }
     ensures { λ r. ⌜ TookRow (now (bytes .entry)) start at limit (now (graph .entry)) r (now (graph .exit)) ⌝ }
 {
@@ -116,10 +112,9 @@ pub fn take_row(
 
 // Whether the bytes are a record; if so the words hold its graph. The first row stands behind the places where rows begin. The
 // limit of links lies as many places further, and moves by a header with each row.
-pub fn parse(bytes: &[u8], graph: &mut [u16; layout::LONGEST]) -> bool
-    requires { ⌜ length (now graph) ≡ longest ⌝ }
+pub fn parse(bytes: &[u8], graph: &mut [u16]) -> bool
+    requires { ⌜ Roomy (now bytes) (now graph) ⌝ }
     ensures { λ r. ⌜ Parses (now (bytes .entry)) r (now (graph .exit)) ⌝ }
-    ensures { λ r. ⌜ length (now (graph .exit)) ≡ longest ⌝ }
 {
     let step = byte_from(bytes, 0);
     let Step::Byte(count, start) = step else {

@@ -33,7 +33,7 @@ use Rattle.lattice.proofs.Every.{every-same}
 use Rattle.lattice.proofs.Laws.{accepted-size}
 use Rattle.lattice.proofs.Lawful.{known-more}
 use Rattle.lattice.specs.Labels.{tableLabels, wantedLabel}
-use Rattle.layout.specs.Layout.{longest, scale, labelFrom, size, labelAt, featureAt, targetAt, rowsOf, graphIn, Sound, Place, rowsEnd}
+use Rattle.layout.specs.Layout.{scale, labelFrom, size, labelAt, featureAt, targetAt, rowsOf, graphIn, Sound, Place, rowsEnd}
 use Rattle.layout.proofs.Rows.{length-rows}
 use Rattle.layout.proofs.Places.{label-at, link-at, link-place, link-known}
 use Rattle.layout.proofs.Reaching.{reached-inside}
@@ -150,7 +150,7 @@ module _ {n : ℕ} {t gw sw map : List ℕ} (asked : Asked n t gw sw map) where
           (link-at g-sound y i (p .inside) (p .low) (p .high))) in
           (j, record { inside = over-inside y (p .inside); low = a; high = b }, e)
 
-  pub markable-words : {marks keep : List ℕ} → length marks ≡ longest → length keep ≡ 255 → Markable sw marks keep
+  pub markable-words : {marks keep : List ℕ} → length marks ≡ length sw → length keep ≡ 255 → Markable sw marks keep
   markable-words a b =
       record { sound = s-sound; small = asked .lower .small; short = asked .short; marks-long = a; keep-long = b }
 
@@ -544,7 +544,7 @@ module _ {n : ℕ} {t gw sw map : List ℕ} (asked : Asked n t gw sw map) where
             (λ v. Option·getD (wantedLabel n t (s .label v) (meetOver (tableLabels n t) eqb g (from 0 b) over v)) noLabel))))
             (length-rows sw 0 (size sw)) (length-rows gw 0 (size gw))
             ∙ along-same (Reached s) made result reason links-alike order
-            ∙ marks-tell sound′ reason reasons (omega (arith, rows .1 .long, explained .long)) reason-is (writtenOrder eqb result)
+            ∙ marks-tell sound′ reason reasons (omega (arith, rows .1 .long, explained .long, asked .short)) reason-is (writtenOrder eqb result)
             (λ v m. inside′ v (reached-inside s-sound v (pointwise-listed order v m)))
           where
             order : Pointwise (λ x y. Reached s x × (x ≡ y)) (writtenOrder eqb made) (writtenOrder eqb result)

@@ -12,7 +12,7 @@ ghost use mathlib.Core.Path.{_≡_};
 ghost use mathlib.Core.List.{List};
 ghost use Prim.Native.Nat.{ℕ};
 ghost use lib.ListN.{length};
-ghost use Rattle.layout.specs.Layout.{longest};
+ghost use Rattle.groups.specs.Cover.{Unowned};
 ghost use Rattle.groups.specs.LinkOrders.{Fitting};
 ghost use Rattle.keeping.specs.Keeping.{Markable};
 ghost use Rattle.keeping.specs.Explaining.{Copied, Made};
@@ -27,19 +27,22 @@ pub struct Options {
     pub explained: bool,
 }
 
-// The difference of g and s, where s is below g and each of its nodes has a wanted type. Its rows are made in `words`. Unless the options
-// ask for the reasons, these are left as they were.
+// The difference of g and s, where s is below g and each of its nodes has a wanted type. Its links are marked in `owner` and `marks`, and its
+// rows are made in `words`. Unless the options ask for the reasons, these are left as they were.
 pub fn difference<'a>(
     n: usize,
     table: &'a [u8],
     options: Options,
     g: &'a [u16],
     s: &'a [u16],
-    words: &mut [u16; layout::LONGEST],
+    owner: &mut [u16],
+    marks: &mut [u8],
+    words: &mut [u16],
     out: &mut [u8],
     reasons: &mut [u8],
 ) -> Reply
-    requires { ⌜ Comparable n (now table) (now g) (now s) × Fitting (options .order) × (length (now words) ≡ longest) ⌝ }
+    requires { ⌜ Comparable n (now table) (now g) (now s) × Fitting (options .order) ⌝ }
+    requires { ⌜ Unowned (now s) (now owner) × (length (now marks) ≡ length (now s)) × (length (now words) ≡ length (now s)) ⌝ }
     ensures { λ r. ⌜ explainedResult r (now (out .exit)) (now (reasons .exit)) ≡
         differedWords options n (now (table .entry)) (now (g .entry)) (now (s .entry)) (now (out .entry)) (now (reasons .entry)) ⌝ }
 {
@@ -53,10 +56,9 @@ pub fn difference<'a>(
     if !wanted::wanted_labels(n, table, g, s, &map, &mut labels) {
         return Reply::NoWantedType;
     }
-    let mut marks = [0u8; layout::LONGEST];
-    groups::mark_links(s, g, &map, options.order, &mut marks);
-    make(n, table, s, &marks, &labels, words);
-    write_rows(options.explained, s, &marks, words, out, reasons)
+    groups::mark_links(s, g, &map, options.order, owner, marks);
+    make(n, table, s, marks, &labels, words);
+    write_rows(options.explained, s, marks, words, out, reasons)
 }
 
 // Fills words with the rows of the difference: `marks` has the marks of the links of s, and `labels` the wanted label of each node of s.
@@ -64,11 +66,11 @@ fn make<'a>(
     n: usize,
     table: &'a [u8],
     s: &'a [u16],
-    marks: &'a [u8; layout::LONGEST],
+    marks: &'a [u8],
     labels: &'a [u16; 510],
-    words: &mut [u16; layout::LONGEST],
+    words: &mut [u16],
 )
-    requires { ⌜ Preparable n (now table) (now s) (now marks) (now labels) × (length (now words) ≡ longest) ⌝ }
+    requires { ⌜ Preparable n (now table) (now s) (now marks) (now labels) × (length (now words) ≡ length (now s)) ⌝ }
     ensures { λ _. ⌜ Made n (now (table .entry)) (now (s .entry)) (now (marks .entry)) (now (labels .entry)) (now (words .exit)) ⌝ }
 {
     let mut keep = [0u8; 255];
@@ -80,7 +82,7 @@ fn make<'a>(
 fn write_rows<'a>(
     explained: bool,
     s: &'a [u16],
-    marks: &'a [u8; layout::LONGEST],
+    marks: &'a [u8],
     words: &'a [u16],
     out: &mut [u8],
     reasons: &mut [u8],

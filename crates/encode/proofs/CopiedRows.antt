@@ -40,27 +40,29 @@ byNumber numbers l = (l .0, numberByte numbers (l .1))
 -- How far a row is copied: the links of the places up to k.
 pub record Turn (ws numbers : List ℕ) (v at : ℕ) (old new : List ℕ) (next k : ℕ) : Type 0 where
   pub numbered : Numbered ws numbers v
-  pub room : at + header + degree ws v ≤ longest
+  pub short : at + header + degree ws v ≤ longest
+  pub room : at + header + degree ws v ≤ length old
   pub low : linksFrom ws v ≤ k
   pub high : k ≤ rowEnd ws v
   pub next-is : next ≡ at + header + (k - linksFrom ws v)
-  pub long : length new ≡ longest
+  pub long : length new ≡ length old
   pub kept : Same old new 0 at
   pub label : labelFrom new at ≡ labelAt ws v
   pub links : linksBetween new (at + header) next ≡ map (byNumber numbers) (linksBetween ws (linksFrom ws v) k)
 
 module _ {ws numbers : List ℕ} {v at : ℕ} where
-  pub turn-start : (old : List ℕ) {opened : List ℕ} → Numbered ws numbers v → at + header + degree ws v ≤ longest → length old ≡ longest →
+  pub turn-start : (old : List ℕ) {opened : List ℕ} → Numbered ws numbers v → at + header + degree ws v ≤ longest → at + header + degree ws v ≤ length old →
       opened ≡ putLabel old at (labelAt ws v) → Turn ws numbers v at opened opened (at + header) (linksFrom ws v)
-  turn-start old n room long e =
+  turn-start old n short room e =
       subst (λ (l : List ℕ). Turn ws numbers v at l l (at + header) (linksFrom ws v)) (sym e)
       record {
         numbered = n;
-        room = room;
+        short = short;
+        room = omega (arith, length-put old at (labelAt ws v));
         low = omega arith;
         high = n .sound .shaped .node v (n .inside) .begun;
         next-is = omega arith;
-        long = length-put old at (labelAt ws v) ∙ long;
+        long = refl;
         kept = λ k low high. refl;
         label = label-put old at (labelAt ws v) (omega arith) (n .sound .shaped .labelled v (n .inside) .highest);
         links =
@@ -82,18 +84,22 @@ module _ {ws numbers : List ℕ} {v at : ℕ} where
     pub turn-number : k < rowEnd ws v → getD numbers (targetAt ws k) 0 < 256
     turn-number h = t .numbered .low k (t .low) h
 
-    pub turn-room : k < rowEnd ws v → next < longest
-    turn-room h = omega (arith, t .room, t .low, t .next-is)
+    pub turn-short : k < rowEnd ws v → next < longest
+    turn-short h = omega (arith, t .short, t .low, t .next-is)
+
+    pub turn-room : k < rowEnd ws v → next < length new
+    turn-room h = omega (arith, t .room, t .low, t .next-is, t .long)
 
     pub turn-step : {w : ℕ} → k < rowEnd ws v → w ≡ linkWord (featureAt ws k, getD numbers (targetAt ws k) 0) →
         Turn ws numbers v at old (set new next w) (next + 1) (k + 1)
     turn-step {w} h e =
         let number : ℕ = getD numbers (targetAt ws k) 0 in
         let small : number < 256 = turn-number h in
-        let here : next < length new = omega (arith, turn-room h, t .long) in
+        let here : next < length new = turn-room h in
         let byte : number ≡ number % 256 = omega arith in
         record {
           numbered = t .numbered;
+          short = t .short;
           room = t .room;
           low = omega (arith, t .low);
           high = omega arith;
@@ -116,7 +122,7 @@ module _ {ws numbers : List ℕ} {v at : ℕ} where
   turn-done old {opened} {new} {next} {k} is t h =
       let e : k ≡ rowEnd ws v = omega (arith, t .high) in
       record {
-        long = t .long;
+        long = t .long ∙ ap length is ∙ length-put old at (labelAt ws v);
         next-is = t .next-is ∙ ap (λ (j : ℕ). at + header + (j - linksFrom ws v)) e;
         kept =
             same-trans old opened new
@@ -129,29 +135,36 @@ module _ {ws numbers : List ℕ} {v at : ℕ} where
 -- All rows.
 
 -- How far the rows are copied: those of the first i nodes visited.
-pub record Copying (ws numbers vs : List ℕ) (count : ℕ) (new : List ℕ) (at i : ℕ) : Type 0 where
+pub record Copying (ws numbers vs : List ℕ) (count room : ℕ) (new : List ℕ) (at i : ℕ) : Type 0 where
   pub closed : Closed ws numbers vs count
   pub high : i ≤ count
-  pub long : length new ≡ longest
+  pub fits : count + 2 + header * count + degrees ws (take count vs) ≤ room
+  pub long : length new ≡ room
   pub at-is : at ≡ count + 2 + header * i + degrees ws (take i vs)
   pub built : Built new (count + 2) i at
   pub rows : rowsFrom new 0 i ≡ numberedRows ws numbers (take i vs)
 
 module _ {ws numbers vs : List ℕ} {count : ℕ} where
-  pub copying-start : (new : List ℕ) → Closed ws numbers vs count → length new ≡ longest →
-      Copying ws numbers vs count (set new 1 (count + 2)) (count + 2) 0
+  pub copying-start : (new : List ℕ) → Closed ws numbers vs count → count + 2 + header * count + degrees ws (take count vs) ≤ length new →
+      Copying ws numbers vs count (length (set new 1 (count + 2))) (set new 1 (count + 2)) (count + 2) 0
   unfolding rowsFrom
-  copying-start new c long =
+  copying-start new c fits =
       record {
         closed = c;
         high = omega arith;
-        long = length-set new 1 (count + 2) ∙ long;
+        fits = omega (arith, length-set new 1 (count + 2));
+        long = refl;
         at-is = omega (arith, sum-none (degree ws) vs);
-        built = built-begin new (count + 2) (omega arith) (omega (arith, c .nodes .few));
+        built = built-begin new (count + 2) (omega arith) (omega arith);
         rows = refl;
       }
 
-  module _ {new : List ℕ} {at i : ℕ} (c : Copying ws numbers vs count new at i) (h : i < count) where
+  -- copying keeps the length
+  pub copying-same : (new : List ℕ) {now : List ℕ} {at i : ℕ} → Copying ws numbers vs count (length (set new 1 (count + 2))) now at i →
+      length (set now 0 count) ≡ length new
+  copying-same new {now} c = length-set now 0 count ∙ c .long ∙ length-set new 1 (count + 2)
+
+  module _ {new : List ℕ} {room at i : ℕ} (c : Copying ws numbers vs count room new at i) (h : i < count) where
     inside : i < length vs
     inside = omega (arith, c .closed .nodes .few, c .closed .nodes .long)
 
@@ -163,16 +176,15 @@ module _ {ws numbers vs : List ℕ} {count : ℕ} where
           low = λ k low high. omega (arith, c .closed .low i k h low high, c .closed .nodes .few);
         }
 
-    pub copying-room : at + header + degree ws (getD vs i 0) ≤ longest
-    copying-room =
-        omega (
-          arith,
-          c .at-is,
-          c .closed .nodes .few,
-          c .closed .links,
-          sum-more (degree ws) vs i inside,
-          sum-upto (degree ws) vs (i + 1) count (omega arith),
-        )
+    copying-upto : at + header + degree ws (getD vs i 0) ≤ count + 2 + header * count + degrees ws (take count vs)
+    copying-upto =
+        omega (arith, c .at-is, sum-more (degree ws) vs i inside, sum-upto (degree ws) vs (i + 1) count (omega arith))
+
+    pub copying-short : at + header + degree ws (getD vs i 0) ≤ longest
+    copying-short = omega (arith, copying-upto, c .closed .nodes .few, c .closed .links)
+
+    pub copying-room : at + header + degree ws (getD vs i 0) ≤ length new
+    copying-room = omega (arith, copying-upto, c .fits, c .long)
 
     along : numberedRows ws numbers (take (i + 1) vs) ≡ numberedRows ws numbers (take i vs) ++ (numberedRow ws numbers (getD vs i 0) ∷ [])
     along =
@@ -182,10 +194,7 @@ module _ {ws numbers vs : List ℕ} {count : ℕ} where
 
     module _ {new′ : List ℕ} {next : ℕ} (r : RowCopied ws numbers (getD vs i 0) new at new′ next) where
       pub next-low : next ≤ longest
-      next-low = omega (arith, r .next-is, copying-room)
-
-      same-length : length new′ ≡ length new
-      same-length = r .long ∙ sym (c .long)
+      next-low = omega (arith, r .next-is, copying-short)
 
       starts : Same new new′ 1 (i + 2)
       starts k low high = r .kept k (omega arith) (omega (arith, c .built .listed, c .built .low))
@@ -193,33 +202,33 @@ module _ {ws numbers vs : List ℕ} {count : ℕ} where
       opened : Open new′ (count + 2) i at next
       opened =
           record {
-            built = built-kept (c .built) new′ same-length starts;
+            built = built-kept (c .built) new′ (r .long) starts;
             headed = omega (arith, r .next-is);
-            inside = omega (arith, r .long, next-low);
+            inside = omega (arith, r .long, r .next-is, copying-room);
           }
 
-      pub copying-step : Copying ws numbers vs count (set new′ (i + 2) next) next (i + 1)
+      pub copying-step : Copying ws numbers vs count room (set new′ (i + 2) next) next (i + 1)
       copying-step =
           record {
             closed = c .closed;
             high = omega arith;
-            long = length-set new′ (i + 2) next ∙ r .long;
+            fits = c .fits;
+            long = length-set new′ (i + 2) next ∙ r .long ∙ c .long;
             at-is = omega (arith, c .at-is, r .next-is, sum-more (degree ws) vs i inside);
             built = row-closes opened (omega arith);
             rows =
                 closed-rows opened (omega arith)
                 ∙ ap₂ (λ (rs : List (Row Label)) (x : Row Label). rs ++ (x ∷ []))
-                (rows-kept (c .built) new′ same-length starts (λ k low high. r .kept k (omega arith) high) ∙ c .rows) (r .row)
+                (rows-kept (c .built) new′ (r .long) starts (λ k low high. r .kept k (omega arith) high) ∙ c .rows) (r .row)
                 ∙ sym along;
           }
 
-  pub copying-done : {new : List ℕ} {at i : ℕ} → Copying ws numbers vs count new at i → count ≤ i →
+  pub copying-done : {new : List ℕ} {room at i : ℕ} → Copying ws numbers vs count room new at i → count ≤ i →
       RowsCopied ws numbers vs count (set new 0 count)
-  copying-done {new} {at} {i} c h =
+  copying-done {new} {room} {at} {i} c h =
       let e : i ≡ count = omega (arith, c .high) in
       let built : Built new (count + 2) count at = subst (λ (n : ℕ). Built new (count + 2) n at) e (c .built) in
       record {
-        long = length-set new 0 count ∙ c .long;
         end = at;
         built = size-kept built count;
         sized = size-is built count;

@@ -7,5 +7,6 @@ pub mod Outcomes
 pub mod Lengths
 pub mod WrittenRows
 pub mod MarkedRows
+pub mod RowPlaces
 pub mod WrittenForm
 pub mod CopiedRows

@@ -21,7 +21,7 @@ use Rattle.graphs.proofs.Rows.{linksOf-length}
 use Rattle.graphs.proofs.Form.Invariant.{linksOf-cong}
 use Rattle.graphs.proofs.Form.Visited.{Grown, visit-all}
 use Rattle.lattice.specs.Label.{Label, noLabel}
-use Rattle.layout.specs.Layout.{Sound, Place, longest, size, linksFrom, rowEnd, featureAt, targetAt, linksAt, linksBetween, graphIn}
+use Rattle.layout.specs.Layout.{Sound, Place, header, longest, size, linksFrom, rowEnd, featureAt, targetAt, linksAt, linksBetween, graphIn}
 use Rattle.layout.proofs.Spans.{linkAt, links-at, links-none, links-cons}
 use Rattle.layout.proofs.Rows.{row-at}
 use Rattle.layout.proofs.Places.{link-known, links-are}
@@ -36,6 +36,7 @@ use Rattle.encode.proofs.WrittenRows.{ranges-upto, sum-reverse, row-asc
 use Rattle.encode.specs.declared.Marked.the-variants as marked
 use Rattle.encode.specs.Marks.{MarksFit, Noted, noting, fittedBoth, marksAlong, markedOut}
 use Rattle.encode.proofs.MarkedRows.{marks-length}
+use Rattle.encode.proofs.RowPlaces.{rows-fit}
 
 module _ {ws : List ℕ} (sound : Sound ws) where
   abbrev g : Graph Label ℕ
@@ -242,6 +243,17 @@ module _ {ws : List ℕ} (sound : Sound ws) where
                 (link-seen seen e v m (linkAt ws k)
                 (links-at ws (rowEnd ws v) (sound .shaped .node v inside .ended) (rowEnd ws v - linksFrom ws v) (linksFrom ws v)
                 (omega (arith, sound .shaped .node v inside .begun)) k low high)),
+          )
+
+      -- their rows have room where the graph has
+      pub visited-room : count + 2 + header * count + degrees ws (take count visited) ≤ length ws
+      visited-room =
+          let (seen, e) = found in
+          omega (
+            arith,
+            counted-is seen e,
+            ap (degrees ws) (visited-is seen e) ∙ sum-reverse (degree ws) seen,
+            rows-fit (sound .shaped) seen (grown seen e .distinct tt) (seen-inside seen e),
           )
 
       visited-order : writtenOrder eqb g ≡ take count visited

@@ -8,7 +8,7 @@ use lib.ListN.{length, getD, take}
 use Rattle.graphs.specs.Rows.{Row}
 use Rattle.graphs.specs.Number.{Canonical, manyNodes, manyLinks, written}
 use Rattle.lattice.specs.Label.{Label}
-use Rattle.layout.specs.Layout.{Sound, header, longest, size, linksFrom, rowEnd, labelFrom, targetAt, linksBetween, rowsOf}
+use Rattle.layout.specs.Layout.{Sound, header, size, linksFrom, rowEnd, labelFrom, targetAt, linksBetween, rowsOf}
 use Rattle.layout.specs.Builder.{Built, Same}
 use Rattle.encode.specs.NumberedRows.{Visited, degree, degrees, numberedRow, numberedRows}
 
@@ -36,14 +36,13 @@ pub record Closed (ws numbers visited : List ℕ) (count : ℕ) : Type 0 where
 
 -- One row: that of node v stands from `at` to `next`, its targets by number; the words before stay.
 pub record RowCopied (ws numbers : List ℕ) (v : ℕ) (old : List ℕ) (at : ℕ) (new : List ℕ) (next : ℕ) : Type 0 where
-  pub long : length new ≡ longest
+  pub long : length new ≡ length old
   pub next-is : next ≡ at + header + degree ws v
   pub kept : Same old new 0 at
   pub row : _≡_ {A = Row Label} (labelFrom new at, linksBetween new (at + header) next) (numberedRow ws numbers v)
 
 -- The rows of the first `count` nodes visited, one after another.
 pub record RowsCopied (ws numbers visited : List ℕ) (count : ℕ) (new : List ℕ) : Type 0 where
-  pub long : length new ≡ longest
   pub end : ℕ
   pub built : Built new (count + 2) count end
   pub sized : size new ≡ count

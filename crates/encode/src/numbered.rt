@@ -3,12 +3,12 @@
 
 use crate::encoder;
 ghost use mathlib.Core.Path.{_≡_};
-ghost use Prim.Native.Nat.{_+_, _≤_};
+ghost use Prim.Native.Nat.{_+_, _*_, _≤_};
 ghost use lib.Dec.{eqb};
-ghost use lib.ListN.{length};
+ghost use lib.ListN.{length, take};
 ghost use Rattle.graphs.specs.Number.{canonical};
 ghost use Rattle.layout.specs.Layout.{Sound, graphIn, header, longest};
-ghost use Rattle.encode.specs.NumberedRows.{degree};
+ghost use Rattle.encode.specs.NumberedRows.{degree, degrees};
 ghost use Rattle.encode.specs.Copies.{Closed, Numbered, Renumbers, RowCopied, RowsCopied};
 
 // Copies the row of node v to the words from `at` on, with the targets' numbers. Answers the next place.
@@ -17,11 +17,10 @@ fn copy_row<'a>(
     numbers: &'a [u16; 510],
     v: usize,
     at: usize,
-    new: &mut [u16; layout::LONGEST],
+    new: &mut [u16],
 ) -> usize
     requires { ⌜ Numbered (now graph) (now numbers) v ⌝ }
-    requires { ⌜ at + header + degree (now graph) v ≤ longest ⌝ }
-    requires { ⌜ length (now new) ≡ longest ⌝ }
+    requires { ⌜ (at + header + degree (now graph) v ≤ longest) × (at + header + degree (now graph) v ≤ length (now new)) ⌝ }
     ensures { λ r. ⌜ RowCopied (now (graph .entry)) (now (numbers .entry)) v (now (new .entry)) at (now (new .exit)) r ⌝ }
 {
     let row = graph[v + 1] as usize;
@@ -47,10 +46,10 @@ fn copy_rows<'a>(
     numbers: &'a [u16; 510],
     visited: &'a [u16; 255],
     count: usize,
-    new: &mut [u16; layout::LONGEST],
+    new: &mut [u16],
 )
     requires { ⌜ Closed (now graph) (now numbers) (now visited) count ⌝ }
-    requires { ⌜ length (now new) ≡ longest ⌝ }
+    requires { ⌜ count + 2 + header * count + degrees (now graph) (take count (now visited)) ≤ length (now new) ⌝ }
     ensures { λ r. ⌜ RowsCopied (now (graph .entry)) (now (numbers .entry)) (now (visited .entry)) count (now (new .exit)) ⌝ }
 {
     let mut at = count + 2;
@@ -66,11 +65,10 @@ fn copy_rows<'a>(
 }
 
 // Numbers a graph as written: its rows by number, with the targets' numbers. Answers whether it can be written.
-pub fn renumber(graph: &[u16], new: &mut [u16; layout::LONGEST]) -> bool
+pub fn renumber(graph: &[u16], new: &mut [u16]) -> bool
     requires { ⌜ Sound (now graph) ⌝ }
-    requires { ⌜ length (now new) ≡ longest ⌝ }
+    requires { ⌜ length (now graph) ≤ length (now new) ⌝ }
     ensures { λ r. ⌜ Renumbers (canonical eqb (graphIn (now (graph .entry)))) r (now (new .exit)) ⌝ }
-    ensures { λ r. ⌜ length (now (new .exit)) ≡ longest ⌝ }
 {
     let mut numbers = [0u16; 510];
     let mut visited = [0u16; 255];

@@ -2,15 +2,16 @@
 use mathlib.Core.Path.{_≡_, refl, sym, _∙_, ap, ap₂, subst}
 use mathlib.Core.Bool.{Bool}
 use mathlib.Core.List.{List, [], List·Memᴰ}
-use Prim.Native.Nat.{ℕ, _<_}
+use Prim.Native.Nat.{ℕ, _≤_, _<_}
 use native.Mathlib.Omega.{arith}
 use lib.Dec.{eqb}
+use lib.ListN.{length, replicate, length-replicate, getD-replicate}
 use Rattle.graphs.specs.Rows.{Row}
 use Rattle.graphs.specs.Number.{canonical}
 use Rattle.graphs.proofs.Lists.{tells-eqb}
 use Rattle.lattice.specs.Label.{Label}
 use Rattle.lattice.specs.Labels.{Known}
-use Rattle.layout.specs.Layout.{size, labelAt, linksAt, graphOfRows, rowsOf, graphIn}
+use Rattle.layout.specs.Layout.{longest, size, labelAt, linksAt, graphOfRows, rowsOf, graphIn}
 use Rattle.layout.proofs.Rows.{rows-member}
 use Rattle.encode.specs.Encode.{encoded}
 use Rattle.encode.specs.Copies.{Renumbers}
@@ -32,7 +33,23 @@ use Rattle.pairs.specs.declared.PairVerdict.{PairVerdict}
 use Rattle.pairs.specs.declared.PairVerdict.the-variants as pair
 use Rattle.pairs.specs.Pair.{ReadsBoth}
 use Rattle.pairs.proofs.Readings.{both-next, both-refused}
-use Rattle.engine.specs.Differing.{parting, partingWith, reasonsOf}
+use Rattle.engine.specs.Differing.{Beside, parting, partingWith, reasonsOf}
+
+-- words as they are when they are lent
+pub beside-cleared : (n : ℕ) → n ≤ longest → Beside (replicate n 0) (replicate n 0) (replicate n 65535) (replicate n 0)
+beside-cleared n h =
+    record {
+      short = omega (arith, cleared);
+      given-long = refl;
+      unowned = record { long = owners ∙ sym cleared; none = λ j l. getD-replicate {A = ℕ} n j 65535 0 (omega (arith, owners)) };
+      marks-long = refl;
+    }
+  where
+    cleared : length {A = ℕ} (replicate n 0) ≡ n
+    cleared = length-replicate {A = ℕ} n 0
+
+    owners : length {A = ℕ} (replicate n 65535) ≡ n
+    owners = length-replicate {A = ℕ} n 65535
 
 -- the words hold the rows of the written form, whose record is accepted
 pub record Renumbered (n : ℕ) (rows : List (Row Label)) (ws : List ℕ) : Type 0 where

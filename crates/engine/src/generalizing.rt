@@ -8,6 +8,7 @@ ghost use mathlib.Core.List.{List};
 ghost use Prim.Native.Nat.{ℕ};
 ghost use Rattle.bounds.specs.Opening.{OpenedFor};
 ghost use Rattle.layout.specs.Layout.{rowsOf};
+ghost use Rattle.decode.specs.Answers.{Roomy};
 ghost use Rattle.record.specs.Reads.{Loaded};
 ghost use Rattle.pairs.specs.Pair.{Optional};
 ghost use Rattle.replies.specs.Reply.{resulting};
@@ -27,12 +28,59 @@ pub fn of_records<'a>(
     requires { ⌜ OpenedFor true n (now table) (now sets) (now cells) × Optional n (now list) ⌝ }
     ensures { λ r. ⌜ resulting r (now (out .exit)) ≡ generalizedBeside n (now (table .entry)) (now (list .entry)) (now (first .entry)) (now (second .entry)) (now (out .entry)) ⌝ }
 {
-    let mut a = [layout::BLANK; layout::LONGEST];
-    let mut b = [layout::BLANK; layout::LONGEST];
-    let verdict = pairs::read_both(n, table, list, first, second, &mut a, &mut b);
+    if pairs::are_short(first, second) {
+        let mut a = [0u16; layout::SHORT];
+        let mut b = [0u16; layout::SHORT];
+        return generalize_in(
+            n,
+            table,
+            list,
+            sets,
+            cells,
+            first,
+            second,
+            &mut a,
+            &mut b,
+            out,
+        );
+    }
+    let mut a = [0u16; layout::LONGEST];
+    let mut b = [0u16; layout::LONGEST];
+    generalize_in(
+        n,
+        table,
+        list,
+        sets,
+        cells,
+        first,
+        second,
+        &mut a,
+        &mut b,
+        out,
+    )
+}
+
+// The same in words that are lent for the graphs.
+fn generalize_in<'a>(
+    n: usize,
+    table: &[u8],
+    list: &[u8],
+    sets: &'a [u64; bounds::sets::WORDS],
+    cells: &'a [[u8; 64]; 64],
+    first: &[u8],
+    second: &[u8],
+    a: &mut [u16],
+    b: &mut [u16],
+    out: &mut [u8],
+) -> Reply
+    requires { ⌜ OpenedFor true n (now table) (now sets) (now cells) × Optional n (now list) ⌝ }
+    requires { ⌜ Roomy (now first) (now a) × Roomy (now second) (now b) ⌝ }
+    ensures { λ r. ⌜ resulting r (now (out .exit)) ≡ generalizedBeside n (now (table .entry)) (now (list .entry)) (now (first .entry)) (now (second .entry)) (now (out .entry)) ⌝ }
+{
+    let verdict = pairs::read_both(n, table, list, first, second, a, b);
     match verdict {
         PairVerdict::Refused(fault, side) => Reply::Graph(fault, side),
-        PairVerdict::Both => of_graphs(n, sets, cells, &a, &b, out),
+        PairVerdict::Both => of_graphs(n, sets, cells, a, b, out),
     }
 }
 

@@ -6,6 +6,7 @@ use subsume::Order;
 ghost use mathlib.Core.Path.{_≡_};
 ghost use Prim.Native.Nat.{ℕ, _≤_};
 ghost use Rattle.layout.specs.Layout.{rowsOf};
+ghost use Rattle.decode.specs.Answers.{Roomy};
 ghost use Rattle.record.specs.Read.{reading};
 ghost use Rattle.record.specs.Reads.{Loaded};
 ghost use Rattle.pairs.specs.Pair.{readBoth};
@@ -17,12 +18,32 @@ pub fn of_records(n: usize, table: &[u8], first: &[u8], second: &[u8]) -> Reply
     requires { ⌜ n ≤ 64 ⌝ }
     ensures { λ r. ⌜ r ≡ readBoth (λ q. q) (reading n (now (first .entry))) (reading n (now (second .entry))) (ordered n (now (table .entry))) ⌝ }
 {
-    let mut s = [layout::BLANK; layout::LONGEST];
-    let mut g = [layout::BLANK; layout::LONGEST];
-    let verdict = pairs::read_both(n, table, &table[..0], first, second, &mut s, &mut g);
+    if pairs::are_short(first, second) {
+        let mut s = [0u16; layout::SHORT];
+        let mut g = [0u16; layout::SHORT];
+        return order_in(n, table, first, second, &mut s, &mut g);
+    }
+    let mut s = [0u16; layout::LONGEST];
+    let mut g = [0u16; layout::LONGEST];
+    order_in(n, table, first, second, &mut s, &mut g)
+}
+
+// The same in words that are lent for the graphs.
+fn order_in(
+    n: usize,
+    table: &[u8],
+    first: &[u8],
+    second: &[u8],
+    s: &mut [u16],
+    g: &mut [u16],
+) -> Reply
+    requires { ⌜ (n ≤ 64) × Roomy (now first) (now s) × Roomy (now second) (now g) ⌝ }
+    ensures { λ r. ⌜ r ≡ readBoth (λ q. q) (reading n (now (first .entry))) (reading n (now (second .entry))) (ordered n (now (table .entry))) ⌝ }
+{
+    let verdict = pairs::read_both(n, table, &table[..0], first, second, s, g);
     match verdict {
         PairVerdict::Refused(fault, side) => Reply::Graph(fault, side),
-        PairVerdict::Both => of_graphs(table, &s, &g),
+        PairVerdict::Both => of_graphs(table, s, g),
     }
 }
 

@@ -6,6 +6,7 @@ use replies::Side;
 ghost use mathlib.Core.Path.{_≡_};
 ghost use Prim.Native.Nat.{_≤_};
 ghost use Rattle.layout.specs.Layout.{Sound, rowsOf};
+ghost use Rattle.decode.specs.Answers.{Roomy};
 ghost use Rattle.pairs.specs.Pair.{Optional, readingBeside};
 ghost use Rattle.replies.specs.Reply.{resulting};
 ghost use Rattle.engine.specs.Rewriting.{rewritten, rewrittenRows};
@@ -15,11 +16,30 @@ pub fn of_record(n: usize, table: &[u8], list: &[u8], bytes: &[u8], out: &mut [u
     requires { ⌜ (n ≤ 64) × Optional n (now list) ⌝ }
     ensures { λ r. ⌜ resulting r (now (out .exit)) ≡ rewritten (readingBeside n (now (table .entry)) (now (list .entry)) (now (bytes .entry))) (now (out .entry)) ⌝ }
 {
-    let mut graph = [layout::BLANK; layout::LONGEST];
-    let verdict = pairs::read_one(n, table, list, bytes, &mut graph);
+    if bytes.len() <= decode::rows::SHORT {
+        let mut graph = [0u16; layout::SHORT];
+        return rewrite_in(n, table, list, bytes, &mut graph, out);
+    }
+    let mut graph = [0u16; layout::LONGEST];
+    rewrite_in(n, table, list, bytes, &mut graph, out)
+}
+
+// The same in words that are lent for the graph.
+fn rewrite_in(
+    n: usize,
+    table: &[u8],
+    list: &[u8],
+    bytes: &[u8],
+    graph: &mut [u16],
+    out: &mut [u8],
+) -> Reply
+    requires { ⌜ (n ≤ 64) × Optional n (now list) × Roomy (now bytes) (now graph) ⌝ }
+    ensures { λ r. ⌜ resulting r (now (out .exit)) ≡ rewritten (readingBeside n (now (table .entry)) (now (list .entry)) (now (bytes .entry))) (now (out .entry)) ⌝ }
+{
+    let verdict = pairs::read_one(n, table, list, bytes, graph);
     match verdict {
         Verdict::Refused(fault) => Reply::Graph(fault, Side::First),
-        Verdict::Accepted => of_graph(&graph, out),
+        Verdict::Accepted => of_graph(graph, out),
     }
 }
 

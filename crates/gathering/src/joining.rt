@@ -31,7 +31,7 @@ pub fn join<'a>(
     ensures { λ r. ⌜ ((t : List ℕ) → OpenedFor true n t (now (sets .entry)) (now (cells .entry)) →
         resulting r (now (room .exit)) ≡ joined n t (firstOf gathered (now (room .entry))) (now (bytes .entry)) (now (room .entry))) ⌝ }
 {
-    let mut program = [layout::BLANK; layout::LONGEST];
+    let mut program = [0u16; layout::LONGEST];
     let verdict = record::reading::read(n, bytes, &mut program);
     match verdict {
         Verdict::Refused(fault) => Reply::Graph(fault, Side::First),
@@ -58,7 +58,7 @@ fn join_graph<'a>(
         resulting r (now (room .exit)) ≡ joinedRows n t (now (room .entry)) (rowsOf (now (program .entry))) (reading n (take gathered (now (room .entry))))) ⌝ }
 {
     let end = crate::parts::end_of(room, 0, gathered);
-    let mut part = [layout::BLANK; layout::LONGEST];
+    let mut part = [0u16; layout::LONGEST];
     let verdict = record::reading::read(n, &room[..end], &mut part);
     match verdict {
         Verdict::Refused(fault) => Reply::Graph(fault, Side::Second),

@@ -85,7 +85,7 @@ pub fn order(state: &[u8], bytes: &[u8]) -> Reply
 fn nothing_after(n: usize, bytes: &[u8]) -> Reply
     ensures { λ r. ⌜ r ≡ nothingAfter (reading n (now (bytes .entry))) ⌝ }
 {
-    let mut program = [layout::BLANK; layout::LONGEST];
+    let mut program = [0u16; layout::LONGEST];
     let verdict = record::reading::read(n, bytes, &mut program);
     match verdict {
         Verdict::Refused(fault) => Reply::Graph(fault, Side::First),
@@ -119,7 +119,7 @@ pub fn finish(state: &[u8], out: &mut [u8]) -> Reply
 fn write(n: usize, part: &[u8], out: &mut [u8]) -> Reply
     ensures { λ r. ⌜ resulting r (now (out .exit)) ≡ writtenFrom (reading n (now (part .entry))) (now (out .entry)) ⌝ }
 {
-    let mut graph = [layout::BLANK; layout::LONGEST];
+    let mut graph = [0u16; layout::LONGEST];
     let verdict = record::reading::read(n, part, &mut graph);
     match verdict {
         Verdict::Refused(fault) => Reply::Graph(fault, Side::Second),

@@ -9,12 +9,12 @@ use native.Mathlib.Nat.{lt-trans}
 use native.Mathlib.Omega.{arith}
 use lib.ListN.{length, getD, set, length-set}
 use lib.Seq.{getD-set-same, getD-set-other}
-use Rattle.layout.specs.Layout.{longest, size, rowFrom, linksFrom, rowEnd, featureAt, targetAt, Node, Place, rowsEnd}
+use Rattle.layout.specs.Layout.{size, rowFrom, linksFrom, rowEnd, featureAt, targetAt, Node, Place, rowsEnd}
 use Rattle.layout.proofs.Order.{next-row, place-from, place-before, one-row, no-header, place-rises, one-feature}
 use Rattle.subsume.specs.Following.{Sought}
 use Rattle.classes.specs.Forest.{Forest, SameRoots, United, Flat, rootOf}
 use Rattle.classes.proofs.Roots.{separate-forest, fixed-root}
-use Rattle.groups.specs.Cover.{Lying, Over, Covers, Tied, same, shared, back, next, Grouping, Owns}
+use Rattle.groups.specs.Cover.{Lying, Over, Covers, Tied, same, shared, back, next, Grouping, Unowned, Owns}
 use Rattle.groups.specs.Marks.{Owned}
 
 -- At place k of the row of y and place j of its row of s: no place before j has the feature at k, nor a later one.
@@ -54,9 +54,9 @@ module _ {s g map : List ℕ} (lying : Lying s g map) where
   over-in : {k j : ℕ} → Over s g map k j → k < rowsEnd g
   over-in o = place-before (lying .upper .sound .shaped) (o .place)
 
-  over-within : {k j : ℕ} → Over s g map k j → j < longest
+  over-within : {k j : ℕ} → Over s g map k j → j < length s
   over-within {k} {j} o =
-      omega (arith, o .under .high, lying .lower .sound .shaped .node (getD map (o .node) 0) (o .under .inside) .ended, lying .short)
+      omega (arith, o .under .high, lying .lower .sound .shaped .node (getD map (o .node) 0) (o .under .inside) .ended)
 
   entered-low : {bound j z : ℕ} → Covers s g map bound j z → z < size g
   entered-low (i, h, o, e) =
@@ -66,7 +66,7 @@ module _ {s g map : List ℕ} (lying : Lying s g map) where
         lying .upper .sound .targets (o .node) i (o .place .inside) (o .place .low) (o .place .high),
       )
 
-  pub owner-low : {bound : ℕ} {owner parent : List ℕ} → Grouping s g map bound owner parent → (j : ℕ) → j < longest →
+  pub owner-low : {bound : ℕ} {owner parent : List ℕ} → Grouping s g map bound owner parent → (j : ℕ) → j < length owner →
       (getD owner j 0 ≡ 65535 → ⊥) → getD owner j 0 < size g
   owner-low group j h d = entered-low (group .owned j h d)
 
@@ -98,13 +98,13 @@ module _ {s g map : List ℕ} (lying : Lying s g map) where
       }
 
   -- no place yet
-  pub grouping-start : {owner parent : List ℕ} → length owner ≡ longest → ((j : ℕ) → j < longest → getD owner j 0 ≡ 65535) →
-      length parent ≡ 510 → ((x : ℕ) → x < size g → getD parent x 0 ≡ x) → Grouping s g map (rowFrom g 0) owner parent
-  grouping-start {owner} {parent} long free parent-long apart =
+  pub grouping-start : {owner parent : List ℕ} → Unowned s owner → length parent ≡ 510 → ((x : ℕ) → x < size g → getD parent x 0 ≡ x) →
+      Grouping s g map (rowFrom g 0) owner parent
+  grouping-start {owner} {parent} free parent-long apart =
       record {
-        owner-long = long;
+        owner-long = free .long;
         forest = forest;
-        owned = λ j h d. absurd (d (free j h));
+        owned = λ j h d. absurd (d (free .none j h));
         covered = λ j z c. absurd (omega (arith, place-from (lying .upper .sound .shaped) (c .2 .place), c .1));
         tied = λ x y h l e.
             let z : x ≡ y = sym (alone x h) ∙ e ∙ alone y l in
@@ -142,11 +142,11 @@ module _ {s g map : List ℕ} (lying : Lying s g map) where
         here : getD new j 0 ≡ z₀
         here = getD-set-same owner j z₀ 0 (omega (arith, group .owner-long, over-within o))
 
-        owned : (i : ℕ) → i < longest → (getD new i 0 ≡ 65535 → ⊥) → Dec (i ≡ j) → Covers s g map (rowsEnd g) i (getD new i 0)
+        owned : (i : ℕ) → i < length new → (getD new i 0 ≡ 65535 → ⊥) → Dec (i ≡ j) → Covers s g map (rowsEnd g) i (getD new i 0)
         owned i h d (yes e) = rw (e, here) enters
         owned i h d (no n) =
             let same : getD new i 0 ≡ getD owner i 0 = getD-set-other owner j i z₀ 0 n in
-            rw same (group .owned i h λ q. d (same ∙ q))
+            rw same (group .owned i (omega (arith, length-set owner j z₀)) λ q. d (same ∙ q))
 
         covered : (i z : ℕ) (c : Covers s g map (k + 1) i z) → Dec (c .0 ≡ k) →
             (getD new i 0 ≡ 65535 → ⊥) × (rootOf parent (getD new i 0) ≡ rootOf parent z)
@@ -173,7 +173,7 @@ module _ {s g map : List ℕ} (lying : Lying s g map) where
         }
       where
         first : Covers s g map (rowsEnd g) j (getD owner j 0)
-        first = group .owned j (over-within o) held
+        first = group .owned j (omega (arith, over-within o, group .owner-long)) held
 
         covered : (i z : ℕ) (c : Covers s g map (k + 1) i z) → Dec (c .0 ≡ k) →
             (getD owner i 0 ≡ 65535 → ⊥) × (rootOf parent′ (getD owner i 0) ≡ rootOf parent′ z)
@@ -187,7 +187,7 @@ module _ {s g map : List ℕ} (lying : Lying s g map) where
         covered i z (p, h, q, e) (no r) =
             let old = group .covered i z (p, omega arith, q, e) in (
               old .0,
-              u .kept (getD owner i 0) z (entered-low (group .owned i (over-within q) (old .0)))
+              u .kept (getD owner i 0) z (entered-low (group .owned i (omega (arith, over-within q, group .owner-long)) (old .0)))
                   (entered-low (p, h, q, e)) (old .1),
             )
 
@@ -214,7 +214,7 @@ module _ {s g map : List ℕ} (lying : Lying s g map) where
         go (yes e) = let (a, b) = w .first e in rw (a, b) (grouping-new e)
         go (no d) =
             let (a, b) = w .later d in
-            rw a (grouping-united d (b (size g) (group .forest) (owner-low group j (over-within o) d) (entered-low enters)))
+            rw a (grouping-united d (b (size g) (group .forest) (owner-low group j (omega (arith, over-within o, group .owner-long)) d) (entered-low enters)))
 
   -- The loop over a row of g.
 
@@ -270,8 +270,8 @@ module _ {s g map : List ℕ} {y k j place : ℕ} {owner parent : List ℕ} (c :
           absurd (above (place-rises (c .lying .lower .sound .shaped) first at l) (sought .found (first .high)) e)
       go p at e (no h) (no l) = omega arith
 
-  pub place-within : place < longest
-  place-within = over-within (c .lying) sought-over
+  pub place-within : place < length owner
+  place-within = omega (arith, over-within (c .lying) sought-over, c .grouping .owner-long)
 
   pub target-low : targetAt g k < size g
   target-low = entered-low (c .lying) (k, over-in (c .lying) sought-over, sought-over, refl)
@@ -310,7 +310,7 @@ grouping-same {s} {g} {map} {bound} {owner} {parent} {later} lying group roots =
           let (o, e) = group .covered j z c in (
             o,
             roots .same (getD owner j 0)
-                (owner-low lying group j (over-within lying (c .2)) o) ∙ e ∙
+                (owner-low lying group j (omega (arith, over-within lying (c .2), group .owner-long)) o) ∙ e ∙
                 sym (roots .same z (entered-low lying c)),
           );
       tied = λ x y h l e.

@@ -8,7 +8,7 @@ use mathlib.Core.Option.{some}
 use Prim.Native.Nat.{ℕ, _<_}
 use native.Mathlib.Omega.{arith}
 use lib.Dec.{eqb}
-use lib.ListN.{getD}
+use lib.ListN.{length, getD}
 use Rattle.graphs.specs.Graph.{Graph}
 use Rattle.graphs.specs.Map.{NodeMap}
 use Rattle.graphs.specs.Rows.{from}
@@ -23,7 +23,7 @@ use Rattle.graphs.proofs.Difference.Kept.{enters-into, enters-grouped, grouped-
 use Rattle.graphs.proofs.Difference.Lead.{lead-least, lead-unique}
 use Rattle.lattice.specs.Labels.{tableLabels}
 use Rattle.lattice.specs.Label.{Label}
-use Rattle.layout.specs.Layout.{longest, size, featureAt, targetAt, graphIn, Sound, Place, rowsEnd}
+use Rattle.layout.specs.Layout.{size, featureAt, targetAt, graphIn, Sound, Place, rowsEnd}
 use Rattle.layout.proofs.Places.{link-at, link-place}
 use Rattle.layout.proofs.Order.{place-before, one-row, one-feature}
 use Rattle.groups.specs.Cover.{Lying, Covers, Tied, same, shared, back, next, Grouping}
@@ -173,9 +173,9 @@ module _ (n : ℕ) (t : List ℕ) {sw gw map : List ℕ} (lying : Lying sw gw ma
     abbrev Beside : ℕ → ℕ → Type 0
     Beside j k = Together owner parent j k
 
-    within : (k : ℕ) (l : Link ℕ) → At sw k l → k < longest
+    within : (k : ℕ) (l : Link ℕ) → At sw k l → k < length owner
     within k l a =
-        omega (arith, a .place .high, s-sound .shaped .node (l .0) (a .place .inside) .ended, lying .short)
+        omega (arith, a .place .high, s-sound .shaped .node (l .0) (a .place .inside) .ended, grouping .owner-long)
 
     -- places with owners of one class are those of links of one group
     together-grouped : (j k : ℕ) (l m : Link ℕ) → At sw j l → At sw k m → Beside j k → Joins (targetAt sw j) l m
@@ -231,7 +231,7 @@ module _ (n : ℕ) (t : List ℕ) {sw gw map : List ℕ} (lying : Lying sw gw ma
 
       -- a link leads its group where no earlier one is at a place with its class
       place-leads : (k : ℕ) (l : Link ℕ) → At sw k l → Into s (targetAt sw k) l →
-          ((j : ℕ) → j < longest → Earlier earlier sw j k → Beside j k → ⊥) → first (targetAt sw k) l ≡ l
+          ((j : ℕ) → j < length owner → Earlier earlier sw j k → Beside j k → ⊥) → first (targetAt sw k) l ≡ l
       place-leads k l a i alone =
           sym (lead-unique operands lies earlier strict (targetAt sw k) l l i (itself i) λ m c. go m c (earlier m l) refl)
         where

@@ -8,7 +8,7 @@ use native.Mathlib.Decide.{ℕ-discrete, decLt}
 use native.Mathlib.Omega.{arith}
 use lib.ListN.{length, getD, set, length-set}
 use lib.Seq.{getD-set-same, getD-set-other}
-use Rattle.layout.specs.Layout.{longest, size, rowFrom, linksFrom, rowEnd, featureAt, Place}
+use Rattle.layout.specs.Layout.{size, rowFrom, linksFrom, rowEnd, featureAt, Place}
 use Rattle.layout.proofs.Order.{next-row, place-from, place-before, no-header}
 use Rattle.classes.specs.Forest.{Flat, rootOf}
 use Rattle.groups.specs.Marks.{
@@ -53,10 +53,14 @@ not-sooner (inr p) = omega arith
 -- One place.
 
 module _ {s owner parent : List ℕ} (o : Owned s owner parent) where
-  within : {v k : ℕ} → Place s v k → k < longest
-  within {v} p = omega (arith, p .high, o .shaped .node v (p .inside) .ended, o .short)
+  within : {v k : ℕ} → Place s v k → k < length owner
+  within {v} p = omega (arith, p .high, o .shaped .node v (p .inside) .ended, o .long)
 
-  class-small : (k : ℕ) → k < longest → Has owner k → classAt owner parent k < 255
+  -- places are less than the word of none
+  low-place : {k : ℕ} → k < length owner → k < 65535
+  low-place h = omega (arith, o .long, o .short)
+
+  class-small : (k : ℕ) → k < length owner → Has owner k → classAt owner parent k < 255
   class-small k h has =
       let low = o .low k h has in
       omega (arith, class-is (o .flat) low, class-low (o .flat) low, o .few)
@@ -78,11 +82,17 @@ module _ {s owner parent rank : List ℕ} {k : ℕ} {lead marks : List ℕ} (tur
   abbrev m : Marking s owner parent rank k lead marks
   m = turn .1
 
-  pub here-within : k < longest
+  pub here-within : k < length owner
   here-within = within o p
 
   pub here-inside : k < length s
   here-inside = omega (arith, p .high, o .shaped .node v (p .inside) .ended)
+
+  pub here-low : k < 65535
+  here-low = low-place o here-within
+
+  pub here-marked : k < length marks
+  here-marked = omega (arith, m .long, here-inside)
 
   pub here-known : featureAt s k < 64
   here-known = o .shaped .known v k (p .inside) (p .low) (p .high)
@@ -98,7 +108,7 @@ module _ {s owner parent rank : List ℕ} {k : ℕ} {lead marks : List ℕ} (tur
       }
     where
       go : (u i : ℕ) → Place s u i → i < k + 1 → Dec (i ≡ k) → Standing s owner parent rank lead i (getD (set marks k x) i 0)
-      go u i q l (yes e) = rw (e, getD-set-same marks k x 0 (omega (arith, m .long, here-within))) new
+      go u i q l (yes e) = rw (e, getD-set-same marks k x 0 (omega (arith, m .long, here-inside))) new
       go u i q l (no d) = rw (getD-set-other marks k i x 0 d) (m .each u i q (omega arith))
 
   pub marking-bare : getD owner k 0 ≡ 65535 → Marking s owner parent rank (k + 1) lead (set marks k 2)
@@ -115,7 +125,7 @@ module _ {s owner parent rank : List ℕ} {k : ℕ} {lead marks : List ℕ} (tur
     class = class-is (o .flat) (o .low k here-within has)
 
     -- Place k leads from now on. The places of its class before it follow it; `before` has the marks of all places before it.
-    takes : (before : List ℕ) → length before ≡ longest →
+    takes : (before : List ℕ) → length before ≡ length s →
         ((u i : ℕ) → Place s u i → i < k → Standing s owner parent rank (set lead c k) i (getD before i 0)) →
         Marking s owner parent rank (k + 1) (set lead c k) (set before k 1)
     takes before long each =
@@ -139,7 +149,7 @@ module _ {s owner parent rank : List ℕ} {k : ℕ} {lead marks : List ℕ} (tur
 
         go : (u i : ℕ) → Place s u i → i < k + 1 → Dec (i ≡ k) → Standing s owner parent rank (set lead c k) i (getD (set before k 1) i 0)
         go u i q l (yes e) =
-            rw (e, getD-set-same before k 1 0 (omega (arith, long, here-within)))
+            rw (e, getD-set-same before k 1 0 (omega (arith, long, here-inside)))
             (stands-first refl has (ap (λ (x : ℕ). getD (set lead c k) x 0) (sym class) ∙ now))
         go u i q l (no d) = rw (getD-set-other before k i 1 0 d) (each u i q (omega arith))
 
@@ -163,9 +173,9 @@ module _ {s owner parent rank : List ℕ} {k : ℕ} {lead marks : List ℕ} (tur
             Standing s owner parent rank (set lead c k) i (getD marks i 0)
         go u i q l (no d) st = other i (getD marks i 0) d st
         go u i q l (yes e) (stands-behind f h b w) =
-            absurd (omega (arith, ap (λ (x : ℕ). getD lead x 0) e ∙ free, b))
+            absurd (omega (arith, ap (λ (x : ℕ). getD lead x 0) e ∙ free, low-place o b))
         go u i q l (yes e) (stands-first f h w) =
-            absurd (omega (arith, sym w ∙ ap (λ (x : ℕ). getD lead x 0) e ∙ free, within o q))
+            absurd (omega (arith, sym w ∙ ap (λ (x : ℕ). getD lead x 0) e ∙ free, low-place o (within o q)))
         go u i q l (yes e) (stands-bare f h) = stands-bare f h
 
     -- another of its class was met before
@@ -187,6 +197,9 @@ module _ {s owner parent rank : List ℕ} {k : ℕ} {lead marks : List ℕ} (tur
 
       pub met-inside : j < length s
       met-inside = omega (arith, met-before, here-inside)
+
+      pub met-marked : j < length marks
+      met-marked = omega (arith, m .long, met-inside)
 
       pub met-known : featureAt s j < 64
       met-known =
@@ -216,7 +229,7 @@ module _ {s owner parent rank : List ℕ} {k : ℕ} {lead marks : List ℕ} (tur
               ap (λ (x : ℕ). getD (set lead c k) x 0) e ∙ getD-set-same lead c k 0 (omega (arith, m .lead-long, here-class))
 
           zero-there : getD (set marks j 0) j 0 ≡ 0
-          zero-there = getD-set-same marks j 0 0 (omega (arith, m .long, met-before, here-within))
+          zero-there = getD-set-same marks j 0 0 (omega (arith, m .long, met-inside))
 
           under : (i x : ℕ) → x ≡ 0 → Has owner i → classAt owner parent i ≡ c → Sooner s rank k i →
               Standing s owner parent rank (set lead c k) i x
@@ -250,7 +263,7 @@ module _ {s owner parent rank : List ℕ} (o : Owned s owner parent) where
         each = λ v j p h. m .each v j p (none v j p h);
       }
 
-  pub marking-start : {lead marks : List ℕ} → length marks ≡ longest → length lead ≡ 255 →
+  pub marking-start : {lead marks : List ℕ} → length marks ≡ length s → length lead ≡ 255 →
       ((c : ℕ) → c < 255 → getD lead c 0 ≡ 65535) → Marking s owner parent rank (rowFrom s 0) lead marks
   marking-start long room clear =
       record {
@@ -281,7 +294,7 @@ module _ {s owner parent rank : List ℕ} (o : Owned s owner parent) where
       go : (u k : ℕ) → Place s u k → Standing s owner parent rank lead k (getD marks k 0) → Mark owner parent (Sooner s rank) k (getD marks k 0)
       go u k p (stands-behind e h b w) =
           let (_, has, class) =
-          m .met (classAt owner parent k) (class-small o k (within o p) h) (λ z. omega arith) in
+          m .met (classAt owner parent k) (class-small o k (within o p) h) (λ z. omega (arith, low-place o b)) in
           follows e (getD lead (classAt owner parent k) 0) b w (record { left = has; right = h; class = class })
       go u k p (stands-first e h q) =
           leads e h (λ j l w t. let (x, at) = o .linked j l (t .left) in alone k q j w t (stands x j at))
@@ -311,7 +324,7 @@ module _ {s owner parent rank : List ℕ} where
     pub row-place : k < rowEnd s v → Place s v k
     row-place h = record { inside = r .inside; low = r .low; high = h }
 
-    pub row-within : k < rowEnd s v → k < longest
+    pub row-within : k < rowEnd s v → k < length owner
     row-within h = within (r .owned) (row-place h)
 
     pub row-next : {lead′ marks′ : List ℕ} → k < rowEnd s v → Marking s owner parent rank (k + 1) lead′ marks′ →

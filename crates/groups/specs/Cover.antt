@@ -36,11 +36,16 @@ module _ (s g map : List ℕ) where
   -- Owners and classes by the places of g before `bound`: an owner is a node that a place over the link enters, 65535 where there is
   -- none; nodes that places over one link enter are in one class, and nodes of one class are tied.
   pub record Grouping (bound : ℕ) (owner parent : List ℕ) : Type 0 where
-    pub owner-long : length owner ≡ longest
+    pub owner-long : length owner ≡ length s
     pub forest : Forest (size g) parent
-    pub owned : (j : ℕ) → j < longest → (getD owner j 0 ≡ 65535 → ⊥) → Covers (rowsEnd g) j (getD owner j 0)
+    pub owned : (j : ℕ) → j < length owner → (getD owner j 0 ≡ 65535 → ⊥) → Covers (rowsEnd g) j (getD owner j 0)
     pub covered : (j z : ℕ) → Covers bound j z → (getD owner j 0 ≡ 65535 → ⊥) × (rootOf parent (getD owner j 0) ≡ rootOf parent z)
     pub tied : (x y : ℕ) → x < size g → y < size g → rootOf parent x ≡ rootOf parent y → Tied x y
+
+-- words for the owners of the places of s, none of which has one yet
+pub record Unowned (s owner : List ℕ) : Type 0 where
+  pub long : length owner ≡ length s
+  pub none : (j : ℕ) → j < length owner → getD owner j 0 ≡ 65535
 
 -- z is an owner of place j, or in one class with the one that there is
 pub record Owns (owner parent : List ℕ) (j z : ℕ) (owner′ parent′ : List ℕ) : Type 0 where

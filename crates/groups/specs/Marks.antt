@@ -35,12 +35,12 @@ Has owner k = getD owner k 0 ≡ 65535 → ⊥
 pub record Owned (s owner parent : List ℕ) : Type 0 where
   pub shaped : Shaped s
   pub short : length s ≤ longest
-  pub long : length owner ≡ longest
+  pub long : length owner ≡ length s
   pub nodes : ℕ
   pub few : nodes ≤ 255
   pub flat : Flat nodes parent
-  pub low : (j : ℕ) → j < longest → Has owner j → getD owner j 0 < nodes
-  pub linked : (j : ℕ) → j < longest → Has owner j → (u : ℕ) × Place s u j
+  pub low : (j : ℕ) → j < length owner → Has owner j → getD owner j 0 < nodes
+  pub linked : (j : ℕ) → j < length owner → Has owner j → (u : ℕ) × Place s u j
 
 module _ (owner parent : List ℕ) where
   -- the class of the owner of place k
@@ -55,25 +55,25 @@ module _ (owner parent : List ℕ) where
 
   -- the mark of place k, by an order of places
   pub data Mark (Before : ℕ → ℕ → Type 0) (k mark : ℕ) : Type 0 where
-    follows : mark ≡ 0 → (j : ℕ) → j < longest → Before j k → Together j k → Mark Before k mark
-    leads : mark ≡ 1 → Has owner k → ((j : ℕ) → j < longest → Before j k → Together j k → ⊥) → Mark Before k mark
+    follows : mark ≡ 0 → (j : ℕ) → j < length owner → Before j k → Together j k → Mark Before k mark
+    leads : mark ≡ 1 → Has owner k → ((j : ℕ) → j < length owner → Before j k → Together j k → ⊥) → Mark Before k mark
     bare : mark ≡ 2 → getD owner k 0 ≡ 65535 → Mark Before k mark
 
 -- all links of s are marked
 pub record Marks (Before : ℕ → ℕ → Type 0) (s owner parent marks : List ℕ) : Type 0 where
-  pub long : length marks ≡ longest
+  pub long : length marks ≡ length s
   pub each : (v k : ℕ) → Place s v k → Mark owner parent Before k (getD marks k 0)
 
 -- The mark of place k so far, where `lead` has the place of the first link met of each class, and 65535 for a class that is not met.
 pub data Standing (s owner parent rank lead : List ℕ) (k mark : ℕ) : Type 0 where
-  stands-behind : mark ≡ 0 → Has owner k → getD lead (classAt owner parent k) 0 < longest →
+  stands-behind : mark ≡ 0 → Has owner k → getD lead (classAt owner parent k) 0 < length owner →
       Sooner s rank (getD lead (classAt owner parent k) 0) k → Standing s owner parent rank lead k mark
   stands-first : mark ≡ 1 → Has owner k → getD lead (classAt owner parent k) 0 ≡ k → Standing s owner parent rank lead k mark
   stands-bare : mark ≡ 2 → getD owner k 0 ≡ 65535 → Standing s owner parent rank lead k mark
 
 -- the links of s before place `bound` are met and marked
 pub record Marking (s owner parent rank : List ℕ) (bound : ℕ) (lead marks : List ℕ) : Type 0 where
-  pub long : length marks ≡ longest
+  pub long : length marks ≡ length s
   pub lead-long : length lead ≡ 255
   pub met : (c : ℕ) → c < 255 → (getD lead c 0 ≡ 65535 → ⊥) →
       (getD lead c 0 < bound) × Has owner (getD lead c 0) × (classAt owner parent (getD lead c 0) ≡ c)

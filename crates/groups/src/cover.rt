@@ -4,7 +4,7 @@
 ghost use mathlib.Core.Path.{_≡_};
 ghost use Prim.Native.Nat.{ℕ, _<_};
 ghost use lib.ListN.{length, getD};
-ghost use Rattle.layout.specs.Layout.{longest, size, rowFrom, rowEnd};
+ghost use Rattle.layout.specs.Layout.{size, rowFrom, rowEnd};
 ghost use Rattle.classes.specs.Forest.{Forest};
 ghost use Rattle.groups.specs.Cover.{Grouping, Lying, Owns};
 
@@ -12,9 +12,8 @@ ghost use Rattle.groups.specs.Cover.{Grouping, Lying, Owns};
 pub const NONE: u16 = 0xFFFF;
 
 // A link over place j enters z.
-pub fn own(owner: &mut [u16; layout::LONGEST], parent: &mut [u16; 510], j: usize, z: u16)
-    requires { ⌜ length (now owner) ≡ longest ⌝ }
-    requires { ⌜ j < longest ⌝ }
+pub fn own(owner: &mut [u16], parent: &mut [u16; 510], j: usize, z: u16)
+    requires { ⌜ j < length (now owner) ⌝ }
     requires { ⌜ ((nodes : ℕ) × Forest nodes (now parent) × (z < nodes) × ((getD (now owner) j 0 ≡ 65535 → ⊥) → getD (now owner) j 0 < nodes)) ⌝ }
     ensures { λ _. ⌜ Owns (now (owner .entry)) (now (parent .entry)) j z (now (owner .exit)) (now (parent .exit)) ⌝ }
 {
@@ -32,7 +31,7 @@ pub fn cover_row<'a>(
     g: &'a [u16],
     map: &'a [u16; 255],
     y: usize,
-    owner: &mut [u16; layout::LONGEST],
+    owner: &mut [u16],
     parent: &mut [u16; 510],
 )
     requires { ⌜ Lying (now s) (now g) (now map) × (y < size (now g)) ⌝ }

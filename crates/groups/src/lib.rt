@@ -9,8 +9,8 @@ use link_orders::LinkOrder;
 ghost use mathlib.Core.Path.{_≡_};
 ghost use Prim.Native.Nat.{ℕ, _+_, _<_};
 ghost use lib.ListN.{length};
-ghost use Rattle.layout.specs.Layout.{Place, longest};
-ghost use Rattle.groups.specs.Cover.{Lying};
+ghost use Rattle.layout.specs.Layout.{Place};
+ghost use Rattle.groups.specs.Cover.{Lying, Unowned};
 ghost use Rattle.groups.specs.Marks.{Marked, Marking, Marks, Owned, Sooner};
 ghost use Rattle.groups.specs.LinkOrders.{Fitting, earlierBy};
 
@@ -25,12 +25,12 @@ pub const BARE: u8 = 2;
 // Marks the link at place k; `lead` has the place of the first link so far of each class.
 fn mark_place<'a>(
     s: &'a [u16],
-    owner: &'a [u16; layout::LONGEST],
+    owner: &'a [u16],
     parent: &'a [u16; 510],
     rank: &'a [u8; link_orders::FEATURES],
     k: usize,
     lead: &mut [u16; 255],
-    marks: &mut [u8; layout::LONGEST],
+    marks: &mut [u8],
 )
     requires { ⌜ Owned (now s) (now owner) (now parent) × ((v : ℕ) × Place (now s) v k) ⌝ }
     requires { ⌜ Marking (now s) (now owner) (now parent) (now rank) k (now lead) (now marks) ⌝ }
@@ -62,12 +62,12 @@ fn mark_place<'a>(
 // Marks the links of s, by their owners, the classes of those and the ranks of features.
 pub fn mark<'a>(
     s: &'a [u16],
-    owner: &'a [u16; layout::LONGEST],
+    owner: &'a [u16],
     parent: &'a [u16; 510],
     rank: &'a [u8; link_orders::FEATURES],
-    marks: &mut [u8; layout::LONGEST],
+    marks: &mut [u8],
 )
-    requires { ⌜ Owned (now s) (now owner) (now parent) × (length (now marks) ≡ longest) ⌝ }
+    requires { ⌜ Owned (now s) (now owner) (now parent) × (length (now marks) ≡ length (now s)) ⌝ }
     ensures { λ _. ⌜ Marks (Sooner (now (s .entry)) (now (rank .entry))) (now (s .entry)) (now (owner .entry)) (now (parent .entry)) (now (marks .exit)) ⌝ }
 {
     let mut lead = [cover::NONE; 255];
@@ -84,27 +84,28 @@ pub fn mark<'a>(
     }
 }
 
-// Marks the links of s, by an order of links.
+// Marks the links of s, by an order of links. The owners' words hold `cover::NONE` each when they are lent.
 pub fn mark_links<'a>(
     s: &'a [u16],
     g: &'a [u16],
     map: &'a [u16; 255],
     order: LinkOrder,
-    marks: &mut [u8; layout::LONGEST],
+    owner: &mut [u16],
+    marks: &mut [u8],
 )
-    requires { ⌜ Lying (now s) (now g) (now map) × Fitting order × (length (now marks) ≡ longest) ⌝ }
+    requires { ⌜ Lying (now s) (now g) (now map) × Fitting order ⌝ }
+    requires { ⌜ Unowned (now s) (now owner) × (length (now marks) ≡ length (now s)) ⌝ }
     ensures { λ _. ⌜ Marked (earlierBy order) (now (s .entry)) (now (g .entry)) (now (map .entry)) (now (marks .exit)) ⌝ }
 {
-    let mut owner = [cover::NONE; layout::LONGEST];
     let mut parent = [0u16; 510];
     let nodes = g[0] as usize;
     forest::separate(nodes, &mut parent);
     let mut y = 0;
     while y < nodes {
-        cover::cover_row(s, g, map, y, &mut owner, &mut parent);
+        cover::cover_row(s, g, map, y, owner, &mut parent);
         y += 1;
     }
     forest::flatten(nodes, &mut parent);
     let rank = link_orders::ranks(order);
-    mark(s, &owner, &parent, &rank, marks)
+    mark(s, owner, &parent, &rank, marks)
 }

@@ -89,7 +89,10 @@ module _ {s marks meeting words : List ℕ} {v : ℕ} where
 
       pub explain-room : k < longest
       explain-room =
-          omega (arith, t .copied .long, t .copied .sound .shaped .node v (here .inside) .ended)
+          omega (arith, t .copied .long, t .copied .sound .shaped .node v (here .inside) .ended, t .ready .short)
+
+      pub explain-inside : k < length words
+      explain-inside = omega (arith, t .copied .sound .shaped .node v (here .inside) .ended)
 
       pub explain-known : featureAt words k < 64
       explain-known = t .copied .sound .shaped .known v k (here .inside) (t .low) more

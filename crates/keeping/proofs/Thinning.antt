@@ -35,7 +35,7 @@ pub record Thinning (s marks keep : List ℕ) (v k : ℕ) (ws₀ : List ℕ) (st
   pub thinned : Thinned s marks keep v k ws₀ start ws end
 
 module _ {s marks keep : List ℕ} {v : ℕ} where
-  pub thin-start : {ws : List ℕ} {start : ℕ} → Markable s marks keep → v < size s → length ws ≡ longest → start ≤ linksFrom s v →
+  pub thin-start : {ws : List ℕ} {start : ℕ} → Markable s marks keep → v < size s → length ws ≡ length s → start ≤ linksFrom s v →
       Thinning s marks keep v (linksFrom s v) ws start ws start
   thin-start r h long low =
       record {
@@ -65,6 +65,10 @@ module _ {s marks keep : List ℕ} {v : ℕ} where
     pub thin-room : end < longest
     thin-room =
         omega (arith, t .thinned .short, t .ready .sound .shaped .node v (t .inside) .ended, t .ready .short)
+
+    pub thin-inside : end < length ws
+    thin-inside =
+        omega (arith, t .thinned .short, t .ready .sound .shaped .node v (t .inside) .ended, t .thinned .long)
 
     pub thin-stay : (Stays s marks keep k → ⊥) → Thinning s marks keep v (k + 1) ws₀ start ws end
     thin-stay none =
@@ -107,7 +111,7 @@ module _ {s marks keep : List ℕ} {v : ℕ} where
         old i h = getD-set-other ws end i w 0 (λ e. omega arith)
 
         last : getD new end 0 ≡ w
-        last = getD-set-same ws end w 0 (omega (arith, t .thinned .long, thin-room))
+        last = getD-set-same ws end w 0 thin-inside
 
         source : (i : ℕ) → start ≤ i → i < end + 1 → Dec (i ≡ end) →
             (j : ℕ) × Place s v j × (j < k + 1) × Stays s marks keep j × (getD new i 0 ≡ getD s j 0)
@@ -150,16 +154,18 @@ module _ {s marks keep : List ℕ} {v : ℕ} where
 pub record RowKnown (s : List ℕ) (v at : ℕ) : Type 0 where
   pub small : v < 255
   pub room : at + header ≤ longest
+  pub fits : at + header ≤ length s
   pub before : at + header ≤ linksFrom s v
   pub ended : rowEnd s v ≤ longest
+  pub inside : rowEnd s v ≤ length s
 
 module _ {s marks keep labels : List ℕ} where
-  pub rows-start : (ws : List ℕ) → Markable s marks keep → length ws ≡ longest →
+  pub rows-start : (ws : List ℕ) → Markable s marks keep → length ws ≡ length s →
       Rows s marks keep labels 0 (set (set ws 0 (size s)) 1 (rowFrom s 0)) (rowFrom s 0)
   rows-start ws r long =
       record {
         long = length-set (set ws 0 (size s)) 1 (rowFrom s 0) ∙ first-long;
-        sized = getD-set-other (set ws 0 (size s)) 1 0 (rowFrom s 0) 0 (λ e. omega arith) ∙ getD-set-same ws 0 (size s) 0 (omega arith);
+        sized = getD-set-other (set ws 0 (size s)) 1 0 (rowFrom s 0) 0 (λ e. omega arith) ∙ getD-set-same ws 0 (size s) 0 (omega (arith, room, r .sound .shaped .behind));
         built = built-begin (set ws 0 (size s)) (rowFrom s 0) (omega (arith, r .sound .shaped .behind)) (omega (arith, first-long, room));
         short = omega arith;
         labelled = λ u h. absurd (omega arith);
@@ -168,13 +174,13 @@ module _ {s marks keep labels : List ℕ} where
         ascending = λ u i h. absurd (omega arith);
       }
     where
-      first-long : length (set ws 0 (size s)) ≡ longest
+      first-long : length (set ws 0 (size s)) ≡ length s
       first-long = length-set ws 0 (size s) ∙ long
 
-      room : rowFrom s 0 ≤ longest
+      room : rowFrom s 0 ≤ length s
       room =
           let node = r .sound .shaped .node 0 (r .sound .shaped .nonempty) in
-          omega (arith, node .begun, node .ended, r .short)
+          omega (arith, node .begun, node .ended)
 
   module _ {v at : ℕ} {ws : List ℕ} (ready : Markable s marks keep) (inside : v < size s) (r : Rows s marks keep labels v ws at) where
     pub row-known : RowKnown s v at
@@ -183,8 +189,10 @@ module _ {s marks keep labels : List ℕ} where
         record {
           small = omega (arith, ready .small);
           room = omega (arith, r .short, node .begun, node .ended, ready .short);
+          fits = omega (arith, r .short, node .begun, node .ended);
           before = omega (arith, r .short);
           ended = omega (arith, node .ended, ready .short);
+          inside = node .ended;
         }
 
     -- the row is opened with its label, and given its links
@@ -222,7 +230,7 @@ module _ {s marks keep labels : List ℕ} where
 
       last : rowEnd new v ≡ end
       unfolding new
-      last = getD-set-same ws′ (v + 2) end 0 (omega (arith, t .long, listed, r .built .low, row-known .room))
+      last = getD-set-same ws′ (v + 2) end 0 (omega (arith, t .long, listed, r .built .low, row-known .fits))
 
       place-kept : (u i : ℕ) → u < v → rowFrom ws u ≤ i → i < rowEnd ws u → getD new i 0 ≡ getD ws i 0
       place-kept u i h low high =
@@ -236,7 +244,7 @@ module _ {s marks keep labels : List ℕ} where
           record {
             built = built-kept (r .built) ws′ (t .long ∙ sym (r .long)) (λ i low high. kept i (omega (arith, listed, r .built .low)));
             headed = t .rises;
-            inside = omega (arith, t .long, t .short, row-known .ended);
+            inside = omega (arith, t .long, t .short, row-known .inside);
           }
 
       pub rows-next : Rows s marks keep labels (v + 1) (set ws′ (v + 2) end) end
@@ -257,7 +265,7 @@ module _ {s marks keep labels : List ℕ} where
           labelled u h (yes e) =
               ap (labelAt new) e ∙ ap (labelFrom new) begins ∙
               label-same (putLabel ws at (labelFrom labels (2 * v))) new at (λ i low high. place-new i low ∙ t .same i (omega arith) high) ∙
-              label-put ws at (labelFrom labels (2 * v)) (omega (arith, r .long, row-known .room)) (omega arith) ∙
+              label-put ws at (labelFrom labels (2 * v)) (omega (arith, r .long, row-known .fits)) (omega arith) ∙
               ap (λ (x : ℕ). labelFrom labels (2 * x)) (sym e)
           labelled u h (no d) =
               let l : u < v = omega arith in

@@ -30,7 +30,7 @@ reasonBy s marks meeting j = reasonOf (getD marks j 0) (getD meeting (targetAt s
 pub record Copied (s words : List ℕ) : Type 0 where
   pub sound : Sound words
   pub sized : size words ≡ size s
-  pub long : length words ≡ longest
+  pub long : length words ≡ length s
   pub from-s : (v i : ℕ) → Place words v i → (j : ℕ) × Place s v j × (getD words i 0 ≡ getD s j 0)
 
 module _ (s marks meeting words : List ℕ) where

@@ -71,7 +71,7 @@ pub record Markable (s marks keep : List ℕ) : Type 0 where
   pub sound : Sound s
   pub small : size s ≤ 255
   pub short : length s ≤ longest
-  pub marks-long : length marks ≡ longest
+  pub marks-long : length marks ≡ length s
   pub keep-long : length keep ≡ 255
 
 -- an order of the nodes with targets first, each node at one place

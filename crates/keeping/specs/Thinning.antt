@@ -3,14 +3,14 @@ use mathlib.Core.Path.{_≡_}
 use mathlib.Core.List.{List}
 use Prim.Native.Nat.{ℕ, _+_, _*_, _≤_, _<_}
 use lib.ListN.{length, getD}
-use Rattle.layout.specs.Layout.{longest, header, labelFrom, size, rowFrom, linksFrom, rowEnd, labelAt, featureAt, Place}
+use Rattle.layout.specs.Layout.{header, labelFrom, size, rowFrom, linksFrom, rowEnd, labelAt, featureAt, Place}
 use Rattle.layout.specs.Builder.{Built, Same}
 use Rattle.keeping.specs.Keeping.{Stays}
 
 module _ (s marks keep : List ℕ) where
   -- The places from `start` to `end` have the kept links of v's row before place k, in their order; what stood before stays.
   pub record Thinned (v k : ℕ) (ws₀ : List ℕ) (start : ℕ) (ws : List ℕ) (end : ℕ) : Type 0 where
-    pub long : length ws ≡ longest
+    pub long : length ws ≡ length s
     pub same : Same ws₀ ws 0 start
     pub rises : start ≤ end
     pub short : end ≤ k
@@ -20,7 +20,7 @@ module _ (s marks keep : List ℕ) where
 
   -- The first v rows have the labels given, and the kept links of their nodes. They begin where those of s do.
   pub record Rows (labels : List ℕ) (v : ℕ) (ws : List ℕ) (at : ℕ) : Type 0 where
-    pub long : length ws ≡ longest
+    pub long : length ws ≡ length s
     pub sized : size ws ≡ size s
     pub built : Built ws (rowFrom s 0) v at
     pub short : at ≤ rowFrom s v

@@ -4,7 +4,7 @@ use layout::Label;
 ghost use mathlib.Core.Path.{_≡_};
 ghost use Prim.Native.Nat.{ℕ, _≤_, _<_};
 ghost use lib.ListN.{length, getD};
-ghost use Rattle.layout.specs.Layout.{Place, longest, rowsEnd, size, targetAt};
+ghost use Rattle.layout.specs.Layout.{Place, rowsEnd, size, targetAt};
 ghost use Rattle.visits.specs.Walks.{Reaches};
 ghost use Rattle.keeping.specs.Keeping.{Cause, Decides, Enters, Grown, Keeps, Markable, NodeLabels, Onward, Settled, Sorted, Stays, Untop};
 
@@ -12,13 +12,13 @@ ghost use Rattle.keeping.specs.Keeping.{Cause, Decides, Enters, Grown, K
 // leads its group enters the node too. `entered` has 1 at the nodes that such earlier links enter.
 fn keep_one<'a>(
     s: &'a [u16],
-    marks: &'a [u8; layout::LONGEST],
+    marks: &'a [u8],
     k: usize,
     entered: &mut [u8; 255],
     keep: &mut [u8; 255],
 )
     requires { ⌜ ((u : ℕ) × Place (now s) u k) × (k < length (now s)) × (targetAt (now s) k < 255) ⌝ }
-    requires { ⌜ (k < longest) × (length (now marks) ≡ longest) × (length (now entered) ≡ 255) × (length (now keep) ≡ 255) ⌝ }
+    requires { ⌜ (length (now marks) ≡ length (now s)) × (length (now entered) ≡ 255) × (length (now keep) ≡ 255) ⌝ }
     ensures { λ _. ⌜ Enters (now (s .entry)) (now (marks .entry)) k (now (keep .entry)) (now (entered .entry)) (now (keep .exit)) (now (entered .exit)) ⌝ }
 {
     let mark = marks[k];
@@ -38,7 +38,7 @@ fn keep_one<'a>(
 }
 
 // Keeps the nodes that two links lead to, or one with nothing of g over it.
-pub fn keep_entered<'a>(s: &'a [u16], marks: &'a [u8; layout::LONGEST], keep: &mut [u8; 255])
+pub fn keep_entered<'a>(s: &'a [u16], marks: &'a [u8], keep: &mut [u8; 255])
     requires { ⌜ Markable (now s) (now marks) (now keep) ⌝ }
     ensures { λ _. ⌜ Grown (Cause (now (s .entry)) (now (marks .entry)) (rowsEnd (now (s .entry)))) (now (keep .entry)) (now (keep .exit)) ⌝ }
 {
@@ -83,14 +83,9 @@ pub fn keep_labelled<'a>(
 }
 
 // Whether the link at place k leads its group and enters a kept node.
-pub fn is_kept<'a>(
-    s: &'a [u16],
-    marks: &'a [u8; layout::LONGEST],
-    keep: &'a [u8; 255],
-    k: usize,
-) -> bool
-    requires { ⌜ (length (now marks) ≡ longest) × (length (now keep) ≡ 255) ⌝ }
-    requires { ⌜ (k < longest) × (k < length (now s)) × (targetAt (now s) k < 255) ⌝ }
+pub fn is_kept<'a>(s: &'a [u16], marks: &'a [u8], keep: &'a [u8; 255], k: usize) -> bool
+    requires { ⌜ (length (now marks) ≡ length (now s)) × (length (now keep) ≡ 255) ⌝ }
+    requires { ⌜ (k < length (now s)) × (targetAt (now s) k < 255) ⌝ }
     ensures { λ r. ⌜ Decides (Stays (now (s .entry)) (now (marks .entry)) (now (keep .entry)) k) r ⌝ }
 {
     if marks[k] == groups::FOLLOWS {
@@ -102,12 +97,12 @@ pub fn is_kept<'a>(
 // Whether a link between two places is kept.
 pub fn has_kept_link<'a>(
     s: &'a [u16],
-    marks: &'a [u8; layout::LONGEST],
+    marks: &'a [u8],
     keep: &'a [u8; 255],
     start: usize,
     end: usize,
 ) -> bool
-    requires { ⌜ (length (now marks) ≡ longest) × (length (now keep) ≡ 255) × (end ≤ longest) × (end ≤ length (now s)) ⌝ }
+    requires { ⌜ (length (now marks) ≡ length (now s)) × (length (now keep) ≡ 255) × (end ≤ length (now s)) ⌝ }
     requires { ⌜ ((k : ℕ) → start ≤ k → k < end → targetAt (now s) k < 255) ⌝ }
     ensures { λ r. ⌜ Decides (Onward (now (s .entry)) (now (marks .entry)) (now (keep .entry)) start end) r ⌝ }
 {
@@ -122,12 +117,7 @@ pub fn has_kept_link<'a>(
 }
 
 // Keeps the nodes that a kept link leaves, going through them with targets first.
-pub fn keep_parents<'a>(
-    s: &'a [u16],
-    marks: &'a [u8; layout::LONGEST],
-    order: &'a [u16; 510],
-    keep: &mut [u8; 255],
-)
+pub fn keep_parents<'a>(s: &'a [u16], marks: &'a [u8], order: &'a [u16; 510], keep: &mut [u8; 255])
     requires { ⌜ Markable (now s) (now marks) (now keep) × Sorted (now s) (now order) × (length (now order) ≡ 510) ⌝ }
     ensures { λ _. ⌜ Settled (λ v. Unit {0}) (now (s .entry)) (now (marks .entry)) (now (keep .entry)) (now (keep .exit)) ⌝ }
 {
@@ -149,7 +139,7 @@ pub fn kept_nodes<'a>(
     n: usize,
     table: &'a [u8],
     s: &'a [u16],
-    marks: &'a [u8; layout::LONGEST],
+    marks: &'a [u8],
     labels: &'a [u16; 510],
     keep: &mut [u8; 255],
 )

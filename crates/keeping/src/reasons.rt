@@ -33,7 +33,7 @@ fn reason_of(mark: u8, meeting: u8) -> u8
 // Puts the reasons for the links of node v beside them; `meeting` has 1 at the nodes where groups meet.
 fn explain_row<'a>(
     s: &'a [u16],
-    marks: &'a [u8; layout::LONGEST],
+    marks: &'a [u8],
     meeting: &'a [u8; 255],
     words: &'a [u16],
     v: usize,
@@ -58,7 +58,7 @@ fn explain_row<'a>(
 // Puts the reasons for the kept links of s beside their places in the rows of the difference.
 pub fn explain_links<'a>(
     s: &'a [u16],
-    marks: &'a [u8; layout::LONGEST],
+    marks: &'a [u8],
     words: &'a [u16],
     reasons: &mut [u8; layout::LONGEST],
 )

@@ -4,21 +4,21 @@ ghost use mathlib.Core.Path.{_≡_};
 ghost use Prim.Native.Nat.{ℕ, _*_, _≤_, _<_};
 ghost use lib.ListN.{length};
 ghost use Rattle.lattice.specs.Labels.{Known};
-ghost use Rattle.layout.specs.Layout.{header, labelFrom, linksFrom, longest, rowEnd, size};
+ghost use Rattle.layout.specs.Layout.{header, labelFrom, linksFrom, rowEnd, size};
 ghost use Rattle.keeping.specs.Keeping.{Markable};
 ghost use Rattle.keeping.specs.Thinning.{Kept, Thinned};
 
 // Copies the kept links of node v to the words from `at` on. Answers the next place.
 pub fn keep_row<'a>(
     s: &'a [u16],
-    marks: &'a [u8; layout::LONGEST],
+    marks: &'a [u8],
     keep: &'a [u8; 255],
     v: usize,
     at: usize,
-    words: &mut [u16; layout::LONGEST],
+    words: &mut [u16],
 ) -> usize
     requires { ⌜ Markable (now s) (now marks) (now keep) × (v < size (now s)) ⌝ }
-    requires { ⌜ (length (now words) ≡ longest) × (at ≤ linksFrom (now s) v) ⌝ }
+    requires { ⌜ (length (now words) ≡ length (now s)) × (at ≤ linksFrom (now s) v) ⌝ }
     ensures { λ r. ⌜ Thinned (now (s .entry)) (now (marks .entry)) (now (keep .entry)) v (rowEnd (now (s .entry)) v) (now (words .entry)) at (now (words .exit)) r ⌝ }
 {
     let end = s[v + 2] as usize;
@@ -37,14 +37,14 @@ pub fn keep_row<'a>(
 // Fills words with the rows of the difference.
 pub fn kept_links<'a>(
     s: &'a [u16],
-    marks: &'a [u8; layout::LONGEST],
+    marks: &'a [u8],
     keep: &'a [u8; 255],
     labels: &'a [u16; 510],
-    words: &mut [u16; layout::LONGEST],
+    words: &mut [u16],
 )
     requires { ⌜ Markable (now s) (now marks) (now keep) ⌝ }
     requires { ⌜ (length (now labels) ≡ 510) × ((v : ℕ) → v < size (now s) → Known 128 (labelFrom (now labels) (header * v))) ⌝ }
-    requires { ⌜ length (now words) ≡ longest ⌝ }
+    requires { ⌜ length (now words) ≡ length (now s) ⌝ }
     ensures { λ _. ⌜ Kept (now (s .entry)) (now (marks .entry)) (now (keep .entry)) (now (labels .entry)) (now (words .exit)) ⌝ }
 {
     let nodes = s[0] as usize;

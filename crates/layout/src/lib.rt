@@ -24,8 +24,8 @@ pub const SCALE: u16 = 1024;
 // The most words of a record's graph: the number of nodes, 256 places, 255 headers of two words, 2,048 links.
 pub const LONGEST: usize = 1 + 256 + 255 * HEADER + 2048;
 
-// A word that is not written yet: a link's word with a target that no graph has.
-pub const BLANK: u16 = 1023;
+// The words of a short record's graph.
+pub const SHORT: usize = 768;
 
 // The label of a node: its type and its range of levels.
 pub struct Label {

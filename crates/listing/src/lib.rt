@@ -93,7 +93,7 @@ fn next_over(n: usize, features: usize, bytes: &[u8], out: &mut [u8]) -> Reply
     if bytes.len() == 0 {
         return first(features, out);
     }
-    let mut graph = [layout::BLANK; layout::LONGEST];
+    let mut graph = [0u16; layout::LONGEST];
     let verdict = record::reading::read(n, bytes, &mut graph);
     match verdict {
         Verdict::Refused(fault) => Reply::Graph(fault, Side::First),

@@ -11,7 +11,7 @@ use lib.ListN.{length}
 use Rattle.graphs.specs.Rows.{Row}
 use Rattle.graphs.proofs.Search.{true-false}
 use Rattle.lattice.specs.Label.{Label}
-use Rattle.layout.specs.Layout.{longest, rowsOf}
+use Rattle.layout.specs.Layout.{rowsOf}
 use Rattle.record.specs.declared.GraphFault.{GraphFault}
 use Rattle.record.specs.declared.reading.Verdict.{Verdict}
 use Rattle.record.specs.declared.reading.Verdict.the-variants.{Accepted, Refused}
@@ -132,27 +132,23 @@ module _ {n : ℕ} {o p : Reading} {v : PairVerdict} {ws ws₂ : List ℕ} (read
         ap₂ (λ (i j : Reading). readBoth refuse i j next) (one .is) (other .is)
 
 -- What reading one after the other comes to.
-module _ {n : ℕ} {o : Reading} {v : Verdict} {ws : List ℕ} (one : ReadsAs n o v ws) (long : length ws ≡ longest) where
-  pub reads-first-refused : {p : Reading} {ws₂ : List ℕ} → length ws₂ ≡ longest → {fault : GraphFault} → v ≡ Refused fault →
+module _ {n : ℕ} {o : Reading} {v : Verdict} {ws : List ℕ} (one : ReadsAs n o v ws) where
+  pub reads-first-refused : {p : Reading} {ws₂ : List ℕ} {fault : GraphFault} → v ≡ Refused fault →
       ReadsBoth n o p (pair.Refused fault First) ws ws₂
-  reads-first-refused {p} other-long {fault} e =
+  reads-first-refused {p} e =
       record {
         verdict = ap (λ (w : Verdict). jointVerdict w (verdictOf p)) (sym e ∙ one .verdict);
         one = one .graph;
         other = λ q. let z : _≡_ {A = ℕ} 0 1 = cc q in absurd (omega arith);
-        one-long = long;
-        other-long = other-long;
       }
 
-  module _ (passes : v ≡ Accepted) {p : Reading} {w : Verdict} {ws₂ : List ℕ} (two : ReadsAs n p w ws₂) (other-long : length ws₂ ≡ longest) where
+  module _ (passes : v ≡ Accepted) {p : Reading} {w : Verdict} {ws₂ : List ℕ} (two : ReadsAs n p w ws₂) where
     reads-second : ReadsBoth n o p (jointVerdict Accepted w) ws ws₂
     reads-second =
         record {
           verdict = ap₂ jointVerdict (sym passes ∙ one .verdict) (two .verdict);
           one = one .graph;
           other = λ _. two .graph;
-          one-long = long;
-          other-long = other-long;
         }
 
     pub reads-second-refused : {fault : GraphFault} → w ≡ Refused fault → ReadsBoth n o p (pair.Refused fault Second) ws ws₂

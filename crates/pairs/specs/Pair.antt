@@ -7,7 +7,6 @@ use lib.Dec.{eqb}
 use lib.ListN.{length}
 use Rattle.graphs.specs.Rows.{Row}
 use Rattle.lattice.specs.Label.{Label}
-use Rattle.layout.specs.Layout.{longest}
 use Rattle.record.specs.declared.reading.Verdict.{Verdict}
 use Rattle.record.specs.declared.reading.Verdict.the-variants.{Accepted, Refused}
 use Rattle.record.specs.Read.{Reading, refused, accepted, reading}
@@ -45,8 +44,6 @@ pub record ReadsBoth (n : ℕ) (o p : Reading) (v : PairVerdict) (ws ws₂ : Lis
   pub verdict : v ≡ jointVerdict (verdictOf o) (verdictOf p)
   pub one : (rows : List (Row Label)) → o ≡ accepted rows → Holds n rows ws
   pub other : v ≡ pair.Both → (rows : List (Row Label)) → p ≡ accepted rows → Holds n rows ws₂
-  pub one-long : length ws ≡ longest
-  pub other-long : length ws₂ ≡ longest
 
 abbrev pub ReadsBeside : ℕ → List ℕ → List ℕ → List ℕ → List ℕ → PairVerdict → List ℕ → List ℕ → Type 0
 ReadsBeside n t list a b v ws ws₂ = ReadsBoth n (readingBeside n t list a) (readingBeside n t list b) v ws ws₂

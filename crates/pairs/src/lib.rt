@@ -6,9 +6,10 @@ use record::GraphFault;
 use record::reading::Verdict;
 use replies::Side;
 ghost use mathlib.Core.Path.{_≡_};
+ghost use mathlib.Core.Bool.{true};
 ghost use Prim.Native.Nat.{_≤_};
 ghost use lib.ListN.{length};
-ghost use Rattle.layout.specs.Layout.{longest};
+ghost use Rattle.decode.specs.Answers.{Roomy};
 ghost use Rattle.record.specs.Reads.{ReadsAs};
 ghost use Rattle.pairs.specs.Pair.{Optional, ReadsBeside, readingBeside};
 
@@ -18,17 +19,20 @@ pub enum PairVerdict {
     Refused(GraphFault, Side),
 }
 
+// Whether two records are short, so that the graph of each has room in `layout::SHORT` words.
+pub fn are_short(first: &[u8], second: &[u8]) -> bool
+    ensures { λ r. ⌜ (r ≡ true → (length (now (first .entry)) ≤ 510) × (length (now (second .entry)) ≤ 510)) ⌝ }
+{
+    if decode::rows::SHORT < first.len() {
+        return false;
+    }
+    second.len() <= decode::rows::SHORT
+}
+
 // Reads a record over a table with n types into lent words, which are unspecified on refusal.
-pub fn read_one(
-    n: usize,
-    table: &[u8],
-    list: &[u8],
-    bytes: &[u8],
-    graph: &mut [u16; layout::LONGEST],
-) -> Verdict
-    requires { ⌜ (n ≤ 64) × Optional n (now list) × (length (now graph) ≡ longest) ⌝ }
+pub fn read_one(n: usize, table: &[u8], list: &[u8], bytes: &[u8], graph: &mut [u16]) -> Verdict
+    requires { ⌜ (n ≤ 64) × Optional n (now list) × Roomy (now bytes) (now graph) ⌝ }
     ensures { λ r. ⌜ ReadsAs n (readingBeside n (now (table .entry)) (now (list .entry)) (now (bytes .entry))) r (now (graph .exit)) ⌝ }
-    ensures { λ r. ⌜ length (now (graph .exit)) ≡ longest ⌝ }
 {
     if list.len() == 0 {
         return record::reading::read(n, bytes, graph);
@@ -43,11 +47,11 @@ pub fn read_both(
     list: &[u8],
     first: &[u8],
     second: &[u8],
-    a: &mut [u16; layout::LONGEST],
-    b: &mut [u16; layout::LONGEST],
+    a: &mut [u16],
+    b: &mut [u16],
 ) -> PairVerdict
     requires { ⌜ (n ≤ 64) × Optional n (now list) ⌝ }
-    requires { ⌜ (length (now a) ≡ longest) × (length (now b) ≡ longest) ⌝ }
+    requires { ⌜ Roomy (now first) (now a) × Roomy (now second) (now b) ⌝ }
     ensures { λ r. ⌜ ReadsBeside n (now (table .entry)) (now (list .entry)) (now (first .entry)) (now (second .entry)) r (now (a .exit)) (now (b .exit)) ⌝ }
 {
     let one = read_one(n, table, list, first, a);

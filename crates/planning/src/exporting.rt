@@ -6,7 +6,9 @@ use replies::Reply;
 use replies::Side;
 use rows::Row;
 ghost use mathlib.Core.Path.{_≡_};
-ghost use Rattle.layout.specs.Layout.{Sound, rowsOf};
+ghost use Prim.Native.Nat.{_≤_};
+ghost use lib.ListN.{length};
+ghost use Rattle.layout.specs.Layout.{Sound, longest, rowsOf};
 ghost use Rattle.record.specs.Read.{reading};
 ghost use Rattle.planning.specs.Planning.{Makes, exportedAs, exportedRows, exported, exporting};
 
@@ -35,10 +37,10 @@ fn refuse(answer: Reply) -> Made
 
 // Export of a graph in words: its nodes get the numbers of the written record; then refusal 8.
 fn export_graph(graph: &[u16], room: usize, nodes: &mut [u8]) -> Made
-    requires { ⌜ Sound (now graph) ⌝ }
+    requires { ⌜ Sound (now graph) × (length (now graph) ≤ longest) ⌝ }
     ensures { λ r. ⌜ Makes (λ rows. exportedRows (rowsOf (now (graph .entry))) rows (now (nodes .entry))) room (r .answer) (r .count) (r .at) (now (nodes .exit)) ⌝ }
 {
-    let mut new = [layout::BLANK; layout::LONGEST];
+    let mut new = [0u16; layout::LONGEST];
     if !encode::numbered::renumber(graph, &mut new) {
         return refuse(Reply::TooLarge);
     }
@@ -62,7 +64,7 @@ fn export_graph(graph: &[u16], room: usize, nodes: &mut [u8]) -> Made
 fn export_accepted(n: usize, bytes: &[u8], room: usize, nodes: &mut [u8]) -> Made
     ensures { λ r. ⌜ Makes (λ rows. exported (reading n (now (bytes .entry))) rows (now (nodes .entry))) room (r .answer) (r .count) (r .at) (now (nodes .exit)) ⌝ }
 {
-    let mut graph = [layout::BLANK; layout::LONGEST];
+    let mut graph = [0u16; layout::LONGEST];
     let verdict = record::reading::read(n, bytes, &mut graph);
     match verdict {
         Verdict::Refused(fault) => refuse(Reply::Graph(fault, Side::First)),

@@ -48,7 +48,7 @@ fn import_placed<'a>(
     if !rows::filling::are_stated(nodes) {
         return Reply::Graph(GraphFault::OutOfRange, Side::First);
     }
-    let mut graph = [layout::BLANK; layout::LONGEST];
+    let mut graph = [0u16; layout::LONGEST];
     rows::filling::fill(nodes, targets, &mut graph);
     let verdict = record::judging::judge(n, &graph, true);
     match verdict {

@@ -6,8 +6,8 @@ use crate::reading::Verdict;
 ghost use mathlib.Core.Path.{_≡_};
 ghost use mathlib.Core.Bool.{true};
 ghost use Prim.Native.Nat.{_≤_, _<_};
-ghost use lib.ListN.{length};
-ghost use Rattle.layout.specs.Layout.{longest, labelAt, linksAt, rowsOf, size};
+ghost use Rattle.layout.specs.Layout.{labelAt, linksAt, rowsOf, size};
+ghost use Rattle.decode.specs.Answers.{Roomy};
 ghost use Rattle.record.specs.Appropriate.{listAccepted, rowAppropriate, appropriate, readingAppropriate, Listed, Typed};
 ghost use Rattle.record.specs.Reads.{ReadsAs};
 
@@ -66,17 +66,10 @@ pub fn is_appropriate(table: &[u8], list: &[u8], graph: &[u16]) -> bool
 }
 
 // Reads a record over a table with n types, beside an accepted list, into the lent words, which are unspecified on refusal.
-pub fn read(
-    n: usize,
-    table: &[u8],
-    list: &[u8],
-    bytes: &[u8],
-    graph: &mut [u16; layout::LONGEST],
-) -> Verdict
+pub fn read(n: usize, table: &[u8], list: &[u8], bytes: &[u8], graph: &mut [u16]) -> Verdict
     requires { ⌜ (n ≤ 64) × (listAccepted n (now list) ≡ true) ⌝ }
-    requires { ⌜ length (now graph) ≡ longest ⌝ }
+    requires { ⌜ Roomy (now bytes) (now graph) ⌝ }
     ensures { λ r. ⌜ ReadsAs n (readingAppropriate n (now (table .entry)) (now (list .entry)) (now (bytes .entry))) r (now (graph .exit)) ⌝ }
-    ensures { λ r. ⌜ length (now (graph .exit)) ≡ longest ⌝ }
 {
     let verdict = crate::reading::read(n, bytes, graph);
     match verdict {

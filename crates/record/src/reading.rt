@@ -4,8 +4,8 @@ use crate::GraphFault;
 ghost use mathlib.Core.Bool.{not};
 ghost use mathlib.Core.Path.{_≡_};
 ghost use lib.Dec.{eqb};
-ghost use lib.ListN.{length};
-ghost use Rattle.layout.specs.Layout.{Shaped, longest};
+ghost use Rattle.layout.specs.Layout.{Shaped};
+ghost use Rattle.decode.specs.Answers.{Roomy};
 ghost use Rattle.record.specs.Counts.{unrangedLength};
 ghost use Rattle.record.specs.Reads.{Reads};
 
@@ -27,10 +27,9 @@ fn has_ranges(length: usize, graph: &[u16]) -> bool
 }
 
 // Reads a record over a table with n types into the lent words, which are unspecified on refusal.
-pub fn read(n: usize, bytes: &[u8], graph: &mut [u16; layout::LONGEST]) -> Verdict
-    requires { ⌜ length (now graph) ≡ longest ⌝ }
+pub fn read(n: usize, bytes: &[u8], graph: &mut [u16]) -> Verdict
+    requires { ⌜ Roomy (now bytes) (now graph) ⌝ }
     ensures { λ r. ⌜ Reads n (now (bytes .entry)) r (now (graph .exit)) ⌝ }
-    ensures { λ r. ⌜ length (now (graph .exit)) ≡ longest ⌝ }
 {
     if !decode::rows::parse(bytes, graph) {
         return Verdict::Refused(GraphFault::Malformed);

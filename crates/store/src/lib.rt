@@ -211,7 +211,7 @@ fn write_program(n: usize, bytes: &[u8], output: &mut [u8]) -> Reply
     requires { ⌜ (n ≤ 64) × (length (now output) ≡ 4854) ⌝ }
     ensures { λ r. ⌜ Programmed n (now (bytes .entry)) r (now (output .exit)) ⌝ }
 {
-    let mut graph = [layout::BLANK; layout::LONGEST];
+    let mut graph = [0u16; layout::LONGEST];
     let verdict = record::reading::read(n, bytes, &mut graph);
     match verdict {
         Verdict::Refused(fault) => Reply::Graph(fault, Side::Second),

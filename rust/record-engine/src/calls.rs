@@ -26,7 +26,7 @@ pub fn rewrite(n: usize, table: &[u8], record: &[u8], output: &mut [u8]) -> Resu
 
 /// Which of two records is the broader, seen from the first. A graph is below
 /// another when every path of the other is a path of it, with a type below or
-/// equal and a range inside, and paths that share in the other share in it. Takes 20 KiB of
+/// equal and a range inside, and paths that share in the other share in it. Takes 24 KiB of
 /// stack.
 ///
 /// ```
@@ -132,7 +132,7 @@ pub fn unify(
 
 /// Writes the difference of a general record and a specific one below it: combined
 /// with the general record it gives the specific one again, byte for byte in written
-/// form, and nothing strictly more general does. Takes 64 KiB of stack.
+/// form, and nothing strictly more general does. Takes 72 KiB of stack.
 ///
 /// ```
 /// let diamond = record_engine::table(&[0x01, 0x03, 0x05, 0x0F]).expect("at most 8 types");

@@ -7,7 +7,7 @@ use crate::{Refusal, foreign};
 /// beside it one byte for each of its links: the [`Reason`](crate::Reason) for which it is
 /// kept. The bytes stand first in `reasons`, in the order of the links in the written
 /// record, node by node and for each node by feature; the others are unchanged. Gives the
-/// length of the record. Takes 64 KiB of stack.
+/// length of the record. Takes 72 KiB of stack.
 ///
 /// ```
 /// use record_engine::{LONGEST_RECORD, MOST_LINKS, Reason};
@@ -52,7 +52,7 @@ pub fn difference_explained(
 
 /// Writes the difference of two records as [`difference`](crate::difference) does, where
 /// links are ordered by their feature's place in a reading order, then by the number of the
-/// node that they leave. Takes 64 KiB of stack.
+/// node that they leave. Takes 72 KiB of stack.
 ///
 /// ```
 /// use record_engine::{FEATURES, LONGEST_RECORD, Refusal, difference_by, unify};
@@ -99,7 +99,7 @@ pub fn difference_by(
 
 /// Writes the difference of two records as [`difference_by`] does, and beside it the
 /// [`Reason`](crate::Reason) of each of its links, as [`difference_explained`] does. Takes
-/// 64 KiB of stack.
+/// 72 KiB of stack.
 ///
 /// ```
 /// use record_engine::{FEATURES, LONGEST_RECORD, MOST_LINKS, Reason, difference_explained_by};

@@ -1,6 +1,7 @@
 -- `make` meets its contract: kept nodes and rows, one after another.
 use Prim.Native.Nat.{ℕ}
 use native.Mathlib.Omega.{arith}
+use borrow.Author.Needs.{needs}
 use lib.ListN.{length-replicate, getD-replicate}
 use Rattle.lattice.proofs.Laws.{accepted-size}
 use Rattle.lattice.proofs.Lawful.{known-more}
@@ -11,7 +12,7 @@ use Rattle.difference.proofs.make.Tie as tie
 
 kept-nodes-requires : tie.Need-kept-nodes-requires
 kept-nodes-requires c κs =
-    let start = c .before .before .before in
+    let start = c .before .before .before .before .before in
     let given = start .pre .0 .3 in
     let size = accepted-size (start .args .n) (start .args .table .now) (given .asked .ok) in (
       (size .0, size .1, wants-known (given .asked) (given .wants)),
@@ -23,7 +24,7 @@ kept-nodes-requires c κs =
 
 kept-links-requires : tie.Need-kept-links-requires
 kept-links-requires c κs =
-    let start = c .before .before .before .before .before .before in
+    let start = c .before .before .before .before .before .before .before .before in
     let given = start .pre .0 .3 in
     let size = accepted-size (start .args .n) (start .args .table .now) (given .asked .ok) in
     let labels = wants-known (given .asked) (given .wants) in (
@@ -31,8 +32,11 @@ kept-links-requires c κs =
       ((labels .long, λ v h. known-more (omega (arith, size .1)) (labels .known v h)), start .pre .1),
     )
 
+same-length : tie.Need-same-length
+same-length c = search needs
+
 returns : tie.Need-returns
-returns c = record { keep = _; kept = c .before .before .before .kept-nodes .ensures; rows = c .kept-links .ensures }
+returns c = record { keep = _; kept = c .before .before .before .before .before .kept-nodes .ensures; rows = c .before .before .kept-links .ensures }
 
 pub make-spec : {M : Type 1} → statement M
 make-spec =
@@ -40,4 +44,5 @@ make-spec =
     (tie.spec
     kept-nodes-requires
     kept-links-requires
+    same-length
     returns)

@@ -1,4 +1,5 @@
 -- `mark` meets its contract. The loops' invariants: the links before row v, and those before place k, are met and marked.
+use mathlib.Core.Path.{sym, _∙_}
 use Prim.Native.Nat.{ℕ, _+_, _-_, _≤_}
 use native.Mathlib.Omega.{arith}
 use lib.ListN.{length-replicate, getD-replicate}
@@ -22,13 +23,13 @@ abbrev μ-loop : tie.MeasureT-loop
 μ-loop s owner parent rank marks₀ lead₀ nodes v₀ marks lead v = nodes - v
 
 shared-slice-read-nodes : tie.Need-shared-slice-read-nodes Inv-loop2 μ-loop2 Inv-loop μ-loop
-shared-slice-read-nodes c = omega (arith, c .before .before .pre .0 .shaped .node 0 (c .before .before .pre .0 .shaped .nonempty) .listed)
+shared-slice-read-nodes c = omega (arith, c .before .before .before .before .pre .0 .shaped .node 0 (c .before .before .before .before .pre .0 .shaped .nonempty) .listed)
 
 cast-nodes : tie.Need-cast-nodes Inv-loop2 μ-loop2 Inv-loop μ-loop
-cast-nodes c = omega (arith, c .before .before .pre .0 .shaped .few)
+cast-nodes c = omega (arith, c .before .before .before .before .pre .0 .shaped .few)
 
 loop-holds : tie.Need-loop-holds Inv-loop2 μ-loop2 Inv-loop μ-loop
-loop-holds c = (omega arith, c .before .before .pre .0, marking-start (c .before .before .pre .0) (c .before .before .pre .1) (length-replicate {A = ℕ} 255 65535) (λ x h. getD-replicate {A = ℕ} 255 x 65535 0 h))
+loop-holds c = (omega arith, c .before .before .before .before .pre .0, marking-start (c .before .before .before .before .pre .0) (c .before .before .before .before .pre .1) (length-replicate {A = ℕ} 255 65535) (λ x h. getD-replicate {A = ℕ} 255 x 65535 0 h))
 
 add-end : tie.Need-add-end Inv-loop2 μ-loop2 Inv-loop μ-loop
 add-end c = omega (arith, c .loop-test .taken, c .before .loop .inv .1 .shaped .few)
@@ -40,7 +41,7 @@ shared-slice-read-end : tie.Need-shared-slice-read-end Inv-loop2 μ-loop2 Inv-lo
 shared-slice-read-end c = omega (arith, c .before .before .loop .inv .1 .shaped .node (c .before .before .loop .v) (c .before .loop-test .taken) .listed)
 
 cast-end : tie.Need-cast-end Inv-loop2 μ-loop2 Inv-loop μ-loop
-cast-end c = omega (arith, c .shared-slice-known3 .given (c .before .before .loop .v + 2))
+cast-end c = omega (arith, c .shared-slice-known4 .given (c .before .before .loop .v + 2))
 
 add-k : tie.Need-add-k Inv-loop2 μ-loop2 Inv-loop μ-loop
 add-k c = omega (arith, c .before .loop-test .taken, c .before .before .loop .inv .1 .shaped .few)
@@ -52,10 +53,10 @@ shared-slice-read-k : tie.Need-shared-slice-read-k Inv-loop2 μ-loop2 Inv-loop �
 shared-slice-read-k c = omega (arith, c .before .before .before .loop .inv .1 .shaped .node (c .before .before .before .loop .v) (c .before .before .loop-test .taken) .listed)
 
 cast-k : tie.Need-cast-k Inv-loop2 μ-loop2 Inv-loop μ-loop
-cast-k c = omega (arith, c .shared-slice-known4 .given (c .before .before .before .loop .v + 1))
+cast-k c = omega (arith, c .shared-slice-known5 .given (c .before .before .before .loop .v + 1))
 
 add-k-2 : tie.Need-add-k-2 Inv-loop2 μ-loop2 Inv-loop μ-loop
-add-k-2 c = omega (arith, c .shared-slice-known4 .given (c .before .before .before .loop .v + 1))
+add-k-2 c = omega (arith, c .shared-slice-known5 .given (c .before .before .before .loop .v + 1))
 
 loop2-holds : tie.Need-loop2-holds Inv-loop2 μ-loop2 Inv-loop μ-loop
 loop2-holds c = row-start (c .before .before .before .loop .v) (c .before .before .before .loop .inv .1) (c .before .before .before .loop .inv .2) (c .before .before .loop-test .taken)
@@ -64,13 +65,13 @@ mark-place-requires : tie.Need-mark-place-requires Inv-loop2 μ-loop2 Inv-loop �
 mark-place-requires c κs = let row = c .before .before .before .loop2 .inv in ((row .owned, (_, row-place row (c .before .before .loop2-test .taken))), row .marking)
 
 add-k-3 : tie.Need-add-k-3 Inv-loop2 μ-loop2 Inv-loop μ-loop
-add-k-3 c = omega (arith, row-within (c .before .before .before .before .loop2 .inv) (c .before .before .before .loop2-test .taken))
+add-k-3 c = omega (arith, row-within (c .before .before .before .before .before .before .loop2 .inv) (c .before .before .before .before .before .loop2-test .taken))
 
 loop2-less : tie.Need-loop2-less Inv-loop2 μ-loop2 Inv-loop μ-loop
-loop2-less c = omega (arith, c .before .before .before .loop2-test .taken)
+loop2-less c = omega (arith, c .before .before .before .before .before .loop2-test .taken)
 
 loop2-again : tie.Need-loop2-again Inv-loop2 μ-loop2 Inv-loop μ-loop
-loop2-again c = row-next (c .before .before .before .before .loop2 .inv) (c .before .before .before .loop2-test .taken) (c .mark-place .ensures)
+loop2-again c = row-next (c .before .before .before .before .before .before .loop2 .inv) (c .before .before .before .before .before .loop2-test .taken) (c .before .before .mark-place .ensures)
 
 add-v : tie.Need-add-v Inv-loop2 μ-loop2 Inv-loop μ-loop
 add-v c = omega (arith, c .before .before .before .before .loop-test .taken, c .before .before .before .before .before .loop .inv .1 .shaped .few)
@@ -80,6 +81,9 @@ loop-less c = omega (arith, c .before .before .before .before .loop-test .taken)
 
 loop-again : tie.Need-loop-again Inv-loop2 μ-loop2 Inv-loop μ-loop
 loop-again c = (omega (arith, c .before .before .before .before .loop-test .taken), c .before .loop2 .inv .owned, row-done (c .before .loop2 .inv) (c .loop2-test .left))
+
+same-length : tie.Need-same-length Inv-loop2 μ-loop2 Inv-loop μ-loop
+same-length c = c .before .loop .inv .2 .long ∙ sym (c .before .before .before .before .before .before .pre .1)
 
 returns : tie.Need-returns Inv-loop2 μ-loop2 Inv-loop μ-loop
 returns c = marking-all (c .before .loop .inv .1) (c .before .loop .v) (c .before .loop .inv .2) (c .before .loop .inv .0) (c .loop-test .left)
@@ -112,4 +116,5 @@ mark-spec =
     add-v
     loop-less
     loop-again
+    same-length
     returns)

@@ -16,6 +16,9 @@ returns c =
     over-none (start .args .n) (start .args .features) (start .args .bytes .now) (start .args .out .now)
     (c .before .before .before .before .if1 .taken) (c .before .before .first .ensures (start .args .n) (start .pre .0) (start .pre .1))
 
+slice-aggregate-read : tie.Need-slice-aggregate-read
+slice-aggregate-read c = search needs
+
 read-requires : tie.Need-read-requires
 read-requires c κs = search needs
 
@@ -30,19 +33,19 @@ go-on-requires c κs = search needs
 
 returns-2 : tie.Need-returns-2
 returns-2 c =
-    let start = c .before .before .before .before .before .before .before .before in
+    let start = c .before .before .before .before .before .before .before .before .before in
     over-refused (start .args .n) (start .args .features) (start .args .bytes .now) (start .args .out .now)
-    (c .before .before .before .read .ensures .0) (c .before .before .before .before .before .if1 .left) _ (c .before .verdict .given .1)
+    (c .before .before .before .before .read .ensures) (c .before .before .before .before .before .before .if1 .left) _ (c .before .verdict .given .1)
 
 same-length-2 : tie.Need-same-length-2
 same-length-2 c = search needs
 
 returns-3 : tie.Need-returns-3
 returns-3 c =
-    let start = c .before .before .before .before .before .before .before .before .before .before .before in
+    let start = c .before .before .before .before .before .before .before .before .before .before .before .before in
     over-accepted (start .args .n) (start .args .features) (start .args .bytes .now) (start .args .out .now)
-    (c .before .before .before .before .before .before .read .ensures .0)
-    (c .before .before .before .before .before .before .before .before .if1 .left) (c .before .before .before .before .enum-told .given .1)
+    (c .before .before .before .before .before .before .before .read .ensures)
+    (c .before .before .before .before .before .before .before .before .before .if1 .left) (c .before .before .before .before .enum-told .given .1)
     (c .before .before .go-on .ensures)
 
 pub next-over-spec : {M : Type 1} → statement M
@@ -52,6 +55,7 @@ next-over-spec =
     first-requires
     same-length
     returns
+    slice-aggregate-read
     read-requires
     enum-known-verdict
     enum-told

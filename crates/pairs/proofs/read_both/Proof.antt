@@ -23,23 +23,37 @@ enum-known-other c = search needs
 enum-told-2 : tie.Need-enum-told-2
 enum-told-2 c = search needs
 
+same-length : tie.Need-same-length
+same-length c = search needs
+
 returns : tie.Need-returns
 returns c =
-    let start = c .before .before .before .before .before .before .before .before .before in
-    let said = c .before .before .before .read-one .ensures in
-    reads-first-refused (said .0) (said .1) (start .pre .1 .1) (c .before .one .given .1)
+    let said = c .before .before .before .before .before .read-one .ensures in
+    reads-first-refused said (c .before .one .given .1)
+
+same-length-2 : tie.Need-same-length-2
+same-length-2 c = search needs
+
+same-length-3 : tie.Need-same-length-3
+same-length-3 c = search needs
 
 returns-2 : tie.Need-returns-2
 returns-2 c =
-    let first = c .before .before .before .before .before .before .before .read-one .ensures in
-    let second = c .before .before .before .read-one2 .ensures in
-    reads-second-refused (first .0) (first .1) (c .before .before .before .before .before .enum-told .given .1) (second .0) (second .1) (c .before .other .given .1)
+    let first = c .before .before .before .before .before .before .before .before .before .before .before .read-one .ensures in
+    let second = c .before .before .before .before .before .read-one2 .ensures in
+    reads-second-refused first (c .before .before .before .before .before .before .before .enum-told .given .1) second (c .before .other .given .1)
+
+same-length-4 : tie.Need-same-length-4
+same-length-4 c = search needs
+
+same-length-5 : tie.Need-same-length-5
+same-length-5 c = search needs
 
 returns-3 : tie.Need-returns-3
 returns-3 c =
-    let first = c .before .before .before .before .before .before .read-one .ensures in
-    let second = c .before .before .read-one2 .ensures in
-    reads-accepted (first .0) (first .1) (c .before .before .before .before .enum-told .given .1) (second .0) (second .1) (c .enum-told2 .given .1)
+    let first = c .before .before .before .before .before .before .before .before .before .before .read-one .ensures in
+    let second = c .before .before .before .before .read-one2 .ensures in
+    reads-accepted first (c .before .before .before .before .before .before .enum-told .given .1) second (c .enum-told2 .given .1)
 
 pub read-both-spec : {M : Type 1} → statement M
 read-both-spec =
@@ -51,6 +65,11 @@ read-both-spec =
     read-one-requires-2
     enum-known-other
     enum-told-2
+    same-length
     returns
+    same-length-2
+    same-length-3
     returns-2
+    same-length-4
+    same-length-5
     returns-3)

@@ -1,65 +1,34 @@
--- Two records are read; then the difference with s numbered as written.
-use mathlib.Core.Path.{refl}
+-- Both records are short or not: the words that are lent have room for their graphs.
 use Prim.Native.Nat.{ℕ}
 use native.Mathlib.Omega.{arith}
 use lib.ListN.{length-replicate}
-use Rattle.lattice.proofs.Laws.{accepted-size}
-use Rattle.pairs.proofs.Readings.{both-loaded, optional-none, reads-plain}
-use Rattle.engine.proofs.Differences.{renumbered, parting-refused, parting-both}
 use borrow.Author.Needs.{needs}
+use Rattle.engine.proofs.Differences.{beside-cleared}
 use Rattle.engine.proofs.differing.of_records.Statement.{statement}
 use Rattle.engine.proofs.differing.of_records.Tie as tie
 
-slice-aggregate-read-both : tie.Need-slice-aggregate-read-both
-slice-aggregate-read-both c = search needs
+are-short-requires : tie.Need-are-short-requires
+are-short-requires c κs = search needs
 
-read-both-requires : tie.Need-read-both-requires
-read-both-requires c κs =
-    let start = c .before .before .before .before .before .before .before .before in
-    ((accepted-size (start .args .n) (start .args .table .now) (start .pre .0) .1, optional-none (start .args .n) _ refl), search needs)
+slice-aggregate-difference-in : tie.Need-slice-aggregate-difference-in
+slice-aggregate-difference-in c = search needs
 
-enum-known-verdict : tie.Need-enum-known-verdict
-enum-known-verdict c = search needs
+slice-aggregate-difference-in-2 : tie.Need-slice-aggregate-difference-in-2
+slice-aggregate-difference-in-2 c = search needs
 
-enum-told : tie.Need-enum-told
-enum-told c = search needs
+slice-aggregate-difference-in-3 : tie.Need-slice-aggregate-difference-in-3
+slice-aggregate-difference-in-3 c = search needs
 
-slice-aggregate-renumber : tie.Need-slice-aggregate-renumber
-slice-aggregate-renumber c = search needs
+slice-aggregate-difference-in-4 : tie.Need-slice-aggregate-difference-in-4
+slice-aggregate-difference-in-4 c = search needs
 
-renumber-requires : tie.Need-renumber-requires
-renumber-requires c κs =
-    let a = c .before .before .before .before .before .before .before .before .before .before .before .before .before .args in
-    let (one, other) = both-loaded (a .n) (a .table .now) _ (a .first .now) (a .second .now) (c .before .before .before .before .read-both .ensures) (c .before .before .enum-told .given .1) in
-    (other .sound, length-replicate {A = ℕ} 2815 0)
+slice-aggregate-difference-in-5 : tie.Need-slice-aggregate-difference-in-5
+slice-aggregate-difference-in-5 c = search needs
 
-slice-aggregate-difference : tie.Need-slice-aggregate-difference
-slice-aggregate-difference c = search needs
-
-slice-aggregate-difference-2 : tie.Need-slice-aggregate-difference-2
-slice-aggregate-difference-2 c = search needs
-
-difference-requires : tie.Need-difference-requires
-difference-requires c κs =
-    let start = c .before .before .before .before .before .before .before .before .before .before .before .before .before .before .before .before .before .before .before in
-    let a = start .args in
-    let (one, other) = both-loaded (a .n) (a .table .now) _ (a .first .now) (a .second .now) (c .before .before .before .before .before .before .before .before .before .before .read-both .ensures) (c .before .before .before .before .before .before .before .before .enum-told .given .1) in
-    let renumber = c .before .before .before .before .before .renumber .ensures in (
-      record {
-        accepts = start .pre .0;
-        general = one;
-        specific = renumbered (a .n) _ other (renumber .0) .loaded;
-        short = omega (arith, renumber .1);
-      },
-      start .pre .1,
-      c .before .before .before .before .before .before .before .before .before .before .read-both .ensures .other-long,
-    )
-
-returns : tie.Need-returns
-returns c =
-    let a = c .before .before .before .before .before .before .before .before .before .before .before .before .args in
-    parting-refused (a .options) (a .n) (a .table .now) (a .first .now) (a .second .now) (a .out .now) (a .reasons .now)
-    (reads-plain (a .n) (a .table .now) _ (a .first .now) (a .second .now) refl (c .before .before .before .read-both .ensures)) _ _ (c .before .verdict .given .1)
+difference-in-requires : tie.Need-difference-in-requires
+difference-in-requires c κs =
+    let short = c .before .before .before .before .before .before .before .before .are-short .ensures (c .before .before .before .before .before .before .before .if1 .taken) in
+    (c .before .before .before .before .before .before .before .before .before .before .before .before .before .before .pre, ((omega (arith, short .0, length-replicate {A = ℕ} 768 0), omega (arith, short .1, length-replicate {A = ℕ} 768 0)), beside-cleared 768 (omega arith)))
 
 same-length : tie.Need-same-length
 same-length c = search needs
@@ -67,13 +36,35 @@ same-length c = search needs
 same-length-2 : tie.Need-same-length-2
 same-length-2 c = search needs
 
+returns : tie.Need-returns
+returns c = search needs
+
+slice-aggregate-difference-in-6 : tie.Need-slice-aggregate-difference-in-6
+slice-aggregate-difference-in-6 c = search needs
+
+slice-aggregate-difference-in-7 : tie.Need-slice-aggregate-difference-in-7
+slice-aggregate-difference-in-7 c = search needs
+
+slice-aggregate-difference-in-8 : tie.Need-slice-aggregate-difference-in-8
+slice-aggregate-difference-in-8 c = search needs
+
+slice-aggregate-difference-in-9 : tie.Need-slice-aggregate-difference-in-9
+slice-aggregate-difference-in-9 c = search needs
+
+slice-aggregate-difference-in-10 : tie.Need-slice-aggregate-difference-in-10
+slice-aggregate-difference-in-10 c = search needs
+
+difference-in-requires-2 : tie.Need-difference-in-requires-2
+difference-in-requires-2 c κs = (c .before .before .before .before .before .before .before .before .before .before .before .before .before .before .pre, ((omega (arith, length-replicate {A = ℕ} 2815 0), omega (arith, length-replicate {A = ℕ} 2815 0)), beside-cleared 2815 (omega arith)))
+
+same-length-3 : tie.Need-same-length-3
+same-length-3 c = search needs
+
+same-length-4 : tie.Need-same-length-4
+same-length-4 c = search needs
+
 returns-2 : tie.Need-returns-2
-returns-2 c =
-    let a = c .before .before .before .before .before .before .before .before .before .before .before .before .before .before .before .before .before .before .before .before .before .before .before .before .args in
-    let both = c .before .before .before .before .before .before .before .before .before .before .before .before .before .enum-told .given .1 in
-    let (one, other) = both-loaded (a .n) (a .table .now) _ (a .first .now) (a .second .now) (c .before .before .before .before .before .before .before .before .before .before .before .before .before .before .before .read-both .ensures) both in
-    parting-both (a .options) (a .n) (a .table .now) (a .first .now) (a .second .now) (a .out .now) (a .reasons .now)
-    (reads-plain (a .n) (a .table .now) _ (a .first .now) (a .second .now) refl (c .before .before .before .before .before .before .before .before .before .before .before .before .before .before .before .read-both .ensures)) both (renumbered (a .n) _ other (c .before .before .before .before .before .before .before .before .before .before .renumber .ensures .0)) (c .before .before .before .before .difference .ensures)
+returns-2 c = search needs
 
 pub of-records-spec : {M : Type 1} → statement M
-of-records-spec = tie.close (tie.spec slice-aggregate-read-both read-both-requires enum-known-verdict enum-told slice-aggregate-renumber renumber-requires slice-aggregate-difference slice-aggregate-difference-2 difference-requires returns same-length same-length-2 returns-2)
+of-records-spec = tie.close (tie.spec are-short-requires slice-aggregate-difference-in slice-aggregate-difference-in-2 slice-aggregate-difference-in-3 slice-aggregate-difference-in-4 slice-aggregate-difference-in-5 difference-in-requires same-length same-length-2 returns slice-aggregate-difference-in-6 slice-aggregate-difference-in-7 slice-aggregate-difference-in-8 slice-aggregate-difference-in-9 slice-aggregate-difference-in-10 difference-in-requires-2 same-length-3 same-length-4 returns-2)

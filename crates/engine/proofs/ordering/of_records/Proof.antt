@@ -1,41 +1,39 @@
--- Two records are read, and compared where both are accepted.
-use mathlib.Core.Path.{refl, sym, _∙_}
-use Rattle.pairs.proofs.Readings.{both-loaded, both-next, both-refused, optional-none, reads-plain}
-use Rattle.engine.specs.Ordering.{ordered}
+-- Both records are short or not: the words that are lent have room for their graphs.
+use Prim.Native.Nat.{ℕ}
+use native.Mathlib.Omega.{arith}
+use lib.ListN.{length-replicate}
 use borrow.Author.Needs.{needs}
 use Rattle.engine.proofs.ordering.of_records.Statement.{statement}
 use Rattle.engine.proofs.ordering.of_records.Tie as tie
 
-slice-aggregate-read-both : tie.Need-slice-aggregate-read-both
-slice-aggregate-read-both c = search needs
+are-short-requires : tie.Need-are-short-requires
+are-short-requires c κs = search needs
 
-read-both-requires : tie.Need-read-both-requires
-read-both-requires c κs = ((c .before .before .before .before .before .before .pre, optional-none (c .before .before .before .before .before .before .args .n) _ refl), search needs)
+slice-aggregate-order-in : tie.Need-slice-aggregate-order-in
+slice-aggregate-order-in c = search needs
 
-enum-known-verdict : tie.Need-enum-known-verdict
-enum-known-verdict c = search needs
+slice-aggregate-order-in-2 : tie.Need-slice-aggregate-order-in-2
+slice-aggregate-order-in-2 c = search needs
 
-enum-told : tie.Need-enum-told
-enum-told c = search needs
-
-slice-aggregate-of-graphs : tie.Need-slice-aggregate-of-graphs
-slice-aggregate-of-graphs c = search needs
-
-slice-aggregate-of-graphs-2 : tie.Need-slice-aggregate-of-graphs-2
-slice-aggregate-of-graphs-2 c = search needs
-
-of-graphs-requires : tie.Need-of-graphs-requires
-of-graphs-requires c κs = (c .before .before .before .before .before .before .before .before .before .before .before .args .n, (c .before .before .before .before .before .before .before .before .before .before .before .pre, both-loaded (c .before .before .before .before .before .before .before .before .before .before .before .args .n) (c .before .before .before .before .before .before .before .before .before .before .before .args .table .now) _ (c .before .before .before .before .before .before .before .before .before .before .before .args .first .now) (c .before .before .before .before .before .before .before .before .before .before .before .args .second .now) (c .before .before .before .before .read-both .ensures) (c .before .before .enum-told .given .1)))
+order-in-requires : tie.Need-order-in-requires
+order-in-requires c κs =
+    let short = c .before .before .before .are-short .ensures (c .before .before .if1 .taken) in
+    (c .before .before .before .before .before .before .before .pre, omega (arith, short .0, length-replicate {A = ℕ} 768 0), omega (arith, short .1, length-replicate {A = ℕ} 768 0))
 
 returns : tie.Need-returns
-returns c =
-    sym (both-refused (reads-plain (c .before .before .before .before .before .before .before .before .before .before .args .n) (c .before .before .before .before .before .before .before .before .before .before .args .table .now) _ (c .before .before .before .before .before .before .before .before .before .before .args .first .now) (c .before .before .before .before .before .before .before .before .before .before .args .second .now) refl (c .before .before .before .read-both .ensures)) (λ r. r) (ordered (c .before .before .before .before .before .before .before .before .before .before .args .n) (c .before .before .before .before .before .before .before .before .before .before .args .table .now)) _ _ (c .before .verdict .given .1))
+returns c = search needs
+
+slice-aggregate-order-in-3 : tie.Need-slice-aggregate-order-in-3
+slice-aggregate-order-in-3 c = search needs
+
+slice-aggregate-order-in-4 : tie.Need-slice-aggregate-order-in-4
+slice-aggregate-order-in-4 c = search needs
+
+order-in-requires-2 : tie.Need-order-in-requires-2
+order-in-requires-2 c κs = search needs
 
 returns-2 : tie.Need-returns-2
-returns-2 c =
-    let (one, other) = both-loaded (c .before .before .before .before .before .before .before .before .before .before .before .before .args .n) (c .before .before .before .before .before .before .before .before .before .before .before .before .args .table .now) _ (c .before .before .before .before .before .before .before .before .before .before .before .before .args .first .now) (c .before .before .before .before .before .before .before .before .before .before .before .before .args .second .now) (c .before .before .before .before .before .read-both .ensures) (c .before .before .before .enum-told .given .1) in
-    c .of-graphs .ensures (c .before .before .before .before .before .before .before .before .before .before .before .before .args .n) one other ∙
-    sym (both-next (reads-plain (c .before .before .before .before .before .before .before .before .before .before .before .before .args .n) (c .before .before .before .before .before .before .before .before .before .before .before .before .args .table .now) _ (c .before .before .before .before .before .before .before .before .before .before .before .before .args .first .now) (c .before .before .before .before .before .before .before .before .before .before .before .before .args .second .now) refl (c .before .before .before .before .before .read-both .ensures)) (λ r. r) (ordered (c .before .before .before .before .before .before .before .before .before .before .before .before .args .n) (c .before .before .before .before .before .before .before .before .before .before .before .before .args .table .now)) (c .before .before .before .enum-told .given .1))
+returns-2 c = search needs
 
 pub of-records-spec : {M : Type 1} → statement M
-of-records-spec = tie.close (tie.spec slice-aggregate-read-both read-both-requires enum-known-verdict enum-told slice-aggregate-of-graphs slice-aggregate-of-graphs-2 of-graphs-requires returns returns-2)
+of-records-spec = tie.close (tie.spec are-short-requires slice-aggregate-order-in slice-aggregate-order-in-2 order-in-requires returns slice-aggregate-order-in-3 slice-aggregate-order-in-4 order-in-requires-2 returns-2)

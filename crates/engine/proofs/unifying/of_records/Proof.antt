@@ -1,49 +1,45 @@
--- Two records are read, then their graphs go on where both are accepted.
-use mathlib.Core.Path.{sym, _∙_}
-use Rattle.lattice.proofs.Laws.{accepted-size}
-use Rattle.replies.specs.declared.Reply.{Reply}
-use Rattle.replies.specs.Reply.{refusing}
-use Rattle.pairs.proofs.Readings.{both-loaded, both-next, both-refused}
-use Rattle.engine.specs.Unifying.{unifiedRows}
+-- Both records are short or not: the words that are lent have room for their graphs.
+use Prim.Native.Nat.{ℕ}
+use native.Mathlib.Omega.{arith}
+use lib.ListN.{length-replicate}
 use borrow.Author.Needs.{needs}
 use Rattle.engine.proofs.unifying.of_records.Statement.{statement}
 use Rattle.engine.proofs.unifying.of_records.Tie as tie
 
-read-both-requires : tie.Need-read-both-requires
-read-both-requires c κs =
-    let start = c .before .before .before .before .before .before .before in
-    ((accepted-size (start .args .n) (start .args .table .now) (start .pre .0 .ok) .1, start .pre .1), search needs)
+are-short-requires : tie.Need-are-short-requires
+are-short-requires c κs = search needs
 
-enum-known-verdict : tie.Need-enum-known-verdict
-enum-known-verdict c = search needs
+slice-aggregate-combine-in : tie.Need-slice-aggregate-combine-in
+slice-aggregate-combine-in c = search needs
 
-enum-told : tie.Need-enum-told
-enum-told c = search needs
+slice-aggregate-combine-in-2 : tie.Need-slice-aggregate-combine-in-2
+slice-aggregate-combine-in-2 c = search needs
 
-slice-aggregate-of-graphs : tie.Need-slice-aggregate-of-graphs
-slice-aggregate-of-graphs c = search needs
-
-slice-aggregate-of-graphs-2 : tie.Need-slice-aggregate-of-graphs-2
-slice-aggregate-of-graphs-2 c = search needs
-
-of-graphs-requires : tie.Need-of-graphs-requires
-of-graphs-requires c κs =
-    let start = c .before .before .before .before .before .before .before .before .before .before .before .before .before in
-    ((start .args .table .now, start .pre .0), both-loaded (start .args .n) (start .args .table .now) (start .args .list .now) (start .args .first .now) (start .args .second .now) (c .before .before .before .before .before .read-both .ensures) (c .before .before .before .enum-told .given .1))
-
-returns : tie.Need-returns
-returns c =
-    let start = c .before .before .before .before .before .before .before .before .before .before .before in
-    sym (both-refused (c .before .before .before .read-both .ensures) (λ r. refusing r (start .args .out .now)) (unifiedRows (start .args .n) (start .args .table .now) (start .args .out .now)) _ _ (c .before .verdict .given .1))
+combine-in-requires : tie.Need-combine-in-requires
+combine-in-requires c κs =
+    let short = c .before .before .before .before .are-short .ensures (c .before .before .before .if1 .taken) in
+    (c .before .before .before .before .before .before .before .before .before .before .pre, (omega (arith, short .0, length-replicate {A = ℕ} 768 0), omega (arith, short .1, length-replicate {A = ℕ} 768 0)))
 
 same-length : tie.Need-same-length
 same-length c = search needs
 
+returns : tie.Need-returns
+returns c = search needs
+
+slice-aggregate-combine-in-3 : tie.Need-slice-aggregate-combine-in-3
+slice-aggregate-combine-in-3 c = search needs
+
+slice-aggregate-combine-in-4 : tie.Need-slice-aggregate-combine-in-4
+slice-aggregate-combine-in-4 c = search needs
+
+combine-in-requires-2 : tie.Need-combine-in-requires-2
+combine-in-requires-2 c κs = (c .before .before .before .before .before .before .before .before .before .before .pre, (omega (arith, length-replicate {A = ℕ} 2815 0), omega (arith, length-replicate {A = ℕ} 2815 0)))
+
+same-length-2 : tie.Need-same-length-2
+same-length-2 c = search needs
+
 returns-2 : tie.Need-returns-2
-returns-2 c =
-    let start = c .before .before .before .before .before .before .before .before .before .before .before .before .before .before .before .before in
-    c .before .before .of-graphs .ensures (start .args .table .now) (start .pre .0) ∙
-    sym (both-next (c .before .before .before .before .before .before .before .before .read-both .ensures) (λ r. refusing r (start .args .out .now)) (unifiedRows (start .args .n) (start .args .table .now) (start .args .out .now)) (c .before .before .before .before .before .before .enum-told .given .1))
+returns-2 c = search needs
 
 pub of-records-spec : {M : Type 1} → statement M
-of-records-spec = tie.close (tie.spec read-both-requires enum-known-verdict enum-told slice-aggregate-of-graphs slice-aggregate-of-graphs-2 of-graphs-requires returns same-length returns-2)
+of-records-spec = tie.close (tie.spec are-short-requires slice-aggregate-combine-in slice-aggregate-combine-in-2 combine-in-requires same-length returns slice-aggregate-combine-in-3 slice-aggregate-combine-in-4 combine-in-requires-2 same-length-2 returns-2)

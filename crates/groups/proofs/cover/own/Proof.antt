@@ -9,20 +9,23 @@ use Rattle.classes.proofs.forest.unite.Reads as unite-reads
 mul-x : tie.Need-mul-x
 mul-x c = search needs
 
-element-copy-out-x : tie.Need-element-copy-out-x
-element-copy-out-x c = search needs
+slice-read-x : tie.Need-slice-read-x
+slice-read-x c = search needs
 
 mul-owner : tie.Need-mul-owner
 mul-owner c = search needs
 
-element-write-owner : tie.Need-element-write-owner
-element-write-owner c = search needs
+slice-write-owner : tie.Need-slice-write-owner
+slice-write-owner c = search needs
 
 cast-unite : tie.Need-cast-unite
-cast-unite c = let f = c .before .before .before .pre .1 .1 in omega (arith, f .3 (λ e. omega (arith, c .before .if1 .left, e)), f .1 .few)
+cast-unite c = let f = c .before .before .before .before .pre .1 in omega (arith, f .3 (λ e. omega (arith, c .before .if1 .left, e)), f .1 .few)
 
 unite-requires : tie.Need-unite-requires
-unite-requires c κs = let f = c .before .before .before .pre .1 .1 in (f .0, f .1, f .3 (λ e. omega (arith, c .before .if1 .left, e)), f .2)
+unite-requires c κs = let f = c .before .before .before .before .pre .1 in (f .0, f .1, f .3 (λ e. omega (arith, c .before .if1 .left, e)), f .2)
+
+same-length : tie.Need-same-length
+same-length c = search needs
 
 returns : tie.Need-returns
 returns c = record { first = λ e. (refl, refl); later = λ d. absurd (d (c .if1 .taken)) }
@@ -35,10 +38,11 @@ own-spec =
     tie.close
     (tie.spec
     mul-x
-    element-copy-out-x
+    slice-read-x
     mul-owner
-    element-write-owner
+    slice-write-owner
     cast-unite
     unite-requires
+    same-length
     returns
     returns-2)

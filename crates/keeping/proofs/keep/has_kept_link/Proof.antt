@@ -20,8 +20,8 @@ loop-holds c = (search needs, λ i low high. absurd (omega arith))
 
 is-kept-requires : tie.Need-is-kept-requires Inv-loop μ-loop
 is-kept-requires c κs =
-    let start = c .before .before .before in
-    ((start .pre .0 .0, start .pre .0 .1), (search needs, search needs, start .pre .1 (c .before .loop .k) (c .before .loop .inv .0) (c .loop-test .taken)))
+    let start = c .before .before .before .before in
+    ((start .pre .0 .0, start .pre .0 .1), (search needs, start .pre .1 (c .before .loop .k) (c .before .loop .inv .0) (c .loop-test .taken)))
 
 returns : tie.Need-returns Inv-loop μ-loop
 returns c =

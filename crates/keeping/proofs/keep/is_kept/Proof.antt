@@ -7,8 +7,8 @@ use Rattle.graphs.proofs.Search.{true-false}
 use Rattle.keeping.proofs.keep.is_kept.Statement.{statement}
 use Rattle.keeping.proofs.keep.is_kept.Tie as tie
 
-element-copy-out-if1 : tie.Need-element-copy-out-if1
-element-copy-out-if1 c = search needs
+shared-slice-read-if1 : tie.Need-shared-slice-read-if1
+shared-slice-read-if1 c = search needs
 
 returns : tie.Need-returns
 returns c = record { yes-stands = λ e. true-false e refl; no-stands = λ e s. s .leads (c .if1 .taken) }
@@ -33,7 +33,7 @@ pub is-kept-spec : {M : Type 1} → statement M
 is-kept-spec =
     tie.close
     (tie.spec
-    element-copy-out-if1
+    shared-slice-read-if1
     returns
     mul-result
     shared-slice-read-result

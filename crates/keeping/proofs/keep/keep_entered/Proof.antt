@@ -24,15 +24,15 @@ abbrev μ-loop : tie.MeasureT-loop
 
 -- src/keep.rt:45:17
 shared-slice-read-nodes : tie.Need-shared-slice-read-nodes Inv-loop2 μ-loop2 Inv-loop μ-loop
-shared-slice-read-nodes c = let shaped = c .before .before .pre .sound .shaped in omega (arith, shaped .node 0 (shaped .nonempty) .listed)
+shared-slice-read-nodes c = let shaped = c .before .before .before .pre .sound .shaped in omega (arith, shaped .node 0 (shaped .nonempty) .listed)
 
 -- src/keep.rt:45:17
 cast-nodes : tie.Need-cast-nodes Inv-loop2 μ-loop2 Inv-loop μ-loop
-cast-nodes c = omega (arith, c .before .before .pre .small)
+cast-nodes c = omega (arith, c .before .before .before .pre .small)
 
 -- src/keep.rt:47:5
 loop-holds : tie.Need-loop-holds Inv-loop2 μ-loop2 Inv-loop μ-loop
-loop-holds c = (omega arith, c .before .before .pre, entering-start (c .before .before .pre) (length-replicate {A = ℕ} 255 0) (λ v h. getD-replicate {A = ℕ} 255 v 0 0 h))
+loop-holds c = (omega arith, c .before .before .before .pre, entering-start (c .before .before .before .pre) (length-replicate {A = ℕ} 255 0) (λ v h. getD-replicate {A = ℕ} 255 v 0 0 h))
 
 -- src/keep.rt:48:21
 add-end : tie.Need-add-end Inv-loop2 μ-loop2 Inv-loop μ-loop
@@ -48,7 +48,7 @@ shared-slice-read-end c = let node = c .before .before .loop .inv .1 .sound .sha
 
 -- src/keep.rt:48:19
 cast-end : tie.Need-cast-end Inv-loop2 μ-loop2 Inv-loop μ-loop
-cast-end c = omega (arith, c .shared-slice-known3 .given (c .before .before .loop .v + 2))
+cast-end c = omega (arith, c .shared-slice-known4 .given (c .before .before .loop .v + 2))
 
 -- src/keep.rt:49:23
 add-k : tie.Need-add-k Inv-loop2 μ-loop2 Inv-loop μ-loop
@@ -64,11 +64,11 @@ shared-slice-read-k c = let node = c .before .before .before .loop .inv .1 .soun
 
 -- src/keep.rt:49:21
 cast-k : tie.Need-cast-k Inv-loop2 μ-loop2 Inv-loop μ-loop
-cast-k c = omega (arith, c .shared-slice-known4 .given (c .before .before .before .loop .v + 1))
+cast-k c = omega (arith, c .shared-slice-known5 .given (c .before .before .before .loop .v + 1))
 
 -- src/keep.rt:49:21
 add-k-2 : tie.Need-add-k-2 Inv-loop2 μ-loop2 Inv-loop μ-loop
-add-k-2 c = omega (arith, c .shared-slice-known4 .given (c .before .before .before .loop .v + 1))
+add-k-2 c = omega (arith, c .shared-slice-known5 .given (c .before .before .before .loop .v + 1))
 
 -- src/keep.rt:50:9
 loop2-holds : tie.Need-loop2-holds Inv-loop2 μ-loop2 Inv-loop μ-loop
@@ -76,7 +76,7 @@ loop2-holds c = row-start (c .before .before .before .loop .v) (c .before .befor
 
 -- src/keep.rt:51:13
 keep-one-requires : tie.Need-keep-one-requires Inv-loop2 μ-loop2 Inv-loop μ-loop
-keep-one-requires c κs = let row = c .before .before .before .loop2 .inv in let place = row-place row (c .before .before .loop2-test .taken) in (((_, place .link), place .within, place .target), (place .few, row .ready .marks-long, row .entered-long, row .ready .keep-long))
+keep-one-requires c κs = let row = c .before .before .before .loop2 .inv in let place = row-place row (c .before .before .loop2-test .taken) in (((_, place .link), place .within, place .target), (row .ready .marks-long, row .entered-long, row .ready .keep-long))
 
 -- src/keep.rt:52:13
 add-k-3 : tie.Need-add-k-3 Inv-loop2 μ-loop2 Inv-loop μ-loop

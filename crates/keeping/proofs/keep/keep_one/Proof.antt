@@ -6,8 +6,8 @@ use Rattle.keeping.proofs.keep.keep_one.Statement.{statement}
 use Rattle.keeping.proofs.keep.keep_one.Tie as tie
 
 -- src/keep.rt:23:16
-element-copy-out-mark : tie.Need-element-copy-out-mark
-element-copy-out-mark c = search needs
+shared-slice-read-mark : tie.Need-shared-slice-read-mark
+shared-slice-read-mark c = search needs
 
 -- src/keep.rt:25:9
 returns : tie.Need-returns
@@ -57,7 +57,7 @@ pub keep-one-spec : {M : Type 1} → statement M
 keep-one-spec =
     tie.close
     (tie.spec
-    element-copy-out-mark
+    shared-slice-read-mark
     returns
     mul-v
     shared-slice-read-v

@@ -17,15 +17,15 @@ abbrev μ-loop : tie.MeasureT-loop
 
 -- src/keep.rt:123:17
 shared-slice-read-nodes : tie.Need-shared-slice-read-nodes Inv-loop μ-loop
-shared-slice-read-nodes c = let shaped = c .before .before .pre .0 .sound .shaped in omega (arith, shaped .node 0 (shaped .nonempty) .listed)
+shared-slice-read-nodes c = let shaped = c .before .before .before .pre .0 .sound .shaped in omega (arith, shaped .node 0 (shaped .nonempty) .listed)
 
 -- src/keep.rt:123:17
 cast-nodes : tie.Need-cast-nodes Inv-loop μ-loop
-cast-nodes c = omega (arith, c .before .before .pre .0 .small)
+cast-nodes c = omega (arith, c .before .before .before .pre .0 .small)
 
 -- src/keep.rt:125:5
 loop-holds : tie.Need-loop-holds Inv-loop μ-loop
-loop-holds c = (omega arith, c .before .before .pre .0, (c .before .before .pre .1, settled-start (c .before .before .pre .1) (c .before .before .pre .0 .keep-long)))
+loop-holds c = (omega arith, c .before .before .before .pre .0, (c .before .before .before .pre .1, settled-start (c .before .before .before .pre .1) (c .before .before .before .pre .0 .keep-long)))
 
 -- src/keep.rt:126:17
 mul-v : tie.Need-mul-v Inv-loop μ-loop
@@ -53,11 +53,11 @@ shared-slice-read-start c = let known = node-known (c .before .before .before .l
 
 -- src/keep.rt:127:21
 cast-start : tie.Need-cast-start Inv-loop μ-loop
-cast-start c = omega (arith, c .shared-slice-known3 .given (getD (c .before .before .before .before .before .before .args .order .now) (c .before .before .before .loop .i) 0 + 1))
+cast-start c = omega (arith, c .shared-slice-known4 .given (getD (c .before .before .before .before .before .before .before .args .order .now) (c .before .before .before .loop .i) 0 + 1))
 
 -- src/keep.rt:127:21
 add-start-2 : tie.Need-add-start-2 Inv-loop μ-loop
-add-start-2 c = omega (arith, c .shared-slice-known3 .given (getD (c .before .before .before .before .before .before .args .order .now) (c .before .before .before .loop .i) 0 + 1))
+add-start-2 c = omega (arith, c .shared-slice-known4 .given (getD (c .before .before .before .before .before .before .before .args .order .now) (c .before .before .before .loop .i) 0 + 1))
 
 -- src/keep.rt:128:21
 add-end : tie.Need-add-end Inv-loop μ-loop
@@ -73,11 +73,11 @@ shared-slice-read-end c = let known = node-known (c .before .before .before .bef
 
 -- src/keep.rt:128:19
 cast-end : tie.Need-cast-end Inv-loop μ-loop
-cast-end c = omega (arith, c .shared-slice-known4 .given (getD (c .before .before .before .before .before .before .before .args .order .now) (c .before .before .before .before .loop .i) 0 + 2))
+cast-end c = omega (arith, c .shared-slice-known5 .given (getD (c .before .before .before .before .before .before .before .before .args .order .now) (c .before .before .before .before .loop .i) 0 + 2))
 
 -- src/keep.rt:129:12
 has-kept-link-requires : tie.Need-has-kept-link-requires Inv-loop μ-loop
-has-kept-link-requires c κs = let known = node-known (c .before .before .before .before .before .loop .inv .1) _ (order-inside (c .before .before .before .before .before .loop .inv .2 .0) (c .before .before .before .before .loop-test .taken)) in let ready = c .before .before .before .before .before .loop .inv .1 in ((ready .marks-long, ready .keep-long, known .ended, known .node .ended), λ k low high. known .within k (omega (arith, low, known .node .begun)) high)
+has-kept-link-requires c κs = let known = node-known (c .before .before .before .before .before .loop .inv .1) _ (order-inside (c .before .before .before .before .before .loop .inv .2 .0) (c .before .before .before .before .loop-test .taken)) in let ready = c .before .before .before .before .before .loop .inv .1 in ((ready .marks-long, ready .keep-long, known .node .ended), λ k low high. known .within k (omega (arith, low, known .node .begun)) high)
 
 -- src/keep.rt:130:13
 element-write-keep : tie.Need-element-write-keep Inv-loop μ-loop

@@ -19,7 +19,7 @@ keep-entered-requires c κs = search needs
 
 -- src/keep.rt:152:26
 shared-slice-read-keep-labelled : tie.Need-shared-slice-read-keep-labelled
-shared-slice-read-keep-labelled c = let shaped = c .before .before .before .before .before .pre .1 .0 .0 .sound .shaped in omega (arith, shaped .node 0 (shaped .nonempty) .listed)
+shared-slice-read-keep-labelled c = let shaped = c .before .before .before .before .before .before .pre .1 .0 .0 .sound .shaped in omega (arith, shaped .node 0 (shaped .nonempty) .listed)
 
 -- src/keep.rt:152:26
 cast-keep-labelled : tie.Need-cast-keep-labelled
@@ -35,11 +35,11 @@ sort-targets-first-requires c κs = search needs
 
 -- src/keep.rt:156:5
 keep-parents-requires : tie.Need-keep-parents-requires
-keep-parents-requires c κs = (markable-with (c .before .before .before .before .before .before .before .before .before .before .before .pre .1 .0 .0) (c .before .before .before .before .keep-labelled .ensures .long), sorted-from (c .before .before .sort-targets-first .ensures .0) (c .before .before .before .before .before .before .before .before .before .before .before .pre .1 .1), c .before .before .sort-targets-first .ensures .1)
+keep-parents-requires c κs = (markable-with (c .before .before .before .before .before .before .before .before .before .before .before .before .pre .1 .0 .0) (c .before .before .before .before .keep-labelled .ensures .long), sorted-from (c .before .before .sort-targets-first .ensures .0) (c .before .before .before .before .before .before .before .before .before .before .before .before .pre .1 .1), c .before .before .sort-targets-first .ensures .1)
 
 -- src/keep.rt:137:1
 returns : tie.Need-returns
-returns c = let start = c .before .before .before .before .before .before .before .before .before .before .before .before in keeps-all (start .args .n) (start .args .table .now) (start .args .s .now) (start .args .marks .now) (start .args .labels .now) (start .args .keep .now) (start .pre .1 .0 .0 .small) (start .pre .1 .0 .0 .keep-long) (start .pre .1 .0 .1) (c .before .before .before .before .before .before .before .before .keep-entered .ensures) (c .before .before .before .before .before .keep-labelled .ensures) (c .keep-parents .ensures)
+returns c = let start = c .before .before .before .before .before .before .before .before .before .before .before .before .before in keeps-all (start .args .n) (start .args .table .now) (start .args .s .now) (start .args .marks .now) (start .args .labels .now) (start .args .keep .now) (start .pre .1 .0 .0 .small) (start .pre .1 .0 .0 .keep-long) (start .pre .1 .0 .1) (c .before .before .before .before .before .before .before .before .keep-entered .ensures) (c .before .before .before .before .before .keep-labelled .ensures) (c .keep-parents .ensures)
 
 pub kept-nodes-spec : {M : Type 1} → statement M
 kept-nodes-spec =

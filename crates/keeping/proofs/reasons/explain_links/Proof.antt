@@ -14,18 +14,18 @@ abbrev μ-loop : tie.MeasureT-loop
 μ-loop s marks words reasons₀ meeting nodes v₀ reasons v = nodes - v
 
 keep-entered-requires : tie.Need-keep-entered-requires Inv-loop μ-loop
-keep-entered-requires c κs = c .before .before .before .pre .0 _ (length-replicate {A = ℕ} 255 0)
+keep-entered-requires c κs = c .before .before .before .before .pre .0 _ (length-replicate {A = ℕ} 255 0)
 
 shared-slice-read-nodes : tie.Need-shared-slice-read-nodes Inv-loop μ-loop
 shared-slice-read-nodes c =
-    let ready = c .before .before .before .before .before .pre .0 (replicate 255 0) (length-replicate {A = ℕ} 255 0) in
+    let ready = c .before .before .before .before .before .before .pre .0 (replicate 255 0) (length-replicate {A = ℕ} 255 0) in
     omega (arith, node-known ready 0 (ready .sound .shaped .nonempty) .node .listed)
 
 cast-nodes : tie.Need-cast-nodes Inv-loop μ-loop
-cast-nodes c = let ready = c .before .before .before .before .before .pre .0 (replicate 255 0) (length-replicate {A = ℕ} 255 0) in omega (arith, ready .small)
+cast-nodes c = let ready = c .before .before .before .before .before .before .pre .0 (replicate 255 0) (length-replicate {A = ℕ} 255 0) in omega (arith, ready .small)
 
 loop-holds : tie.Need-loop-holds Inv-loop μ-loop
-loop-holds c = rows-begin (c .before .before .before .before .before .pre .0 _ (c .before .keep-entered .ensures .long)) (c .before .before .before .before .before .pre .1 .0) (c .before .before .before .before .before .pre .1 .1)
+loop-holds c = rows-begin (c .before .before .before .before .before .before .pre .0 _ (c .before .keep-entered .ensures .long)) (c .before .before .before .before .before .before .pre .1 .0) (c .before .before .before .before .before .before .pre .1 .1)
 
 explain-row-requires : tie.Need-explain-row-requires Inv-loop μ-loop
 explain-row-requires c κs =
