@@ -321,7 +321,7 @@ uint64_t record_order(size_t n, const uint8_t *table, size_t table_length,
 /* Writes the common part of two records: the paths in both, each with the join of
  * its two types and the smallest range holding both its ranges, two sharing exactly
  * when they share in both. It is the least graph above both. Answers the length, or
- * refuses by 1 to 7, 11 and 8. Takes 120 KiB of stack. */
+ * refuses by 1 to 7, 11 and 8. Takes 124 KiB of stack. */
 uint64_t record_generalize(size_t n, const uint8_t *table, size_t table_length,
                            const uint8_t *first, size_t first_length,
                            const uint8_t *second, size_t second_length,
@@ -354,7 +354,7 @@ uint64_t record_rewrite_appropriate(size_t n, const uint8_t *table, size_t table
 
 /* As `record_generalize`, of two records that obey an appropriateness list. The common
  * part obeys it too. Answers the length, or refuses by 1 to 3, by 17, by the first
- * record's 4 to 7 and 18, by the second's, then by 11 and 8. Takes 120 KiB of stack. */
+ * record's 4 to 7 and 18, by the second's, then by 11 and 8. Takes 124 KiB of stack. */
 uint64_t record_generalize_appropriate(size_t n, const uint8_t *table, size_t table_length,
                                        const uint8_t *list, size_t list_length,
                                        const uint8_t *first, size_t first_length,
@@ -466,7 +466,7 @@ uint64_t record_gathering_finish(const uint8_t *gathering, size_t gathering_leng
  * where the bytes hold no store, by 4 to 7 of the record, which counts as the second, by 20
  * for the version, then on the way of all programs by the first of 11, 13 and 21. Where the
  * version is the last, what was gone to know the store is the beginning of that way and is
- * gone once. Takes 244 KiB of stack. */
+ * gone once. Takes 256 KiB of stack. */
 uint64_t record_store_put(size_t n, const uint8_t *table, size_t table_length,
                           uint8_t *store, size_t store_length,
                           size_t version,
@@ -474,7 +474,7 @@ uint64_t record_store_put(size_t n, const uint8_t *table, size_t table_length,
 
 /* Writes the written record that was put as a version. Answers the record's length, or refuses
  * by 1 to 3, by 4 as the first where the bytes hold no store, by 20 for the version, then by
- * 8. Takes 236 KiB of stack. */
+ * 8. Takes 244 KiB of stack. */
 uint64_t record_store_read(size_t n, const uint8_t *table, size_t table_length,
                            const uint8_t *store, size_t store_length,
                            size_t version,
@@ -482,7 +482,7 @@ uint64_t record_store_read(size_t n, const uint8_t *table, size_t table_length,
 
 /* Drops a version. Answers how many bytes the store uses then; the others are unchanged.
  * Refuses by 1 to 3, by 4 as the first where the bytes hold no store, by 20 for the version,
- * then on the way of the others by the first of 11, 13 and 21. Takes 236 KiB of stack. */
+ * then on the way of the others by the first of 11, 13 and 21. Takes 244 KiB of stack. */
 uint64_t record_store_drop(size_t n, const uint8_t *table, size_t table_length,
                            uint8_t *store, size_t store_length,
                            size_t version);

@@ -150,7 +150,8 @@ fn generalize_in<'a>(
     requires { ⌜ Joinable n (joinIn n (now sets) (now cells)) (now a) (now b) ⌝ }
     requires { ⌜ Seekable true n (now sets) ⌝ }
     requires { ⌜ (512 ≤ length (now words)) × (length (now words) ≤ 65535) ⌝ }
-    ensures { λ r. ⌜ Found r (productOut (joinIn n (now (sets .entry)) (now (cells .entry))) (now (a .entry)) (now (b .entry)) (now (out .entry))) (length (now (words .entry))) (now (out .entry)) (now (out .exit)) ⌝ }
+    ensures { λ r. ⌜ Found r (productOut (joinIn n (now (sets .entry)) (now (cells .entry))) (now (a .entry)) (now (b .entry)) (now (out .entry)))
+        (length (now (words .entry))) (now (out .entry)) (now (out .exit)) ⌝ }
 {
     let mut marks = [CLEAR; 65025];
     let mut queue = [0u16; 255];

@@ -44,7 +44,7 @@ pub fn rewrite_appropriate(
 }
 
 /// Writes the common part of two records that obey an appropriateness list, as
-/// [`generalize`](crate::generalize) does. It obeys the list too. Takes 120 KiB of stack.
+/// [`generalize`](crate::generalize) does. It obeys the list too. Takes 124 KiB of stack.
 ///
 /// ```
 /// use record_engine::{FEATURES, GraphFault, Refusal, Side, generalize_appropriate};

@@ -53,7 +53,7 @@ pub fn order(n: usize, table: &[u8], first: &[u8], second: &[u8]) -> Result<Orde
 /// Writes the common part of two records, their generalization: the paths in
 /// both, each with the join of its two types and the smallest range holding both
 /// its ranges, two sharing exactly when they share in both. It is the least graph above
-/// both. Takes 120 KiB of stack.
+/// both. Takes 124 KiB of stack.
 ///
 /// ```
 /// let diamond = record_engine::table(&[0x01, 0x03, 0x05, 0x0F]).expect("at most 8 types");

@@ -215,7 +215,7 @@ fn number(bytes: &[u8]) -> usize {
 
 /// Stores a program under the number of a version, 0 to 15, that is absent, in bytes that the
 /// caller lends, and gives the number of used bytes; the others are unchanged. Two zero bytes
-/// are an empty store. Takes 244 KiB of stack.
+/// are an empty store. Takes 256 KiB of stack.
 ///
 /// ```
 /// use record_engine::{LONGEST_RECORD, Refusal, STORE_LENGTH, store_drop, store_put, store_read};
@@ -255,7 +255,7 @@ pub fn store_put(
 }
 
 /// Writes the program of a version in lent bytes as the written record that was put, and
-/// gives its length. Takes 236 KiB of stack.
+/// gives its length. Takes 244 KiB of stack.
 ///
 /// # Errors
 ///
@@ -275,7 +275,7 @@ pub fn store_read(
 }
 
 /// Removes a version from lent bytes, and gives the number of used bytes; the others are
-/// unchanged. Takes 236 KiB of stack.
+/// unchanged. Takes 244 KiB of stack.
 ///
 /// # Errors
 ///
