@@ -1,15 +1,17 @@
 //! Which definitions the statements about the calls are made of. A statement is the type of a public theorem in one of the statement
 //! files; it reaches the definitions that it names, and what those name in turn. Proofs and comments are not read.
 //!
-//! The list that a reader goes by stands in `docs/PROOFS.md`, in two parts. A definition of the part `computed` is a program that a theorem
-//! tells apart, so what it names is not gone into.
+//! The list of them stands in `docs/PROOFS.md`, in two parts. A definition of the part `computed` is a program whose result a theorem states,
+//! so what the program names is not gone into. `Document` reads what else `docs/PROOFS.md` refers to.
 
+mod document;
 mod list;
 mod source;
 
 use std::collections::{BTreeMap, BTreeSet};
 use std::path::{Path, PathBuf};
 
+pub use document::{Cited, Document, in_repository};
 pub use list::{List, Told};
 pub use source::{Kind, Place, Sources};
 

@@ -1,9 +1,10 @@
-//! The list in `docs/PROOFS.md`. Its part `### Believe` has a line for each file with the names of its definitions, its part `### Computed` one
-//! for each program with the theorem that tells it apart.
+//! The list in `docs/PROOFS.md`. Its part `### Believe` has an entry for each file with the names of its definitions. Its part `### Computed` has an
+//! entry for each program with the theorem that states its result.
 
+use crate::document::quoted;
 use std::collections::{BTreeMap, BTreeSet};
 
-/// A computed definition, and the theorem that tells it apart, each by file and name.
+/// A computed definition, and the theorem that states its result, each by file and name.
 #[derive(Clone, Debug, PartialEq, Eq)]
 pub struct Told {
     pub file: String,
@@ -16,15 +17,6 @@ pub struct Told {
 pub struct List {
     pub believe: BTreeMap<String, BTreeSet<String>>,
     pub computed: Vec<Told>,
-}
-
-/// The texts between backquotes.
-fn quoted(line: &str) -> Vec<String> {
-    line.split('`')
-        .skip(1)
-        .step_by(2)
-        .map(str::to_string)
-        .collect()
 }
 
 impl List {

@@ -77,6 +77,16 @@ impl Sources {
             .is_some_and(|d| d.kind == Kind::Theorem)
     }
 
+    /// The names of a file's public theorems.
+    pub fn theorems(&mut self, file: &str) -> Vec<String> {
+        self.file(file)
+            .declarations
+            .iter()
+            .filter(|(_, d)| d.kind == Kind::Theorem)
+            .map(|(name, _)| name.clone())
+            .collect()
+    }
+
     /// The definitions that the statements of a file name.
     pub fn statement_names(&mut self, file: &str) -> Vec<Place> {
         let words: Vec<String> = self
