@@ -7,7 +7,7 @@ use Rattle.lattice.specs.Reply.{opened}
 use Rattle.rows.specs.declared.Row.{Row}
 use Rattle.planning.specs.Importable.{Importable}
 
--- An accepted table of types, and rows and node bytes of which none of 4, 14, 15, 5, 6 and 7 applies.
+-- An accepted type table, and rows and node bytes to which none of 4, 14, 15, 5, 6 and 7 applies.
 pub record Lent (n : ℕ) (t nodes : List ℕ) (rows : List Row) : Type 0 where
   pub opens : opened n t ≡ Accepted
   pub importable : Importable n nodes rows
