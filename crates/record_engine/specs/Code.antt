@@ -1,4 +1,4 @@
--- One number, the code, for each reply. A length is its own code; it is at most 4,854. A refusal is 2³² + 256 × the side + its number in
+-- One number, the code, for each reply. A length is its own code; it is at most 16,384. A refusal is 2³² + 256 × the side + its number in
 -- documents 01 and 02. Same, under, above and neither are 2³³ and the three numbers after it, and the end of a listing is the next. Counts are
 -- 2³⁴ + 2¹⁶ × the nodes + the rows, each by its lowest 16 bits.
 use Prim.Native.Nat.{ℕ, _+_, _*_, _%_}
