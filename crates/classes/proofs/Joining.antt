@@ -40,7 +40,7 @@ ownRoot parent x = cond (eqb (rootOf parent x) x) 1 0
 pub rootCount : ℕ → List ℕ → ℕ
 rootCount nodes parent = sumTo nodes (ownRoot parent)
 
--- Room for the joins that are left. It is enough for fewer classes, for the next join, and for the joins after it.
+-- The room for the joins that are left is enough for fewer classes, for the next join, and for the joins after that.
 
 room-fewer : {classes less links used room : ℕ} → less ≤ classes → Roomy classes links used room → Roomy less links used room
 room-fewer {classes} {less} h r =

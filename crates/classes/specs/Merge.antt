@@ -25,13 +25,15 @@ Places room used a₀ a₁ b₀ b₁ = (k : ℕ) → k < used + 64 → k + (a₀
 abbrev pub featureOr : List ℕ → ℕ → ℕ → ℕ
 featureOr pool k end = cond (ltb k end) (featureAt pool k) 64
 
--- the word of a pair of nodes, and the two nodes of a pair that waits
+-- The word of a pair of nodes.
 abbrev pub pairWord : ℕ → ℕ → ℕ
 pairWord x y = x * scale + y
 
+-- The first node of the pair that waits at place i.
 abbrev pub leftAt : List ℕ → ℕ → ℕ
 leftAt waiting i = getD waiting i 0 / scale
 
+-- The second node of the pair that waits at place i.
 abbrev pub rightAt : List ℕ → ℕ → ℕ
 rightAt waiting i = getD waiting i 0 % scale
 

@@ -164,7 +164,7 @@ pub record Restores (n : ℕ) (t : List ℕ) (d g s : Graph Label ℕ) : Type 1 
       ((C : Type 0) (u : Graph Label C) → GreatestOfAnySize n t e g u → ⊥) → ⊥
 
 -- What the difference of the records a and b writes beside a length. The bytes are read as a graph for which `Restores` holds. Combined with a,
--- from either side, they give the written record of b byte for byte, whatever output is lent. The order agrees: b is below the bytes, and an
+-- from either side, the bytes give the written record of b byte for byte, whatever output is lent. The order agrees: b is below the bytes, and an
 -- accepted record that is strictly above the bytes, combined with a, gives a record that is strictly above b.
 pub record Difference (n : ℕ) (t a b : List ℕ) (g s : List (Row Label)) (bytes : List ℕ) : Type 1 where
   pub form : List (Row Label)

@@ -1,4 +1,4 @@
--- A lent table of rows that import accepts (document 02, Paper 2).
+-- A lent planning table that import accepts (document 02, Paper 2).
 use mathlib.Core.Path.{_≡_}
 use mathlib.Core.List.{List}
 use Prim.Native.Nat.{ℕ}

@@ -52,6 +52,7 @@ abbrev pub rewrittenTypes : Reading → List ℕ → Result
 rewrittenTypes (refused fault) out = refusing (reply.Graph fault First) out
 rewrittenTypes (accepted rows) out = typesResult (canonical eqb (graphOfTypes (typesIn rows))) out
 
+-- The call that rewrites a record.
 unfoldable pub rewritingTypes : ℕ → List ℕ → List ℕ → List ℕ → Result
 rewritingTypes n t bytes out = checked (λ r. refusing r out) (opened n t) (rewrittenTypes (readingTypes n bytes) out)
 
@@ -63,9 +64,11 @@ onTypes next g h = next (typesIn g) (typesIn h)
 abbrev pub typesBelow : ℕ → List ℕ → List (Row ℕ) → List (Row ℕ) → Bool
 typesBelow n t s g = liesBelow (typeLabels n t) 0 s g
 
+-- The order's answer for two graphs.
 abbrev pub orderedTypes : ℕ → List ℕ → List (Row ℕ) → List (Row ℕ) → Reply
 orderedTypes n t s g = compared (typesBelow n t s g) (typesBelow n t g s)
 
+-- The call for the order.
 unfoldable pub orderingTypes : ℕ → List ℕ → List ℕ → List ℕ → Reply
 orderingTypes n t a b =
     checked (λ r. r) (opened n t) (readBoth (λ r. r) (readingTypes n a) (readingTypes n b) (onTypes (orderedTypes n t)))
@@ -80,6 +83,7 @@ callTypes n t a b out next =
 abbrev pub generalizedTypes : ℕ → List ℕ → List ℕ → List (Row ℕ) → List (Row ℕ) → Result
 generalizedTypes n t out g h = typesResult (commonForm (typeLabels n t .join) 0 g h) out
 
+-- The call for the common part.
 unfoldable pub generalizingTypes : ℕ → List ℕ → List ℕ → List ℕ → List ℕ → Result
 generalizingTypes n t a b out = callTypes n t a b out (generalizedTypes n t out)
 
@@ -90,6 +94,7 @@ unifiedTypes n t out g h =
     (combinationOf (typeLabels n t .meet) (typeLabels n t .top) (typeLabels n t .contradiction) 0 g h)
     out
 
+-- The call for the combination.
 unfoldable pub unifyingTypes : ℕ → List ℕ → List ℕ → List ℕ → List ℕ → Result
 unifyingTypes n t a b out = callTypes n t a b out (unifiedTypes n t out)
 

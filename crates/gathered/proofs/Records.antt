@@ -1,4 +1,4 @@
--- What an addition writes is a written record. It does not depend on the bytes in the room, where the room has space for the longest record.
+-- An addition writes a written record, which does not depend on the bytes in the room, where the room has space for the longest record.
 use mathlib.Core.Path.{_≡_, refl, sym, _∙_, ap}
 use mathlib.Core.Bool.{Bool, true, cond}
 use mathlib.Core.List.{List, _++_}

@@ -46,6 +46,7 @@ abbrev pub takenBy : Option ℕ → Result → Option (List ℕ)
 takenBy none r = none
 takenBy (some l) r = some (take l (r .output))
 
+-- `takenBy`, by the length that the reply tells.
 abbrev pub taken : Result → Option (List ℕ)
 taken r = takenBy (lengthOf (r .reply)) r
 

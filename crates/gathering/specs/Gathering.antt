@@ -39,9 +39,11 @@ begun n t buffer =
 
 -- The parts of a state, whatever its bytes.
 
+-- The number of types.
 abbrev pub typesIn : List ℕ → ℕ
 typesIn state = getD state 0 0
 
+-- The table.
 abbrev pub tableIn : List ℕ → List ℕ
 tableIn state = take (8 * typesIn state) (drop 1 state)
 
@@ -53,12 +55,15 @@ headIn state = take (1 + 8 * typesIn state) state
 abbrev pub behindTable : List ℕ → List ℕ
 behindTable state = drop (8 * typesIn state) (drop 1 state)
 
+-- The room, which begins with the record of the common part so far.
 abbrev pub roomIn : List ℕ → List ℕ
 roomIn state = drop 2 (behindTable state)
 
+-- The number in the first two bytes, low byte first.
 abbrev pub lengthAt : List ℕ → ℕ
 lengthAt bytes = getD bytes 0 0 + 256 * getD bytes 1 0
 
+-- The first l bytes of the room; none where l is 0.
 abbrev pub firstOf : ℕ → List ℕ → Option (List ℕ)
 firstOf l room = cond (eqb l 0) none (some (take l room))
 
@@ -77,9 +82,11 @@ abbrev pub settledBy : List ℕ → Option ℕ → Result → Result
 settledBy state none r = refusing (r .reply) state
 settledBy state (some l) r = resulting (r .reply) (headIn state ++ (twoBytes l ++ r .output))
 
+-- `settledBy`, by the length that the reply tells.
 abbrev pub settled : List ℕ → Result → Result
 settled state r = settledBy state (lengthOf (r .reply)) r
 
+-- The call that adds a program: its reply, and the state after it.
 unfoldable pub adding : List ℕ → List ℕ → Result
 adding state bytes = settled state (joining (typesIn state) (tableIn state) (gatheredIn state) bytes (roomIn state))
 
@@ -89,10 +96,12 @@ abbrev pub nothingAfter : Reading → Reply
 nothingAfter (refused fault) = Graph fault First
 nothingAfter (accepted rows) = NothingGathered
 
+-- The order of a program to what is gathered, or 16 where nothing is gathered.
 abbrev pub comparedWith : ℕ → List ℕ → Option (List ℕ) → List ℕ → Reply
 comparedWith n t none bytes = checked (λ r. r) (opened n t) (nothingAfter (reading n bytes))
 comparedWith n t (some part) bytes = ordering n t bytes part
 
+-- The call for the order: its reply. The state stays as it was.
 unfoldable pub comparing : List ℕ → List ℕ → Reply
 comparing state bytes = comparedWith (typesIn state) (tableIn state) (gatheredIn state) bytes
 
@@ -101,10 +110,12 @@ abbrev pub writtenFrom : Reading → List ℕ → Result
 writtenFrom (refused fault) out = refusing (Graph fault Second) out
 writtenFrom (accepted rows) out = rewrittenRows out rows
 
+-- What is gathered, in written form, or 16 where nothing is gathered.
 abbrev pub finishedWith : ℕ → Option (List ℕ) → List ℕ → Result
 finishedWith n none out = refusing NothingGathered out
 finishedWith n (some part) out = writtenFrom (reading n part) out
 
+-- The call that finishes: its reply, and the output after it.
 unfoldable pub finishing : List ℕ → List ℕ → Result
 finishing state out =
     checked (λ r. refusing r out) (opened (typesIn state) (tableIn state)) (finishedWith (typesIn state) (gatheredIn state) out)

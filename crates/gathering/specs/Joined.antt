@@ -30,5 +30,6 @@ abbrev pub settledFor : ℕ → List ℕ → Reply → Option ℕ → Result
 settledFor at state reply none = refusing reply state
 settledFor at state reply (some l) = resulting reply (take at state ++ (twoBytes l ++ drop (at + 2) state))
 
+-- `settledFor`, by the length that the reply tells.
 abbrev pub settledAt : ℕ → List ℕ → Reply → Result
 settledAt at state reply = settledFor at state reply (lengthOf reply)

@@ -40,7 +40,7 @@ pub record Marked (marks queue : List ℕ) (count : ℕ) : Type 0 where
   pub placed : (i : ℕ) → i < count → getD marks (getD queue i 0) 0 ≡ i
   pub queued : (p : ℕ) → p < 65025 → (getD marks p 0 ≡ clear → ⊥) → (getD marks p 0 < count) × (getD queue (getD marks p 0) 0 ≡ p)
 
--- The pair is in the queue. It stands at the end where it was not there before.
+-- The pair is in the queue, at the end where it was not there before.
 pub record Enlisted (queue : List ℕ) (pair count : ℕ) (marks′ queue′ : List ℕ) (next : ℕ) : Type 0 where
   pub after : Marked marks′ queue′ next
   pub least : count ≤ next

@@ -1,5 +1,5 @@
-// The common part of document 01 (generalization). Its nodes are the pairs of nodes that one path leads to in both graphs; a queue finds them,
-// and each pair has a mark. This crate knows graphs in words and the joins that `bounds` holds; `encode` writes the result.
+// Builds the common part of document 01 (generalization), whose nodes are the pairs of nodes that one path leads to in both graphs. A queue finds
+// the pairs, and each pair has a mark. This crate knows graphs in words and the joins that `bounds` holds; `encode` writes the result.
 
 use encode::Written;
 use layout::Label;

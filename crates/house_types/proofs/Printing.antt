@@ -72,7 +72,7 @@ module _ {old entries new : List ℕ} {at k : ℕ} (p : Printing old entries new
           (puts-then (p .put) (puts-then d (puts-byte next part v)));
     }
 
--- at the end of the loop
+-- At the end of the loop the whole text is put.
 pub print-end : {old entries new : List ℕ} {at k : ℕ} → Printing old entries new at k → 4096 ≤ k → (at ≤ 12288) × Puts (textOf meets) 0 old at new
 print-end {old} {entries} {new} {at} {k} p l =
     let last : k ≡ 4096 = omega (arith, p .within) in

@@ -122,7 +122,7 @@ module _ (n F : ℕ) (t bytes : List ℕ) (rows : List (Row Label)) (ok : readin
   graph-once form e other listed means =
       listed .bytes-are ∙ sym (meaning-exact n t bytes other rows (listed .form) ok (listed .reads) form (listed .form) e (listed .own) .0 means)
 
--- The same for a graph of any size, on nodes of any type: its written form has at most three nodes, each link of a reached node has a feature
+-- Theorems on a graph of any size, on nodes of any type: its written form has at most three nodes, each link of a reached node has a feature
 -- below F, and no reached node has a range.
 module _ (n F : ℕ) (t : List ℕ) {A : Type 0} (same : A → A → Bool) (tells : TellsApart same) (g : Graph Label A) (size : OfAnySize n t g)
     (small : n ≤ 64) (form : List (Row Label)) (e : canonical same g ≡ written form) (few : length form ≤ 3)

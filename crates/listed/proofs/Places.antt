@@ -175,7 +175,7 @@ module _ (t₀ c₀ t₁ c₁ t₂ c₂ : ℕ) where
         )
     byte-third (suc (suc (suc (suc N)))) l h p r = absurd (omega arith)
 
--- The same facts, with the widths that the code computed.
+-- The lemmas above, with the widths that the code computed.
 module _ (t₀ c₀ t₁ c₁ t₂ c₂ N : ℕ) where
   abbrev bytesOf : List ℕ
   bytesOf = recordOf (numbered t₀ c₀ t₁ c₁ t₂ c₂ N)

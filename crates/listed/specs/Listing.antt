@@ -75,15 +75,19 @@ sets F = cond (eqb F 1) 1 3
 
 -- The least and the greatest number that may stand at a place: for the type of a node, which is there or not, and for the links of each node.
 
+-- The span of the type of a node, which is there or not.
 abbrev pub typeSpan : ℕ → Bool → ℕ × ℕ
 typeSpan n there = cond there (1, n - 1) (0, 0)
 
+-- The span of the root's links.
 abbrev pub rootSpan : ℕ → ℕ → ℕ × ℕ
 rootSpan F N = cond (eqb N 1) (0, 0) (1, cond (eqb N 3 && eqb F 2) 4 (sets F))
 
+-- The span of the links of node 1.
 abbrev pub middleSpan : ℕ → ℕ → ℕ → ℕ × ℕ
 middleSpan F N c₀ = cond (eqb N 3) (cond (eqb c₀ 4) 0 1, sets F) (0, 0)
 
+-- The span of the links of node 2.
 abbrev pub lastSpan : ℕ → ℕ → ℕ → ℕ × ℕ
 lastSpan N c₀ c₁ = cond (eqb N 3 && eqb c₀ 4 && eqb c₁ 0) (0, 3) (0, 0)
 

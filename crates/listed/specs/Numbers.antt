@@ -20,7 +20,7 @@ linkBytes v c = map (λ k. bitsFrom (linkSet v c) (8 * k) 8) (from 0 8) ++ map (
 abbrev pub rowBytes : ℕ → ℕ → ℕ → List ℕ
 rowBytes v t c = t ∷ linkBytes v c
 
--- The number of the root's links. It is 4 where the two targets differ.
+-- The number of the root's links, which is 4 where the two targets differ.
 abbrev pub rootLinks : List ℕ → ℕ
 rootLinks bytes = cond (eqb (getD bytes 2 0) 3 && not (eqb (getD bytes 10 0) (getD bytes 11 0))) 4 (getD bytes 2 0)
 

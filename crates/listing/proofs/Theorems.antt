@@ -1,4 +1,4 @@
--- The proofs of Paper 14, sentence by sentence. They are about `stepping`, which the call is proved equal to.
+-- The proofs of Paper 14, sentence by sentence, about `stepping`, which the call is proved equal to.
 use mathlib.Core.Path.{_≡_, refl, sym, _∙_, ap}
 use mathlib.Core.Bool.{Bool, true, false, cond, _||_}
 use mathlib.Core.List.{List, [], _∷_, _++_, List·Memᴰ}
@@ -370,7 +370,7 @@ pub record OneListed (n F : ℕ) (t : List ℕ) {A : Type 0} (g : GraphOn Label 
   pub means : SameMeaning (tableLabels n t) g (graph.graphOfRows (listed .form))
   pub alone : (other : List ℕ) (also : Listed n F other) → SameMeaning (tableLabels n t) g (graph.graphOfRows (also .form)) → other ≡ bytes
 
--- This holds for an accepted record with at most three nodes, features below F and no range.
+-- An accepted record with at most three nodes, features below F and no range has the meaning of one listed record and no other.
 pub record-once : (n F : ℕ) (t bytes : List ℕ) (rows : List (Row Label)) → graph.reading n bytes ≡ graph.accepted rows → length rows ≤ 3 →
     featuresBelow F rows ≡ true → unrangedRows rows ≡ true → OneListed n F t (graph.graphOfRows rows)
 record-once n F t bytes rows ok few below full =
@@ -378,8 +378,8 @@ record-once n F t bytes rows ok few below full =
     let (l, m) = meaning.graph-listed n F t bytes rows ok few below full form e in
     record { bytes = encoded form; listed = l; means = m; alone = meaning.graph-once n F t bytes rows ok few below full form e }
 
--- This holds for a graph of any size, on nodes of any type, that reaches at most three nodes: some list of at most three has them all. Each link
--- of a reached node has a feature below F, and no reached node has a range.
+-- A graph of any size, on nodes of any type, has the meaning of one listed record and no other, if some list of at most three nodes has all its
+-- reached nodes, each link of a reached node has a feature below F, and no reached node has a range.
 pub graph-once : (n F : ℕ) (t : List ℕ) {A : Type 0} (same : A → A → Bool) → TellsApart same → (g : GraphOn Label A) → OfAnySize n t g → n ≤ 64 →
     (nodes : List A) → ((v : A) → Reached g v → List·Memᴰ v nodes) → length nodes ≤ 3 →
     ((v w : A) (f : ℕ) → Reached g v → g .link v f ≡ some w → f < F) → ((v : A) → Reached g v → isFull (g .label v) ≡ true) → OneListed n F t g

@@ -54,7 +54,7 @@ pub fn are_within(n: usize, features: usize, d: Numbers) -> bool
     is_within(last_span(nodes, links0, links1), d.links2)
 }
 
-// These numbers, with the least for node 2.
+// The given numbers, with the least for node 2.
 fn from_type2(nodes: usize, type0: usize, links0: usize, type1: usize, links1: usize) -> Numbers
     ensures { λ r. ⌜ numberList r ≡ nodes ∷ type0 ∷ links0 ∷ type1 ∷ links1 ∷ leastBehind1 nodes ⌝ }
 {
@@ -70,7 +70,7 @@ fn from_type2(nodes: usize, type0: usize, links0: usize, type1: usize, links1: u
     }
 }
 
-// These numbers, with the least for the links of node 1 and for node 2.
+// The given numbers, with the least for the links of node 1 and for node 2.
 fn from_links1(features: usize, nodes: usize, type0: usize, links0: usize, type1: usize) -> Numbers
     ensures { λ r. ⌜ numberList r ≡ nodes ∷ type0 ∷ links0 ∷ type1 ∷ leastLinks1 features nodes links0 ⌝ }
 {
@@ -79,7 +79,7 @@ fn from_links1(features: usize, nodes: usize, type0: usize, links0: usize, type1
     from_type2(nodes, type0, links0, type1, low)
 }
 
-// These numbers, with the least for nodes 1 and 2.
+// The given numbers, with the least for nodes 1 and 2.
 fn from_type1(features: usize, nodes: usize, type0: usize, links0: usize) -> Numbers
     ensures { λ r. ⌜ numberList r ≡ nodes ∷ type0 ∷ links0 ∷ leastType1 features nodes links0 ⌝ }
 {
@@ -89,7 +89,7 @@ fn from_type1(features: usize, nodes: usize, type0: usize, links0: usize) -> Num
     from_links1(features, nodes, type0, links0, 0)
 }
 
-// These numbers, with the least for the root's links and for nodes 1 and 2.
+// The given numbers, with the least for the root's links and for nodes 1 and 2.
 pub fn from_links0(features: usize, nodes: usize, type0: usize) -> Numbers
     ensures { λ r. ⌜ numberList r ≡ nodes ∷ type0 ∷ leastLinks0 features nodes ⌝ }
 {

@@ -49,6 +49,7 @@ pub record Exported : Type 0 where
   pub rows : List lent.Row
   pub nodes : List ℕ
 
+-- This reply with these rows and node bytes.
 abbrev pub exportedAs : Reply → List lent.Row → List ℕ → Exported
 exportedAs reply rows nodes = record { reply = reply; rows = rows; nodes = nodes }
 

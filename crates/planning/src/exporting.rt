@@ -35,7 +35,7 @@ fn refuse(answer: Reply) -> Made
     }
 }
 
-// Export of a graph in words. Its nodes get the numbers of the written record; 8 is the only refusal left.
+// Export of a graph in words: the nodes get the numbers of the written record, and then 8 is checked.
 fn export_graph(graph: &[u16], room: usize, nodes: &mut [u8]) -> Made
     requires { ⌜ Sound (now graph) × (length (now graph) ≤ longest) ⌝ }
     ensures { λ r. ⌜ Makes (λ rows. exportedRows (rowsOf (now (graph .entry))) rows (now (nodes .entry))) room (r .answer) (r .count) (r .at) (now (nodes .exit)) ⌝ }

@@ -16,6 +16,7 @@ pub record YieldBoth : Type 0 where
   pub output : List ℕ
   pub reasons : List ℕ
 
+-- This code with these outputs.
 abbrev pub yieldingBoth : ℕ → List ℕ → List ℕ → YieldBoth
 yieldingBoth answer output reasons = record { answer = answer; output = output; reasons = reasons }
 

@@ -13,6 +13,7 @@ pub record YieldRows : Type 0 where
   pub rows : List lent.Row
   pub nodes : List ℕ
 
+-- This code with these rows and node bytes.
 abbrev pub yieldingRows : ℕ → List lent.Row → List ℕ → YieldRows
 yieldingRows answer rows nodes = record { answer = answer; rows = rows; nodes = nodes }
 

@@ -384,6 +384,7 @@ fn refusal(number: u64, side: u64) -> u64
     4294967296 + 256 * side + number
 }
 
+// The number of a side: 1 for the first graph, 2 for the second.
 fn side_number(side: Side) -> u64
     ensures is { λ r. ⌜ r ≡ sideNumber side ⌝ }
     ensures small { λ r. ⌜ r < 256 ⌝ }

@@ -38,7 +38,7 @@ record-count (low ∷ high ∷ rest) p e = go (leb (low + 256 * high) 8192) refl
     go true h q = omega (arith, leb-true (low + 256 * high) 8192 h, bytes-count (low + 256 * high) rest p q)
     go false h q = absurd (none-some q)
 
--- An input of more than 18,430 bytes is bad. Its second byte is n.
+-- An input of more than 18,430 bytes is bad, where its second byte, n, is below 256.
 long-bad : (input : List ℕ) → getD input 1 0 < 256 → 18430 < length input → requested input ≡ none
 unfolding requested askedOf
 long-bad [] small long = refl

@@ -128,6 +128,7 @@ pub record Case : Type 0 where
 abbrev pub lent : List ℕ
 lent = replicate 40 0xEE
 
+-- The call of the case gives the answer of the case, in the lent output.
 abbrev pub Holds : Case → Type 0
 Holds c = Answers lent (c .answer) (c .call (c .types .count) (c .types .table) (c .first) (c .second) lent)
 
@@ -342,6 +343,7 @@ threeChain = 3 ∷ node 1 0x01 (1 ∷ []) ++ node 1 0x01 (2 ∷ []) ++ leaf 1
 abbrev pub stepsOver : ℕ → List ℕ → Result
 stepsOver F bytes = stepping (twoTypes .count) (twoTypes .table) F bytes lent
 
+-- With F of 1, the call gives `next` for this record.
 abbrev pub Follows : List ℕ → List ℕ → Type 0
 Follows bytes next = stepsOver 1 bytes ≡ resulting (Length (length next)) (next ++ drop (length next) lent)
 

@@ -96,7 +96,7 @@ module _ (n : ℕ) (t : List ℕ) where
     unfolding fetching
     fetching-is version out = ap (given out) (past-checks (λ ps. onPresent (getD ps version none) made))
 
-    -- Once `m` is settled the buffer has the same length. It holds `qs` where a length is told, else the programs as they were.
+    -- Once `m` is settled, the buffer has the same length, and holds `qs` where a length is told, else the programs as they were.
     abbrev After : Made → Programs → Type 0
     After m qs =
         (length (settled buffer m .output) ≡ length buffer) × Holds n t (settled buffer m .output) (whereGiven (lengthOf (settled buffer m .reply)) ps qs)
@@ -129,7 +129,7 @@ module _ (n : ℕ) (t : List ℕ) where
     unchanged none = refl
     unchanged (some l) = refl
 
-    -- After a call the buffer has the same length. It holds the programs that the call makes where the reply is a length, else the programs as
+    -- After a call the buffer has the same length, and holds the programs that the call makes where the reply is a length, else the programs as
     -- they were.
     pub called-holds : (c : Call) → (length (called n t buffer c .output) ≡ length buffer) ×
         Holds n t (called n t buffer c .output) (whereGiven (lengthOf (called n t buffer c .reply)) ps (done n t c ps))

@@ -40,7 +40,7 @@ abbrev pub HoldsNone : ℕ → List ℕ → List ℕ → Type 0
 HoldsNone n t buffer = (ps : Programs) → Holds n t buffer ps → ⊥
 
 -- "Each step of that way stores the common part of its programs, folded in version order, and every program's difference from it." In a room of
--- so many bytes, the way has passed these versions. It has their common part so far, if a version exists, and the state that stores them.
+-- so many bytes, the way has passed these versions, and has their common part so far, if a version exists, and the state that stores them.
 pub data Passed (n : ℕ) (t : List ℕ) (room : ℕ) : Programs → Option (List ℕ) → List ℕ → Type 0 where
   start : Passed n t room [] none emptyState
   absent : (behind : Programs) (part : Option (List ℕ)) (state : List ℕ) → Passed n t room behind part state → Passed n t room (behind ++ none ∷ []) part state

@@ -1,4 +1,4 @@
-// The graph of the classes in words. Its nodes are the nodes of both graphs; those that represent no class have no links.
+// Builds the graph of the classes in words, whose nodes are the nodes of both graphs. Nodes that represent no class have no links.
 
 use crate::labels::LABELS;
 use layout::HEADER;

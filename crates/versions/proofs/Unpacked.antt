@@ -43,7 +43,7 @@ take-measured-none (low ∷ high ∷ rest) h =
     ap (λ (b : Bool). cond b (some (take (low + 256 * high) rest, drop (low + 256 * high) rest)) none)
     (lt-leb (low + 256 * high) (length rest) (omega (arith, h)))
 
--- The same for a record at a place, up to the place where it ends.
+-- A record that stands at `at` behind its length, up to the place where it ends.
 module _ (bytes : List ℕ) (at end : ℕ) (inside : at ≤ length bytes) (ends : EndsAt bytes at end) where
   pub measured-short : end ≡ 0 → takeMeasured (drop at bytes) ≡ none
   measured-short e = take-measured-none (drop at bytes) (omega (arith, ends .early e, inside, length-drop at bytes))

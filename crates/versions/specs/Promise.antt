@@ -27,6 +27,7 @@ abbrev pub onwardBy : Option ℕ → Reply → (ℕ → Made) → Made
 onwardBy none r next = stopped r
 onwardBy (some l) r next = next l
 
+-- `onwardBy`, by the length that the reply tells.
 abbrev pub onward : Reply → (ℕ → Made) → Made
 onward r next = onwardBy (lengthOf r) r next
 

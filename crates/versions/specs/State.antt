@@ -33,16 +33,19 @@ abbrev pub takenBy : Option ℕ → Result → Made
 takenBy none r = stopped (r .reply)
 takenBy (some l) r = made (take l (r .output))
 
+-- `takenBy`, by the length that the reply tells.
 abbrev pub taken : Result → Made
 taken r = takenBy (lengthOf (r .reply)) r
 
--- The records that the calls of document 01 write into room for the longest record.
+-- The record of the common part of a and b. This call of document 01, and the two below, write into room for the longest record.
 unfoldable pub commonPart : ℕ → List ℕ → List ℕ → List ℕ → Made
 commonPart n t a b = taken (generalizing n t a b blank)
 
+-- The record of the combination of a and b.
 unfoldable pub combination : ℕ → List ℕ → List ℕ → List ℕ → Made
 combination n t a b = taken (unifying n t a b blank)
 
+-- The record of the difference of g and s.
 unfoldable pub differenceOf : ℕ → List ℕ → List ℕ → List ℕ → Made
 differenceOf n t g s = taken (differing n t g s blank)
 

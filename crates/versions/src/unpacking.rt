@@ -44,7 +44,7 @@ pub fn unpack(n: usize, table: &[u8], buffer: &[u8], slots: &mut [u8]) -> bool
     }
 }
 
-// Restores the programs of the versions in a map. Their differences stand one after another, each behind its length.
+// Restores the programs of the versions in a map. The differences stand one after another, each behind its length.
 fn restore_all<'a>(
     n: usize,
     table: &[u8],

@@ -1,5 +1,5 @@
 // The way of a store's programs (document 02, Paper 11) is an empty store into which the programs are put in version order. A buffer holds
-// programs where their way ends in its first bytes. This crate goes the way and opens a buffer. It knows tables, records, the operations on them
+// programs where their way ends in its first bytes. This crate goes the way and opens a buffer, and knows tables, records, the operations on them
 // and the state of a store.
 
 use replies::Reply;

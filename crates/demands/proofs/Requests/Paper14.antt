@@ -103,7 +103,7 @@ module _ (n : ℕ) (t : List ℕ) (opens : opened n t ≡ Accepted) (F : ℕ) (c
   record-comes-up = Steps.record-once n F t
 
 module _ (n : ℕ) (t : List ℕ) (F : ℕ) (bytes out : List ℕ) where
-  -- Whatever is handed in, the output stays as it was where no record is given.
+  -- Whatever is handed in, the output stays as it was where the reply is not a length.
   pub output-kept : ((l : ℕ) → stepping n t F bytes out .reply ≡ Length l → ⊥) → stepping n t F bytes out .output ≡ out
   output-kept = Steps.output-kept n t F bytes out
 
