@@ -40,7 +40,7 @@ pub record Listed (n F : ℕ) (bytes : List ℕ) : Type 0 where
   pub features : featuresBelow F form ≡ true
   pub unranged : unrangedRows form ≡ true
 
--- r is the least listed record above the bytes. Above no bytes it is the least of all.
+-- r is the least listed record above the bytes; above no bytes, this is the least of all.
 pub record LeastAbove (n F : ℕ) (bytes r : List ℕ) : Type 0 where
   pub listed : Listed n F r
   pub above : precedes bytes r ≡ true

@@ -318,8 +318,9 @@ spreads types = distributive (types .count) (types .table)
 abbrev pub setsOf : Types → List ℕ
 setsOf types = map (setOf (types .count) (types .table)) (upto (types .count))
 
--- Paper 12: the meet spreads over the join in the diamond, but not in the tables with three rival types. A set has one bit for each irreducible
--- type: 1 and 2 in the diamond, whose top is their join; with three rivals over a type, that type has a bit too.
+-- Paper 12: the meet spreads over the join in the diamond, but not in the tables with three rival types. The bits of a type's set are the
+-- irreducible types below or equal to it. In the diamond these are 1 and 2, whose join is top; with three rivals over a type, that type is
+-- irreducible too.
 pub record AsSets : Type 0 where
   pub diamond-spreads : spreads diamond ≡ true
   pub rivals-do-not : spreads threeMiddles ≡ false

@@ -18,7 +18,7 @@ pub record Puts (bytes : List ℕ) (at : ℕ) (old new : List ℕ) : Type 0 wher
   pub put : at + 2 + length bytes ≤ length old → new ≡ take at old ++ (measured bytes ++ drop (at + 2 + length bytes) old)
   pub kept : length old < at + 2 + length bytes → new ≡ old
 
--- The first `at` bytes of a state. Where it has fewer, a list that is longer than the state, so it does not fit.
+-- The first `at` bytes of a state; where the state has fewer, a list of zeros that is longer than the state and so does not fit.
 unfoldable pub standing : ℕ → List ℕ → List ℕ
 standing at state = cond (leb at (length state)) (take at state) (replicate (suc (length state)) 0)
 

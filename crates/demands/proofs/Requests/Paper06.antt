@@ -1,5 +1,5 @@
--- Paper 6: tables with three rival types. Over every accepted table, the difference restores and is most general, or 13 is given because some
--- node of s has no wanted type. a is the general record, b the specific one.
+-- Paper 6: tables with three rival types. Over every accepted table, where s is below g, the difference restores and is most general, or 13 is
+-- given because some node of s has no wanted type. a is the general record, b the specific one.
 use mathlib.Core.Path.{_≡_, refl}
 use mathlib.Core.Bool.{true}
 use mathlib.Core.List.{List}
