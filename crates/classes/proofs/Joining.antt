@@ -1,6 +1,6 @@
--- The classes while pairs of nodes wait to be joined. Nodes of one class, and nodes that wait as a pair, are the same by the
--- relation of the links; and every function that is constant on classes and on the pairs is constant on what the
--- classes' rows are to join (`kept`). With no pair waiting the root is such a function.
+-- The classes while pairs of nodes wait to be joined. Nodes of one class, and nodes that wait as a pair, are the same by the relation of the
+-- links. Every function that is constant on the classes and on the waiting pairs is constant on all that the classes' rows have yet to join
+-- (`kept`). With no pair waiting, the root is such a function.
 use mathlib.Core.Path.{_≡_, refl, sym, _∙_, ap, ap₂, subst}
 use mathlib.Core.Bool.{Bool, true, false, cond}
 use mathlib.Core.List.{List}
@@ -32,7 +32,7 @@ use Rattle.classes.proofs.Roots.{
 use Rattle.classes.proofs.Sums.{sum-same, sum-most, sum-one, sum-two, sum-change, sum-changes}
 use Rattle.classes.proofs.Merging.{feature-same, target-same, merged-known, merged-short}
 
--- 1 for a root
+-- 1 for a root, else 0.
 abbrev ownRoot : List ℕ → ℕ → ℕ
 ownRoot parent x = cond (eqb (rootOf parent x) x) 1 0
 
@@ -40,7 +40,7 @@ ownRoot parent x = cond (eqb (rootOf parent x) x) 1 0
 pub rootCount : ℕ → List ℕ → ℕ
 rootCount nodes parent = sumTo nodes (ownRoot parent)
 
--- Room for the joins that are left: for as many classes or fewer, at the next join, and after it.
+-- The room for the joins that are left is enough for fewer classes, for the next join, and for the joins after that.
 
 room-fewer : {classes less links used room : ℕ} → less ≤ classes → Roomy classes links used room → Roomy less links used room
 room-fewer {classes} {less} h r =
@@ -50,7 +50,7 @@ room-fewer {classes} {less} h r =
       fits = omega (arith, r .fits, mul-le-mul-left {m = less - 1} {n = classes - 1} (r .width) (omega arith));
     }
 
--- one class less is so many places less
+-- One class less takes `width` places less.
 width-once : (width classes : ℕ) → 2 ≤ classes → width * (classes - 1) ≡ width * ((classes - 1) - 1) + width
 width-once width classes h =
     let e : classes - 1 ≡ suc ((classes - 1) - 1) = omega arith in ap (λ (n : ℕ). width * n) e ∙ mul-suc width ((classes - 1) - 1)
@@ -87,7 +87,7 @@ pub record Asks (start end pool waiting : List ℕ) (used count lo hi : ℕ) : T
   pub places : Places (length pool) used (getD start lo 0) (getD end lo 0) (getD start hi 0) (getD end hi 0)
   pub pairs : count + getD end hi 0 ≤ length waiting + getD start hi 0
 
--- What joining two classes leaves: their rows merged, the greater's node below the lesser's.
+-- What joining two classes leaves: their rows are merged, and the greater node gets the lesser one as its parent.
 pub record Joins (lo hi : ℕ) (parent start end pool waiting : List ℕ) (used count : ℕ) (parent′ start′ end′ pool′ waiting′ : List ℕ)
     (at top : ℕ) : Type 0 where
   pub merged : Merged (getD start lo 0) (getD end lo 0) (getD start hi 0) (getD end hi 0) pool waiting used count pool′ waiting′ at top
@@ -125,7 +125,7 @@ module _ (nodes second : ℕ) (start₀ end₀ pool₀ : List ℕ) where
         ((h : ℕ → ℕ) → Respects nodes parent waiting count h → h (targetAt pool k) ≡ h (targetAt pool₀ j))
     pub together : (h : ℕ → ℕ) → Respects nodes parent waiting count h → h 0 ≡ h second
 
--- Every node is a class of its own, and the two roots wait.
+-- At the start, every node is a class of its own, and the two roots wait.
 pub join-start : {nodes second : ℕ} {start end pool : List ℕ} {links : ℕ} → Rows nodes start end pool links →
     second < nodes → links ≤ 5116 → linksOf nodes start end ≤ 4096 → Roomy nodes (linksOf nodes start end) links (length pool) →
     (parent waiting : List ℕ) → length parent ≡ 510 → ((x : ℕ) → x < nodes → getD parent x 0 ≡ x) →
@@ -192,7 +192,7 @@ module _ {nodes second : ℕ} {start₀ end₀ pool₀ parent start end pool wai
   root-in : (x : ℕ) → x < nodes → rootOf parent x < nodes
   root-in x h = omega (arith, root-low (s .forest) x h)
 
-  -- Another forest with the same roots.
+  -- The state holds for another forest with the same roots.
   pub join-roots : {later : List ℕ} → SameRoots nodes parent later →
       Joining nodes second start₀ end₀ pool₀ later start end pool waiting used count
   unfolding rootCount
@@ -232,7 +232,7 @@ module _ {nodes second : ℕ} {start₀ end₀ pool₀ parent start end pool wai
       respects f q =
           record { classes = λ x h. ap f (sym (r .same x h)) ∙ q .classes x h; pairs = q .pairs }
 
-  -- The last pair is of one class already.
+  -- The nodes of the last pair are in one class already.
   pub join-skip : 0 < count → rootOf parent (leftAt waiting (count - 1)) ≡ rootOf parent (rightAt waiting (count - 1)) →
       Joining nodes second start₀ end₀ pool₀ parent start end pool waiting used (count - 1)
   join-skip some e =
@@ -265,7 +265,7 @@ module _ {nodes second : ℕ} {start₀ end₀ pool₀ parent start end pool wai
               q .classes (rightAt waiting (count - 1)) (s .right-in (count - 1) (omega arith)))
           go i h (no d) = q .pairs i (omega arith)
 
-  -- The last pair is of two classes, which are represented by lo and hi.
+  -- The nodes of the last pair are in two classes, which lo and hi represent.
   module _ (some : 0 < count) (lo hi : ℕ) (less : lo < hi)
       (meets : ((lo ≡ rootOf parent (leftAt waiting (count - 1))) × (hi ≡ rootOf parent (rightAt waiting (count - 1)))) ⊎
       ((hi ≡ rootOf parent (leftAt waiting (count - 1))) × (lo ≡ rootOf parent (rightAt waiting (count - 1))))) where
@@ -320,7 +320,7 @@ module _ {nodes second : ℕ} {start₀ end₀ pool₀ parent start end pool wai
     unfolding rootCount
     two = omega (arith, sum-two nodes lo hi (ownRoot parent) less hi-in, own-one lo (found .2), own-one hi (found .3))
 
-    -- both rows together have no more links than all
+    -- Both rows together have no more links than all nodes have.
     both-few : (getD end lo 0 - getD start lo 0) + (getD end hi 0 - getD start hi 0) ≤ linksOf nodes start₀ end₀
     both-few =
         omega (
@@ -380,7 +380,7 @@ module _ {nodes second : ℕ} {start₀ end₀ pool₀ parent start end pool wai
       end-other : (x : ℕ) → (x ≡ lo → ⊥) → getD (set end lo at) x 0 ≡ getD end x 0
       end-other x d = unstored end lo at x d
 
-      -- a place of the merged row, and of another
+      -- The places of the merged row, and those of another row.
       at-lo : (k : ℕ) → used ≤ k → k < at → At (set start lo used) (set end lo at) lo k
       at-lo k low high = (omega (arith, start-lo), omega (arith, end-lo))
 
@@ -455,7 +455,7 @@ module _ {nodes second : ℕ} {start₀ end₀ pool₀ parent start end pool wai
               let row = of-other x k d place in
               omega (arith, target-same (m .pool-kept k (old x k h row)), s .rows .within x k h row)
 
-      -- the classes left
+      -- The classes that are left.
       own-same : (x : ℕ) → x < nodes → (x ≡ hi → ⊥) → eqb (rootOf parent x) x ≡ eqb (rootOf (set parent hi lo) x) x
       own-same x h d = go (ℕ-discrete (rootOf parent x) hi)
         where
@@ -512,7 +512,7 @@ module _ {nodes second : ℕ} {start₀ end₀ pool₀ parent start end pool wai
           gone : rowLength (rootOf (set parent hi lo)) (set start lo used) (set end lo at) hi ≡ 0
           gone = ap (λ (t : Bool). cond t (getD (set end lo at) hi 0 - getD (set start lo used) hi 0) 0) own-hi
 
-      -- a function that respects what is left respects what was
+      -- A function that respects the classes and pairs after the join respects those before it.
       respects : (f : ℕ → ℕ) → Respects nodes (set parent hi lo) waiting′ top f → Respects nodes parent waiting count f
       respects f q = record { classes = λ x h. class x h (ℕ-discrete (rootOf parent x) hi); pairs = λ i h. pair i h (ℕ-discrete i (count - 1)) }
         where
@@ -667,7 +667,7 @@ module _ {nodes second : ℕ} {start₀ end₀ pool₀ parent start end pool wai
     join-fewer {parent′} {top = top} j =
         omega (arith, fewer (j .merged), ap (rootCount nodes) (j .parent-is), joined-state (j .merged) .short, s .linked)
 
-  -- Nothing waits, and each node is right below its root.
+  -- No pair waits, and each node is right below its root.
   pub join-done : {links : ℕ} → Rows nodes start₀ end₀ pool₀ links → second < nodes → count ≡ 0 → {class : List ℕ} → length class ≡ 510 →
       ((x : ℕ) → x < nodes → getD class x 0 ≡ rootOf parent x) →
       Closed nodes second start₀ end₀ pool₀ class start end pool used

@@ -1,4 +1,4 @@
--- Laws of classes.
+-- Laws of the forest, of merging rows and of joining classes.
 pub mod Roots
 pub mod Merging
 pub mod Sums

@@ -1,5 +1,5 @@
--- The merge of two rows: the links before i in one and before j in the other are merged, and each that comes is greater by its
--- feature than what is merged.
+-- The merge of two rows: the links before i in one and before j in the other are merged, and the features that come next are greater than the
+-- merged ones.
 use mathlib.Core.Path.{_≡_, refl, sym, _∙_, ap, subst}
 use mathlib.Core.Bool.{Bool, cond}
 use mathlib.Core.List.{List}
@@ -14,21 +14,21 @@ use Rattle.layout.specs.Layout.{scale, featureAt, targetAt}
 use Rattle.classes.specs.Merge.{Places, Span, Merged, featureOr, pairWord, leftAt, rightAt}
 use Rattle.classes.proofs.Roots.{stored, unstored}
 
--- the feature at a place, inside a row and past its end
+-- The feature at a place inside a row, and past its end.
 pub feature-in : (ws : List ℕ) (k end : ℕ) → k < end → featureOr ws k end ≡ featureAt ws k
 feature-in ws k end h = ap (λ (t : Bool). cond t (featureAt ws k) 64) (lt-ltb k end h)
 
 pub feature-out : (ws : List ℕ) (k end : ℕ) → end ≤ k → featureOr ws k end ≡ 64
 feature-out ws k end h = ap (λ (t : Bool). cond t (featureAt ws k) 64) (le-ltb k end h)
 
--- what one word says
+-- Equal words have equal features and targets.
 pub feature-same : {v w : ℕ} → v ≡ w → v / scale ≡ w / scale
 feature-same e = ap (λ (n : ℕ). n / scale) e
 
 pub target-same : {v w : ℕ} → v ≡ w → v % scale ≡ w % scale
 target-same e = ap (λ (n : ℕ). n % scale) e
 
--- a pair's word states the pair
+-- The two nodes of a pair by the pair's word.
 pair-left : (x y : ℕ) → y < scale → pairWord x y / scale ≡ x
 pair-left x y h = omega arith
 
@@ -94,7 +94,7 @@ module _ (a₀ a₁ b₀ b₁ : ℕ) (ws ps : List ℕ) (used count : ℕ) where
       subst (λ (m : ℕ). Merged a₀ m b₀ b₁ ws ps used count ws′ ps′ at top) e
       (subst (λ (m : ℕ). Merged a₀ i b₀ m ws ps used count ws′ ps′ at top) d (s .merged))
 
-  -- What one more link is: its word w and feature f, the places i′ and j′ that are merged then, and the pairs.
+  -- What one more link is: its word w and feature f, the places i′ and j′ that are merged after it, and the pairs.
   record Link (ws′ ps′ : List ℕ) (i j at top : ℕ) (w f i′ j′ : ℕ) (ps″ : List ℕ) (top′ : ℕ) : Type 0 where
     feature : w / scale ≡ f
     above : (k : ℕ) → used ≤ k → k < at → featureAt ws′ k < f
@@ -123,7 +123,7 @@ module _ (a₀ a₁ b₀ b₁ : ℕ) (ws ps : List ℕ) (used count : ℕ) where
     abbrev m : Merged a₀ i b₀ j ws ps used count ws′ ps′ at top
     m = s .merged
 
-    -- the places used for the row are no more than the feature that comes
+    -- The row takes no more places than the next feature counts.
     room : (f : ℕ) → ((k : ℕ) → used ≤ k → k < at → featureAt ws′ k < f) → at ≤ used + f
     room f above = go at refl
       where
@@ -287,7 +287,7 @@ module _ (a₀ a₁ b₀ b₁ : ℕ) (ws ps : List ℕ) (used count : ℕ) where
           go (yes h) = (omega (arith, g-in h, b .known j (s .b-low) h), λ _. h)
           go (no h) = let e : g ≡ 64 = g-is ∙ feature-out ws′ j b₁ (omega arith) in (omega arith, λ l. absurd (omega arith))
 
-      -- the next place is there
+      -- There is a next place.
       space : i + j < a₁ + b₁ → (h : ℕ) → h < 64 → ((k : ℕ) → used ≤ k → k < at → featureAt ws′ k < h) → at < length ws′
       space left h small above =
           omega (arith, m .pool-long, s .asked .places at (omega (arith, room h above)) (omega (arith, m .counted, m .grows)))
@@ -298,7 +298,7 @@ module _ (a₀ a₁ b₀ b₁ : ℕ) (ws ps : List ℕ) (used count : ℕ) where
       over-g : j < b₁ → (k : ℕ) → used ≤ k → k < at → featureAt ws′ k < g
       over-g h k low high = omega (arith, g-in h, s .under-b k low high h)
 
-      -- a place of either row is there
+      -- The places of either row are inside the pool.
       pub in-a : i < a₁ → i < length ws′
       in-a h = omega (arith, a .before, s .asked .fits, m .pool-long)
 

@@ -1,5 +1,5 @@
--- Roots in a forest: what a step up keeps, and what moving a node below another leaves. A function that every step up keeps has one
--- value on a tree (`root-constant`); so the roots of a changed forest are found by such a function.
+-- Roots in a forest: what a step up keeps, and what moving a node below another leaves. A function that every step up keeps has one value on a
+-- tree (`root-constant`), so such a function gives the roots of a changed forest.
 use mathlib.Core.Path.{_≡_, refl, sym, _∙_, ap, subst}
 use mathlib.Core.Bool.{Bool, cond}
 use mathlib.Core.List.{List}
@@ -13,7 +13,7 @@ use lib.ListN.{length, getD, set, length-set}
 use lib.Seq.{getD-set-same, getD-set-other}
 use Rattle.classes.specs.Forest.{climb, rootOf, Forest, SameRoots, United, Flat}
 
--- a value stored in an array of numbers, and the others
+-- A value that is stored in an array of numbers is read back, and the other values stay.
 pub stored : (l : List ℕ) (i a : ℕ) → i < length l → getD (set l i a) i 0 ≡ a
 stored l i a h = getD-set-same l i a 0 h
 
@@ -45,7 +45,7 @@ module _ {nodes : ℕ} {parent : List ℕ} (forest : Forest nodes parent) where
           let e : getD parent x 0 ≡ x = omega (arith, forest .down x small) in
           subst (λ (z : ℕ). getD parent z 0 ≡ z) (sym (ap (climb k parent) e ∙ climb-fixed k x e)) e
 
-  -- steps beyond the root change nothing
+  -- Steps beyond the root change nothing.
   climb-stable : (j k x : ℕ) → x < nodes → x ≤ j → x ≤ k → climb j parent x ≡ climb k parent x
   unfolding climb
   climb-stable zero k x small low high =
@@ -107,18 +107,18 @@ module _ {nodes : ℕ} {parent : List ℕ} (forest : Forest nodes parent) where
   unfolding rootOf
   root-constant h keeps x small = climb-constant h keeps x x small
 
--- the roots of a changed forest, by a function
+-- A function that every step up keeps, and that keeps roots, gives the roots of a changed forest.
 roots-by : {nodes : ℕ} {later : List ℕ} → Forest nodes later → (h : ℕ → ℕ) → ((x : ℕ) → x < nodes → h (getD later x 0) ≡ h x) →
     ((x : ℕ) → x < nodes → getD later x 0 ≡ x → h x ≡ x) → (x : ℕ) → x < nodes → rootOf later x ≡ h x
 roots-by {nodes} {later} forest h keeps fixed x small =
     sym (fixed (rootOf later x) (omega (arith, root-low forest x small)) (root-fixed forest x small)) ∙
     root-constant forest h keeps x small
 
--- no change
+-- A forest has the same roots as itself.
 pub same-here : {nodes : ℕ} {parent : List ℕ} → Forest nodes parent → SameRoots nodes parent parent
 same-here forest = record { forest = forest; same = λ x h. refl }
 
--- a node moved up to its parent's parent
+-- Moving a node up to its parent's parent keeps all roots.
 pub halved : {nodes : ℕ} {parent₀ parent : List ℕ} → SameRoots nodes parent₀ parent → (v : ℕ) → v < nodes → getD parent v 0 < v →
     SameRoots nodes parent₀ (set parent v (getD parent (getD parent v 0) 0))
 halved {nodes} {parent₀} {parent} s v small less =
@@ -167,7 +167,7 @@ halved {nodes} {parent₀} {parent} s v small less =
         go (yes e) = absurd (omega (arith, ap (λ (z : ℕ). getD later z 0) e, here, lower))
         go (no d) = fixed-root (s .forest) x (sym (elsewhere x d) ∙ q)
 
--- the class of hi with that of lo
+-- The class of a node once hi's class has joined lo's.
 abbrev pub joined : ℕ → ℕ → ℕ → ℕ
 joined lo hi c = cond (eqb c hi) lo c
 
@@ -177,7 +177,7 @@ joined-here lo hi c e = ap (λ (t : Bool). cond t lo c) (eq-eqb c hi e)
 pub joined-other : (lo hi c : ℕ) → (c ≡ hi → ⊥) → joined lo hi c ≡ c
 joined-other lo hi c d = ap (λ (t : Bool). cond t lo c) (ne-eqb c hi d)
 
--- one root put below another
+-- One root is put below another.
 module _ {nodes : ℕ} {parent : List ℕ} (forest : Forest nodes parent) (lo hi : ℕ) (less : lo < hi) (small : hi < nodes) (lo-root : rootOf parent lo ≡ lo)
     (hi-root : rootOf parent hi ≡ hi) where
   abbrev hung : List ℕ
@@ -219,7 +219,7 @@ module _ {nodes : ℕ} {parent : List ℕ} (forest : Forest nodes parent) (lo hi
               let e : rootOf parent x ≡ x = fixed-root forest x (sym (hung-other x d) ∙ q) in
               ap (joined lo hi) e ∙ joined-other lo hi x d
 
-  -- the root put below is that of hi's class, which is one with lo's
+  -- Putting hi below lo unites the classes of a and b.
   module _ (a b : ℕ) (a-small : a < nodes) (b-small : b < nodes) (lo-is : lo ≡ rootOf parent a) (hi-is : hi ≡ rootOf parent b) where
     pub hung-unites : United nodes parent a b (set parent hi lo)
     hung-unites =
@@ -337,7 +337,7 @@ module _ {nodes : ℕ} {parent₀ parent₁ parent : List ℕ} {a b x y : ℕ} (
       let e : x ≡ y = omega arith in
       united-already both a-small b-small (sym x-is ∙ e ∙ y-is ∙ first .same b b-small)
 
--- Every node of its own.
+-- Each node is a class of its own.
 
 pub separate-forest : {nodes : ℕ} {parent : List ℕ} → nodes ≤ 510 → length parent ≡ 510 → ((x : ℕ) → x < nodes → getD parent x 0 ≡ x) → Forest nodes parent
 separate-forest few long e = record { few = few; long = long; down = λ x h. omega (arith, e x h) }
@@ -388,7 +388,7 @@ flat-step {nodes} {parent} {later} forest n small f =
         value (decLt (getD parent n 0) n) ∙ ap (rootOf parent) (sym e)
     done x h (no d) = unstored later n (getD later (getD later n 0) 0) x d ∙ f .done x (omega arith)
 
--- a forest whose parents are the roots of another
+-- An array of the roots of a forest is a flat forest with the same roots.
 pub flattened : {nodes : ℕ} {parent later : List ℕ} → Forest nodes parent → length later ≡ 510 →
     ((x : ℕ) → x < nodes → getD later x 0 ≡ rootOf parent x) → SameRoots nodes parent later × Flat nodes later
 flattened {nodes} {parent} {later} forest long e =

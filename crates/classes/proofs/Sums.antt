@@ -15,7 +15,7 @@ unfolding sumTo
 sum-most zero g e = omega arith
 sum-most (suc n) g e = omega (arith, sum-most n g (λ x k. e x (omega arith)), e n (omega arith))
 
--- the sum of fewer
+-- The sum of fewer values is no greater.
 pub sum-prefix : (n m : ℕ) (g : ℕ → ℕ) → m ≤ n → sumTo m g ≤ sumTo n g
 unfolding sumTo
 sum-prefix zero zero g h = omega arith
@@ -44,7 +44,7 @@ sum-two (suc n) i j g l h = go (ℕ-discrete j n) (sum-two n i j g l)
     go (yes e) later = rw e (omega (arith, sum-one n i g (omega arith)))
     go (no d) later = omega (arith, later (omega arith))
 
--- the sum where one value is another
+-- How a sum changes where one value changes.
 pub sum-change : (n i : ℕ) (g h : ℕ → ℕ) → i < n → ((x : ℕ) → x < n → (x ≡ i → ⊥) → g x ≡ h x) → sumTo n g + h i ≡ sumTo n h + g i
 unfolding sumTo
 sum-change zero i g h l e = absurd (omega arith)
@@ -55,7 +55,7 @@ sum-change (suc n) i g h l e = go (ℕ-discrete i n) (sum-change n i g h)
     go (yes q) later = rw q (omega (arith, sum-same n g h (λ x k. e x (omega arith) (λ z. omega arith))))
     go (no d) later = omega (arith, later (omega arith) (λ x k. e x (omega arith)), e n (omega arith) (λ z. omega arith))
 
--- the sum where two values are others
+-- How a sum changes where two values change.
 pub sum-changes : (n i j : ℕ) (g h : ℕ → ℕ) → i < j → j < n → ((x : ℕ) → x < n → (x ≡ i → ⊥) → (x ≡ j → ⊥) → g x ≡ h x) →
     sumTo n g + (h i + h j) ≡ sumTo n h + (g i + g j)
 unfolding sumTo

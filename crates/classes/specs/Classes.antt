@@ -23,17 +23,17 @@ rowLength class start end x = cond (eqb (class x) x) (getD end x 0 - getD start 
 abbrev pub linksOf : ℕ → List ℕ → List ℕ → ℕ
 linksOf nodes start end = sumTo nodes (rowLength (λ x. x) start end)
 
--- There is room for all joins, of which there are fewer than nodes. A join takes at most 64 places, and no more than there are links.
+-- There is room for all joins. There are fewer joins than nodes, and a join takes at most 64 places and no more than there are links.
 pub record Roomy (nodes links used room : ℕ) : Type 0 where
   pub width : ℕ
   pub enough : (64 ≤ width) ⊎ (links ≤ width)
   pub fits : used + width * (nodes - 1) ≤ room
 
--- Place k is one of node x.
+-- Place k is in the row of node x.
 abbrev pub At : List ℕ → List ℕ → ℕ → ℕ → Type 0
 At start end x k = (getD start x 0 ≤ k) × (k < getD end x 0)
 
--- Rows of nodes, before the place `used`.
+-- The nodes have rows, which stand before the place `used`.
 pub record Rows (nodes : ℕ) (start end pool : List ℕ) (used : ℕ) : Type 0 where
   pub some : 0 < nodes
   pub few : nodes ≤ 510
@@ -42,7 +42,7 @@ pub record Rows (nodes : ℕ) (start end pool : List ℕ) (used : ℕ) : Type 0 
   pub span : (x : ℕ) → x < nodes → Span pool used (getD start x 0) (getD end x 0)
   pub within : (x k : ℕ) → x < nodes → At start end x k → targetAt pool k < nodes
 
--- The smallest equivalence that relates 0 to another node and passes down equal features.
+-- The smallest equivalence that relates node 0 to the node `second` and passes down equal features.
 pub data Same (nodes second : ℕ) (start end pool : List ℕ) : ℕ → ℕ → Type 0 where
   roots : Same nodes second start end pool 0 second
   itself : {x : ℕ} → x < nodes → Same nodes second start end pool x x
@@ -51,7 +51,7 @@ pub data Same (nodes second : ℕ) (start end pool : List ℕ) : ℕ → ℕ →
   down : {x y j k : ℕ} → Same nodes second start end pool x y → x < nodes → y < nodes → At start end x j → At start end y k →
       featureAt pool j ≡ featureAt pool k → Same nodes second start end pool (targetAt pool j) (targetAt pool k)
 
--- `class` gives the lowest node of each class, which has the class's row: the links of its nodes, one for each feature.
+-- `class` gives the lowest node of each class. That node has the class's row: the links of the nodes of the class, one for each feature.
 pub record Closed (nodes second : ℕ) (start end pool : List ℕ) (class start′ end′ pool′ : List ℕ) (used : ℕ) : Type 0 where
   pub class-long : length class ≡ 510
   pub lowest : (x : ℕ) → x < nodes → getD class x 0 ≤ x

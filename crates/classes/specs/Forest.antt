@@ -11,7 +11,7 @@ unfoldable pub climb : ℕ → List ℕ → ℕ → ℕ
 climb zero parent x = x
 climb (suc k) parent x = climb k parent (getD parent x 0)
 
--- the root above x: each step but the last is to a lower number, so x steps are enough
+-- The root above x. Each step but the last goes to a lower number, so x steps are enough.
 unfoldable pub rootOf : List ℕ → ℕ → ℕ
 rootOf parent x = climb x parent x
 

@@ -1,4 +1,4 @@
--- Definitions of the merging of nodes into classes.
+-- The definitions for merging nodes into classes.
 pub mod Forest
 pub mod Merge
 pub mod Classes

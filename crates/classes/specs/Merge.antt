@@ -1,5 +1,5 @@
--- The merge of two rows. The places of a pool hold links, each a word; a row is a span of places whose features ascend. Pairs of
--- nodes that are to be joined wait, each as a word too.
+-- The merge of two rows. The places of a pool have links, one word each; a row is a span of places whose features ascend. Pairs of nodes that are
+-- to be joined wait in a list, one word each.
 use mathlib.Core.Path.{_≡_}
 use mathlib.Core.Bool.{cond}
 use mathlib.Core.List.{List}
@@ -25,18 +25,21 @@ Places room used a₀ a₁ b₀ b₁ = (k : ℕ) → k < used + 64 → k + (a₀
 abbrev pub featureOr : List ℕ → ℕ → ℕ → ℕ
 featureOr pool k end = cond (ltb k end) (featureAt pool k) 64
 
--- the word of a pair of nodes, and the two nodes of a pair that waits
+-- The word of a pair of nodes.
 abbrev pub pairWord : ℕ → ℕ → ℕ
 pairWord x y = x * scale + y
 
+-- The first node of the pair that waits at place i.
 abbrev pub leftAt : List ℕ → ℕ → ℕ
 leftAt waiting i = getD waiting i 0 / scale
 
+-- The second node of the pair that waits at place i.
 abbrev pub rightAt : List ℕ → ℕ → ℕ
 rightAt waiting i = getD waiting i 0 % scale
 
--- The places from `used` to `at` hold the links of a row from a₀ to a₁ and of one from b₀ to b₁, one for each feature. Where both have
--- the feature the first's target is kept, and the two targets are added to the pairs, from `count` to `top`.
+-- The places from `used` to `at` have the links of a row from a₀ to a₁ and of a row from b₀ to b₁, one link for each feature. Where both rows
+-- have a feature, the target of the first is kept, and the pair of both targets is added to those that wait, which then stand from `count` to
+-- `top`.
 pub record Merged (a₀ a₁ b₀ b₁ : ℕ) (pool waiting : List ℕ) (used count : ℕ) (pool′ waiting′ : List ℕ) (at top : ℕ) : Type 0 where
   pub pool-long : length pool′ ≡ length pool
   pub waiting-long : length waiting′ ≡ length waiting
@@ -46,7 +49,7 @@ pub record Merged (a₀ a₁ b₀ b₁ : ℕ) (pool waiting : List ℕ) (used co
   pub grows : count ≤ top
   pub counted : at + top + (a₀ + b₀) ≡ used + count + (a₁ + b₁)
   pub ascending : (k : ℕ) → used ≤ k → suc k < at → featureAt pool′ k < featureAt pool′ (suc k)
-  -- so that a row has at most 64 places
+  -- So a row has at most 64 places.
   pub short : (k : ℕ) → used ≤ k → k < at → k ≤ used + featureAt pool′ k
   pub source : (k : ℕ) → used ≤ k → k < at →
       (j : ℕ) × (((a₀ ≤ j) × (j < a₁)) ⊎ ((b₀ ≤ j) × (j < b₁))) × (getD pool′ k 0 ≡ getD pool j 0)
@@ -59,11 +62,11 @@ pub record Merged (a₀ a₁ b₀ b₁ : ℕ) (pool waiting : List ℕ) (used co
       ((targetAt pool′ k ≡ targetAt pool j) ⊎
       ((i : ℕ) × (count ≤ i) × (i < top) × (leftAt waiting′ i ≡ targetAt pool′ k) × (rightAt waiting′ i ≡ targetAt pool j)))
 
--- The same between two reaches, of places used and pairs that wait.
+-- The same, with the used places and the waiting pairs given as reaches.
 abbrev pub Merges : ℕ → ℕ → ℕ → ℕ → List ℕ → List ℕ → Reach → List ℕ → List ℕ → Reach → Type 0
 Merges a₀ a₁ b₀ b₁ pool waiting reach pool′ waiting′ reach′ =
     Merged a₀ a₁ b₀ b₁ pool waiting (reach .used) (reach .count) pool′ waiting′ (reach′ .used) (reach′ .count)
 
--- The rows of the nodes lo and hi, merged.
+-- The rows of the nodes lo and hi are merged.
 abbrev pub MergesRows : ℕ → ℕ → List ℕ → List ℕ → List ℕ → List ℕ → Reach → List ℕ → List ℕ → Reach → Type 0
 MergesRows lo hi start end = Merges (getD start lo 0) (getD end lo 0) (getD start hi 0) (getD end hi 0)

@@ -1,4 +1,4 @@
-// The forest of classes: each node has a parent of no greater number, and the root above a node represents its class.
+// The forest of classes: each node has a parent of no greater number, and the root above a node represents the node's class.
 
 ghost use Prim.Native.Nat.{ℕ, _≤_, _<_};
 ghost use lib.ListN.{length, getD};
@@ -18,7 +18,7 @@ pub fn separate(nodes: usize, parent: &mut [u16; 510])
     }
 }
 
-// The root above x. On the way up each second node is moved one step nearer to it.
+// The root above x. On the way up, every second node gets a parent one step nearer to the root.
 pub fn find(parent: &mut [u16; 510], x: usize) -> usize
     requires { ⌜ ((nodes : ℕ) × Forest nodes (now parent) × (x < nodes)) ⌝ }
     ensures { λ r. ⌜ r ≡ rootOf (now (parent .entry)) x ⌝ }
@@ -35,7 +35,7 @@ pub fn find(parent: &mut [u16; 510], x: usize) -> usize
     v
 }
 
-// Makes one class of those of a and b.
+// Makes one class of the classes of a and b.
 pub fn unite(parent: &mut [u16; 510], a: usize, b: usize)
     requires { ⌜ ((nodes : ℕ) × Forest nodes (now parent) × (a < nodes) × (b < nodes)) ⌝ }
     ensures { λ _. ⌜ ((nodes : ℕ) → Forest nodes (now (parent .entry)) → a < nodes → b < nodes → United nodes (now (parent .entry)) a b (now (parent .exit))) ⌝ }

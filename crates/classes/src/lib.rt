@@ -1,5 +1,6 @@
-// Classes of nodes, for unification: nodes are merged into classes from two roots down, wherever equal features of one class lead to two
-// nodes. A class is represented by its lowest node, which has a row with the links of all its nodes. It knows graphs in words alone.
+// Classes of nodes, for the combination; `groups` uses the forest too. Nodes are merged into classes from two roots down, wherever equal
+// features of one class lead to two nodes. A class is represented by its lowest node, which has a row with the links of all its nodes. This
+// crate knows graphs in words alone.
 
 pub mod forest;
 pub mod rows;
@@ -12,7 +13,7 @@ ghost use mathlib.Core.Path.{_≡_};
 ghost use Rattle.classes.specs.Merge.{MergesRows, Places, Span};
 ghost use Rattle.classes.specs.Classes.{Closed, Roomy, Rows, linksOf};
 
-// Joins the class of `hi` to that of `lo`: the merged row comes at the end of the places used.
+// Joins the class of `hi` to that of `lo`. The merged row comes behind the places used.
 fn join(
     class: &mut [u16; 510],
     start: &mut [u16; 510],
@@ -44,8 +45,8 @@ fn join(
     next
 }
 
-// Merges from the nodes 0 and `second` down. Then `class` gives the lowest node of each class. The rows stand before the place
-// `used`. No more pairs wait at once than there are links, but for the first.
+// Merges from the nodes 0 and `second` down. Then `class` gives the lowest node of each class, and the rows stand before the place that is
+// answered. No more pairs wait at once than there are links, apart from the first pair.
 pub fn close(
     nodes: usize,
     second: usize,

@@ -32,7 +32,7 @@ fn pair(v: u16, w: u16) -> u32
     ((v % SCALE) as u32) * (SCALE as u32) + ((w % SCALE) as u32)
 }
 
-// Merges a row and a second one into one at the places behind those used.
+// Merges two rows into one, at the places behind those used.
 pub fn merge(
     pool: &mut [u16],
     waiting: &mut [u32],

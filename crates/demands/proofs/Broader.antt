@@ -1,5 +1,5 @@
--- Combinations and common parts of broader records, as the calls reply them: a lies below b and c below d, so what lies below a and c
--- lies below b and d, and bounds keep the order.
+-- Combinations and common parts of broader records, as the calls reply them (document 02, Paper 1). Where a lies below b and c below d, whatever
+-- lies below a and c lies below b and d, so the greatest and the least graphs keep the order.
 use mathlib.Core.Path.{_≡_}
 use mathlib.Core.List.{List}
 use mathlib.Core.Logic.{_⊎_}
@@ -43,7 +43,7 @@ module _ (n : ℕ) (t x y : List ℕ) where
     pub below-answer : AnswersBelow n t x y
     below-answer = order-exact n t x y (r .lower) (r .upper) (r .given) .0 .1 (r .below)
 
-    -- whichever rows they are read as
+    -- x is below y, whichever rows they are read as.
     pub below-paths : (s g : List (Row Label)) → reading n x ≡ accepted s → reading n y ≡ accepted g →
         Below (tableLabels n t) (graphOfRows s) (graphOfRows g)
     below-paths s g i j =
@@ -69,7 +69,7 @@ module _ (n : ℕ) (t a b c d : List ℕ) (first : RecordBelow n t a b) (second 
   d-size = accepted-of-any-size n d (second .upper) (second .given .second) t
 
   module _ (out out′ : List ℕ) where
-    -- what combines a and c lies below b and d, so they combine
+    -- The combination of a and c lies below b and d, so b and d combine.
     pub combines : ((unifying n t a c out .reply ≡ Cycle) ⊎ (unifying n t a c out .reply ≡ Clash) → ⊥) →
         (unifying n t b d out′ .reply ≡ Cycle) ⊎ (unifying n t b d out′ .reply ≡ Clash) → ⊥
     combines combined refused =

@@ -1,4 +1,4 @@
--- The proofs of what is demanded of the calls' replies.
+-- The proofs of the theorems on the demands and on the change requests, one file for each subject.
 pub mod Order
 pub mod CommonPart
 pub mod Combination

@@ -1,6 +1,6 @@
--- The three demands on the calls, one theorem for each sentence, about the definitions that the calls are proved equal to: `rewriting`,
--- `ordering`, `generalizing`, `unifying` and `differing`. What the statements say stands in those definitions and in `Demand`; the proofs
--- are cited. n and t are the table, out is the output lent; a and b are the records.
+-- The three demands on the calls: one theorem for each sentence. The theorems are about the definitions that the calls are proved equal to:
+-- `rewriting`, `ordering`, `generalizing`, `unifying` and `differing`. The other words of the statements are defined in `Demand`; the proofs are
+-- cited. n and t are the table, out is the output lent; a and b are the records.
 use mathlib.Core.Path.{_≡_, refl, _∙_}
 use mathlib.Core.Bool.{Bool, true}
 use mathlib.Core.List.{List, List·Memᴰ}
@@ -68,9 +68,9 @@ use Rattle.demands.proofs.Demanded.Difference as Differed
 use Rattle.demands.proofs.Demanded.Whole as Whole
 use Rattle.demands.proofs.Demanded.Relations as Related
 
--- Demand 1: what is handed in determines the reply and each byte of the output. Each call's promise is an equation with its definition.
--- Whatever is handed in, a refusal leaves the output as it was; beside a length the first bytes are a record, accepted when it is read and
--- its own written form, and the others are unchanged.
+-- Demand 1: what is handed in determines the reply and each byte of the output. Each call's promise is an equation with its definition. Whatever
+-- is handed in, a refusal leaves the output as it was. Beside a length, the first bytes are a record that is accepted when it is read and is its
+-- own written form, and the other bytes are unchanged.
 
 module _ (n : ℕ) (t out : List ℕ) where
   pub rewriting-leaves : (bytes : List ℕ) → Leaves n out (rewriting n t bytes out)
@@ -97,7 +97,7 @@ module _ (n : ℕ) (t out : List ℕ) where
   differing-never-large a b = Output.differing-small n t out a b
 
   -- 8 to 13 are answered only over an accepted table and accepted graphs: "A table is accepted when none of 1 to 3 applies to it, a graph when
-  -- none of 4 to 7 does." So what demand 3 says of accepted records is said of every such reply.
+  -- none of 4 to 7 does." So demand 3, which is about accepted records, covers every such reply.
   pub rewriting-accepted : (a : List ℕ) → RefusedAfterReading (rewriting n t a out .reply) →
       (opened n t ≡ Accepted) × ((rows : List (Row Label)) × (reading n a ≡ accepted rows))
   rewriting-accepted a = After.rewriting-accepted n t out a
@@ -113,7 +113,8 @@ module _ (n : ℕ) (t out : List ℕ) where
 
 -- Demand 2: bytes and meaning.
 
--- A graph's record: there is none exactly where the graph is too large; it means the same, and graphs of equal meaning, and no others, have one.
+-- A graph has no record exactly where it is too large. A graph's record means the same as the graph, and graphs have the same record exactly
+-- where they mean the same.
 module _ (n : ℕ) (t : List ℕ) (opens : opened n t ≡ Accepted) {C : Type 0} (same : C → C → Bool) (tells : TellsApart same) (k : Graph Label C)
     (size : OfAnySize n t k) where
   pub record-none : (recordOf same k ≡ none) ↔ Large k
@@ -132,50 +133,51 @@ module _ (n : ℕ) (t a : List ℕ) (rows : List (Row Label)) (opens : opened n 
   pub rewriting-written : rewriting n t a out ≡ writing (recordOf eqb (graphOfRows rows)) out
   rewriting-written = rewriting-is n t a rows opens reads out ∙ result-record eqb (graphOfRows rows) out
 
-  -- What is written is accepted, is its own written form and means the same.
+  -- What is written is accepted, is its own written form and means the same as the record a.
   pub rewriting-means : (l : ℕ) → rewriting n t a out .reply ≡ Length l → Rewritten n t a rows (take l (rewriting n t a out .output))
   rewriting-means = Meaning.written-again n t a rows opens reads out
 
 module _ (n : ℕ) (t a b : List ℕ) (s g : List (Row Label)) (given : Given n t a b s g) where
-  -- Two accepted records mean the same exactly when rewriting gives equal bytes,
+  -- Two accepted records mean the same exactly when rewriting gives equal bytes.
   pub meaning-bytes : (out : List ℕ) (l m : ℕ) → rewriting n t a out .reply ≡ Length l → rewriting n t b out .reply ≡ Length m →
       SameMeaning (tableLabels n t) (graphOfRows s) (graphOfRows g) ↔
       (take l (rewriting n t a out .output) ≡ take m (rewriting n t b out .output))
   meaning-bytes = Meaning.bytes-exact n t a b s g given
 
-  -- exactly when it gives the same reply and output, whatever is lent,
+  -- Two accepted records mean the same exactly when rewriting gives the same reply and output, whatever output is lent.
   pub meaning-rewriting : SameMeaning (tableLabels n t) (graphOfRows s) (graphOfRows g) ↔
       ((out : List ℕ) → rewriting n t a out ≡ rewriting n t b out)
   meaning-rewriting = Meaning.meaning-exact n t a b s g given
 
-  -- and exactly when the order answers same.
+  -- Two accepted records mean the same exactly when the order answers same.
   pub meaning-order : (ordering n t a b ≡ Same) ↔ SameMeaning (tableLabels n t) (graphOfRows s) (graphOfRows g)
   meaning-order = Meaning.order-same n t a b s g given
 
 -- One form: every record that a call wrote is a `WrittenRecord`, as its `Leaves` says.
 module _ (n : ℕ) (t a : List ℕ) (one : WrittenRecord n a) where
-  -- Over an accepted table, rewriting it gives its own bytes and leaves the others of the output unchanged where it fits, else 8.
+  -- Over an accepted table, rewriting a written record gives its own bytes and leaves the other bytes of the output unchanged, or gives 8 where
+  -- the output is shorter.
   pub written-own-bytes : opened n t ≡ Accepted → (out : List ℕ) → rewriting n t a out ≡ resultOf (fitted a out)
   written-own-bytes = Meaning.own-bytes n t a one
 
-  -- Two such records mean the same exactly when they are equal bytes.
+  -- Two written records mean the same exactly when they are equal bytes.
   pub written-one-form : (b : List ℕ) (other : WrittenRecord n b) →
       SameMeaning (tableLabels n t) (graphOfRows (one .form)) (graphOfRows (other .form)) ↔ (a ≡ b)
   written-one-form = Meaning.one-form n t a one
 
--- "Written records number the nodes by first visit, from the root, lowest feature first, following links downward .. All that hangs below a
--- link is numbered before the node's next link is followed": of the paths that lead to a node, one is the least, by the lower feature where
--- two part and with a path before those that go on from it;
+-- "Written records number the nodes by first visit, from the root, lowest feature first, following links downward .. All that hangs below a link
+-- is numbered before the node's next link is followed": among the paths that lead to a node there is a least one. A path comes before the paths
+-- that extend it; where two paths part, the one with the lower feature comes first.
 module _ (n : ℕ) (a : List ℕ) (one : WrittenRecord n a) where
   pub least-path-exists : (v : ℕ) → v < length (one .form) → (p : List ℕ) × LeastPath (graphOfRows (one .form)) p v
   least-path-exists = Numbering.least-path-exists n a one
 
-  -- and the nodes' numbers ascend with their least paths.
+  -- The nodes' numbers ascend with their least paths.
   pub numbered-by-least-path : (v w : ℕ) (p q : List ℕ) → LeastPath (graphOfRows (one .form)) p v → LeastPath (graphOfRows (one .form)) q w →
       (v < w) ↔ Earlier p q
   numbered-by-least-path = Numbering.numbered-by-least-path n a one
 
--- Demand 3, the order: same or under exactly where the first graph is below the second, and above or neither exactly where it is not.
+-- Demand 3, the order: it answers same or under exactly where the first graph is below the second, and above or neither exactly where it is not.
 
 module _ (n : ℕ) (t a b : List ℕ) (s g : List (Row Label)) (given : Given n t a b s g) where
   pub order-exact : (AnswersBelow n t a b ↔ Below (tableLabels n t) (graphOfRows s) (graphOfRows g)) ×
@@ -185,65 +187,66 @@ module _ (n : ℕ) (t a b : List ℕ) (s g : List (Row Label)) (given : Given n 
 -- Demand 3, the common part.
 
 module _ (n : ℕ) (t a b : List ℕ) (g h : List (Row Label)) (given : Given n t a b g h) where
-  -- The common part, also where it is too large to be written, has "the paths in both, each with the join of its two types, two sharing
-  -- exactly when they share in both",
+  -- The common part, also where it is too large to be written, has "the paths in both, each with the join of its two types, two sharing exactly
+  -- when they share in both".
   pub common-part-paths : IsGeneralization (tableLabels n t) (graphOfRows g) (graphOfRows h) (common n t g h)
   common-part-paths = Common.common-part-paths n t a b g h given
 
-  -- and is the least graph of any size above both: there always is one.
+  -- The common part is the least graph of any size above both, so there always is such a graph.
   pub common-part-exists : LeastOfAnySize n t (graphOfRows g) (graphOfRows h) (common n t g h)
   common-part-exists = Common.common-part-exists n t a b g h given
 
   module _ (out : List ℕ) where
-    -- The call writes it.
+    -- The call writes the common part.
     pub common-part-written : generalizing n t a b out ≡ writing (recordOf samePair (common n t g h)) out
     common-part-written = Common.common-part-result n t a b g h given out ∙ result-record samePair (common n t g h) out
 
-    -- What is written has those paths, is the least graph above both, and the order agrees.
+    -- What is written is the common part over paths, is the least graph of any size above both, and the order agrees.
     pub common-part : (l : ℕ) → generalizing n t a b out .reply ≡ Length l → CommonPart n t a b g h (take l (generalizing n t a b out .output))
     common-part = Common.common-part n t a b g h given out
 
 -- Demand 3, the combination.
 
--- "Order and combination of such graphs go by the same rules, over paths": of graphs of any size, what the classes of paths give is the
--- greatest graph of any size below both.
+-- "order and combination of such graphs go by the same rules, over paths": for graphs of any size, what the classes of paths give is the greatest
+-- graph of any size below both.
 pub combination-over-paths : (n : ℕ) (t : List ℕ) → opened n t ≡ Accepted → {A B C : Type 0} (g : Graph Label A) (h : Graph Label B) (u : Graph Label C) →
     OfAnySize n t g → OfAnySize n t h → OfAnySize n t u → IsCombination n t g h u → GreatestOfAnySize n t g h u
 combination-over-paths n t opens g h u a b =
     combination-greatest n t (opened-accepted n t (opened n t) refl opens) g h a b u
 
 module _ (n : ℕ) (t a b : List ℕ) (g h : List (Row Label)) (given : Given n t a b g h) (out : List ℕ) where
-  -- 9 exactly where a class reaches itself,
+  -- 9 is answered exactly where a class reaches itself.
   pub combination-cycle : (unifying n t a b out .reply ≡ Cycle) ↔ unify.Cycle (tableLabels n t) (graphOfRows g) (graphOfRows h)
   combination-cycle = Combined.cycle-exact n t a b g h given out
 
-  -- 10 exactly where none does and the meet of a class is type 0,
+  -- 10 is answered exactly where no class reaches itself and the meet of some class is a contradiction: type 0, or an empty range.
   pub combination-clash : (unifying n t a b out .reply ≡ Clash) ↔
       ((unify.Cycle (tableLabels n t) (graphOfRows g) (graphOfRows h) → ⊥) × LabelClash n t (graphOfRows g) (graphOfRows h))
   combination-clash = Combined.clash-exact n t a b g h given out
 
-  -- and one of them exactly where no graph of any size lies below both.
+  -- 9 or 10 is answered exactly where no graph of any size lies below both.
   pub combination-none : ((unifying n t a b out .reply ≡ Cycle) ⊎ (unifying n t a b out .reply ≡ Clash)) ↔ NoneBelow n t g h
   combination-none = Combined.none-exact n t a b g h given out
 
-  -- Else the classes of paths give a graph, the greatest of any size below both, also where it is too large to be written.
+  -- Where neither 9 nor 10 is answered, the classes of paths give a graph, the greatest of any size below both, also where it is too large to be
+  -- written.
   pub combination-exists : ((unifying n t a b out .reply ≡ Cycle) ⊎ (unifying n t a b out .reply ≡ Clash) → ⊥) →
       (u : Graph Label (ℕ ⊎ ℕ)) × IsCombination n t (graphOfRows g) (graphOfRows h) u × GreatestOfAnySize n t (graphOfRows g) (graphOfRows h) u
   combination-exists = Combined.exists n t a b g h given out
 
-  -- Whatever graph is such a one, the call writes it.
+  -- Every graph that is the greatest of any size below both is what the call writes.
   pub combination-written : {C : Type 0} (same : C → C → Bool) → TellsApart same → (u : Graph Label C) →
       GreatestOfAnySize n t (graphOfRows g) (graphOfRows h) u → unifying n t a b out ≡ writing (recordOf same u) out
   combination-written same tells u best = Combined.greatest-result n t a b g h given out same tells u best ∙ result-record same u out
 
-  -- What is written is the greatest graph below both, and the order agrees.
+  -- What is written is the greatest graph of any size below both, and the order agrees.
   pub combination : (l : ℕ) → unifying n t a b out .reply ≡ Length l → Combination n t a b g h (take l (unifying n t a b out .output))
   combination = Combined.written-combination n t a b g h given out
 
 -- Demand 3, the difference of a, the general record, and b, the specific one.
 
--- Over a table that admits differences, where b is below a, there is one record that every call for the difference writes, or answers 8 where
--- the output is shorter. Combined with a it restores b byte for byte, and nothing of any size that is strictly more general does.
+-- Over a table that admits differences, where b is below a, there is one record that every call for the difference writes; the call answers 8
+-- where the output is shorter. This record, combined with a, restores b byte for byte, and nothing strictly more general of any size does.
 pub difference-demanded : (n : ℕ) (t a b : List ℕ) (g s : List (Row Label)) → Given n t a b g s → admits n t ≡ true → AnswersBelow n t b a →
     (bytes : List ℕ) × WrittenRecord n bytes × ((out : List ℕ) → differing n t a b out ≡ resultOf (fitted bytes out)) ×
     Difference n t a b g s bytes
@@ -255,21 +258,21 @@ module _ (n : ℕ) (t a b : List ℕ) (g s : List (Row Label)) (given : Given n 
       (SomeUnwanted n t (graphOfRows s) (graphOfRows g) → ⊥) → Restores n t (remainder byNumber n t g s) (graphOfRows g) (graphOfRows s)
   difference-restores below all = Differed.remainder-restores n t a b g s given by-number-order below (Differed.all-wanted n t a b g s given below all)
 
-  -- It is the difference of document 01, as the relations state it over the paths and links of the two graphs, s numbered as written: the
-  -- nodes of g that lie over a node of s,
+  -- The difference is that of document 01, as the relations state it over the paths and links of the two graphs, with s numbered as written.
+  -- `over` gives the node of s that a node of g lies over.
   module _ (below : Below (tableLabels n t) (graphOfRows s) (graphOfRows g)) where
     pub over-exact : (y v : ℕ) →
         LiesOver (graphOfRows (asWritten s)) (graphOfRows g) y v ↔ (Reached (graphOfRows g) y × (over (asWritten s) g y ≡ v))
     over-exact = Related.over-exact n t a b g s given below
 
-    -- the links in one group,
+    -- `groupOf` gives the links that are in one group with l.
     pub group-exact : (v : ℕ) (l m : Link ℕ) → Into (graphOfRows (asWritten s)) v l →
         List·Memᴰ m
         (groupOf eqb eqb (graphOfRows (asWritten s)) (from 0 (length (asWritten s))) (graphOfRows g) (from 0 (length g)) (over (asWritten s) g) v l) ↔
         Grouped (graphOfRows (asWritten s)) (graphOfRows g) v l m
     group-exact = Related.group-exact n t a b g s given below
 
-    -- the kept links, and the labels of the nodes.
+    -- The links of the difference are the kept links, and the label of a node is its wanted label.
     module _ (all : SomeUnwanted n t (graphOfRows s) (graphOfRows g) → ⊥) where
       pub keep-exact : (u f v : ℕ) → Reached (graphOfRows (asWritten s)) u → (remainder byNumber n t g s .link u f ≡ some v) ↔
           KeptLink (graphOfRows (asWritten s)) (graphOfRows g) byNumber (WantedNotTop n t (graphOfRows (asWritten s)) (graphOfRows g)) u f v
@@ -279,20 +282,20 @@ module _ (n : ℕ) (t a b : List ℕ) (g s : List (Row Label)) (given : Given n 
       label-exact = Related.label-exact n t a b g s given below (Differed.all-wanted n t a b g s given below all) by-number-order
 
   module _ (out : List ℕ) where
-    -- 12 exactly where s is not below g,
+    -- 12 is answered exactly where s is not below g.
     pub difference-not-below : (differing n t a b out .reply ≡ NotBelow) ↔ (Below (tableLabels n t) (graphOfRows s) (graphOfRows g) → ⊥)
     difference-not-below = Differed.not-below-exact n t a b g s given by-number-order (Differed.plain-parts n t a b given out)
 
-    -- 13 exactly where it is and some node of s has no wanted type,
+    -- 13 is answered exactly where s is below g and some node of s has no wanted type.
     pub difference-not-wanted : (differing n t a b out .reply ≡ NoWantedType) ↔
         (Below (tableLabels n t) (graphOfRows s) (graphOfRows g) × SomeUnwanted n t (graphOfRows s) (graphOfRows g))
     difference-not-wanted = Differed.unwanted-reply-exact n t a b g s given by-number-order (Differed.plain-parts n t a b given out)
 
-    -- and else the call writes the difference.
+    -- Where s is below g and no node of s is without a wanted type, the call writes the difference.
     pub difference-written : Below (tableLabels n t) (graphOfRows s) (graphOfRows g) →
         (SomeUnwanted n t (graphOfRows s) (graphOfRows g) → ⊥) → differing n t a b out ≡ writing (recordOf eqb (remainder byNumber n t g s)) out
     difference-written below all = Differed.remainder-written n t a b g s given by-number-order (Differed.plain-parts n t a b given out) below (Differed.all-wanted n t a b g s given below all)
 
-    -- What is written restores b byte for byte when it is combined with a, nothing more general does, and the order agrees.
+    -- What is written, combined with a, restores b byte for byte; nothing more general does; and the order agrees.
     pub difference : (l : ℕ) → differing n t a b out .reply ≡ Length l → Difference n t a b g s (take l (differing n t a b out .output))
     difference = Differed.written-difference n t a b g s given by-number-order (Differed.plain-parts n t a b given out)

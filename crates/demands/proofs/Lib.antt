@@ -1,4 +1,4 @@
--- What is demanded of the calls, by the request and by its papers.
+-- The theorems on the calls: the three demands (`Demands`) and the change requests (`Requests`), with the proofs that they cite.
 pub mod Results
 pub mod Demanded
 pub mod Demands

@@ -1,5 +1,5 @@
--- What a call answers that writes a graph of any size as its result, whatever operation made the graph: 11 exactly where it is too
--- large, else 8 exactly where the output is shorter than its record, else the record's length, with the record in the output.
+-- A call that writes a graph of any size answers 11 exactly where the graph is too large, else 8 exactly where the output is shorter than its
+-- record, and else the record's length, with the record in the output. This holds whatever operation made the graph.
 use mathlib.Core.Path.{_≡_, refl, sym, _∙_, ap}
 use mathlib.Core.Bool.{Bool, true, false, cond}
 use mathlib.Core.List.{List, _++_}
@@ -32,8 +32,8 @@ use Rattle.replies.specs.Reply.{Result, refusing, resultOf}
 use Rattle.calls.specs.Calls.{rewriting}
 use Rattle.demands.specs.Demand.{Large, formBytes, recordOf, writing}
 
--- What is answered beside a length: the first bytes of the output are the record of the graph, the others unchanged, and reading
--- them gives a graph of the same meaning.
+-- What a call leaves beside a length: the first bytes of the output are the record of the graph, the other bytes are unchanged, and reading the
+-- record gives a graph of the same meaning.
 pub record Wrote (n : ℕ) (t : List ℕ) {C : Type 0} (same : C → C → Bool) (k : Graph Label C) (out : List ℕ) (l : ℕ)
     (output : List ℕ) : Type 0 where
   pub form : List (Row Label)
@@ -43,11 +43,11 @@ pub record Wrote (n : ℕ) (t : List ℕ) {C : Type 0} (same : C → C → Bool)
   pub reads : reading n (take l output) ≡ accepted form
   pub means : SameMeaning (tableLabels n t) k (graphOfRows form)
 
--- the graph has a record, and its length is such a number
+-- The graph has a record, and P holds for the record's length.
 abbrev pub RecordLength : {C : Type 0} → (C → C → Bool) → Graph Label C → (ℕ → Type 0) → Type 0
 RecordLength same k P = (form : List (Row Label)) × (canonical same k ≡ written form) × P (length (encoded form))
 
--- Which result a graph gives: 11, 8 or a length, each exactly where it is due, and the output beside it.
+-- The result of writing a graph is 11, 8 or a length, each exactly where it is due, and the output is as it should be.
 pub record Writes (n : ℕ) (t : List ℕ) {C : Type 0} (same : C → C → Bool) (k : Graph Label C) (out : List ℕ) (r : Result) : Type 0 where
   pub replies : (r .reply ≡ TooLarge) ⊎ (r .reply ≡ NoRoom) ⊎ ((l : ℕ) × (r .reply ≡ Length l))
   pub too-large : (r .reply ≡ TooLarge) ↔ Large k
@@ -67,7 +67,7 @@ seven-bits n t ok k size v r = omega (arith, size .typed v r .type, accepted-siz
 abbrev pub resultFor : {C : Type 0} → (C → C → Bool) → Graph Label C → List ℕ → Result
 resultFor same k out = resultOf (writtenOut (canonical same k) out)
 
--- It is what writing the graph's record does.
+-- A graph as a call's result is what writing the graph's record gives.
 pub result-record : {C : Type 0} (same : C → C → Bool) (k : Graph Label C) (out : List ℕ) → resultFor same k out ≡ writing (recordOf same k) out
 unfolding writtenOut
 result-record same k out = go (canonical same k)
@@ -77,7 +77,7 @@ result-record same k out = go (canonical same k)
     go manyLinks = refl
     go (written form) = refl
 
--- a graph that has a record has a written form, whose bytes the record is
+-- A graph that has a record has a written form, and the record is the bytes of that form.
 pub record-form : {C : Type 0} (same : C → C → Bool) (k : Graph Label C) (bytes : List ℕ) → recordOf same k ≡ some bytes →
     (form : List (Row Label)) × (canonical same k ≡ written form) × (encoded form ≡ bytes)
 record-form same k bytes = go (canonical same k)
@@ -130,13 +130,13 @@ module _ (n : ℕ) (t : List ℕ) {C : Type 0} (same : C → C → Bool) (tells 
       go manyLinks e = large (inr (canonical-many-links same tells k small .0 e .1))
       go (written form) e = room form e (leb (length (encoded form)) (length out)) refl
 
-  -- a graph with a form is not too large
+  -- A graph with a written form is not too large.
   form-fits : (form : List (Row Label)) → canonical same k ≡ written form → Large k → ⊥
   form-fits form e =
       let (nodes, links) = canonical-fits same tells k (size .any-size .features) .1 (form, e) in
       ⊎-elim nodes links
 
-  -- there is one form, hence one length
+  -- A graph has one written form, hence one length.
   one-length : (form other : List (Row Label)) → canonical same k ≡ written form → canonical same k ≡ written other →
       length (encoded form) ≡ length (encoded other)
   one-length form other e d = ap (λ (f : List (Row Label)). length (encoded f)) (written-injective (sym e ∙ d))
@@ -199,6 +199,6 @@ module _ (n : ℕ) (t : List ℕ) {C : Type 0} (same : C → C → Bool) (tells 
         wrote = λ l q. wrote-form form e l (length-injective q);
       }
 
-  -- what is answered where a graph of any size is written
+  -- Writing a graph of any size gives what `Writes` says.
   pub result-writes : Writes n t same k out (resultFor same k out)
   result-writes = told-writes (resultFor same k out) told

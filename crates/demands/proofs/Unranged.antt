@@ -166,7 +166,7 @@ module _ (n : ℕ) (t : List ℕ) where
       go clash = refl
       go (unified u) = result-plain sameEither u out
 
-  -- g is the general record, s the specific one
+  -- g is the rows of the general record, s those of the specific one.
   module _ (g s : List (Row ℕ)) where
     abbrev along : ℕ → ℕ
     along = over (plainRows s) (plainRows g)
@@ -240,7 +240,7 @@ module _ (n : ℕ) (t : List ℕ) where
             ap (λ (rs : List (Row Label)). resultFor eqb (graphOfRows rs) out) (reading-plain n a rows e) ∙ rewritten-plain out (typesIn rows)
 
   module _ (a b : List ℕ) (first : unranged a ≡ true) (second : unranged b ≡ true) where
-    -- what a call does where it does the same with rows without ranges and with their types
+    -- If a call does the same with rows without ranges and with their types, it gives the result of the call over types alone.
     as-types : {X : Type 0} (refuse : Reply → X) (next : List (Row Label) → List (Row Label) → X) (typed : List (Row ℕ) → List (Row ℕ) → X) →
         ((g h : List (Row ℕ)) → next (plainRows g) (plainRows h) ≡ typed g h) →
         checked refuse (opened n t) (readBoth refuse (reading n a) (reading n b) next) ≡
@@ -314,7 +314,7 @@ module _ (n : ℕ) (t out : List ℕ) where
       (ap graphOfRows (read-plain n a plain-a rows e) ∙ rows-plain (typesIn rows)))
 
   module _ (a b : List ℕ) (first : unranged a ≡ true) (second : unranged b ≡ true) where
-    -- over an accepted table its types have seven bits
+    -- Over an accepted table the types of the graph have seven bits, so `plain-written` applies.
     graph-written : {g h : List (Row Label)} → Given n t a b g h → {C : Type 0} (same : C → C → Bool) → TellsApart same → (k : Graph Label C) →
         OfAnySize n t k → (u : Graph ℕ C) → k ≡ relabel plain u → WritesUnranged (resultFor same k out)
     graph-written {g} {h} given same tells k size = plain-written same tells k size (seven-bits n t (accepts n t a b g h given) k size)
@@ -329,7 +329,7 @@ module _ (n : ℕ) (t out : List ℕ) where
         (ap₂ (common n t) (read-plain n a first g (given .first)) (read-plain n b second h (given .second)) ∙
         common-plain n t (typesIn g) (typesIn h)))
 
-    -- what unification gives is of any size
+    -- What unification gives is a graph of any size over the table.
     joint-size : {g h : List (Row Label)} → Given n t a b g h → (u : Graph Label (ℕ ⊎ ℕ)) → jointRows n t g h ≡ unified u → OfAnySize n t u
     joint-size {g} {h} given u e =
         unification-combination n t (accepts n t a b g h given) eqb eqb tells-eqb tells-eqb (graphOfRows g) (graphOfRows h)

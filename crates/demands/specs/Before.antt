@@ -1,5 +1,6 @@
--- The difference as document 01 has it without Paper 6: over a table that admits differences, by residuals; over others 13, checked
--- before 12. What is said of it is that a table that admits differences gives what it gave.
+-- The difference by document 01 alone, without Paper 6 of document 02: a table that does not admit differences is refused by 13, before 12 is
+-- checked; over the other tables the wanted types are residuals. The theorem on these definitions says that over a table that admits differences
+-- the call gives the same reply and output with Paper 6 as without it.
 use mathlib.Core.Bool.{cond}
 use mathlib.Core.List.{List}
 use mathlib.Core.Option.{Option, Option·map, Option·getD}
@@ -23,7 +24,8 @@ use Rattle.calls.specs.Calls.{checked}
 use Rattle.pairs.specs.Pair.{readBoth}
 use Rattle.difference.specs.Difference.{over, numbered}
 
--- the residual of the types, "a greatest type c whose meet with q is below or equal to p", with the wanted range: ranges have none
+-- The residual of the types, "a greatest type c whose meet with q is below or equal to p". Ranges have no residual, so the label has the wanted
+-- range.
 abbrev pub residualLabel : ℕ → List ℕ → Label → Label → Option Label
 residualLabel n t p q = Option·map (wantedRange p q) (residual n t (p .type) (q .type))
 
@@ -33,7 +35,7 @@ residualRows n t g s =
     differenceOver (tableLabels n t) noLabel s g (over s g) byNumber
     (λ v. Option·getD (wantedOver (tableLabels n t) noLabel s g (over s g) (residualLabel n t) v) noLabel)
 
--- 13, then 12, else the difference
+-- 13 is given where the table does not admit differences, else 12 where s is not below g; else the difference is written.
 unfoldable pub differedBefore : ℕ → List ℕ → List ℕ → List (Row Label) → List (Row Label) → Result
 differedBefore n t out g s =
     cond (admits n t)
@@ -41,6 +43,7 @@ differedBefore n t out g s =
     (resultOf (writtenOut (canonical eqb (residualRows n t g s)) out)) (refusing NotBelow out))
     (refusing NoWantedType out)
 
+-- The call checks the table's 1 to 3 and both graphs' 4 to 7, numbers s as written and goes on with `differedBefore`.
 unfoldable pub differingBefore : ℕ → List ℕ → List ℕ → List ℕ → List ℕ → Result
 differingBefore n t a b out =
     checked (λ r. refusing r out) (opened n t)

@@ -1,5 +1,6 @@
--- What is demanded of the calls beyond their replies, over an accepted table and accepted records: what stands in the output, which
--- result a graph of any size gives, and what the records of a common part, a combination and a difference are among all graphs of any size.
+-- Definitions for the theorems on the three demands, over an accepted table and accepted records: what a call leaves in its output, how a graph
+-- is written, and which graph a common part, a combination or a difference is among all graphs of any size. n and t are the table, a and b the
+-- records.
 use mathlib.Core.Path.{_≡_}
 use mathlib.Core.Bool.{Bool, false}
 use mathlib.Core.List.{List, _∷_}
@@ -40,23 +41,23 @@ RefusedAfterReading reply = (k : ℕ) × (8 ≤ k) × (k ≤ 13) × (refusal rep
 abbrev pub BothAccepted : ℕ → List ℕ → List ℕ → List ℕ → Type 0
 BothAccepted n t a b = (s : List (Row Label)) × (g : List (Row Label)) × Given n t a b s g
 
--- The order answers that the first record is below the second: "same or under";
+-- The order answers "same or under": the first record is below the second.
 abbrev pub AnswersBelow : ℕ → List ℕ → List ℕ → List ℕ → Type 0
 AnswersBelow n t a b = (ordering n t a b ≡ Same) ⊎ (ordering n t a b ≡ Under)
 
--- or that it is not.
+-- The order answers above or neither: the first record is not below the second.
 abbrev pub AnswersNotBelow : ℕ → List ℕ → List ℕ → List ℕ → Type 0
 AnswersNotBelow n t a b = (ordering n t a b ≡ Above) ⊎ (ordering n t a b ≡ Neither)
 
--- The bytes are a record that is accepted when it is read, and is its own written form.
+-- The bytes are a record that is accepted when it is read and is its own written form.
 pub record WrittenRecord (n : ℕ) (bytes : List ℕ) : Type 0 where
   pub form : List (Row Label)
   pub reads : reading n bytes ≡ accepted form
   pub own : canonical eqb (graphOfRows form) ≡ written form
   pub bytes-are : bytes ≡ encoded form
 
--- What a call to which an output is lent leaves in it: on a refusal what it was; beside a length "its first bytes are the record, the
--- others unchanged", and the length is the record's.
+-- What a call leaves in its output. A refusal leaves the output as it was. Beside a length "its first bytes are the record, the others
+-- unchanged", and the length is that of the record.
 pub record Leaves (n : ℕ) (out : List ℕ) (r : Result) : Type 0 where
   pub refused : (k : ℕ) → refusal (r .reply) ≡ some k → r .output ≡ out
   pub holds : (l : ℕ) → r .reply ≡ Length l → WrittenRecord n (take l (r .output))
@@ -67,6 +68,7 @@ pub record Leaves (n : ℕ) (out : List ℕ) (r : Result) : Type 0 where
 abbrev pub Large : {C : Type 0} → Graph Label C → Type 0
 Large k = ManyNodes k ⊎ ManyLinks k
 
+-- The bytes of a written form. A graph that is too large has none.
 abbrev pub formBytes : Canonical Label → Option (List ℕ)
 formBytes manyNodes = none
 formBytes manyLinks = none
@@ -76,19 +78,19 @@ formBytes (written form) = some (encoded form)
 abbrev pub recordOf : {C : Type 0} → (C → C → Bool) → Graph Label C → Option (List ℕ)
 recordOf same k = formBytes (canonical same k)
 
--- What a call does that writes a graph: 11 where the graph has no record, 8 where "the result exists and the output is shorter", else the
--- record's length; and the output beside it.
+-- A call that writes a graph answers 11 where the graph has no record, 8 where "the result exists and the output is shorter", and else the
+-- record's length, with the record in the output.
 abbrev pub writing : Option (List ℕ) → List ℕ → Result
 writing none out = refusing TooLarge out
 writing (some bytes) out = resultOf (fitted bytes out)
 
--- The bytes are a written record, and it means the same as the graph.
+-- The bytes are a written record that means the same as the graph.
 pub record RecordOf (n : ℕ) (t : List ℕ) {C : Type 0} (k : Graph Label C) (bytes : List ℕ) : Type 0 where
   pub is-written : WrittenRecord n bytes
   pub means : SameMeaning (tableLabels n t) k (graphOfRows (is-written .form))
 
--- What stands in the output beside a length of rewriting the record a: a record that means the same and is its own written form, so
--- that rewriting it gives what rewriting a gives.
+-- What rewriting the record a writes beside a length: the bytes are a written record that means the same as a, and rewriting these bytes gives
+-- what rewriting a gives.
 pub record Rewritten (n : ℕ) (t a : List ℕ) (rows : List (Row Label)) (bytes : List ℕ) : Type 0 where
   pub is-record : RecordOf n t (graphOfRows rows) bytes
   pub again : (room : List ℕ) → rewriting n t bytes room ≡ rewriting n t a room
@@ -97,9 +99,9 @@ pub record Rewritten (n : ℕ) (t a : List ℕ) (rows : List (Row Label)) (bytes
 abbrev pub common : ℕ → List ℕ → List (Row Label) → List (Row Label) → Graph Label (ℕ × ℕ)
 common n t s g = generalizationBy (tableLabels n t .join) (graphOfRows s) (graphOfRows g)
 
--- What stands in the output beside a length of the common part: a record that is read as "the paths in both, each with the join of its two
--- types, two sharing exactly when they share in both", and this is the least graph of any size above both. The order's own answers agree:
--- both records are below it, and it is below every accepted record that both are below.
+-- What the common part of the records a and b writes beside a length. The bytes are read as "the paths in both, each with the join of its two
+-- types, two sharing exactly when they share in both", which is the least graph of any size above both. The order agrees: both records are below
+-- the bytes, and the bytes are below every accepted record that both are below.
 pub record CommonPart (n : ℕ) (t a b : List ℕ) (s g : List (Row Label)) (bytes : List ℕ) : Type 1 where
   pub form : List (Row Label)
   pub reads : reading n bytes ≡ accepted form
@@ -115,9 +117,9 @@ abbrev pub NoneBelow : ℕ → List ℕ → List (Row Label) → List (Row Label
 NoneBelow n t g h =
     (C : Type 0) (k : Graph Label C) → OfAnySize n t k → Below (tableLabels n t) k (graphOfRows g) → Below (tableLabels n t) k (graphOfRows h) → ⊥
 
--- What stands in the output beside a length of the combination: a record that is read as what the classes of paths give, and this is the
--- greatest graph of any size below both. The order's own answers agree: it is below both records, and above every accepted record that
--- is below both.
+-- What the combination of the records a and b writes beside a length. The bytes are read as the graph that the classes of paths give, which is
+-- the greatest graph of any size below both. The order agrees: the bytes are below both records, and every accepted record that is below both is
+-- below the bytes.
 pub record Combination (n : ℕ) (t a b : List ℕ) (g h : List (Row Label)) (bytes : List ℕ) : Type 1 where
   pub form : List (Row Label)
   pub reads : reading n bytes ≡ accepted form
@@ -128,7 +130,7 @@ pub record Combination (n : ℕ) (t a b : List ℕ) (g h : List (Row Label)) (by
   pub above-lower : (c : List ℕ) (m : List (Row Label)) → reading n c ≡ accepted m → AnswersBelow n t c a → AnswersBelow n t c b →
       AnswersBelow n t c bytes
 
--- "strictly more general when s is not above g": e lies above d, and d not above e
+-- "strictly more general when s is not above g": e lies above d, and d does not lie above e.
 abbrev pub MoreGeneral : ℕ → List ℕ → {A B : Type 0} → Graph Label A → Graph Label B → Type 0
 MoreGeneral n t e d = Below (tableLabels n t) d e × (Below (tableLabels n t) e d → ⊥)
 
@@ -140,7 +142,7 @@ loneTop n = 1 ∷ (n - 1) ∷ replicate 8 0
 abbrev pub asWritten : List (Row Label) → List (Row Label)
 asWritten s = numbered (canonical eqb (graphOfRows s))
 
--- the difference of g and s by an order of links, for s below g, with s numbered as written
+-- The difference of g and s, for s below g: s is numbered as written, and `earlier` orders the links.
 abbrev pub remainder : (Link ℕ → Link ℕ → Bool) → ℕ → List ℕ → List (Row Label) → List (Row Label) → Graph Label ℕ
 remainder earlier n t g s = differenceRows earlier n t g (asWritten s)
 
@@ -148,9 +150,9 @@ remainder earlier n t g s = differenceRows earlier n t g (asWritten s)
 abbrev pub WantedNotTop : {A B : Type 0} → ℕ → List ℕ → Graph Label A → Graph Label B → A → Type 0
 WantedNotTop n t s g v = (c : Label) × WantedAt n t s g v c × (tableLabels n t .le (tableLabels n t .top) c ≡ false)
 
--- d, combined with g, restores s, and nothing more general does: whatever graph of any size is strictly more general than d, what it
--- combines to with g, the greatest graph of any size below both, is strictly more general than s. There is one, what the classes of paths
--- give, where the nodes of that graph are told apart; on any nodes, that there is none is refuted.
+-- d combined with g restores s, and nothing more general does: if a graph e of any size is strictly more general than d, then the greatest graph
+-- of any size below e and g is strictly more general than s. Where the nodes of e can be told apart, the classes of paths give this greatest
+-- graph; for any node type, its non-existence is contradictory.
 pub record Restores (n : ℕ) (t : List ℕ) (d g s : Graph Label ℕ) : Type 1 where
   pub of-any-size : OfAnySize n t d
   pub restores : GreatestOfAnySize n t d g s
@@ -161,9 +163,9 @@ pub record Restores (n : ℕ) (t : List ℕ) (d g s : Graph Label ℕ) : Type 1 
   pub not-none : {E : Type 0} (e : Graph Label E) → OfAnySize n t e → MoreGeneral n t e d →
       ((C : Type 0) (u : Graph Label C) → GreatestOfAnySize n t e g u → ⊥) → ⊥
 
--- What stands in the output beside a length of the difference of the records a and b: a record that is read as such a graph. Combined
--- with a, from either side, it gives the written record of b byte for byte, whatever the output; and the order's own answers agree: b is
--- below it, and every accepted record that is above it gives, combined with a, a record that is above b.
+-- What the difference of the records a and b writes beside a length. The bytes are read as a graph for which `Restores` holds. Combined with a,
+-- from either side, the bytes give the written record of b byte for byte, whatever output is lent. The order agrees: b is below the bytes, and an
+-- accepted record that is strictly above the bytes, combined with a, gives a record that is strictly above b.
 pub record Difference (n : ℕ) (t a b : List ℕ) (g s : List (Row Label)) (bytes : List ℕ) : Type 1 where
   pub form : List (Row Label)
   pub reads : reading n bytes ≡ accepted form

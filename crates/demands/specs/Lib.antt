@@ -1,4 +1,4 @@
--- The words that the demands on the calls and the change requests are stated in.
+-- The definitions that only the theorems on the demands and on the change requests use.
 pub mod Demand
 pub mod Before
 pub mod Unranged

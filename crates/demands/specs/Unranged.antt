@@ -1,5 +1,5 @@
--- The calls over types alone: the definitions of the calls at the types of a table without ranges. What is said of them is that records
--- without ranges give what they gave (document 02, Paper 7).
+-- The calls over types alone: the definition of each call with types in place of labels with ranges. The theorems say that a call on records
+-- without ranges gives what these definitions give (document 02, Paper 7).
 use mathlib.Core.Path.{_≡_}
 use mathlib.Core.Bool.{Bool, true, cond}
 use mathlib.Core.List.{List, map}
@@ -52,6 +52,7 @@ abbrev pub rewrittenTypes : Reading → List ℕ → Result
 rewrittenTypes (refused fault) out = refusing (reply.Graph fault First) out
 rewrittenTypes (accepted rows) out = typesResult (canonical eqb (graphOfTypes (typesIn rows))) out
 
+-- The call that rewrites a record.
 unfoldable pub rewritingTypes : ℕ → List ℕ → List ℕ → List ℕ → Result
 rewritingTypes n t bytes out = checked (λ r. refusing r out) (opened n t) (rewrittenTypes (readingTypes n bytes) out)
 
@@ -63,14 +64,16 @@ onTypes next g h = next (typesIn g) (typesIn h)
 abbrev pub typesBelow : ℕ → List ℕ → List (Row ℕ) → List (Row ℕ) → Bool
 typesBelow n t s g = liesBelow (typeLabels n t) 0 s g
 
+-- The order's answer for two graphs.
 abbrev pub orderedTypes : ℕ → List ℕ → List (Row ℕ) → List (Row ℕ) → Reply
 orderedTypes n t s g = compared (typesBelow n t s g) (typesBelow n t g s)
 
+-- The call for the order.
 unfoldable pub orderingTypes : ℕ → List ℕ → List ℕ → List ℕ → Reply
 orderingTypes n t a b =
     checked (λ r. r) (opened n t) (readBoth (λ r. r) (readingTypes n a) (readingTypes n b) (onTypes (orderedTypes n t)))
 
--- the table's 1 to 3 and the graphs' 4 to 7, then what a call does with the types of the graphs
+-- A call checks the table's 1 to 3 and both graphs' 4 to 7, then goes on with the types of the graphs.
 abbrev callTypes : ℕ → List ℕ → List ℕ → List ℕ → List ℕ → (List (Row ℕ) → List (Row ℕ) → Result) → Result
 callTypes n t a b out next =
     checked (λ r. refusing r out) (opened n t)
@@ -80,6 +83,7 @@ callTypes n t a b out next =
 abbrev pub generalizedTypes : ℕ → List ℕ → List ℕ → List (Row ℕ) → List (Row ℕ) → Result
 generalizedTypes n t out g h = typesResult (commonForm (typeLabels n t .join) 0 g h) out
 
+-- The call for the common part.
 unfoldable pub generalizingTypes : ℕ → List ℕ → List ℕ → List ℕ → List ℕ → Result
 generalizingTypes n t a b out = callTypes n t a b out (generalizedTypes n t out)
 
@@ -90,17 +94,21 @@ unifiedTypes n t out g h =
     (combinationOf (typeLabels n t .meet) (typeLabels n t .top) (typeLabels n t .contradiction) 0 g h)
     out
 
+-- The call for the combination.
 unfoldable pub unifyingTypes : ℕ → List ℕ → List ℕ → List ℕ → List ℕ → Result
 unifyingTypes n t a b out = callTypes n t a b out (unifiedTypes n t out)
 
--- the difference: which node of s lies under one of g does not depend on labels
+-- The wanted type of the node v of s. Which node of s lies under a node of g does not depend on labels, so `over` is taken of rows without
+-- ranges.
 abbrev pub wantedTypeAt : ℕ → List ℕ → List (Row ℕ) → List (Row ℕ) → ℕ → Option ℕ
 wantedTypeAt n t s g v = wantedOver (typeLabels n t) 0 s g (over (plainRows s) (plainRows g)) (wanted n t) v
 
+-- The difference of g and s over types.
 abbrev pub differenceTypes : ℕ → List ℕ → List (Row ℕ) → List (Row ℕ) → Graph ℕ ℕ
 differenceTypes n t g s =
     differenceOver (typeLabels n t) 0 s g (over (plainRows s) (plainRows g)) byNumber λ v. Option·getD (wantedTypeAt n t s g v) 0
 
+-- 12 is given where s is not below g, else 13 where some node of s has no wanted type; else the difference is written.
 abbrev pub differedTypes : ℕ → List ℕ → List ℕ → List (Row ℕ) → List (Row ℕ) → Result
 differedTypes n t out g s =
     cond (typesBelow n t s g)
@@ -108,7 +116,7 @@ differedTypes n t out g s =
     (refusing reply.NoWantedType out))
     (refusing reply.NotBelow out)
 
--- with s numbered as written
+-- The call for the difference, with s numbered as written.
 unfoldable pub differingTypes : ℕ → List ℕ → List ℕ → List ℕ → List ℕ → Result
 differingTypes n t a b out =
     callTypes n t a b out λ g s. differedTypes n t out g (numbered (canonical eqb (graphOfTypes s)))

@@ -1,5 +1,5 @@
--- The wanted type and the wanted range of a node of s, over paths, for a difference of g and s (document 01, "Difference"; document 02, Papers 6
--- and 7). n and t are the table.
+-- Defines the wanted type and the wanted range of a node of s, over paths, for the difference of g and s (document 01, "Difference"; document 02,
+-- Papers 6 and 7). n and t are the table.
 use mathlib.Core.Path.{_≡_}
 use mathlib.Core.Bool.{true}
 use mathlib.Core.List.{List}
@@ -14,7 +14,7 @@ module _ (n : ℕ) (t : List ℕ) {A B : Type 0} (s : Graph Label A) (g : Graph 
   abbrev pub TypeBelowOver : A → ℕ → Type 0
   TypeBelowOver v a = (p : List ℕ) (y : B) → walk s p ≡ some v → walk g p ≡ some y → below t a (g .label y .type) ≡ true
 
-  -- "the meet of all g types over this node (top if none)": the greatest type below each
+  -- "the meet of all g types over this node (top if none)": the greatest type that is below each of them.
   pub record TypeOver (v : A) (q : ℕ) : Type 0 where
     pub known : q < n
     pub under : TypeBelowOver v q
@@ -38,8 +38,8 @@ abbrev pub RangeInOver : {A B : Type 0} → Graph Label A → Graph Label B → 
 RangeInOver {B = B} s g v lowest highest =
     (p : List ℕ) (y : B) → walk s p ≡ some v → walk g p ≡ some y → (g .label y .lowest ≤ lowest) × (highest ≤ g .label y .highest)
 
--- "The wanted range is the widest whose overlap with the general side's (full where nothing of g lies over) equals that of s." The general
--- side's is the widest that lies in each range of g over the node.
+-- "The wanted range is the widest whose overlap with the general side's (full where nothing of g lies over) equals that of s." The general side's
+-- range is the widest range that lies in each range of g over the node.
 pub record WantedRange {A B : Type 0} (s : Graph Label A) (g : Graph Label B) (v : A) (lowest highest : ℕ) : Type 0 where
   pub low : ℕ
   pub high : ℕ

@@ -1,2 +1,2 @@
-// What is demanded of the calls: the three demands and the change requests, about the definitions that the calls are proved equal to. There
-// is no code here, and nothing that code needs rests on it.
+// This crate states and proves what is demanded of the calls, by the three demands and by the change requests. The theorems are about the
+// definitions that the calls are proved equal to. There is no code here, and no code rests on this crate.

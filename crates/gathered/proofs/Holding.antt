@@ -1,4 +1,4 @@
--- The states of a begun gathering: their parts, and what the calls do to them.
+-- The states of a begun gathering: their parts, and what each call does to them.
 use mathlib.Core.Path.{_≡_, refl, sym, _∙_, ap, ap₂, subst}
 use mathlib.Core.Bool.{Bool, cond}
 use mathlib.Core.List.{List, _∷_, _++_}
@@ -21,7 +21,7 @@ use Rattle.gathered.specs.Theorem.{bytesOf, Holds}
 use Rattle.gathered.proofs.Mixture.{some-injective, settled-answer}
 use Rattle.gathered.proofs.Records.{written-some, written-short, joining-leaves, joining-room}
 
--- a number of 16 bits stands in its two bytes
+-- A number of 16 bits is read back from its two bytes.
 two-bytes-read : (x : ℕ) → x < 65536 → x % 256 + 256 * (x / 256 % 256) ≡ x
 two-bytes-read x h = omega arith
 
@@ -31,7 +31,7 @@ first-some part rest h =
     ap some (take-append-seam part rest)
 
 module _ (n : ℕ) (t state : List ℕ) (o : Option (List ℕ)) (holds : Holds n t state o) where
-  -- what stands behind the n
+  -- What stands behind n and the table.
   abbrev after : List ℕ
   after = twoBytes (length (bytesOf o)) ++ (bytesOf o ++ holds .rest)
 
@@ -80,7 +80,7 @@ module _ (n : ℕ) (t state : List ℕ) (o : Option (List ℕ)) (holds : Holds n
       go none w = refl
       go (some part) w = first-some part (holds .rest) (written-some n part (w part refl))
 
-  -- Each call, over such a state.
+  -- What each call is, over a state of a begun gathering.
 
   pub adding-is : (bytes : List ℕ) → adding state bytes ≡ settled state (joining n t o bytes whole)
   unfolding adding
@@ -89,7 +89,7 @@ module _ (n : ℕ) (t state : List ℕ) (o : Option (List ℕ)) (holds : Holds n
       ap (λ (u : List ℕ). settled state (joining n u (gatheredIn state) bytes (roomIn state))) table-are ∙
       ap₂ (λ (p : Option (List ℕ)) (r : List ℕ). settled state (joining n t p bytes r)) gathered-are room-are
 
-  -- an addition's answer is that of its call
+  -- An addition replies as its call on records, `joining`, does.
   pub adding-answer : (bytes : List ℕ) → adding state bytes .reply ≡ (joining n t o bytes whole .reply)
   adding-answer bytes =
       ap (λ (y : Result). y .reply) (adding-is bytes) ∙
@@ -108,7 +108,7 @@ module _ (n : ℕ) (t state : List ℕ) (o : Option (List ℕ)) (holds : Holds n
       ap₂ (λ (u : List ℕ) (p : Option (List ℕ)). checked (λ r. resulting r out) (opened n u) (finishedWith n p out)) table-are gathered-are ∙
       ap (λ (x : Opened). checked (λ r. resulting r out) x (finishedWith n o out)) (holds .opens)
 
-  -- What is held after an addition.
+  -- What the state holds after an addition.
   abbrev After : Option ℕ → Result → Type 0
   After l r = Holds n t (settledBy state l r .output) (instead o (takenBy l r))
 

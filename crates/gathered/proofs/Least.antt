@@ -62,7 +62,7 @@ module _ (n : ℕ) (t : List ℕ) (opens : opened n t ≡ Accepted) where
       reading n p ≡ accepted rows → Below (tableLabels n t) (graphOfRows rows) m
   all-head m p ps rows all e = all p (List·Memᴰ·head refl) rows e
 
-  -- alone, a record is the least above itself
+  -- A record is the least above itself alone.
   least-itself : (p : List ℕ) (rows : List (Row Label)) → reading n p ≡ accepted rows → LeastAbove n t (p ∷ []) p
   least-itself p rows e =
       let itself : Below (tableLabels n t) (graphOfRows rows) (graphOfRows rows) =
@@ -76,7 +76,7 @@ module _ (n : ℕ) (t : List ℕ) (opens : opened n t ≡ Accepted) where
         least = λ m size all. all-head m p [] rows all e;
       }
 
-  -- the common part of a program and what was gathered stands for both
+  -- What is least above the common part of two records, and above others, is least above both records and the others.
   least-common : (b part c q : List ℕ) (rows form : List (Row Label)) (more : List (List ℕ)) → reading n b ≡ accepted rows → reading n part ≡ accepted form →
       CommonPart n t b part rows form c → LeastAbove n t (c ∷ more) q → LeastAbove n t (part ∷ b ∷ more) q
   least-common b part c q rows form more e d common best =
@@ -102,7 +102,7 @@ module _ (n : ℕ) (t : List ℕ) (opens : opened n t ≡ Accepted) where
             (all-tail m b more (all-tail m part (b ∷ more) all)));
       }
 
-  -- and the written record of a program stands for it
+  -- What is least above the written record of a program, and above others, is least above the program and the others.
   least-rewritten : (b c q : List ℕ) (rows : List (Row Label)) (more : List (List ℕ)) → reading n b ≡ accepted rows → Rewritten n t b rows c →
       LeastAbove n t (c ∷ more) q → LeastAbove n t (b ∷ more) q
   least-rewritten b c q rows more e again best =
@@ -127,7 +127,7 @@ module _ (n : ℕ) (t : List ℕ) (opens : opened n t ≡ Accepted) where
             (all-tail m b more all));
       }
 
-  -- an addition that is answered by a length
+  -- Facts on an addition that is answered by a length.
   module _ (state : List ℕ) (o : Option (List ℕ)) (holds : Holds n t state o) (bytes : List ℕ) (l : ℕ)
       (e : lengthOf (adding state bytes .reply) ≡ some l) where
     abbrev joined : Result
@@ -143,7 +143,7 @@ module _ (n : ℕ) (t : List ℕ) (opens : opened n t ≡ Accepted) where
     next : Holds n t (adding state bytes .output) (some (take l (joined .output)))
     next = subst (λ (x : Option (List ℕ)). Holds n t (adding state bytes .output) (instead o x)) is-taken (adding-holds n t state o holds bytes)
 
-    -- what it writes: the record over the first bytes of the room, and the others stay
+    -- The addition writes its record over the first bytes of the room, and the other bytes stay.
     pub addition-state : (c : List ℕ) × (taken (joining n t o bytes blank) ≡ some c) ×
         (adding state bytes .output ≡ stateOf n t c (drop (length c) (bytesOf o ++ holds .rest)))
     unfolding stateOf
@@ -207,7 +207,7 @@ module _ (n : ℕ) (t : List ℕ) (opens : opened n t ≡ Accepted) where
   least-from (order bytes ∷ cs) state part holds = least-from cs state part holds
   least-from (finish out ∷ cs) state part holds = least-from cs state part holds
 
-  -- from a state that holds nothing yet: either nothing is added, or what is gathered is the least above all
+  -- From a state that holds nothing: either no addition is accepted, or what is gathered is the least graph above all accepted additions.
   pub least-after : (cs : List Call) (state : List ℕ) → Holds n t state none →
       (additions state cs ≡ []) ⊎ Gathered none (additions state cs) (additions state cs)
   unfolding additions folded
@@ -237,7 +237,7 @@ module _ (n : ℕ) (t : List ℕ) (opens : opened n t ≡ Accepted) where
   least-after (order bytes ∷ cs) state holds = least-after cs state holds
   least-after (finish out ∷ cs) state holds = least-after cs state holds
 
-  -- of the same programs there is one such written record
+  -- Two written records that are least above the same programs are equal.
   pub least-once : (ps qs : List (List ℕ)) (a b : List ℕ) → ((p : List ℕ) → List·Memᴰ p ps ↔ List·Memᴰ p qs) → WrittenRecord n a → WrittenRecord n b →
       LeastAbove n t ps a → LeastAbove n t qs b → a ≡ b
   least-once ps qs a b same one other x y =

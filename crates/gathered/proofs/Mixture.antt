@@ -1,4 +1,4 @@
--- The mixture: on any state, calls leave what the accepted additions alone leave.
+-- The mixture: on any state, any calls leave what the accepted additions alone leave.
 use mathlib.Core.Path.{_≡_, refl, sym, _∙_, ap}
 use mathlib.Core.List.{List, [], _∷_}
 use mathlib.Core.Option.{Option, none, some}
@@ -26,7 +26,7 @@ settled-kept state r e =
     go none d = refl
     go (some l) d = none-some (sym d)
 
--- an addition that is not answered by a length leaves the state, whatever is handed in
+-- An addition that is not answered by a length leaves the state as it was, whatever is handed in.
 pub adding-kept : (state bytes : List ℕ) → lengthOf (adding state bytes .reply) ≡ none → adding state bytes .output ≡ state
 unfolding adding
 adding-kept state bytes e = settled-kept state (joining (typesIn state) (tableIn state) (gatheredIn state) bytes (roomIn state)) e
@@ -64,7 +64,7 @@ mixture (add bytes ∷ cs) state = go (lengthOf (adding state bytes .reply)) ref
 mixture (order bytes ∷ cs) state = mixture cs state
 mixture (finish out ∷ cs) state = mixture cs state
 
--- and these are accepted again, one and all
+-- Made alone, all accepted additions are accepted again.
 pub alone-accepted : (cs : List Call) (state : List ℕ) → additions state (alone (additions state cs)) ≡ additions state cs
 unfolding additions
 alone-accepted [] state = refl

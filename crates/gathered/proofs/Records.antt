@@ -1,4 +1,4 @@
--- What an addition writes: a written record, and the same whatever stands in the room, where that has place for the longest.
+-- An addition writes a written record, which does not depend on the bytes in the room, where the room has space for the longest record.
 use mathlib.Core.Path.{_≡_, refl, sym, _∙_, ap}
 use mathlib.Core.Bool.{Bool, true, cond}
 use mathlib.Core.List.{List, _++_}
@@ -40,7 +40,7 @@ pub length-blank : length blank ≡ 4854
 unfolding blank
 length-blank = length-replicate {A = ℕ} 4854 0
 
--- a written record has bytes, and no more than the longest
+-- A written record has at least one byte, and no more than the longest record.
 pub written-some : (n : ℕ) (b : List ℕ) → WrittenRecord n b → 1 ≤ length b
 unfolding encoded
 written-some n b one = omega (arith, ap length (one .bytes-are))
@@ -63,7 +63,7 @@ recordOf manyNodes = none
 recordOf manyLinks = none
 recordOf (written rows) = some (encoded rows)
 
--- a call that writes a graph
+-- Facts on a call that writes a graph.
 module _ (n : ℕ) {C : Type 0} (same : C → C → Bool) (k : Graph Label C) (call : List ℕ → Result) (leaves : (out : List ℕ) → Leaves n out (call out))
     (is : (out : List ℕ) → call out ≡ resultFor same k out) where
   pub form-short : (form : List (Row Label)) → canonical same k ≡ written form → length (encoded form) ≤ 4854
@@ -88,7 +88,7 @@ module _ (n : ℕ) {C : Type 0} (same : C → C → Bool) (k : Graph Label C) (c
   pub call-room : (out : List ℕ) → 4854 ≤ length out → taken (call out) ≡ taken (call blank)
   call-room out h = call-record out h ∙ sym (call-record blank (omega (arith, length-blank)))
 
-  -- 11 alone is left where nothing is taken
+  -- In room for the longest record, a call that answers no length answers 11.
   pub call-large : (out : List ℕ) → 4854 ≤ length out → lengthOf (call out .reply) ≡ none → call out .reply ≡ TooLarge
   unfolding writtenOut fitted
   call-large out h e =
@@ -103,7 +103,7 @@ module _ (n : ℕ) {C : Type 0} (same : C → C → Bool) (k : Graph Label C) (c
           none-some (sym d ∙
           ap (λ (b : Bool). lengthOf (resultOf (cond b (yielding (outcome.Length (length (encoded form))) (encoded form ++ drop (length (encoded form)) out)) (yielding outcome.NoRoom out)) .reply)) fits)
 
--- why an addition is refused: by the program's 4 to 7, or, once something is gathered, by 11
+-- The reason of a refused addition: the program's 4 to 7, or 11 once something is gathered.
 abbrev pub Why : ℕ → List ℕ → Option (List ℕ) → Reply → Type 0
 Why n bytes o r =
     ((fault : GraphFault) × (reading n bytes ≡ refused fault) × (r ≡ OfGraph fault First)) ⊎ ((part : List ℕ) × (o ≡ some part) × (r ≡ TooLarge))
@@ -128,9 +128,9 @@ module _ (n : ℕ) (t : List ℕ) (opens : opened n t ≡ Accepted) where
   unfolding generalizing generalized
   generalizing-is bytes part g h given out = rw (given .opens, given .first, given .second)
 
-  -- over what is a written record
+  -- Facts where what is gathered is a written record.
   module _ (o : Option (List ℕ)) (whole : (part : List ℕ) → o ≡ some part → WrittenRecord n part) (bytes : List ℕ) where
-    -- the room does not matter
+    -- The bytes in the room do not matter.
     pub joining-room : (out : List ℕ) → 4854 ≤ length out → taken (joining n t o bytes out) ≡ taken (joining n t o bytes blank)
     joining-room out h = go o whole (reading n bytes) refl
       where

@@ -1,4 +1,4 @@
--- A refused begin leaves the buffer, a refused finish the output, whatever is handed in.
+-- Whatever is handed in, a refused begin leaves the buffer as it was, and a refused finish leaves the output as it was.
 use mathlib.Core.Path.{_≡_, refl}
 use mathlib.Core.Bool.{Bool, true, false, cond}
 use mathlib.Core.List.{List, [], _++_}

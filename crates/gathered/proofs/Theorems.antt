@@ -1,5 +1,5 @@
--- Paper 4, sentence by sentence, about the definitions of `Gathering` and `Calls`. `Holds n t state o` says that the state is one of a
--- gathering over the table n, t that was begun, with the common part o so far.
+-- The proofs of Paper 4, sentence by sentence, about the definitions of `Gathering` and `Calls`. `Holds n t state o` says that the state is one
+-- of a begun gathering over the table n, t, with the common part o so far.
 use mathlib.Core.Path.{_≡_, refl, sym, _∙_, ap, ap₂, subst}
 use mathlib.Core.Bool.{Bool, true, false, cond}
 use mathlib.Core.List.{List, [], _∷_, _++_, List·Memᴰ, List·Memᴰ·head, List·Memᴰ·not-nil}
@@ -46,11 +46,11 @@ use Rattle.gathered.proofs.Least.{least-after, least-once}
 use Rattle.gathered.proofs.Least as Least
 use Rattle.gathered.proofs.Holding.{comparing-is, finishing-is, adding-holds, adding-answer}
 
--- 1. "The state after any such mixture is what the accepted additions alone, folded in their order, give": byte for byte, on any state,
+-- 1. "The state after any such mixture is what the accepted additions alone, folded in their order, give": on any state, the bytes are equal.
 pub mixture : (cs : List Call) (state : List ℕ) → stateAfter state cs ≡ stateAfter state (alone (additions state cs))
 mixture = Mixture.mixture
 
--- and alone they are accepted too.
+-- Made alone, all accepted additions are accepted again.
 pub alone-accepted : (cs : List Call) (state : List ℕ) → additions state (alone (additions state cs)) ≡ additions state cs
 alone-accepted = Mixture.alone-accepted
 
@@ -58,14 +58,14 @@ alone-accepted = Mixture.alone-accepted
 pub refused-unchanged : (state bytes : List ℕ) (k : ℕ) → refusal (adding state bytes .reply) ≡ some k → adding state bytes .output ≡ state
 refused-unchanged = Mixture.adding-refused
 
--- So a refused begin leaves the buffer, and a refused finish the output.
+-- A refused begin leaves the buffer as it was, and a refused finish leaves the output as it was.
 pub begin-unchanged : (n : ℕ) (t buffer : List ℕ) (k : ℕ) → refusal (begun n t buffer .reply) ≡ some k → begun n t buffer .output ≡ buffer
 begin-unchanged = begin-refused
 
 pub finish-unchanged : (state out : List ℕ) (k : ℕ) → refusal (finishing state out .reply) ≡ some k → finishing state out .output ≡ out
 finish-unchanged = finish-refused
 
--- 2. "A gathering is begun with one accepted table", in room for the longest record.
+-- 2. "A gathering is begun with one accepted table": a begun state has the table, and room for the longest record.
 module _ (n : ℕ) (t : List ℕ) where
   pub begun-holds : (buffer : List ℕ) (l : ℕ) → begun n t buffer .reply ≡ (Length l) → Holds n t (begun n t buffer .output) none
   unfolding begun
@@ -138,7 +138,7 @@ module _ (n : ℕ) (t : List ℕ) where
 
 -- 4. "an addition is refused by 4 to 7 or 11 alone"
 
--- the numbers of a record that is refused
+-- The number of a refused record is 4 to 7.
 pub reading-number : (n : ℕ) (bytes : List ℕ) (fault : GraphFault) → reading n bytes ≡ refused fault → (4 ≤ graphNumber fault) × (graphNumber fault ≤ 7)
 unfolding reading
 reading-number n bytes fault e = go (decoded bytes) e
@@ -170,7 +170,7 @@ reading-number n bytes fault e = go (decoded bytes) e
     go none d = last Malformed d (omega arith, omega arith)
     go (some rows) d = ranges rows (inRange n rows) d
 
--- The calls that gathering goes on in never answer 16.
+-- What an order and a finish go on with, once something is gathered, never answers 16.
 
 ordering-gathered : (n : ℕ) (t a b : List ℕ) → ordering n t a b ≡ NothingGathered → ⊥
 unfolding ordering ordered
@@ -194,7 +194,7 @@ written-gathered outcome.TooLarge e = let z : _≡_ {A = ℕ} 0 1 = cc in omega 
 written-gathered outcome.NoRoom e = let z : _≡_ {A = ℕ} 0 1 = cc in omega arith
 
 module _ (n : ℕ) (t state : List ℕ) (o : Option (List ℕ)) (holds : Holds n t state o) where
-  -- by the program's 4 to 7, as the first graph, or, once something is gathered, by 11;
+  -- An addition is refused by the program's 4 to 7, as the first graph, or by 11 once something is gathered.
   pub addition-why : (bytes : List ℕ) → lengthOf (adding state bytes .reply) ≡ none →
       (r : Reply) × (adding state bytes .reply ≡ r) × Why n bytes o r
   addition-why bytes e = (
@@ -214,7 +214,7 @@ module _ (n : ℕ) (t state : List ℕ) (o : Option (List ℕ)) (holds : Holds n
           inl (subst (λ (j : ℕ). (4 ≤ j) × (j ≤ 7)) same (reading-number n bytes fault reads))
       number r d (inr (part, there, is)) = inr (sym (some-injective (sym (ap refusal is) ∙ d)))
 
-  -- an accepted addition is part of the fold
+  -- An accepted addition is part of the fold.
   pub addition-taken : (bytes : List ℕ) (l : ℕ) → lengthOf (adding state bytes .reply) ≡ some l →
       (part : List ℕ) × (taken (joining n t o bytes blank) ≡ some part)
   addition-taken bytes l e =
@@ -225,11 +225,11 @@ module _ (n : ℕ) (t state : List ℕ) (o : Option (List ℕ)) (holds : Holds n
             ap (λ (m : Option ℕ). takenBy m (joining n t o bytes whole)) told,
       )
 
-  -- 5. Order: "as first graph, to the common part of those added so far";
+  -- 5. The order of a program is told "as first graph, to the common part of those added so far".
   pub order-is : (bytes part : List ℕ) → o ≡ some part → comparing state bytes ≡ ordering n t bytes part
   order-is bytes part e = comparing-is n t state o holds bytes ∙ ap (λ (p : Option (List ℕ)). comparedWith n t p bytes) e
 
-  -- 16 exactly where nothing is gathered and the program is accepted.
+  -- An order answers 16 exactly where nothing is gathered and the program is accepted.
   pub order-nothing : (bytes : List ℕ) → (comparing state bytes ≡ NothingGathered) ↔
       ((o ≡ none) × ((rows : List (Row Label)) × (reading n bytes ≡ accepted rows)))
   order-nothing bytes = (λ e. there o (sym (comparing-is n t state o holds bytes) ∙ e), λ e. comparing-is n t state o holds bytes ∙ back e)
@@ -248,7 +248,7 @@ module _ (n : ℕ) (t state : List ℕ) (o : Option (List ℕ)) (holds : Holds n
           ap (λ (p : Option (List ℕ)). comparedWith n t p bytes) e ∙
           ap₂ (λ (x : Opened) (r : Reading). checked (λ r. r) x (nothingAfter r)) (holds .opens) d
 
-  -- 6. "Finishing writes the common part", or 8;
+  -- 6. "Finishing writes the common part", or answers 8.
   pub finish-is : (out part : List ℕ) → o ≡ some part → finishing state out ≡ resultOf (fitted part out)
   finish-is out part e =
       let one : WrittenRecord n part = holds .written part e in
@@ -256,7 +256,7 @@ module _ (n : ℕ) (t state : List ℕ) (o : Option (List ℕ)) (holds : Holds n
       ap (λ (r : Reading). writtenFrom r out) (one .reads) ∙
       sym (rewriting-is n t part (one .form) (holds .opens) (one .reads) out) ∙ written-own-bytes n t part one (holds .opens) out
 
-  -- 16 exactly where nothing is gathered.
+  -- A finish answers 16 exactly where nothing is gathered.
   pub finish-nothing : (out : List ℕ) → (finishing state out .reply ≡ NothingGathered) ↔ (o ≡ none)
   finish-nothing out = (
     λ e. there o (holds .written) (sym (ap (λ (y : Result). y .reply) (finishing-is n t state o holds out)) ∙ e),
@@ -271,7 +271,7 @@ module _ (n : ℕ) (t state : List ℕ) (o : Option (List ℕ)) (holds : Holds n
       there none w e = refl
       there (some part) w e = from (reading n part) e
 
-  -- 16 and the program's 4 to 7 are all that order refuses by, 16 and 8 all that finishing does.
+  -- An order is refused only by the program's 4 to 7 and by 16, a finish only by 16 and 8.
   pub order-numbers : (bytes : List ℕ) (k : ℕ) → refusal (comparing state bytes) ≡ some k → ((4 ≤ k) × (k ≤ 7)) ⊎ (k ≡ 16)
   unfolding ordering ordered
   order-numbers bytes k e = go o (holds .written) (sym (ap refusal (comparing-is n t state o holds bytes)) ∙ e)
@@ -372,8 +372,8 @@ module _ (n : ℕ) (t : List ℕ) where
         λ d. exact .1 (ap (folded n t none) (d .0), d .1),
       )
 
-  -- 8. After calls on a begun state of which an addition is accepted, there is one record that is read as the least graph of any size above
-  -- all accepted additions: finishing writes it, or refuses by 8, and a program's order is to it.
+  -- 8. After calls on a begun state that accepted an addition, there is one record that is read as the least graph of any size above all accepted
+  -- additions. Finishing writes this record, or answers 8, and a program's order is told to this record.
   pub finish-least : (cs : List Call) (state : List ℕ) → Holds n t state none → (additions state cs ≡ [] → ⊥) →
       (part : List ℕ) × LeastAbove n t (additions state cs) part ×
       ((out : List ℕ) → finishing (stateAfter state cs) out ≡ resultOf (fitted part out)) ×
@@ -395,7 +395,7 @@ module _ (n : ℕ) (t : List ℕ) where
         (λ bytes. order-is n t (stateAfter state cs) (folded n t none (additions state cs)) after bytes q found),
       )
 
-  -- For one program it is its written record: finishing writes what rewriting does.
+  -- After one accepted addition, finishing gives what rewriting that program gives.
   pub finish-one : (cs : List Call) (state : List ℕ) → Holds n t state none → (p : List ℕ) → additions state cs ≡ p ∷ [] →
       (out : List ℕ) → finishing (stateAfter state cs) out ≡ rewriting n t p out
   unfolding folded
@@ -423,7 +423,7 @@ module _ (n : ℕ) (t : List ℕ) where
           finish-is n t (stateAfter state cs) (folded n t none (additions state cs)) (calls-hold n t cs state none holds) out q found ∙
           sym (written-own-bytes n t q (one .is-record .is-written) (holds .opens) out) ∙ one .again out
 
-  -- 9. Additions that are all accepted in two orders give one record: it depends on which programs were accepted, and on nothing else.
+  -- 9. The record that is gathered depends only on which programs were accepted, not on their order.
   pub two-orders : (cs ds : List Call) (state other : List ℕ) → Holds n t state none → Holds n t other none →
       ((p : List ℕ) → List·Memᴰ p (additions state cs) ↔ List·Memᴰ p (additions other ds)) →
       folded n t none (additions state cs) ≡ folded n t none (additions other ds)
@@ -454,7 +454,7 @@ module _ (n : ℕ) (t : List ℕ) where
           (calls-hold n t cs state none holds .written q found) (calls-hold n t ds other none held .written r seen) best least) ∙
           sym seen
 
--- 10. An accepted addition writes over the first bytes of the room what it adds to the fold; the table and the bytes behind stay.
+-- 10. An accepted addition writes its record, the next value of the fold, over the first bytes of the room; the table and the bytes behind stay.
 pub addition-state : (n : ℕ) (t state : List ℕ) (o : Option (List ℕ)) (holds : Holds n t state o) (bytes : List ℕ) (l : ℕ) →
     lengthOf (adding state bytes .reply) ≡ some l →
     (c : List ℕ) × (taken (joining n t o bytes blank) ≡ some c) ×

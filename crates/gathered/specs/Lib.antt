@@ -1,3 +1,3 @@
--- The words that the theorems about gatherings are stated in.
+-- The definitions that only the theorems on gatherings use.
 pub mod Calls
 pub mod Theorem

@@ -1,4 +1,4 @@
--- What a state of a begun gathering is, and what is gathered among all graphs of any size.
+-- Definitions for the theorems on gatherings: what a state of a begun gathering is, and which graph is gathered among all graphs of any size.
 use mathlib.Core.Path.{_≡_}
 use mathlib.Core.List.{List, [], _++_, List·Memᴰ}
 use mathlib.Core.Option.{Option, none, some}
@@ -14,11 +14,13 @@ use Rattle.record.specs.Read.{reading, accepted, graphOfRows}
 use Rattle.demands.specs.Demand.{WrittenRecord}
 use Rattle.gathering.specs.Gathering.{stateOf}
 
+-- The bytes of the common part so far; no bytes before the first addition.
 abbrev pub bytesOf : Option (List ℕ) → List ℕ
 bytesOf none = []
 bytesOf (some part) = part
 
--- an accepted table, the written record of the common part if there is one, and room for the longest
+-- The state is one of a begun gathering: it has an accepted table, the written record of the common part if there is one, and room for the
+-- longest record.
 pub record Holds (n : ℕ) (t state : List ℕ) (o : Option (List ℕ)) : Type 0 where
   pub opens : opened n t ≡ Accepted
   pub written : (part : List ℕ) → o ≡ some part → WrittenRecord n part

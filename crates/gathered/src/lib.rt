@@ -1,2 +1,2 @@
-// What is shown of gatherings (document 02, Paper 4), about the definitions that the calls of `gathering` are proved equal to. There is
-// no code here.
+// This crate states and proves what document 02, Paper 4, demands of gatherings. The theorems are about the definitions that the calls of
+// `gathering` are proved equal to. There is no code here.

@@ -1,4 +1,4 @@
--- From what the parts of a state, its table and its records answer to what a call answers.
+-- What a call answers, by what the parts of the state, its table and its records answer.
 use mathlib.Core.Path.{_≡_, refl, sym, _∙_, ap, ap₂}
 use mathlib.Core.Bool.{Bool, cond}
 use mathlib.Core.List.{List, []}
@@ -33,9 +33,9 @@ use Rattle.gathering.specs.Gathering.{typesIn, tableIn, roomIn, firstOf,
 use Rattle.gathering.specs.Parts.{Span, PartsOf}
 use Rattle.gathering.specs.Joined.{joinedRows}
 
--- A record that is read.
+-- Facts on a record that is read.
 
--- an accepted record's words
+-- The words of an accepted record are `Loaded`.
 pub reads-loaded : (n : ℕ) (bytes : List ℕ) {v : Verdict} {ws : List ℕ} → Reads n bytes v ws → v ≡ Accepted → Loaded n ws
 reads-loaded n bytes tells e = told-loaded n [] [] bytes (told-accepted (tells-plain n [] [] bytes refl tells) e)
 
@@ -53,7 +53,7 @@ module _ {n : ℕ} {o : Reading} {v : Verdict} {ws : List ℕ} (tells : ReadsAs 
     pub write-accepted : v ≡ Accepted → rewrittenRows out (rowsOf ws) ≡ writtenFrom o out
     write-accepted e = sym (ap (λ (i : Reading). writtenFrom i out) (told-accepted tells e .is))
 
--- The calls, from the parts of a state and what opening its table answers.
+-- The calls, by the parts of a state and by what opening its table answers.
 module _ {state : List ℕ} {p : Parts} (parts : PartsOf state p) where
   none-gathered : p .gathered ≡ 0 → gatheredIn state ≡ none
   none-gathered e = ap (λ (l : ℕ). firstOf l (roomIn state)) (sym (parts .gathered-is) ∙ e)
@@ -129,7 +129,7 @@ module _ {state : List ℕ} {p : Parts} (parts : PartsOf state p) where
           ap (λ (q : Opened). checked (λ r. r) q (readBoth (λ r. r) (reading (p .types) bytes) (reading (p .types) part) (ordered (p .types) t)))
           (sym told ∙ e))
 
--- Joining, from the part of the room that is read.
+-- An addition, by the part of the room that is read.
 module _ {room : List ℕ} {gathered end : ℕ} (span : Span room 0 gathered end) {n : ℕ} {v : Verdict} {ws : List ℕ} (tells : Reads n (take end room) v ws) where
   first-same : take gathered room ≡ take end room
   first-same =

@@ -1,4 +1,4 @@
--- A gathering is begun.
+-- How a gathering is begun: the table is checked, then n, the table and a length of 0 are stored.
 use mathlib.Core.Path.{_≡_, sym, _∙_, ap, ap₂}
 use mathlib.Core.Bool.{Bool, true, false, cond}
 use mathlib.Core.List.{List, [], _∷_, _++_}
@@ -43,7 +43,7 @@ module _ (n : ℕ) (t : List ℕ) {answer : Opened} (told : answer ≡ opened n 
     pub begun-short : answer ≡ table.Accepted → length state < 1 + 8 * n + 2 + 4854 → resulting NoRoom state ≡ begun n t state
     begun-short e h = begun-accepted e false (lt-leb (1 + 8 * n + 2 + 4854) (length state) h)
 
-    -- n, the table and a length of 0 are stored
+    -- n, the table and a length of 0 are stored.
     module _ (accepts : answer ≡ table.Accepted) (room : 1 + 8 * n + 2 + 4854 ≤ length state) where
       abbrev one : List ℕ
       one = set state 0 n

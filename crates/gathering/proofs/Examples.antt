@@ -27,27 +27,27 @@ use Rattle.gathering.specs.Examples.{diamond, P, R, aOverB, loneB, loneT
 
 module _ where
   pub examples :
-      -- begin: 8 in room for less than the longest, 1 for a table of another size
+      -- Begin gives 8 in room for less than the longest record, and 1 for a table of another size.
       (begun 4 diamond (replicate 57 7) ≡ resulting NoRoom (replicate 57 7)) ×
       (begun 5 diamond [] ≡ resulting (Table Size) []) ×
-      -- 16, after the program's own refusals
+      -- An order gives 16 after the program's own refusals.
       (comparing empty P ≡ NothingGathered) ×
       (comparing empty [] ≡ (Graph Malformed First)) ×
       (finishing empty [] ≡ resulting NothingGathered []) ×
-      -- the first addition is the program, the next the common part
+      -- The first addition writes the program, the next one the common part.
       (adding empty R ≡ resulting (Length 21) holdsR) ×
       (adding holdsR P ≡ resulting (Length 21) holdsP) ×
       (adding holdsR [] ≡ resulting (Graph Malformed First) holdsR) ×
-      -- bytes behind the used ones stay
+      -- The bytes behind the used ones stay.
       (adding (head ++ (10 ∷ 0 ∷ loneB ++ replicate 12 7)) aOverB ≡ resulting (Length 10) (head ++ (10 ∷ 0 ∷ loneTop ++ replicate 12 7))) ×
-      -- the order, the program first
+      -- The order is seen from the program, the first graph.
       (comparing holdsP R ≡ Under) ×
       (comparing holdsR P ≡ Above) ×
       (comparing holdsR R ≡ Same) ×
-      -- finishing, and a byte short
+      -- A finish writes the record, and gives 8 in an output that is one byte short.
       (finishing holdsR (replicate 22 5) ≡ resulting (Length 21) (R ++ (5 ∷ []))) ×
       (finishing holdsR (replicate 20 5) ≡ resulting NoRoom (replicate 20 5)) ×
-      -- states that nobody began: no table, a cut record, no room
+      -- Bytes that hold no gathering: no table, a cut record, no room.
       (adding [] P ≡ resulting (Table Size) []) ×
       (finishing (take 50 holdsR) [] ≡ resulting (Graph Malformed Second) []) ×
       (comparing (take 50 holdsR) P ≡ (Graph Malformed Second)) ×

@@ -1,4 +1,4 @@
--- An addition: what reading both graphs answers, what the call leaves in the room, and what settling it makes of the state.
+-- An addition: what reading both graphs answers, what the call leaves in the room, and what settling the length makes of the state.
 use mathlib.Core.Path.{_≡_, refl, sym, _∙_, ap, ap₂, subst}
 use mathlib.Core.Bool.{Bool, true, false, cond}
 use mathlib.Core.List.{List, _++_, append-nil}
@@ -49,12 +49,12 @@ module _ (n : ℕ) (t bytes : List ℕ) (gathered : ℕ) (room : List ℕ) {v : 
       go none = ap (λ (i : Reading). rewritten i room) (told-refused tells fault e)
       go (some part) = ap (λ (i : Reading). readBoth (λ r. refusing r room) i (reading n part) (generalized n t room)) (told-refused tells fault e)
 
-  -- nothing is gathered
+  -- The addition where nothing is gathered.
   pub joined-none : gathered ≡ 0 → v ≡ Accepted → rewrittenRows room (rowsOf ws) ≡ joined n t (firstOf gathered room) bytes room
   joined-none h e =
       sym (ap (λ (l : ℕ). joined n t (firstOf l room) bytes room) h ∙ ap (λ (i : Reading). rewritten i room) (told-accepted tells e .is))
 
-  -- something is
+  -- The addition where something is gathered.
   pub joined-some : (gathered ≡ 0 → ⊥) → v ≡ Accepted →
       joinedRows n t room (rowsOf ws) (reading n (take gathered room)) ≡ joined n t (firstOf gathered room) bytes room
   joined-some h e =
@@ -66,7 +66,7 @@ module _ (n : ℕ) (t bytes : List ℕ) (gathered : ℕ) (room : List ℕ) {v : 
       second (refused fault) = refl
       second (accepted others) = refl
 
--- What a call leaves in the room: all of it where it tells no length. A record that it tells of takes room.
+-- What a call leaves in the room: the room stays as it was where the reply tells no length. A record whose length is told has at least one byte.
 pub record Keeps (out : List ℕ) (r : Result) : Type 0 where
   pub kept : lengthOf (r .reply) ≡ none → r .output ≡ out
   pub takes : (l : ℕ) → lengthOf (r .reply) ≡ some l → 1 ≤ length out
@@ -102,7 +102,7 @@ module _ (out : List ℕ) where
       both (accepted rows) (refused fault) = record { kept = λ d. refl; takes = λ l d. none-some d }
       both (accepted rows) (accepted others) = written-keeps _
 
--- Over an accepted table an addition is what is joined.
+-- An addition checks the table, and over an accepted table it is `joined`.
 joining-checked : (n : ℕ) (t : List ℕ) (o : Option (List ℕ)) (bytes out : List ℕ) →
     joining n t o bytes out ≡ checked (λ r. refusing r out) (opened n t) (joined n t o bytes out)
 unfolding rewriting generalizing
@@ -111,7 +111,7 @@ joining-checked n t (some part) bytes out = refl
 
 module _ {state : List ℕ} {p : Parts} (parts : PartsOf state p) {answer : Opened}
     (told : answer ≡ opened (p .types) (take (p .end - p .start) (drop (p .start) state))) (bytes : List ℕ) where
-  -- what is joined, by the parts that the definitions name
+  -- The addition, by the parts that the definitions name.
   abbrev whole : Result
   whole = joined (typesIn state) (tableIn state) (gatheredIn state) bytes (roomIn state)
 
@@ -149,7 +149,7 @@ module _ {state : List ℕ} {p : Parts} (parts : PartsOf state p) {answer : Open
     long : length (take (p .room) state) ≡ p .room
     long = length-take-le (p .room) state (parts .room-low)
 
-    -- a length that is told has its two bytes
+    -- There are two bytes for a length that is told.
     pub settle-fits : (rest : List ℕ) (l : ℕ) → reply ≡ Length l → p .end + 2 ≤ length (take (p .room) state ++ (new ++ rest))
     settle-fits rest l e =
         omega (arith, parts .whole (keeps .takes l (ap lengthOf e)) .1, long, length-append (take (p .room) state) (new ++ rest))

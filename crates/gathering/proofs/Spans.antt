@@ -9,7 +9,7 @@ use lib.Seq.{take-all, drop-length, drop-drop, getD-drop, set-split, take-suc-se
 use Rattle.gathering.specs.Gathering.{twoBytes, behindTable, roomIn, lengthAt}
 use Rattle.gathering.specs.Parts.{Span, PartsOf}
 
--- The end of the next bytes: all of them, or those that are there.
+-- The end of the next bytes: all of them, or as many as there are.
 module _ (bytes : List ℕ) (at count : ℕ) (low : at ≤ length bytes) where
   pub span-inside : count < length bytes - at → Span bytes at count (at + count)
   span-inside h =
@@ -32,7 +32,7 @@ module _ (bytes : List ℕ) (at count : ℕ) (low : at ≤ length bytes) where
         drops = drop-length bytes ∙ sym (drop-of-length-le (drop at bytes) {i = count} (omega (arith, h)));
       }
 
--- bytes behind the end tell that they are all there
+-- If there are bytes behind the end, all the next bytes are there.
 span-whole : {bytes : List ℕ} {at count end : ℕ} → Span bytes at count end → 1 ≤ length (drop end bytes) → end ≡ at + count
 span-whole {bytes} {end = end} span h = ⊎-elim (λ e. e) (λ e. absurd (omega (arith, e, h, length-drop end bytes))) (span .all)
 
@@ -71,7 +71,7 @@ parts-found state {types} {start} {end} {room} {gathered} {last} e first table t
           (omega (arith, start-whole, end-whole, e), span-whole two some);
     }
 
--- two stores
+-- Two stores, one after the other.
 pub two-stored : (state : List ℕ) (at a b : ℕ) → at + 2 ≤ length state →
     set (set state at a) (at + 1) b ≡ take at state ++ (a ∷ b ∷ drop (at + 2) state)
 two-stored state at a b h =
@@ -84,13 +84,13 @@ two-stored state at a b h =
     ap₂ (λ (x y : List ℕ). x ++ b ∷ y) (take-suc-set state at a (omega (arith, h))) (drop-set-lt (at + 2) state at a (omega arith)) ∙
     append-snoc (take at state) a (b ∷ drop (at + 2) state)
 
--- which put a length
+-- Two stores put a length.
 pub length-put : (state : List ℕ) (at count : ℕ) → at + 2 ≤ length state →
     set (set state at (count % 256)) (at + 1) (count / 256 % 256) ≡ take at state ++ (twoBytes count ++ drop (at + 2) state)
 unfolding twoBytes
 length-put state at count h = two-stored state at (count % 256) (count / 256 % 256) h
 
--- A copy: the first i bytes stand in the state.
+-- While bytes are copied: the first i bytes stand in the state.
 pub record Copied (bytes : List ℕ) (at : ℕ) (before state : List ℕ) (i : ℕ) : Type 0 where
   pub some : i ≤ length bytes
   pub fit : at + length bytes ≤ length before

@@ -1,4 +1,4 @@
--- The length that a reply tells, and what settling it leaves.
+-- The length that a reply tells, and what settling the length leaves.
 use mathlib.Core.Path.{_≡_, refl, sym, _∙_, ap, subst}
 use mathlib.Core.List.{List, [], _∷_, _++_}
 use mathlib.Core.Option.{Option, none, some}
@@ -20,7 +20,7 @@ use Rattle.gathering.specs.Joined.{settledFor, settledAt}
 pub none-some : {A X : Type 0} {x : A} → none ≡ some x → X
 none-some e = let z : _≡_ {A = ℕ} 0 1 = cc in absurd (omega arith)
 
--- the reply that tells a length
+-- A reply whose `lengthOf` is l is `Length l`.
 pub length-told : (r : Reply) (l : ℕ) → lengthOf r ≡ some l → r ≡ Length l
 length-told r l e = answer-injective r (Length l) (go (answerOf r) e)
   where
@@ -39,7 +39,7 @@ length-told r l e = answer-injective r (Length l) (go (answerOf r) e)
 abbrev pub others : List ℕ
 others = 1 ∷ 2 ∷ 3 ∷ 4 ∷ 5 ∷ 6 ∷ 7 ∷ 8 ∷ 9 ∷ 10 ∷ 11 ∷ 12 ∷ 13 ∷ 14 ∷ 15 ∷ 16 ∷ 17 ∷ 18 ∷ 19 ∷ 20 ∷ 21 ∷ 22 ∷ 23 ∷ 24 ∷ []
 
--- what a match that leaves these tells
+-- A reply at one of these places tells no length.
 pub not-length : (r : Reply) → OneOf others (tagOf the-type r) → (l : ℕ) → r ≡ Length l → ⊥
 not-length r other l e = miss others 0 tt (subst (λ (q : Reply). OneOf others (tagOf the-type q)) e other)
 
@@ -51,11 +51,11 @@ no-length r other = go (lengthOf r) refl
     go (some l) e = absurd (not-length r other l (length-told r l e))
 
 module _ (at : ℕ) (state : List ℕ) (reply : Reply) where
-  -- any other reply leaves the state
+  -- Any other reply leaves the state as it was.
   pub settled-none : lengthOf reply ≡ none → resulting reply state ≡ settledAt at state reply
   settled-none e = sym (ap (settledFor at state reply) e)
 
-  -- a length is put
+  -- A length that is told is put.
   pub settled-some : (l : ℕ) {new : List ℕ} → reply ≡ Length l → new ≡ take at state ++ (twoBytes l ++ drop (at + 2) state) →
       resulting (Length l) new ≡ settledAt at state reply
   settled-some l e put = ap (resulting (Length l)) put ∙ sym (ap (settledAt at state) e)

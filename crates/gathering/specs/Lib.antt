@@ -1,4 +1,4 @@
--- What the calls of a gathering answer, and leave in its state and in their output.
+-- What the calls of a gathering answer and leave in the state and the output, and computed examples.
 pub mod Gathering
 pub mod Parts
 pub mod Joined

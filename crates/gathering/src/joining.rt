@@ -1,4 +1,4 @@
-// What an addition does once the table of the state is accepted.
+// What an addition does once the table in the state is accepted.
 
 use record::reading::Verdict;
 use replies::Reply;
@@ -17,8 +17,8 @@ ghost use Rattle.replies.specs.Reply.{resulting};
 ghost use Rattle.gathering.specs.Gathering.{firstOf};
 ghost use Rattle.gathering.specs.Joined.{joined, joinedRows, settledAt};
 
-// Writes over the room what a program makes of what stands first in it: its own record where nothing is gathered, else the common part
-// of both.
+// Writes the new common part over the room: the program's own record where nothing is gathered, else the common part of the program and the
+// record that stands first in the room.
 pub fn join<'a>(
     n: usize,
     gathered: usize,
@@ -44,7 +44,7 @@ pub fn join<'a>(
     }
 }
 
-// Writes over the room the common part of a program's graph and of the record that stands first in it.
+// Writes over the room the common part of a program's graph and the record that stands first in the room.
 fn join_graph<'a>(
     n: usize,
     gathered: usize,
@@ -66,7 +66,7 @@ fn join_graph<'a>(
     }
 }
 
-// Writes the length that a reply tells into the two bytes from a place on.
+// Writes the length that a reply tells as two bytes from `at` on. Answers that reply.
 pub fn settle(at: usize, reply: Reply, state: &mut [u8]) -> Reply
     requires { ⌜ ((l : ℕ) → reply ≡ Length l → at + 2 ≤ length (now state)) ⌝ }
     ensures { λ r. ⌜ resulting r (now (state .exit)) ≡ settledAt at (now (state .entry)) reply ⌝ }

@@ -1,7 +1,7 @@
-// Gathering while the session is open (document 02, Paper 4): programs are added one after another, and their common part is kept.
-// A gathering is bytes that the caller lends: the number of types, the table, the length of the common part so far, 0 before the first
-// addition, its written record, and room for the longest. Bytes that nobody began are refused by what is wrong with them. A refused call
-// changes no byte.
+// Gathering while the session is open (document 02, Paper 4): programs are added one after another, and their common part is kept. A gathering is
+// bytes that the caller lends: the number of types, the table, the length of the common part so far, which is 0 before the first addition, the
+// written record of that common part, and room for the longest record. Bytes that hold no gathering are refused by what is wrong with them. A
+// refused call changes no byte.
 
 use lattice::Opened;
 use record::reading::Verdict;
@@ -37,7 +37,8 @@ pub fn begin(n: usize, table: &[u8], state: &mut [u8]) -> Reply
     }
 }
 
-// Adds a program, the first graph, to what is gathered, the second. The answer tells the length of the common part.
+// Adds a program to what is gathered. The program is the first graph, what is gathered the second. The answer tells the length of the common
+// part.
 pub fn add(state: &mut [u8], bytes: &[u8]) -> Reply
     ensures { λ r. ⌜ resulting r (now (state .exit)) ≡ adding (now (state .entry)) (now (bytes .entry)) ⌝ }
 {
@@ -59,7 +60,7 @@ pub fn add(state: &mut [u8], bytes: &[u8]) -> Reply
     }
 }
 
-// The order of a program, the first graph, to what is gathered.
+// The order of a program, as first graph, to what is gathered.
 pub fn order(state: &[u8], bytes: &[u8]) -> Reply
     ensures { λ r. ⌜ r ≡ comparing (now (state .entry)) (now (bytes .entry)) ⌝ }
 {
@@ -81,7 +82,7 @@ pub fn order(state: &[u8], bytes: &[u8]) -> Reply
     }
 }
 
-// What is answered of a program where nothing is gathered.
+// The order's answer where nothing is gathered: the program's refusal, else 16.
 fn nothing_after(n: usize, bytes: &[u8]) -> Reply
     ensures { λ r. ⌜ r ≡ nothingAfter (reading n (now (bytes .entry))) ⌝ }
 {
@@ -93,7 +94,7 @@ fn nothing_after(n: usize, bytes: &[u8]) -> Reply
     }
 }
 
-// Writes what is gathered, which stays.
+// Writes what is gathered. The gathering stays open.
 pub fn finish(state: &[u8], out: &mut [u8]) -> Reply
     ensures { λ r. ⌜ resulting r (now (out .exit)) ≡ finishing (now (state .entry)) (now (out .entry)) ⌝ }
 {

@@ -1,4 +1,4 @@
-// Where the parts of a state stand, whatever its bytes.
+// Where the parts of a gathering's state stand, whatever its bytes.
 
 ghost use mathlib.Core.Path.{_≡_};
 ghost use mathlib.Core.List.{_++_};
@@ -8,8 +8,8 @@ ghost use lib.Seq.{paste};
 ghost use Rattle.gathering.specs.Gathering.{lengthAt, twoBytes};
 ghost use Rattle.gathering.specs.Parts.{PartsOf, Span};
 
-// The number of types, where the table starts and ends, where the room starts, how many bytes are gathered and where they end. A part
-// that is cut ends where the state does.
+// The number of types, where the table starts and ends, where the room starts, how many bytes are gathered, and where they end. A part that is
+// cut off ends at the end of the state.
 pub struct Parts {
     pub types: usize,
     pub start: usize,
@@ -19,7 +19,7 @@ pub struct Parts {
     pub last: usize,
 }
 
-// The end of the next bytes from a place on, so many or as many as there are.
+// The end of the next `count` bytes from `at` on, or the end of the bytes where there are fewer.
 pub fn end_of(bytes: &[u8], at: usize, count: usize) -> usize
     requires { ⌜ at ≤ length (now bytes) ⌝ }
     ensures { λ r. ⌜ Span (now (bytes .entry)) at count r ⌝ }

@@ -28,7 +28,7 @@ use Rattle.generalize.proofs.Sides.{pairOf, product-root, product-link,
 abbrev pub base : ℕ
 base = 257
 
--- what a pair's number says of it
+-- The two nodes of a pair by the pair's number.
 code-left : (u v : ℕ) → v < 255 → (u * 255 + v) / 255 ≡ u
 code-left u v h = omega arith
 
@@ -61,7 +61,7 @@ pub record Building (joins : ℕ → ℕ → ℕ) (a b : List ℕ) (head count a
   pub labels : (i : ℕ) → i < head → labelAt words i ≡ joined joins a b (pairOf (getD queue i 0))
   pub rows : (i : ℕ) → i < head → Matched (common a b (pairOf (getD queue i 0))) queue count 64 (linksAt words i)
 
--- The root's pair is known, and has no row yet.
+-- At the start, the root's pair is known and has no row.
 pub build-start : (joins : ℕ → ℕ → ℕ) {a b : List ℕ} → Recorded a → Recorded b → ((n : ℕ) × Joinable n joins a b) → (marks queue words : List ℕ) →
     length marks ≡ 65025 → ((p : ℕ) → p < 65025 → getD marks p 0 ≡ clear) → length queue ≡ 255 → getD queue 0 0 ≡ 0 →
     512 ≤ length words → length words ≤ 65535 → Building joins a b 0 1 base (set marks 0 0) queue (set words 1 base)
@@ -91,7 +91,7 @@ build-start joins {a} {b} left right (n, able) marks queue words marks-long none
     first-pair : (i : ℕ) → i < 1 → getD queue i 0 ≡ 0
     first-pair i h = let e : i ≡ 0 = omega arith in ap (λ (n : ℕ). getD queue n 0) e ∙ root
 
--- the label of a pair is one that a record can state
+-- A record can state the label of a pair.
 pub joined-known : {joins : ℕ → ℕ → ℕ} {a b : List ℕ} {head count at : ℕ} {marks queue words : List ℕ} →
     (s : Building joins a b head count at marks queue words) (i : ℕ) → i < count → Known 128 (joined joins a b (pairOf (getD queue i 0)))
 joined-known {joins} {a} {b} {queue = queue} s i h =
@@ -114,12 +114,12 @@ module _ {joins : ℕ → ℕ → ℕ} {a b : List ℕ} {head count at : ℕ} {m
 
 module _ {joins : ℕ → ℕ → ℕ} {a b : List ℕ} {head count at : ℕ} {marks queue words : List ℕ}
     (s : Building joins a b head count at marks queue words) (next : head < count) where
-  -- what the next pair leads to is reached
+  -- Every pair that the next pair leads to is reached.
   pub link-reached : (f : ℕ) (x : ℕ × ℕ) → common a b (pairOf (getD queue head 0)) f ≡ some x → Reached (product joins a b) x
   link-reached f x e =
       reached-link (product joins a b) f (s .reached head next) (product-link joins a b (pairOf (getD queue head 0)) f ∙ e)
 
-  -- so the queue has reached pairs while its links are added
+  -- While the links of the next pair are added, the queue has only reached pairs.
   module _ {words₁ marks′ queue′ words′ : List ℕ} {first bound : ℕ} {now : Spread}
       (added : Adds (common a b (pairOf (getD queue head 0))) queue words₁ (record { at = first; count = count }) bound marks′ queue′ words′
       now) where
@@ -176,7 +176,7 @@ module _ {joins : ℕ → ℕ → ℕ} {a b : List ℕ} {head count at : ℕ} {m
         ap₂ (λ (rs : List (Row Label)) (l : Label). rs ++ ((l, linksBetween words′ (at + header) (now .at)) ∷ []))
         (rows-kept (s .built) words′ long-now (λ k l h. kept k (omega arith) (omega (arith, low))) (λ k l h. kept k (omega arith) h)) label-now
 
-    -- an earlier row
+    -- An earlier row stays as it was.
     row-kept : (i : ℕ) → i < head → _≡_ {A = Row Label} (labelAt new i, linksAt new i) (labelAt words i, linksAt words i)
     row-kept i h =
         sym (row-at new (head + 1) 0 i i (noLabel, []) (omega arith) (omega arith)) ∙
@@ -185,14 +185,14 @@ module _ {joins : ℕ → ℕ → ℕ} {a b : List ℕ} {head count at : ℕ} {m
         (omega (arith, length-rows words 0 head)) ∙
         row-at words head 0 i i (noLabel, []) (omega arith) h
 
-    -- and the last
+    -- The last row is the one that was added.
     row-last : (i : ℕ) → i ≡ head → _≡_ {A = Row Label} (labelAt new i, linksAt new i) (label, linksBetween words′ (at + header) (now .at))
     row-last i e =
         sym (row-at new (head + 1) 0 i i (noLabel, []) (omega arith) (omega arith)) ∙
         ap (λ (rs : List (Row Label)). getD rs i (noLabel, [])) rows-are ∙
         getD-at (rowsFrom words 0 head) (label, linksBetween words′ (at + header) (now .at)) [] (noLabel, []) i (length-rows words 0 head ∙ sym e)
 
-    -- a pair that comes anew hangs below the one whose row is added
+    -- A new pair hangs below the pair whose row is added.
     inside : (i : ℕ) → i < now .count → Dec (i < count) → (getD queue′ i 0 / 255 < size a) × (getD queue′ i 0 % 255 < size b)
     inside i h (yes l) =
         subst (λ (q : ℕ). (q / 255 < size a) × (q % 255 < size b)) (sym (added .queue-kept i l)) (s .inside i l)
@@ -204,7 +204,7 @@ module _ {joins : ℕ → ℕ → ℕ} {a b : List ℕ} {head count at : ℕ} {m
           subst (λ (n : ℕ). n < size b) (sym (ap (λ (y : ℕ × ℕ). y .1) q)) higher,
         )
 
-    -- a row's pair stands where it stood
+    -- The pair of a row stays at its place.
     same-pair : (i j : ℕ) → i ≡ j → j < count → pairOf (getD queue j 0) ≡ pairOf (getD queue′ i 0)
     same-pair i j e h = ap pairOf (sym (added .queue-kept j h) ∙ ap (λ (n : ℕ). getD queue′ n 0) (sym e))
 

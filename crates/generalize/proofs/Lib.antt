@@ -1,4 +1,4 @@
--- Laws of the common part of two graphs.
+-- Laws of building the common part of two graphs.
 pub mod Marking
 pub mod Merging
 pub mod Sides

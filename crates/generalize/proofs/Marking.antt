@@ -1,4 +1,4 @@
--- The queue of pairs: a pair gets the next number and a mark, or keeps those that it has.
+-- The queue of pairs: a pair without a number gets the next one and a mark, and a pair with a number keeps it.
 use mathlib.Core.Path.{_≡_, refl, sym, _∙_, ap}
 use mathlib.Core.List.{List}
 use Prim.Native.Nat.{ℕ, _+_, _<_}
@@ -9,7 +9,7 @@ use lib.Seq.{getD-set-same, getD-set-other}
 use Rattle.layout.proofs.Numbering.{number-next}
 use Rattle.generalize.specs.Queue.{clear, Marked, Enlisted}
 
--- The first pair alone.
+-- The queue with the first pair alone.
 pub mark-root : (marks queue : List ℕ) → length marks ≡ 65025 → length queue ≡ 255 → getD queue 0 0 ≡ 0 →
     ((p : ℕ) → p < 65025 → getD marks p 0 ≡ clear) → Marked (set marks 0 0) queue 1
 mark-root marks queue marks-long queue-long root none =
@@ -35,7 +35,7 @@ mark-root marks queue marks-long queue-long root none =
     queued p h stands (no d) = absurd (stands (getD-set-other marks 0 p 0 0 d ∙ none p h))
 
 module _ (marks queue : List ℕ) (pair count : ℕ) (m : Marked marks queue count) (inside : pair < 65025) where
-  -- It has a number.
+  -- A pair that has a number keeps it.
   pub enlist-old : (getD marks pair 0 ≡ clear → ⊥) → Enlisted queue pair count marks queue count
   enlist-old stands =
       record {
@@ -47,7 +47,7 @@ module _ (marks queue : List ℕ) (pair count : ℕ) (m : Marked marks queue cou
         found = m .queued pair inside stands .1;
       }
 
-  -- It gets the next number.
+  -- A pair that has no number gets the next one.
   pub enlist-new : getD marks pair 0 ≡ clear → count < 255 → Enlisted queue pair count (set marks pair count) (set queue count pair) (count + 1)
   enlist-new free room =
       record {

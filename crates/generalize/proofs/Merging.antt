@@ -1,4 +1,4 @@
--- The merge of two rows: the links by features below a bound are added, and the rest of both rows has the other features.
+-- The merge of two rows: the links by features below a bound are added, and the rests of both rows have the other features.
 use mathlib.Core.Path.{_≡_, refl, sym, _∙_, ap, ap₂, subst}
 use mathlib.Core.List.{
   List,
@@ -33,7 +33,7 @@ use Rattle.generalize.specs.Queue.{clear, codeOf, Marked, Enlisted, comm
 
 -- The links of a pair.
 
--- a link behind those with lower features
+-- Links stay in order when a link with a higher feature is added at the end.
 ascending-snoc : (ls : List (ℕ × ℕ)) (l : ℕ × ℕ) → Ascending ls → ((m : ℕ × ℕ) → List·Memᴰ m ls → m .0 < l .0) → Ascending (ls ++ (l ∷ []))
 ascending-snoc [] l up low = (λ m i. absurd (List·Memᴰ·not-nil i), tt)
 ascending-snoc (k ∷ ls) l up low = (
@@ -45,7 +45,7 @@ ascending-snoc (k ∷ ls) l up low = (
   ascending-snoc ls l (up .1) (λ m i. low m (List·Memᴰ·tail i)),
 )
 
--- the last or one before
+-- A link of the longer list is the last one, or one before it.
 snoc-cases : (ls : List (ℕ × ℕ)) (l m : ℕ × ℕ) → List·Memᴰ m (ls ++ (l ∷ [])) → List·Memᴰ m ls ⊎ (m ≡ l)
 snoc-cases ls l m i =
     ⊎-elim (λ (j : List·Memᴰ m ls). inl j)
@@ -63,7 +63,7 @@ module _ {leads : ℕ → Option (ℕ × ℕ)} {queue : List ℕ} {count : ℕ} 
       }
 
   module _ {bound : ℕ} {links : List (ℕ × ℕ)} (s : Matched leads queue count bound links) where
-    -- No feature of both up to a higher bound.
+    -- The bound may rise past features that are not features of both.
     matched-skip : (higher : ℕ) → bound ≤ higher → ((f : ℕ) → bound ≤ f → f < higher → leads f ≡ none) →
         Matched leads queue count higher links
     matched-skip higher up none-there =
@@ -78,7 +78,7 @@ module _ {leads : ℕ → Option (ℕ × ℕ)} {queue : List ℕ} {count : ℕ} 
         present f h x e (yes l) = s .present f l x e
         present f h x e (no n) = none-some (sym (none-there f (omega arith) h) ∙ e)
 
-    -- The queue grows.
+    -- The links stay matched when the queue grows.
     pub matched-on : (queue′ : List ℕ) (count′ : ℕ) → count ≤ count′ → ((i : ℕ) → i < count → getD queue′ i 0 ≡ getD queue i 0) →
         Matched leads queue′ count′ bound links
     matched-on queue′ count′ grows kept =
@@ -98,7 +98,7 @@ module _ {leads : ℕ → Option (ℕ × ℕ)} {queue : List ℕ} {count : ℕ} 
               stands = kept i (n .below) ∙ n .stands;
             }
 
-    -- The next feature of both.
+    -- The link by the next feature of both is added.
     matched-link : (f t : ℕ) (x : ℕ × ℕ) → bound ≤ f → ((g : ℕ) → bound ≤ g → g < f → leads g ≡ none) → leads f ≡ some x →
         Numbered queue count x t → Matched leads queue count (suc f) (links ++ ((f, t) ∷ []))
     matched-link f t x up none-there leads-x numbered =
@@ -154,7 +154,7 @@ module _ {leads : ℕ → Option (ℕ × ℕ)} {queue₀ words₀ : List ℕ} {k
           fresh = s .fresh;
         }
 
-    -- The next feature of both, and the pair that it leads to.
+    -- The link by the next feature of both is added, with the pair that the feature leads to.
     adds-link : (f : ℕ) (x : ℕ × ℕ) (marks′ queue′ : List ℕ) (next : ℕ) → bound ≤ f →
         ((g : ℕ) → bound ≤ g → g < f → leads g ≡ none) → leads f ≡ some x → x .0 < 255 → x .1 < 255 → now .at < length words →
         Enlisted queue (codeOf x) (now .count) marks′ queue′ next →
@@ -203,7 +203,7 @@ module _ {leads : ℕ → Option (ℕ × ℕ)} {queue₀ words₀ : List ℕ} {k
 
 -- The rest of a row from a place on.
 
--- Row u of g is read up to place i, and its other features are from `bound` on.
+-- Row u of g is read up to place i, and the features of its rest are from `bound` on.
 pub record Read (g : List ℕ) (u i bound : ℕ) : Type 0 where
   pub low : linksFrom g u ≤ i
   pub high : i ≤ rowEnd g u
@@ -221,7 +221,7 @@ module _ {g : List ℕ} (sound : Sound g) {u : ℕ} (node : u < size g) where
       }
 
   module _ {i bound : ℕ} (r : Read g u i bound) where
-    -- A feature from the bound on stands at a place not read.
+    -- A feature from the bound on stands at a place that is not read.
     read-place : (f w : ℕ) → bound ≤ f → graphIn g .link u f ≡ some w → (i < rowEnd g u) × (featureAt g i ≤ f)
     read-place f w up e =
         let (k, low, high, a, b) = link-place sound u f w node e in
@@ -240,7 +240,7 @@ module _ {g : List ℕ} (sound : Sound g) {u : ℕ} (node : u < size g) where
           ),
         )
 
-    -- so a feature below the next is missing,
+    -- A feature from the bound on that is below the next one is missing.
     read-below : (f : ℕ) → bound ≤ f → (i < rowEnd g u → f < featureAt g i) → graphIn g .link u f ≡ none
     read-below f up h = go (graphIn g .link u f) refl
       where
@@ -248,7 +248,7 @@ module _ {g : List ℕ} (sound : Sound g) {u : ℕ} (node : u < size g) where
         go none e = refl
         go (some w) e = let (inside, least) = read-place f w up e in absurd (omega (arith, h inside))
 
-    -- the next place is read,
+    -- The next place is read.
     read-next : i < rowEnd g u → Read g u (i + 1) (suc (featureAt g i))
     read-next h =
         record {
@@ -262,7 +262,7 @@ module _ {g : List ℕ} (sound : Sound g) {u : ℕ} (node : u < size g) where
         past k low high (yes d) = omega (arith, ap (λ (n : ℕ). featureAt g n) d)
         past k low high (no d) = omega (arith, r .past k low (omega arith), r .from h)
 
-    -- or the bound rises.
+    -- The bound rises up to the next feature.
     read-on : (higher : ℕ) → bound ≤ higher → (i < rowEnd g u → higher ≤ featureAt g i) → Read g u i higher
     read-on higher up from =
         record {
@@ -286,7 +286,7 @@ pub record Begun (a b : List ℕ) (u v : ℕ) (words : List ℕ) (known : Spread
   pub right-end : rowEnd b v < 65536
 
 module _ (a b : List ℕ) (u v : ℕ) (queue₀ words₀ : List ℕ) (known : Spread) where
-  -- The links by features below `bound` are added; the places i and j are where both rows go on.
+  -- The links by features below `bound` are added, and both rows go on at the places i and j.
   pub record Merging (i j : ℕ) (marks queue words : List ℕ) (now : Spread) : Type 0 where
     pub begun : Begun a b u v words₀ known
     pub bound : ℕ
@@ -333,7 +333,7 @@ module _ {a b : List ℕ} {u v : ℕ} {queue₀ words₀ : List ℕ} {known : Sp
   right-none f low h =
       ap (both (graphIn a .link u f)) (read-below right-sound (s .begun .right-node) (s .right) f low h) ∙ both-right (graphIn a .link u f)
 
-  -- One of the rows is at its end.
+  -- If one of the rows is at its end, all links are added.
   merge-done : (rowEnd a u ≤ i) ⊎ (rowEnd b v ≤ j) → Adds (common a b (u, v)) queue₀ words₀ known 64 marks queue words now
   merge-done over = adds-skip (s .added) 64 (s .small) (λ f low high. gone f low over)
     where
@@ -388,13 +388,13 @@ module _ {a b : List ℕ} {u v : ℕ} {queue₀ words₀ : List ℕ} {known : Sp
       omega (arith, right-sound .targets v j (s .begun .right-node) (s .right .low) right-in, s .begun .right .small),
     )
 
-    -- A feature of both leads to the targets' pair.
+    -- A feature of both leads to the pair of the targets.
     leads-both : featureAt a i ≡ featureAt b j → common a b (u, v) (featureAt a i) ≡ some (targetAt a i, targetAt b j)
     leads-both same =
         ap₂ both (link-at left-sound u i (s .begun .left-node) (s .left .low) left-in)
         (ap (graphIn b .link v) same ∙ link-at right-sound v j (s .begun .right-node) (s .right .low) right-in)
 
-    -- There is no number left for it.
+    -- No number is left for the pair of the targets.
     pub merge-full : featureAt a i ≡ featureAt b j → now .count ≡ 255 → getD marks (targetAt a i * 255 + targetAt b j) 0 ≡ clear →
         Full (common a b (u, v)) queue₀ words₀ known
     merge-full same given free =
@@ -414,7 +414,7 @@ module _ {a b : List ℕ} {u v : ℕ} {queue₀ words₀ : List ℕ} {known : Sp
           free = free;
         }
 
-    -- It has one.
+    -- The pair of the targets has a number.
     pub merge-both : featureAt a i ≡ featureAt b j → (marks′ queue′ : List ℕ) (next : ℕ) →
         Enlisted queue (targetAt a i * 255 + targetAt b j) (now .count) marks′ queue′ next →
         (w : ℕ) → w ≡ linkWord (featureAt a i, getD marks′ (targetAt a i * 255 + targetAt b j) 0) →

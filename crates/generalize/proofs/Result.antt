@@ -1,5 +1,5 @@
--- What the rows are once no pair is left: a graph that is alike with the product, by the places of the pairs in the queue. And
--- why a result is too large: the pairs in the queue are different nodes of the product, the links of their rows different links.
+-- What the rows are once no pair is left: a graph that is alike with the common part, by the places of the pairs in the queue. If the result is
+-- too large, the common part is: the pairs in the queue are different nodes of it, and the links of their rows are different links of it.
 use mathlib.Core.Path.{_≡_, refl, sym, _∙_, ap, subst}
 use mathlib.Core.List.{List, [], _∷_, _++_, map, List·Memᴰ, List·Memᴰ·not-nil, List·Memᴰ·cases-cons, List·Memᴰ·append-cases, Memᴰ·of-map}
 use mathlib.Core.Logic.{_⊎_, ⊎-elim}
@@ -259,7 +259,7 @@ module _ {joins : ℕ → ℕ → ℕ} {a b : List ℕ} {head count at : ℕ} {m
     sound : Sound result
     sound = build-sound
 
-    -- a link of the result leads to the number of the pair that the product's leads to
+    -- A link of the result leads to the number of the pair that the same link of the common part leads to.
     link-led : (i f m : ℕ) → i < head → i < size result → graphIn result .link i f ≡ some m →
         (x : ℕ × ℕ) × (common a b (pairOf (getD queue i 0)) f ≡ some x) × Numbered queue count x m
     link-led i f m low high d =
@@ -270,7 +270,7 @@ module _ {joins : ℕ → ℕ → ℕ} {a b : List ℕ} {head count at : ℕ} {m
         (omega (arith, sound .shaped .node i high .begun)) k from to)) in
         (x, ap (common a b (pairOf (getD queue i 0))) (sym p) ∙ leads, subst (λ (j : ℕ). Numbered queue count x j) q num)
 
-    -- and there is one for each of the product's
+    -- The result has a link for each link of the common part.
     link-there : (i f : ℕ) (x : ℕ × ℕ) → i < head → i < size result → common a b (pairOf (getD queue i 0)) f ≡ some x →
         (m : ℕ) × (graphIn result .link i f ≡ some m)
     link-there i f x low high e =
@@ -317,7 +317,7 @@ module _ {joins : ℕ → ℕ → ℕ} {a b : List ℕ} {head count at : ℕ} {m
           back = λ x y i j m n e. sym (pair-numbered x i m) ∙ ap (λ (k : ℕ). pairOf (getD queue k 0)) e ∙ pair-numbered y j n;
         }
 
-    -- The rows have the product's written form.
+    -- The rows have the written form of the common part.
     pub build-canonical : canonical samePair (product joins a b) ≡ canonical eqb (graphIn (set words 0 count))
     build-canonical =
         bisimilar-canonical samePair eqb tells-pair tells-eqb (Numbered queue count) (product joins a b) (graphIn result) alike

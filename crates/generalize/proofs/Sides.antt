@@ -1,4 +1,4 @@
--- The product of the two graphs: a pair's links are those by features of both nodes.
+-- The common part of the two graphs: a pair's links are those by features of both nodes.
 use mathlib.Core.Path.{_≡_, refl, ap, ap₂}
 use mathlib.Core.Bool.{true, _&&_}
 use mathlib.Core.List.{List}

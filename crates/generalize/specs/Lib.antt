@@ -1,4 +1,4 @@
--- Pairs of nodes, joins of labels, the generalization of two graphs, and the queue of pairs.
+-- Joins of labels, the common part of two graphs, and the queue of pairs of nodes.
 pub mod Pairs
 pub mod Product
 pub mod Queue

@@ -1,4 +1,4 @@
--- What generalization asks of the labels of two graphs.
+-- What the common part asks of the labels of two graphs: types below n, whose joins are types below n.
 use mathlib.Core.List.{List}
 use Prim.Native.Nat.{ℕ, _≤_, _<_}
 use Rattle.lattice.specs.Labels.{Known}
@@ -8,7 +8,7 @@ use Rattle.layout.specs.Layout.{size, labelAt}
 abbrev pub JoinsBelow : ℕ → (ℕ → ℕ → ℕ) → Type 0
 JoinsBelow n joins = (i j : ℕ) → i < n → j < n → joins i j < n
 
--- Two graphs over n types with their joins.
+-- Both graphs have labels over n types, whose joins are given.
 pub record Joinable (n : ℕ) (joins : ℕ → ℕ → ℕ) (a b : List ℕ) : Type 0 where
   pub few : n ≤ 64
   pub joins-below : JoinsBelow n joins

@@ -1,4 +1,4 @@
--- The generalization of the two graphs of a call, by joins of types however they are had, and what writing it leaves.
+-- The common part of the two graphs of a call, by given joins of types, and what writing it leaves (document 01, "Order and results").
 use mathlib.Core.List.{List}
 use Prim.Native.Nat.{ℕ}
 use Rattle.graphs.specs.Graph.{Graph}
@@ -9,10 +9,10 @@ use Rattle.lattice.specs.Labels.{joinRanged}
 use Rattle.layout.specs.Layout.{rowsOf, graphIn}
 use Rattle.encode.specs.Encode.{Outcome, writtenOut}
 
--- the generalization, with given joins
+-- The common part of two graphs, by the joins given.
 abbrev pub product : (ℕ → ℕ → ℕ) → List ℕ → List ℕ → Graph Label (ℕ × ℕ)
 product joins a b = generalizationBy (joinRanged joins) (graphIn a) (graphIn b)
 
--- what writing it yields
+-- What writing the common part yields.
 abbrev pub productOut : (ℕ → ℕ → ℕ) → List ℕ → List ℕ → List ℕ → Outcome
 productOut joins a b old = writtenOut (commonForm (joinRanged joins) noLabel (rowsOf a) (rowsOf b)) old

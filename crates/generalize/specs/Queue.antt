@@ -1,4 +1,4 @@
--- The queue of pairs that are known, with their marks, and what adding the links of one pair leaves.
+-- The queue of the pairs of nodes that are known, with their marks, and what adding the links of one pair leaves.
 use mathlib.Core.Path.{_≡_}
 use mathlib.Core.List.{List, List·Memᴰ}
 use mathlib.Core.Option.{Option, some}
@@ -22,7 +22,7 @@ codeOf x = x .0 * 255 + x .1
 abbrev pub room : ℕ
 room = longest + 64
 
--- What building in so many words leaves: the outcome, or the output as it was, and then `room` words were not lent.
+-- What building in so many words leaves: the outcome; or the output as it was, if fewer than `room` words were lent.
 pub record Found (r : Common) (outcome : Outcome) (words : ℕ) (old new : List ℕ) : Type 0 where
   pub written : (w : Written) → r ≡ variants.Written w → yielding w new ≡ outcome
   pub too-few : r ≡ variants.TooFew → (new ≡ old) × (words < room)
@@ -40,7 +40,7 @@ pub record Marked (marks queue : List ℕ) (count : ℕ) : Type 0 where
   pub placed : (i : ℕ) → i < count → getD marks (getD queue i 0) 0 ≡ i
   pub queued : (p : ℕ) → p < 65025 → (getD marks p 0 ≡ clear → ⊥) → (getD marks p 0 < count) × (getD queue (getD marks p 0) 0 ≡ p)
 
--- A pair is in the queue, at its end where it was not there.
+-- The pair is in the queue, at the end where it was not there before.
 pub record Enlisted (queue : List ℕ) (pair count : ℕ) (marks′ queue′ : List ℕ) (next : ℕ) : Type 0 where
   pub after : Marked marks′ queue′ next
   pub least : count ≤ next
@@ -49,12 +49,12 @@ pub record Enlisted (queue : List ℕ) (pair count : ℕ) (marks′ queue′ : L
   pub numbered : getD marks′ pair 0 < next
   pub found : getD queue′ (getD marks′ pair 0) 0 ≡ pair
 
--- A pair that is offered to the queue is there after that, or it has no mark and the 255 numbers are given.
+-- A pair that is offered to the queue is there afterwards, or it has no mark and all 255 numbers are in use.
 pub record Offered (marks queue : List ℕ) (pair count : ℕ) (marks′ queue′ : List ℕ) (next : ℕ) : Type 0 where
   pub listed : next ≤ 255 → Enlisted queue pair count marks′ queue′ next
   pub full : 255 < next → (count ≡ 255) × (getD marks pair 0 ≡ clear)
 
--- where a feature of both leads from a pair of nodes
+-- The pair that a feature of both leads to from a pair of nodes.
 abbrev pub common : List ℕ → List ℕ → ℕ × ℕ → ℕ → Option (ℕ × ℕ)
 common a b x f = both (graphIn a .link (x .0) f) (graphIn b .link (x .1) f)
 
@@ -65,14 +65,15 @@ pub record Numbered (queue : List ℕ) (count : ℕ) (x : ℕ × ℕ) (i : ℕ) 
   pub below : i < count
   pub stands : getD queue i 0 ≡ codeOf x
 
--- The links by features below `bound` that lead somewhere, lowest feature first, each to the number of the pair that it leads to.
+-- The links by features below `bound` that lead somewhere, lowest feature first. Each has the number of the pair that it leads to.
 pub record Matched (leads : ℕ → Option (ℕ × ℕ)) (queue : List ℕ) (count bound : ℕ) (links : List (ℕ × ℕ)) : Type 0 where
   pub ascends : Ascending links
   pub known : (l : ℕ × ℕ) → List·Memᴰ l links → l .0 < bound
   pub led : (l : ℕ × ℕ) → List·Memᴰ l links → (x : ℕ × ℕ) × (leads (l .0) ≡ some x) × Numbered queue count x (l .1)
   pub present : (f : ℕ) → f < bound → (x : ℕ × ℕ) → leads f ≡ some x → (i : ℕ) × List·Memᴰ (f, i) links
 
--- Such links stand from one place to the next; what stood before is kept, and pairs that come anew are led to.
+-- The links by features below `bound` stand from one place to the next. What stood before is kept, and each new pair in the queue is led to by
+-- some feature.
 pub record Adds (leads : ℕ → Option (ℕ × ℕ)) (queue words : List ℕ) (known : Spread) (bound : ℕ) (marks′ queue′ words′ : List ℕ)
     (next : Spread) : Type 0 where
   pub after : Marked marks′ queue′ (next .count)
@@ -86,7 +87,7 @@ pub record Adds (leads : ℕ → Option (ℕ × ℕ)) (queue words : List ℕ) (
   pub fresh : (i : ℕ) → known .count ≤ i → i < next .count →
       (f : ℕ) × (x : ℕ × ℕ) × (leads f ≡ some x) × Numbered queue′ (next .count) x i
 
--- The 255 numbers are given to pairs that are led to or were known, and one more pair is led to.
+-- All 255 numbers are in use, by pairs that were known or are led to, and one more pair is led to.
 pub record Full (leads : ℕ → Option (ℕ × ℕ)) (queue words : List ℕ) (known : Spread) : Type 0 where
   pub bound : ℕ
   pub marks′ : List ℕ
@@ -102,7 +103,7 @@ pub record Full (leads : ℕ → Option (ℕ × ℕ)) (queue words : List ℕ) (
   pub right : pair .1 < 255
   pub free : getD marks′ (codeOf pair) 0 ≡ clear
 
--- All links of a pair are added, or the numbers do not suffice.
+-- All links of a pair are added, or 255 numbers do not suffice.
 pub record Spreads (leads : ℕ → Option (ℕ × ℕ)) (queue words : List ℕ) (known : Spread) (marks′ queue′ words′ : List ℕ) (next : Spread) :
     Type 0 where
   pub added : next .count ≤ 255 → Adds leads queue words known 64 marks′ queue′ words′ next

@@ -1,5 +1,5 @@
-// Generalization, document 01's common part: the pairs of nodes that one path leads to in both graphs, found by a queue, with a mark for
-// each pair. It knows graphs in words and the joins that `bounds` holds; `encode` writes the result.
+// Builds the common part of document 01 (generalization), whose nodes are the pairs of nodes that one path leads to in both graphs. A queue finds
+// the pairs, and each pair has a mark. This crate knows graphs in words and the joins that `bounds` holds; `encode` writes the result.
 
 use encode::Written;
 use layout::Label;
@@ -16,25 +16,25 @@ ghost use Rattle.generalize.specs.Pairs.{Joinable};
 ghost use Rattle.generalize.specs.Product.{productOut};
 ghost use Rattle.generalize.specs.Queue.{Found, Marked, Offered, Spreads, common, room};
 
-// The mark of a pair that has no number yet. Numbers are below it.
+// The mark of a pair that has no number. Numbers are below it.
 pub const CLEAR: u8 = 255;
 
 // The count that is answered when a pair needs a number and none is left.
 const FULL: usize = 256;
 
-// Where the rows of a result begin: behind the number of nodes and 256 places, since how many nodes there are is known at the end.
+// Where the rows of a result begin: behind the number of nodes and 256 places, since the number of nodes is known only at the end.
 const BASE: usize = 257;
 
-// The words of a result: as many as a record's graph has, and the most links that one pair adds before they are counted.
+// The words of a result: as many as the graph of a record has, and 64 more for the links that one pair may add before they are counted.
 const ROOM: usize = layout::LONGEST + 64;
 
-// The words that are tried first where both graphs are small, and how many nodes these have together. They hold most of what two such
-// graphs have in common, though not all that they may.
+// The number of words that are tried first where both graphs are small, and the most nodes that small graphs have together. These words are
+// enough for most common parts of two such graphs, but not for all.
 const SMALL_ROOM: usize = 1024;
 
 const SMALL_NODES: usize = 160;
 
-// Gives a pair that has no number yet the next one. Answers how many pairs then have one, FULL where the numbers are used up.
+// Gives the next number to a pair that has none. Answers how many pairs then have a number, or FULL where no number is left.
 fn enlist(marks: &mut [u8; 65025], queue: &mut [u16; 255], pair: usize, count: usize) -> usize
     requires { ⌜ Marked (now marks) (now queue) count ⌝ }
     requires { ⌜ pair < 65025 ⌝ }
@@ -52,13 +52,13 @@ fn enlist(marks: &mut [u8; 65025], queue: &mut [u16; 255], pair: usize, count: u
     count + 1
 }
 
-// Where the next word stands, and how many pairs have a number, FULL where one more has none.
+// Where the next word stands, and how many pairs have a number, or FULL where a pair got none.
 pub struct Spread {
     pub at: usize,
     pub count: usize,
 }
 
-// Adds the links of the pair (u, v): those by features of both, at most 64. Stops at a pair that finds the numbers used up.
+// Adds the links of the pair (u, v), which are those by features of both, at most 64. Stops at a pair for which no number is left.
 pub fn pair_links<'a>(
     a: &'a [u16],
     b: &'a [u16],
@@ -110,7 +110,7 @@ pub fn pair_links<'a>(
     Spread { at, count }
 }
 
-// The join of two labels over n types: the join of their types, and the smallest range that holds both of theirs.
+// The join of two labels over n types: the join of their types, and the smallest range that holds both ranges.
 fn join<'a>(
     n: usize,
     sets: &'a [u64; bounds::sets::WORDS],
@@ -129,13 +129,13 @@ fn join<'a>(
     }
 }
 
-// What writing in lent words answers: what writing the result answers, or that the words are too few.
+// The answer of building in lent words: what writing the result answers, or that the words are too few.
 pub enum Common {
     Written(Written),
     TooFew,
 }
 
-// Writes the generalization of two graphs over n types, with the joins of types as they are held. It is built in lent words.
+// Writes the common part of two graphs over n types. `sets` and `cells` hold the joins of types. The result is built in lent words.
 fn generalize_in<'a>(
     n: usize,
     sets: &'a [u64; bounds::sets::WORDS],
@@ -195,7 +195,7 @@ fn generalize_in<'a>(
     Common::Written(encode::canonical::write(words, out))
 }
 
-// The same in words that are enough for any two graphs.
+// Writes the common part of any two graphs: its words are enough for them.
 fn generalize_large<'a>(
     n: usize,
     sets: &'a [u64; bounds::sets::WORDS],
@@ -213,11 +213,11 @@ fn generalize_large<'a>(
     let mut words = [0u16; ROOM];
     match generalize_in(n, sets, cells, a, b, &mut words, out) {
         Common::Written(written) => written,
-        Common::TooFew => Written::TooLarge, // never, in so many words
+        Common::TooFew => Written::TooLarge, // does not occur in ROOM words
     }
 }
 
-// Writes the generalization of two graphs over n types, with the joins of types as they are held.
+// Writes the common part of two graphs over n types. `sets` and `cells` hold the joins of types.
 pub fn generalize<'a>(
     n: usize,
     sets: &'a [u64; bounds::sets::WORDS],

@@ -1,2 +1,2 @@
--- Laws that the contracts are proved by.
+-- The laws of the loop that prints.
 pub mod Printing

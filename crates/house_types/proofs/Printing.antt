@@ -1,4 +1,4 @@
--- A turn of the loop that prints: one entry and what stands behind it, in at most three bytes.
+-- A turn of the loop that prints: it puts one entry and the byte behind it, in at most three bytes.
 use Prim.Native.Nat.{ℕ, _+_, _*_, _/_, _<_, _≤_}
 use mathlib.Core.Path.{_≡_, refl, ap, subst, sym, _∙_}
 use mathlib.Core.List.{List, [], _∷_, _++_}
@@ -13,7 +13,7 @@ use Rattle.text.specs.Text.{Puts, decimal}
 use Rattle.text.proofs.Texts.{puts-then, puts-byte, decimal-one, decimal-length}
 use Rattle.house_types.specs.Text.{after, textTo, textOf}
 
--- the first k entries are put, and `at` is the next place
+-- The first k entries are put, and `at` is the next place.
 pub record Printing (old entries new : List ℕ) (at k : ℕ) : Type 0 where
   pub within : k ≤ 4096
   pub short : at ≤ 3 * k
@@ -72,7 +72,7 @@ module _ {old entries new : List ℕ} {at k : ℕ} (p : Printing old entries new
           (puts-then (p .put) (puts-then d (puts-byte next part v)));
     }
 
--- at the end of the loop
+-- At the end of the loop the whole text is put.
 pub print-end : {old entries new : List ℕ} {at k : ℕ} → Printing old entries new at k → 4096 ≤ k → (at ≤ 12288) × Puts (textOf meets) 0 old at new
 print-end {old} {entries} {new} {at} {k} p l =
     let last : k ≡ 4096 = omega (arith, p .within) in

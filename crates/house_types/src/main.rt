@@ -1,5 +1,5 @@
-// Prints the meets of the house types, as a table of 64 lines with 64 numbers each. It knows the house types and text, and no record.
-// A table that cannot be written whole is told on standard error.
+// Prints the meets of the house types, as a table of 64 lines with 64 numbers each. This program knows the house types and text, and no record. A
+// table that cannot be written whole is told on standard error.
 
 use libc::STDERR_FILENO;
 use libc::STDOUT_FILENO;
@@ -11,7 +11,7 @@ ghost use Rattle.house.specs.House.{meets};
 ghost use Rattle.text.specs.Text.{Puts};
 ghost use Rattle.house_types.specs.Text.{after as afterOf, textOf};
 
-// What stands behind entry k: the end of the line behind the last of a row, else a space.
+// What stands behind entry k: a line end behind the last entry of a row, else a space.
 fn after(k: usize) -> u8
     ensures { λ r. ⌜ r ≡ afterOf k ⌝ }
 {

@@ -1,5 +1,4 @@
--- Reasons beside the places of links: one link after another, one row after another. The place in s of a link that is kept is found by
--- its feature.
+-- The reasons at the places of links, one link after another and one row after another. The feature of a kept link finds its place in s.
 use mathlib.Core.Path.{_≡_, refl, sym, _∙_, ap, subst}
 use mathlib.Core.Bool.{Bool, cond}
 use mathlib.Core.List.{List}
@@ -43,7 +42,7 @@ module _ (mark meeting : ℕ) where
 
 -- One row.
 
--- at place k of v's row, with the places of s before j passed
+-- At place k of v's row. The places of v's row in s before j are passed.
 pub record Turning (s marks meeting words : List ℕ) (v : ℕ) (old reasons : List ℕ) (j k : ℕ) : Type 0 where
   pub ready : Markable s marks meeting
   pub copied : Copied s words
@@ -98,7 +97,7 @@ module _ {s marks meeting words : List ℕ} {v : ℕ} where
       explain-known = t .copied .sound .shaped .known v k (here .inside) (t .low) more
 
       module _ {r : ℕ} (sought : Sought s j (rowEnd s v) (featureAt words k) r) where
-        -- what is sought is the place that the link is a copy of
+        -- The place that is found in s is the place from which the link is copied.
         is-source : (p : ℕ) → Place s v p → featureAt s p ≡ featureAt words k → r ≡ p
         is-source p place e = go (decLt p j) (decLt p r) (decLt r p)
           where
@@ -165,7 +164,7 @@ module _ {s marks meeting words : List ℕ} {v : ℕ} where
 
 -- All rows.
 
--- the rows before v have their reasons
+-- The rows before v have their reasons.
 pub record Explaining (s marks meeting words : List ℕ) (v : ℕ) (reasons : List ℕ) : Type 0 where
   pub ready : Markable s marks meeting
   pub copied : Copied s words

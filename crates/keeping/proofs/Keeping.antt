@@ -1,5 +1,5 @@
--- Keeping nodes: what each step adds, and why. The nodes with a cause of their own come first; then those that a kept link leaves, in
--- an order with targets first, so that one pass finds them all.
+-- Keeping nodes: what each step adds, and why. The nodes with a cause of their own come first, then those that a kept link leaves. The order has
+-- targets first, so one pass finds them all.
 use mathlib.Core.Path.{_≡_, refl, sym, _∙_, ap, subst}
 use mathlib.Core.Bool.{Bool, true, false}
 use mathlib.Core.List.{List, [], _∷_, List·Memᴰ, List·Memᴰ·not-nil, List·Memᴰ·cases-cons}
@@ -93,7 +93,7 @@ module _ (s marks : List ℕ) where
   cause-narrower none (several a b) = several (leads-narrower none a) b
   cause-narrower none (alone a e) = alone (leads-narrower none a) e
 
-  -- what is said up to one place is said up to another where no link stands between
+  -- `Entering` moves from place k to place l where no link stands between them.
   pub entering-moved : {k l : ℕ} {keep₀ keep entered : List ℕ} → k ≤ l → ((u j : ℕ) → Place s u j → j < l → j < k) →
       Entering s marks k keep₀ keep entered → Entering s marks l keep₀ keep entered
   entering-moved h none e =
@@ -105,7 +105,7 @@ module _ (s marks : List ℕ) where
       }
 
 module _ (s marks : List ℕ) (k : ℕ) where
-  -- a link before place k + 1 stands before place k, or there
+  -- A leading link before place k + 1 stands at place k or before it.
   leads-split : {v : ℕ} (a : Leads s marks (k + 1) v) → (a .place ≡ k) ⊎ (a .place < k)
   leads-split a = go (ℕ-discrete (a .place) k)
     where
@@ -116,7 +116,7 @@ module _ (s marks : List ℕ) (k : ℕ) where
   earlier : {v : ℕ} (a : Leads s marks (k + 1) v) → a .place < k → Leads s marks k v
   earlier a h = record { node = a .node; place = a .place; link = a .link; before = h; leading = a .leading; enters = a .enters }
 
-  -- a cause that place k has part in
+  -- A cause in which the link at place k has a part.
   pub data Newly (v : ℕ) : Type 0 where
     second : (getD marks k 0 ≡ 0 → ⊥) → Leads s marks k v → Newly v
     barely : getD marks k 0 ≡ 2 → Newly v
@@ -222,7 +222,7 @@ module _ (s marks : List ℕ) (k : ℕ) where
 
 -- The loops over the rows.
 
--- In the row of node v, at place k: what was said where the row began is said here. It was said of some first nodes.
+-- In the row of node v, at place k: if `Entering` held, from some first kept nodes, where the row began, it holds here.
 pub record InRow (s marks : List ℕ) (v k : ℕ) (keep₀ entered₀ keep entered : List ℕ) : Type 0 where
   pub ready : Markable s marks keep
   pub entered-long : length entered ≡ 255
@@ -233,7 +233,7 @@ pub record InRow (s marks : List ℕ) (v k : ℕ) (keep₀ entered₀ keep enter
   pub begun : Entering s marks (linksFrom s v) first keep₀ entered₀
   pub entering : (start : List ℕ) → Entering s marks (linksFrom s v) start keep₀ entered₀ → Entering s marks k start keep entered
 
--- what is read at a place of a row
+-- What the code reads at a place of a row.
 pub record PlaceKnown (s : List ℕ) (v k : ℕ) : Type 0 where
   pub link : Place s v k
   pub few : k < longest
@@ -249,7 +249,7 @@ place-known {v = v} {k = k} r h low high =
       target = omega (arith, r .sound .targets v k h low high, r .small);
     }
 
--- the same, with other nodes kept
+-- `Markable` holds for other arrays of kept nodes.
 pub markable-with : {s marks keep keep′ : List ℕ} → Markable s marks keep → length keep′ ≡ 255 → Markable s marks keep′
 markable-with r long = record { sound = r .sound; small = r .small; short = r .short; marks-long = r .marks-long; keep-long = long }
 
@@ -268,7 +268,7 @@ module _ {s marks : List ℕ} where
       none v (several a b) = omega (arith, a .before, place-from (r .sound .shaped) (a .link))
       none v (alone a e) = omega (arith, a .before, place-from (r .sound .shaped) (a .link))
 
-  -- past a header
+  -- `Entering` moves past the header of a row.
   pub row-entering : (v : ℕ) {keep₀ keep entered : List ℕ} → Shaped s → v < size s → Entering s marks (rowFrom s v) keep₀ keep entered →
       Entering s marks (linksFrom s v) keep₀ keep entered
   row-entering v shaped h e = entering-moved s marks (omega arith) (λ u j p below. no-header shaped v h p below) e
@@ -351,7 +351,7 @@ untop-done n t labels k nodes {keep₀} {keep} g h l =
 
 -- Kept links between two places.
 
--- none of the places before k
+-- No link before place k is kept.
 abbrev pub NoneYet : List ℕ → List ℕ → List ℕ → ℕ → ℕ → Type 0
 NoneYet s marks keep start k = (i : ℕ) → start ≤ i → i < k → Stays s marks keep i → ⊥
 
@@ -445,7 +445,7 @@ sorted-from {s} {order} {answer} sorts acyclic = go answer refl
 -- One pass over the nodes.
 
 module _ {ws order : List ℕ} (s : Sorted ws order) {i : ℕ} (inside : i < size ws) where
-  -- the node at place i
+  -- The node at place i of the order.
   pub order-inside : getD order i 0 < size ws
   order-inside =
       let (v, h, e) = s .onto i inside in
@@ -468,7 +468,7 @@ module _ {ws order : List ℕ} (s : Sorted ws order) {i : ℕ} (inside : i < siz
         go (yes e) = absurd (d (sym (s .targets-first .stands v h) ∙ ap (λ (x : ℕ). getD order x 0) e))
         go (no n) = omega arith
 
-    -- a link of a node that is done leads to another node
+    -- A link of a node that is done does not lead to u.
     elsewhere : (v k : ℕ) → v < size ws → s .place v < i + 1 → linksFrom ws v ≤ k → k < rowEnd ws v → targetAt ws k ≡ u → ⊥
     unfolding u
     elsewhere v k h l low high e =
@@ -543,7 +543,7 @@ module _ {ws order : List ℕ} (s : Sorted ws order) {i : ℕ} (inside : i < siz
             (λ (x : Onward ws marks keep (linksFrom ws v) (rowEnd ws v)). inr (along _ _ x))
             (g .why v h (sym (getD-set-other keep u v 1 0 d) ∙ e))
 
--- the turn, of nodes that are equal
+-- After a turn of the loop, the invariant holds for an equal array of kept nodes.
 pub left : {s order marks before keep₀ keep keep′ : List ℕ} (i : ℕ) → keep′ ≡ keep → i + 1 ≤ size s → Markable s marks before → (sorted : Sorted s order) →
     Settled (λ v. sorted .place v < i + 1) s marks keep₀ keep →
     (i + 1 ≤ size s) × Markable s marks keep′ × ((sorted : Sorted s order) × Settled (λ v. sorted .place v < i + 1) s marks keep₀ keep′)
@@ -553,7 +553,7 @@ left {s} {order} {marks} {before} {keep₀} {keep} {keep′} i e h r sorted new 
   (sorted, subst (λ (l : List ℕ). Settled (λ v. sorted .place v < i + 1) s marks keep₀ l) (sym e) new),
 )
 
--- what is read of a node's row
+-- What the code reads of a node's row.
 pub record NodeKnown (s : List ℕ) (v : ℕ) : Type 0 where
   pub small : v < 255
   pub node : Node s v
@@ -583,7 +583,7 @@ settled-done s g h =
       why = g .why;
     }
 
--- All together: just the nodes with a reason.
+-- All steps together keep exactly the nodes with a reason.
 pub keeps-all : (n : ℕ) (t s marks labels start : List ℕ) {caused′ labelled′ keep : List ℕ} → size s ≤ 255 → length start ≡ 255 → ((v : ℕ) → v < 255 → getD start v 0 ≡ 0) →
     Grown (Cause s marks (rowsEnd s)) (set start 0 1) caused′ → Grown (Untop n t labels (size s)) caused′ labelled′ →
     Settled (λ _. Unit {0}) s marks labelled′ keep → Keeps n t s marks labels keep

@@ -1,4 +1,4 @@
--- Rows with the kept links alone: adding one link or passing it over, one row after another, and the graph that comes of it.
+-- Rows with the kept links alone: a link is added or passed over, one row follows another, and the words hold the graph that results.
 use mathlib.Core.Path.{_≡_, refl, sym, _∙_, ap, subst}
 use mathlib.Core.List.{List}
 use Prim.Native.Nat.{ℕ, _+_, _*_, _/_, _%_, _≤_, _<_}
@@ -14,7 +14,7 @@ use Rattle.layout.proofs.Order.{next-row, place-rises}
 use Rattle.keeping.specs.Keeping.{Stays, Markable}
 use Rattle.keeping.specs.Thinning.{Thinned, Rows, Kept}
 
--- the feature and the target of a word that is copied
+-- The feature and the target of a word that is copied.
 pub copied-feature : {w x : ℕ} → w ≡ x → w / scale ≡ x / scale
 copied-feature e = ap (λ (w : ℕ). w / scale) e
 
@@ -26,7 +26,7 @@ rises p q h = omega arith
 
 -- One row.
 
--- at place k of v's row
+-- At place k of v's row: the kept links before it are copied.
 pub record Thinning (s marks keep : List ℕ) (v k : ℕ) (ws₀ : List ℕ) (start : ℕ) (ws : List ℕ) (end : ℕ) : Type 0 where
   pub ready : Markable s marks keep
   pub inside : v < size s
@@ -138,7 +138,7 @@ module _ {s marks keep : List ℕ} {v : ℕ} where
             rises (copied-feature (old i (omega arith))) (copied-feature (old (i + 1) (omega arith)))
             (t .thinned .ascending i a (omega arith))
 
-  -- the same, of words that are equal
+  -- `Thinning` holds for equal words and places.
   pub thin-as : {k : ℕ} {ws₀ ws ws′ : List ℕ} {start end end′ : ℕ} → ws′ ≡ ws → end′ ≡ end → Thinning s marks keep v k ws₀ start ws end →
       Thinning s marks keep v k ws₀ start ws′ end′
   thin-as p e t = rw (p, e) t
@@ -150,7 +150,7 @@ module _ {s marks keep : List ℕ} {v : ℕ} where
 
 -- All rows.
 
--- what the code asks at the next row
+-- What the code asks for at the next row.
 pub record RowKnown (s : List ℕ) (v at : ℕ) : Type 0 where
   pub small : v < 255
   pub room : at + header ≤ longest
@@ -195,7 +195,7 @@ module _ {s marks keep labels : List ℕ} where
           inside = node .ended;
         }
 
-    -- the row is opened with its label, and given its links
+    -- The row gets its label and its links.
     module _ {end : ℕ} {begun ws′ : List ℕ} (put : begun ≡ putLabel ws at (labelFrom labels (2 * v)))
         (given : Thinned s marks keep v (rowEnd s v) begun (at + header) ws′ end) where
       t : Thinned s marks keep v (rowEnd s v) (putLabel ws at (labelFrom labels (2 * v))) (at + header) ws′ end
@@ -207,7 +207,7 @@ module _ {s marks keep labels : List ℕ} where
       listed : v + 2 < rowFrom s 0
       listed = omega (arith, ready .sound .shaped .behind)
 
-      -- nothing before the row has moved
+      -- The words before the row stay.
       kept : (i : ℕ) → i < at → getD ws′ i 0 ≡ getD ws i 0
       kept i h =
           t .same i (omega arith) (omega arith) ∙ put-before ws at (labelFrom labels (2 * v)) 0 at (omega arith) i (omega arith) h

@@ -1,5 +1,5 @@
--- Which nodes of s are kept: `keep` has 1 at a kept node. A link leads its group where its mark is not 0, and a mark 2 says
--- that nothing of g lies over it.
+-- Which nodes of s are kept (document 01, "Difference"): `keep` has 1 at a kept node. A link leads its group where its mark is not 0, and a mark
+-- of 2 says that nothing of g lies over the link.
 use mathlib.Core.Path.{_≡_}
 use mathlib.Core.Bool.{Bool, true, false}
 use mathlib.Core.List.{List}
@@ -10,14 +10,14 @@ use Rattle.lattice.specs.Labels.{tableLabels, Known}
 use Rattle.layout.specs.Layout.{longest, header, labelFrom, size, linksFrom, rowEnd, targetAt, Sound, Place, rowsEnd}
 use Rattle.visits.specs.Walks.{TargetsFirst}
 
--- the nodes that Q tells are kept in addition
+-- The kept nodes grow by exactly the nodes for which Q holds.
 pub record Grown (Q : ℕ → Type 0) (keep keep′ : List ℕ) : Type 0 where
   pub long : length keep′ ≡ 255
   pub kept : (v : ℕ) → v < 255 → getD keep v 0 ≡ 1 → getD keep′ v 0 ≡ 1
   pub found : (v : ℕ) → v < 255 → Q v → getD keep′ v 0 ≡ 1
   pub why : (v : ℕ) → v < 255 → getD keep′ v 0 ≡ 1 → (getD keep v 0 ≡ 1) ⊎ Q v
 
--- a link of s before place k that leads its group enters v
+-- A link of s before place k leads its group and enters v.
 pub record Leads (s marks : List ℕ) (k v : ℕ) : Type 0 where
   pub node : ℕ
   pub place : ℕ
@@ -26,12 +26,12 @@ pub record Leads (s marks : List ℕ) (k v : ℕ) : Type 0 where
   pub leading : getD marks place 0 ≡ 0 → ⊥
   pub enters : targetAt s place ≡ v
 
--- of the links before place k that enter v, two lead, or one has nothing of g over it
+-- Of the links before place k that enter v, two lead their groups, or one leads and has nothing of g over it.
 pub data Cause (s marks : List ℕ) (k v : ℕ) : Type 0 where
   several : (a : Leads s marks k v) → Leads s marks (a .place) v → Cause s marks k v
   alone : (a : Leads s marks k v) → getD marks (a .place) 0 ≡ 2 → Cause s marks k v
 
--- The nodes that the links before place k give a cause to keep are kept, and `entered` has 1 where one of the links leads.
+-- The nodes that the links before place k give a cause to keep are kept, and `entered` has 1 at the nodes that a leading link enters.
 pub record Entering (s marks : List ℕ) (k : ℕ) (keep₀ keep entered : List ℕ) : Type 0 where
   pub grown : Grown (Cause s marks k) keep₀ keep
   pub entered-long : length entered ≡ 255
@@ -43,30 +43,30 @@ abbrev pub Enters : List ℕ → List ℕ → ℕ → List ℕ → List ℕ → 
 Enters s marks k keep entered keep′ entered′ =
     (keep₀ : List ℕ) → Entering s marks k keep₀ keep entered → Entering s marks (k + 1) keep₀ keep′ entered′
 
--- labels of a table with n types, for `nodes` nodes
+-- The labels of `nodes` nodes are labels of a table with n types.
 pub record NodeLabels (n nodes : ℕ) (labels : List ℕ) : Type 0 where
   pub long : length labels ≡ 510
   pub known : (v : ℕ) → v < nodes → Known n (labelFrom labels (header * v))
 
--- the label of one of the first k nodes is not top
+-- v is one of the first k nodes, and its label is not top.
 abbrev pub Untop : ℕ → List ℕ → List ℕ → ℕ → ℕ → Type 0
 Untop n t labels k v = (v < k) × (tableLabels n t .le (tableLabels n t .top) (labelFrom labels (header * v)) ≡ false)
 
--- the link at place k is kept: it leads its group and enters a kept node
+-- The link at place k is kept: it leads its group and enters a kept node.
 pub record Stays (s marks keep : List ℕ) (k : ℕ) : Type 0 where
   pub leads : getD marks k 0 ≡ 0 → ⊥
   pub enters : getD keep (targetAt s k) 0 ≡ 1
 
--- a link between two places is kept
+-- A link between two places is kept.
 abbrev pub Onward : List ℕ → List ℕ → List ℕ → ℕ → ℕ → Type 0
 Onward s marks keep start end = (k : ℕ) × (start ≤ k) × (k < end) × Stays s marks keep k
 
--- an answer that tells whether P holds
+-- The answer tells whether P holds.
 pub record Decides (P : Type 0) (answer : Bool) : Type 0 where
   pub yes-stands : answer ≡ true → P
   pub no-stands : answer ≡ false → P → ⊥
 
--- a graph whose links can be marked, and arrays for its marks and its kept nodes
+-- The graph's links can be marked, and there are arrays for its marks and its kept nodes.
 pub record Markable (s marks keep : List ℕ) : Type 0 where
   pub sound : Sound s
   pub small : size s ≤ 255
@@ -74,28 +74,28 @@ pub record Markable (s marks keep : List ℕ) : Type 0 where
   pub marks-long : length marks ≡ length s
   pub keep-long : length keep ≡ 255
 
--- an order of the nodes with targets first, each node at one place
+-- An order of the nodes in which targets come first, with each node at one place.
 pub record Sorted (s order : List ℕ) : Type 0 where
   pub place : ℕ → ℕ
   pub targets-first : TargetsFirst s order place
   pub onto : (i : ℕ) → i < size s → (v : ℕ) × (v < size s) × (place v ≡ i)
 
--- The nodes that a kept link leaves are kept in addition; found so far for the nodes that `done` tells.
+-- The nodes that a kept link leaves are kept in addition. This is complete for the nodes for which `done` holds.
 pub record Settled (done : ℕ → Type 0) (s marks keep keep′ : List ℕ) : Type 0 where
   pub long : length keep′ ≡ 255
   pub kept : (v : ℕ) → v < 255 → getD keep v 0 ≡ 1 → getD keep′ v 0 ≡ 1
   pub found : (v : ℕ) → v < size s → done v → Onward s marks keep′ (linksFrom s v) (rowEnd s v) → getD keep′ v 0 ≡ 1
   pub why : (v : ℕ) → v < size s → getD keep′ v 0 ≡ 1 → (getD keep v 0 ≡ 1) ⊎ Onward s marks keep′ (linksFrom s v) (rowEnd s v)
 
--- Why a node is kept: it is the root; two groups enter it, or one with nothing of g over it; its wanted label is not top; or a kept
--- link leaves it.
+-- Why a node is kept: it is the root; two groups enter it, or a group with nothing of g over it does; its wanted label is not top; or a kept link
+-- leaves it.
 pub data Why (n : ℕ) (t s marks labels keep : List ℕ) (v : ℕ) : Type 0 where
   isRoot : v ≡ 0 → Why n t s marks labels keep v
   caused : Cause s marks (rowsEnd s) v → Why n t s marks labels keep v
   untop : tableLabels n t .le (tableLabels n t .top) (labelFrom labels (header * v)) ≡ false → Why n t s marks labels keep v
   onward : Onward s marks keep (linksFrom s v) (rowEnd s v) → Why n t s marks labels keep v
 
--- just the nodes with a reason are kept
+-- Exactly the nodes with a reason are kept.
 pub record Keeps (n : ℕ) (t s marks labels keep : List ℕ) : Type 0 where
   pub long : length keep ≡ 255
   pub why : (v : ℕ) → v < size s → getD keep v 0 ≡ 1 → Why n t s marks labels keep v

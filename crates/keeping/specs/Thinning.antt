@@ -1,4 +1,4 @@
--- Rows with only the kept links, as words.
+-- The rows of the difference: the rows of s, as words, with only the kept links.
 use mathlib.Core.Path.{_≡_}
 use mathlib.Core.List.{List}
 use Prim.Native.Nat.{ℕ, _+_, _*_, _≤_, _<_}
@@ -18,7 +18,7 @@ module _ (s marks keep : List ℕ) where
     pub all : (j : ℕ) → Place s v j → j < k → Stays s marks keep j → (i : ℕ) × (start ≤ i) × (i < end) × (getD ws i 0 ≡ getD s j 0)
     pub ascending : (i : ℕ) → start ≤ i → i + 1 < end → featureAt ws i < featureAt ws (i + 1)
 
-  -- The first v rows have the labels given, and the kept links of their nodes. They begin where those of s do.
+  -- The first v rows have the given labels and the kept links of their nodes. The first row begins where that of s does.
   pub record Rows (labels : List ℕ) (v : ℕ) (ws : List ℕ) (at : ℕ) : Type 0 where
     pub long : length ws ≡ length s
     pub sized : size ws ≡ size s
@@ -31,6 +31,6 @@ module _ (s marks keep : List ℕ) where
         (i : ℕ) × (linksFrom ws u ≤ i) × (i < rowEnd ws u) × (getD ws i 0 ≡ getD s j 0)
     pub ascending : (u i : ℕ) → u < v → linksFrom ws u ≤ i → i + 1 < rowEnd ws u → featureAt ws i < featureAt ws (i + 1)
 
-  -- all rows
+  -- All rows have the given labels and the kept links of their nodes.
   abbrev pub Kept : List ℕ → List ℕ → Type 0
   Kept labels ws = (at : ℕ) × Rows labels (size s) ws at

@@ -1,4 +1,4 @@
-// The nodes that the difference keeps: 1 for a kept one, else 0.
+// The nodes that the difference keeps, in an array with 1 for a kept node, else 0.
 
 use layout::Label;
 ghost use mathlib.Core.Path.{_≡_};
@@ -8,8 +8,8 @@ ghost use Rattle.layout.specs.Layout.{Place, rowsEnd, size, targetAt};
 ghost use Rattle.visits.specs.Walks.{Reaches};
 ghost use Rattle.keeping.specs.Keeping.{Cause, Decides, Enters, Grown, Keeps, Markable, NodeLabels, Onward, Settled, Sorted, Stays, Untop};
 
-// Where the link at place k leads its group: keeps the node that it enters, if nothing of g lies over the link or an earlier link that
-// leads its group enters the node too. `entered` has 1 at the nodes that such earlier links enter.
+// If the link at place k leads its group, keeps the node that it enters where nothing of g lies over the link, or where an earlier leading link
+// enters the node too. `entered` has 1 at the nodes that earlier leading links enter.
 fn keep_one<'a>(
     s: &'a [u16],
     marks: &'a [u8],
@@ -37,7 +37,7 @@ fn keep_one<'a>(
     }
 }
 
-// Keeps the nodes that two links lead to, or one with nothing of g over it.
+// Keeps the nodes that two leading links enter, or one with nothing of g over it.
 pub fn keep_entered<'a>(s: &'a [u16], marks: &'a [u8], keep: &mut [u8; 255])
     requires { ⌜ Markable (now s) (now marks) (now keep) ⌝ }
     ensures { λ _. ⌜ Grown (Cause (now (s .entry)) (now (marks .entry)) (rowsEnd (now (s .entry)))) (now (keep .entry)) (now (keep .exit)) ⌝ }
@@ -116,7 +116,7 @@ pub fn has_kept_link<'a>(
     false
 }
 
-// Keeps the nodes that a kept link leaves, going through them with targets first.
+// Keeps the nodes that a kept link leaves. The order goes through the nodes with targets first.
 pub fn keep_parents<'a>(s: &'a [u16], marks: &'a [u8], order: &'a [u16; 510], keep: &mut [u8; 255])
     requires { ⌜ Markable (now s) (now marks) (now keep) × Sorted (now s) (now order) × (length (now order) ≡ 510) ⌝ }
     ensures { λ _. ⌜ Settled (λ v. Unit {0}) (now (s .entry)) (now (marks .entry)) (now (keep .entry)) (now (keep .exit)) ⌝ }
@@ -134,7 +134,7 @@ pub fn keep_parents<'a>(s: &'a [u16], marks: &'a [u8], order: &'a [u16; 510], ke
     }
 }
 
-// Marks the kept nodes, none being marked before.
+// Marks the kept nodes. No node is marked before.
 pub fn kept_nodes<'a>(
     n: usize,
     table: &'a [u8],
@@ -151,7 +151,7 @@ pub fn kept_nodes<'a>(
     keep[0] = 1;
     keep_entered(s, marks, keep);
     keep_labelled(n, table, s[0] as usize, labels, keep);
-    // there is no cycle: only the order is needed
+    // There is no cycle, so only the order is needed.
     let mut order = [0u16; 510];
     visits::sorting::sort_targets_first(s, &mut order);
     keep_parents(s, marks, &order, keep)

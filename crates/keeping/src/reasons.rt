@@ -1,4 +1,4 @@
-// The reason for each kept link (document 02, Paper 13), beside the link's place in the rows of the difference.
+// The reason for each kept link (document 02, Paper 13), at the link's place in the rows of the difference.
 
 ghost use mathlib.Core.Path.{_≡_};
 ghost use mathlib.Core.List.{List};
@@ -11,13 +11,13 @@ ghost use Rattle.keeping.specs.Explaining.{Copied, Explains, ExplainsRow
 // Nothing of g lies over the link.
 pub const NOTHING_OVER: u8 = 1;
 
-// The node that it enters has two or more groups.
+// The node that the link enters has two or more groups.
 pub const GROUPS_MEET: u8 = 2;
 
-// It is kept for a wanted label or for what hangs below.
+// The link is kept for a wanted label or for what hangs below.
 pub const WANTED: u8 = 3;
 
-// The reason for a link, by its mark and by whether groups meet at the node that it enters.
+// The reason for a link, by its mark and by what `meeting` has at the node that the link enters.
 fn reason_of(mark: u8, meeting: u8) -> u8
     ensures { λ r. ⌜ r ≡ reasonOf mark meeting ⌝ }
 {
@@ -30,7 +30,8 @@ fn reason_of(mark: u8, meeting: u8) -> u8
     WANTED
 }
 
-// Puts the reasons for the links of node v beside them; `meeting` has 1 at the nodes where groups meet.
+// Puts the reasons for the links of node v at their places. `meeting` has 1 at the nodes with two or more groups, or with a group that nothing of
+// g lies over.
 fn explain_row<'a>(
     s: &'a [u16],
     marks: &'a [u8],
@@ -55,7 +56,7 @@ fn explain_row<'a>(
     }
 }
 
-// Puts the reasons for the kept links of s beside their places in the rows of the difference.
+// Puts the reasons for the kept links of s at their places in the rows of the difference.
 pub fn explain_links<'a>(
     s: &'a [u16],
     marks: &'a [u8],

@@ -1,4 +1,4 @@
--- How many listed records there are, by the number of types: n has n - 1 types besides the contradiction.
+-- How many listed records there are, by the number of types: a table of n types has n - 1 types besides the contradiction.
 use mathlib.Core.Path.{_≡_, refl, sym, _∙_, ap, ap₂, subst}
 use mathlib.Core.List.{List, [], _∷_, _++_, map, flatMap}
 use Prim.Native.Nat.{ℕ, zero, suc, _+_, _*_, _-_, _≤_, _<_}
@@ -8,7 +8,7 @@ use lib.ListN.{length, length-append, length-map}
 use Rattle.graphs.specs.Rows.{from}
 use Rattle.listed.specs.Listing.{span, runs, listing, recordOf}
 
--- lists that begin with one of k numbers, as many for each
+-- Lists that begin with one of k numbers, where each number begins as many lists.
 spread-length : (make : ℕ → List (List ℕ)) (c a k : ℕ) → ((x : ℕ) → a ≤ x → x < a + k → length (make x) ≡ c) →
     length (flatMap (λ x. map (λ xs. x ∷ xs) (make x)) (from a k)) ≡ k * c
 unfolding from flatMap
@@ -123,7 +123,7 @@ module _ (n : ℕ) (low : 2 ≤ n) where
           (level (span n 1) (1 ∷ t₀ ∷ 3 ∷ []) 3 (n - 1) (n - 1) (types n 1 low) (λ t l h. middle t₀ t)))
           ∙ one-mul ((n - 1) * (n - 1))
 
-  -- With F of 1 and m types: m + m² + m³.
+  -- With F of 1 and m types besides the contradiction there are m + m² + m³ listed records.
   pub amount-one : length (listing n 1) ≡ (n - 1) + ((n - 1) * (n - 1) + (n - 1) * ((n - 1) * (n - 1)))
   unfolding listing runs span from flatMap
   amount-one =
@@ -167,7 +167,7 @@ module _ (n : ℕ) (low : 2 ≤ n) where
       level (span n 2) (3 ∷ t₀ ∷ 3 ∷ []) 3 m (3 * m) (types n 2 low)
       (λ t l h. level (span n 2) (t ∷ 3 ∷ t₀ ∷ 3 ∷ []) 2 3 m refl (λ c j g. last-3 n 2 t₀ t low c)) ∙ mul-left-comm m 3 m
 
-  -- the root's links lead to two nodes: node 1 with no links leaves node 2 four choices, with links none
+  -- The root's links lead to two nodes: if node 1 has no links, node 2 has four choices; if node 1 has links, node 2 has none.
   module _ (t₀ t₁ : ℕ) where
     four : (t : ℕ) → length (runs (span n 2) (t ∷ 0 ∷ t₁ ∷ 4 ∷ t₀ ∷ 3 ∷ []) 1) ≡ 4
     unfolding runs span from flatMap
@@ -225,7 +225,7 @@ module _ (n : ℕ) (low : 2 ≤ n) where
   unfolding span
   three-nodes = level (span n 2) (3 ∷ []) 5 m (16 * (m * m)) (types n 2 low) (λ t l h. rooted t) ∙ mul-left-comm m 16 (m * m)
 
-  -- With F of 2 and m types: m + 3 m² + 16 m³.
+  -- With F of 2 and m types besides the contradiction there are m + 3 m² + 16 m³ listed records.
   pub amount-two : length (listing n 2) ≡ m + (3 * (m * m) + 16 * (m * (m * m)))
   unfolding listing runs span from flatMap
   amount-two =

@@ -1,4 +1,4 @@
--- The order of the numbers is that of the bytes.
+-- Records are in the order of their numbers: the order of the seven numbers is the order of the records' bytes.
 use mathlib.Core.Path.{_≡_, refl, sym, _∙_, subst}
 use mathlib.Core.Bool.{Bool, true, false, cond, not, _&&_, _||_}
 use mathlib.Core.List.{List, [], _∷_, _++_}
@@ -18,7 +18,7 @@ use Rattle.listed.specs.Listing.{statedRows, span, sets, precedes, Run}
 use Rattle.listed.specs.Numbers.{linkBytes}
 use Rattle.listed.proofs.Order.{Before, false-true, or-left, parts, parts-before, prefix-before, before-parts}
 
--- the bytes of one number, by those before it
+-- The bytes of one number, by the numbers before it.
 unfoldable piece : List ℕ → ℕ → List ℕ
 piece [] x = x ∷ []
 piece (N ∷ []) x = x ∷ []
@@ -144,7 +144,7 @@ bytes-are n F (a ∷ b ∷ c ∷ d ∷ x ∷ y ∷ []) e r = absurd (omega arith
 bytes-are n F (a ∷ b ∷ c ∷ d ∷ x ∷ y ∷ z ∷ []) e r = bytes-at n F a b c d x y z r
 bytes-are n F (a ∷ b ∷ c ∷ d ∷ x ∷ y ∷ z ∷ w ∷ more) e r = absurd (omega arith)
 
--- records in the order of their numbers
+-- A record with earlier numbers comes before a record with later numbers.
 pub record-before : (n F : ℕ) (d e : List ℕ) → length d ≡ 7 → length e ≡ 7 → Run (span n F) [] d → Run (span n F) [] e → Before d e →
     Before (encoded (statedRows d)) (encoded (statedRows e))
 record-before n F d e i j r s h =

@@ -1,4 +1,4 @@
--- A graph with at most three nodes has a written form of at most three rows: three nodes with features below 64 have at most 192 links, so
+-- A graph with at most three nodes has a written form of at most three rows. Three nodes with features below 64 have at most 192 links, so
 -- neither count is exceeded, and the form has one row for each reached node.
 use mathlib.Core.Path.{_≡_, refl, ap}
 use mathlib.Core.Bool.{Bool}
@@ -35,7 +35,7 @@ features-length {A} (v ∷ vs) =
       features-length vs,
     )
 
--- A list holds every reached node and has at most three members.
+-- The list has every reached node and at most three members.
 module _ {L A : Type 0} (g : Graph L A) (narrow : (v w : A) (f : ℕ) → Reached g v → g .link v f ≡ some w → f < 64) (nodes : List A)
     (all : (v : A) → Reached g v → List·Memᴰ v nodes) (few : length nodes ≤ 3) where
   few-nodes : ManyNodes g → ⊥

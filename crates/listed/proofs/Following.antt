@@ -1,4 +1,4 @@
--- What follows a record, by its numbers: the step that code takes.
+-- What follows a record, by its seven numbers: this is the step that the code takes.
 use mathlib.Core.Path.{_≡_, refl, sym, _∙_, ap, subst}
 use mathlib.Core.Bool.{Bool, true, false}
 use mathlib.Core.List.{List, [], _∷_}
@@ -18,7 +18,7 @@ use Rattle.listed.proofs.Steps.{least-root}
 use Rattle.listed.proofs.Calls.{is-listed}
 
 module _ (n F : ℕ) (low : 2 ≤ n) (small : n ≤ 64) (f : Counts F) where
-  -- the least numbers of all
+  -- The least seven numbers.
   abbrev firstNumbers : List ℕ
   firstNumbers = 1 ∷ 1 ∷ leastLinks0 F 1
 
@@ -29,7 +29,7 @@ module _ (n F : ℕ) (low : 2 ≤ n) (small : n ≤ 64) (f : Counts F) where
   pub first-run : Run (span n F) [] firstNumbers
   first-run = subst (λ (d : List ℕ). Run (span n F) [] d) first-numbers (run-least (span n F) (span-fits n F low) 7 [])
 
-  -- the first record of all
+  -- The first listed record is the one that the least numbers state.
   pub following-first : following n F [] ≡ some (recordOf firstNumbers)
   unfolding following
   following-first =
@@ -51,7 +51,7 @@ module _ (n F : ℕ) (low : 2 ≤ n) (small : n ≤ 64) (f : Counts F) where
       listed : Listed n F (recordOf firstNumbers)
       listed = run-listed n F small f firstNumbers refl first-run
 
-  -- a record that its numbers do not state is not listed
+  -- A record that its numbers do not state is not listed.
   pub not-listed : (bytes : List ℕ) → (Run (span n F) [] (numbersOf bytes) → bytes ≡ recordOf (numbersOf bytes) → ⊥) → isListed n F bytes ≡ false
   not-listed bytes h = go (isListed n F bytes) refl
     where
@@ -61,17 +61,17 @@ module _ (n F : ℕ) (low : 2 ≤ n) (small : n ≤ 64) (f : Counts F) where
           let (r, q) = listed-numbers n F f bytes (is-listed n F low small f bytes .0 e) in absurd (h r q)
 
   module _ (bytes : List ℕ) (r : Run (span n F) [] (numbersOf bytes)) (e : bytes ≡ recordOf (numbersOf bytes)) where
-    -- one that its numbers state is listed
+    -- A record that its numbers state, within their bounds, is listed.
     pub numbers-listed : isListed n F bytes ≡ true
     numbers-listed =
         is-listed n F low small f bytes .1
         (subst (λ (b : List ℕ). Listed n F b) (sym e) (run-listed n F small f (numbersOf bytes) refl r))
 
-    -- and raising the numbers gives what follows it
+    -- Raising the numbers of a listed record gives the record that follows it.
     pub following-numbers : following n F bytes ≡ Option·map recordOf (raised (span n F) [] (numbersOf bytes))
     following-numbers = ap (following n F) e ∙ following-raised n F low small f (numbersOf bytes) refl r
 
-    -- with numbers within their bounds
+    -- The raised numbers are within their bounds.
     pub raised-run : (d : List ℕ) → raised (span n F) [] (numbersOf bytes) ≡ some d → Run (span n F) [] d
     raised-run d q = go (raised (span n F) [] (numbersOf bytes)) (raises (span n F) (span-fits n F low) [] (numbersOf bytes) r) q
       where

@@ -1,4 +1,4 @@
--- Room for 32 bytes is room for every listed record.
+-- 32 bytes are room for every listed record.
 use mathlib.Core.Path.{_≡_, refl, sym, subst}
 use mathlib.Core.Bool.{Bool, true, false, cond, _&&_}
 use mathlib.Core.List.{List, [], _∷_}

@@ -1,4 +1,4 @@
--- What is true of the list.
+-- The theorems on the list of all small graphs, and the lemmas that they and `listing` use.
 pub mod Order
 pub mod Runs
 pub mod Shapes

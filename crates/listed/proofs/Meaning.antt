@@ -31,7 +31,7 @@ use Rattle.record.proofs.Theorems.{written-reads, written-accepted, meaning-exa
 use Rattle.listed.specs.Listing.{Listed, featuresBelow, unrangedRows}
 use Rattle.listed.proofs.Order.{false-true, map-source}
 
--- what the written form of rows is made of
+-- The written form of rows: it has the rows of all nodes, renumbered.
 form-rows : (rows form : List (Row Label)) → reachesAll rows ≡ true → canonical eqb (graphOfRows rows) ≡ written form →
     (nodes : List ℕ) × (form ≡ map (rowOf eqb (graphOfRows rows) nodes) nodes) × (length form ≡ length rows)
 unfolding canonical reachesAll
@@ -49,7 +49,7 @@ form-rows rows form all e = go (visit eqb (graphOfRows rows .link) 255 0 []) all
             (reverse seen, same, ap length same ∙ length-map (reverse seen) (rowOf eqb (graphOfRows rows) (reverse seen)) ∙ length-reverse seen ∙ eqb-true (length seen) (length rows) h)
         few false q = let z : _≡_ {A = ℕ} 0 1 = cc in absurd (omega arith)
 
--- the row past the end is without range and links
+-- A property of every row, and of the empty row, holds for the row at each number.
 row-of : (P : Row Label → Type 0) (rows : List (Row Label)) → ((r : Row Label) → List·Memᴰ r rows → P r) → P (noLabel, []) → (v : ℕ) → P (getD rows v (noLabel, []))
 row-of P [] h d v = d
 row-of P (r ∷ rows) h d zero = h r (List·Memᴰ·head refl)
@@ -79,7 +79,7 @@ mapped (some v) g w e = (v, refl)
 
 module _ (n F : ℕ) (t bytes : List ℕ) (rows : List (Row Label)) (ok : reading n bytes ≡ accepted rows) (few : length rows ≤ 3)
     (low : featuresBelow F rows ≡ true) (full : unrangedRows rows ≡ true) where
-  -- the listed record of the same meaning
+  -- The written form is listed and means the same.
   pub graph-listed : (form : List (Row Label)) → canonical eqb (graphOfRows rows) ≡ written form →
       (l : Listed n F (encoded form)) × SameMeaning (tableLabels n t) (graphOfRows rows) (graphOfRows (l .form))
   unfolding featuresBelow unrangedRows rowOf isFull
@@ -116,14 +116,14 @@ module _ (n F : ℕ) (t bytes : List ℕ) (rows : List (Row Label)) (ok : readin
           (λ k z. absurd (List·Memᴰ·not-nil z)) v) f u k)
           (from 0 64) l (subst (λ (x : Row Label). List·Memᴰ l (x .1)) q i)
 
-  -- and no other listed record has it
+  -- No other listed record means the same.
   pub graph-once : (form : List (Row Label)) → canonical eqb (graphOfRows rows) ≡ written form → (other : List ℕ) (listed : Listed n F other) →
       SameMeaning (tableLabels n t) (graphOfRows rows) (graphOfRows (listed .form)) → other ≡ encoded form
   graph-once form e other listed means =
       listed .bytes-are ∙ sym (meaning-exact n t bytes other rows (listed .form) ok (listed .reads) form (listed .form) e (listed .own) .0 means)
 
--- The same of a graph of any size, on nodes of any kind: its written form has at most three nodes, each link of a reached node has a
--- feature below F, and no reached node has a range.
+-- Theorems on a graph of any size, on nodes of any type: its written form has at most three nodes, each link of a reached node has a feature
+-- below F, and no reached node has a range.
 module _ (n F : ℕ) (t : List ℕ) {A : Type 0} (same : A → A → Bool) (tells : TellsApart same) (g : Graph Label A) (size : OfAnySize n t g)
     (small : n ≤ 64) (form : List (Row Label)) (e : canonical same g ≡ written form) (few : length form ≤ 3)
     (low : (v w : A) (f : ℕ) → Reached g v → g .link v f ≡ some w → f < F) (full : (v : A) → Reached g v → isFull (g .label v) ≡ true) where
@@ -153,7 +153,7 @@ module _ (n F : ℕ) (t : List ℕ) {A : Type 0} (same : A → A → Bool) (tell
   read-any : (reading n (encoded form) ≡ accepted form) × SameMeaning (tableLabels n t) g (graphOfRows form)
   read-any = written-reads n t same tells g size form e (λ v r. let k = size .typed v r .type in omega arith)
 
-  -- it is the meaning of a listed record,
+  -- The graph is the meaning of a listed record.
   pub any-listed : (l : Listed n F (encoded form)) × SameMeaning (tableLabels n t) g (graphOfRows (l .form))
   unfolding featuresBelow unrangedRows
   any-listed = (
@@ -169,7 +169,7 @@ module _ (n F : ℕ) (t : List ℕ) {A : Type 0} (same : A → A → Bool) (tell
     read-any .1,
   )
 
-  -- and of no other
+  -- The graph is the meaning of no other listed record.
   pub any-once : (other : List ℕ) (listed : Listed n F other) → SameMeaning (tableLabels n t) g (graphOfRows (listed .form)) → other ≡ encoded form
   any-once other listed means =
       let rules = accepted-rules n other (listed .form) (listed .reads) in

@@ -1,4 +1,4 @@
--- Numbers give a record's bytes, and the bytes of a record give its numbers.
+-- The seven numbers of a record give its bytes, and the bytes give the numbers back.
 use mathlib.Core.Path.{_≡_, refl, sym, _∙_, ap, ap₂, subst}
 use mathlib.Core.Bool.{Bool, true, false, cond, not, _&&_}
 use mathlib.Core.List.{List, [], _∷_}
@@ -85,7 +85,7 @@ module _ (n F : ℕ) where
   middle-small : (c : ℕ) → c ≤ sets F → c ≤ 3
   middle-small c h = let s = sets-small F in omega arith
 
-  -- the bytes of a record give back its numbers
+  -- The bytes of a record give back its numbers.
   numbers-at : (N t₀ c₀ t₁ c₁ t₂ c₂ : ℕ) → Run (span n F) [] (seven N t₀ c₀ t₁ c₁ t₂ c₂) →
       numbersOf (recordOf (seven N t₀ c₀ t₁ c₁ t₂ c₂)) ≡ seven N t₀ c₀ t₁ c₁ t₂ c₂
   unfolding span
@@ -124,14 +124,14 @@ module _ (n F : ℕ) where
   record-numbers (a ∷ b ∷ c ∷ d ∷ x ∷ y ∷ z ∷ []) e r = numbers-at a b c d x y z r
   record-numbers (a ∷ b ∷ c ∷ d ∷ x ∷ y ∷ z ∷ w ∷ more) e r = absurd (omega arith)
 
-  -- a listed record is the record of its numbers, and these are within their bounds
+  -- A listed record is the record of its numbers, and the numbers are within their bounds.
   pub listed-numbers : Counts F → (bytes : List ℕ) → Listed n F bytes → Run (span n F) [] (numbersOf bytes) × (bytes ≡ recordOf (numbersOf bytes))
   listed-numbers f bytes l =
       let (d, long, r, e) = listed-told n F f bytes l in
       let same : d ≡ numbersOf bytes = sym (ap numbersOf e ∙ record-numbers d long r) in
       (subst (λ (x : List ℕ). Run (span n F) [] x) same r, e ∙ ap recordOf same)
 
--- The numbers that code reads off bytes.
+-- The numbers that the code reads off the bytes.
 module _ (bytes : List ℕ) (m : ℕ) (is : m ≡ getD bytes 2 0) where
   abbrev rootBy : Bool → Bool → ℕ
   rootBy a b = cond (a && not b) 4 (getD bytes 2 0)

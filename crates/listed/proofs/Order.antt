@@ -82,7 +82,7 @@ before-cases (x ∷ xs) (y ∷ ys) = go (ℕ-discrete x y) (decLe x y) (before-c
     go (no n) (yes l) rest = inl (less-before x y xs ys (omega arith))
     go (no n) (no l) rest = inr (inr (less-before y x ys xs (omega arith)))
 
--- Bytes that differ at some place, and are less at the first.
+-- The lists differ at some place, and the first has the lesser byte at the first such place.
 unfoldable pub parts : List ℕ → List ℕ → Bool
 parts [] ys = false
 parts (x ∷ xs) [] = false
@@ -139,9 +139,9 @@ ascends-map f (x ∷ xs) h a = (
   ascends-map f xs (λ y z m n. h y z (List·Memᴰ·tail m) (List·Memᴰ·tail n)) (a .1),
 )
 
--- Of records that ascend, the first that bytes precede is the least that they precede.
+-- In a list of records that ascends, the first record that the bytes precede is the least such record.
 
--- r is among the records, above the bytes, and no record above the bytes is less
+-- r is one of the records, above the bytes, and no record above the bytes is less.
 pub record Least (L : List (List ℕ)) (bytes r : List ℕ) : Type 0 where
   pub among : List·Memᴰ r L
   pub above : Before bytes r
@@ -178,7 +178,7 @@ none-above (x ∷ L) bytes s e m h = go (precedes bytes x) refl e (λ q n. none-
     go true t q rest = let z : _≡_ {A = ℕ} 0 1 = cc in omega arith
     go false t q rest = ⊎-elim (λ (i : s ≡ x). false-true (sym t ∙ subst (λ (w : List ℕ). Before bytes w) i h)) (rest q) (List·Memᴰ·cases-cons m)
 
--- and it is the only one that is so
+-- The least record above the bytes is the first that the bytes precede.
 pub least-first : (L : List (List ℕ)) (bytes r : List ℕ) → Ascends L → Least L bytes r → firstAfter bytes L ≡ some r
 least-first L bytes r a l = go (firstAfter bytes L) refl
   where

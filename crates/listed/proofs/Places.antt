@@ -1,4 +1,4 @@
--- Which byte of a record is which byte of a node, how long a record is, and that its bytes are below 256.
+-- Which byte of a record is which byte of a node, how long a record is, and why its bytes are below 256.
 use mathlib.Core.Path.{_≡_, refl, sym, _∙_, ap, subst}
 use mathlib.Core.Bool.{Bool, true, false, cond}
 use mathlib.Core.Logic.{_≢_}
@@ -157,7 +157,7 @@ module _ (t₀ c₀ t₁ c₁ t₂ c₂ : ℕ) where
         ∙ List·getD-append (rowBytes 1 t₁ c₁) (rowBytes 2 t₂ c₂ ++ []) 0 (at - (10 + width c₀)) (omega (arith, row-length 1 t₁ c₁))
     byte-second (suc (suc (suc (suc N)))) l h p q r = absurd (omega arith)
 
-    -- the third node, and that the place lies in its row
+    -- A byte of the third node's row.
     pub byte-third : (N : ℕ) → 1 ≤ N → N ≤ 3 → 10 + width c₀ + 9 + width c₁ ≤ at → at < length (recordOf (numbered N)) →
         (at - (10 + width c₀ + 9 + width c₁) < 9 + width c₂) × (getD (recordOf (numbered N)) at 0 ≡ getD (rowBytes 2 t₂ c₂) (at - (10 + width c₀ + 9 + width c₁)) 0)
     byte-third zero l h p r = absurd (omega arith)
@@ -175,7 +175,7 @@ module _ (t₀ c₀ t₁ c₁ t₂ c₂ : ℕ) where
         )
     byte-third (suc (suc (suc (suc N)))) l h p r = absurd (omega arith)
 
--- The same with the widths that were computed.
+-- The lemmas above, with the widths that the code computed.
 module _ (t₀ c₀ t₁ c₁ t₂ c₂ N : ℕ) where
   abbrev bytesOf : List ℕ
   bytesOf = recordOf (numbered t₀ c₀ t₁ c₁ t₂ c₂ N)
@@ -319,7 +319,7 @@ type-small : (n t : ℕ) (b : Bool) → n ≤ 64 → t ≤ (cond {A = ℕ × ℕ
 type-small n t true h k = omega arith
 type-small n t false h k = omega arith
 
--- numbers within their bounds: the count of nodes, and the record's bytes
+-- Numbers within their bounds have a count of nodes from 1 to 3, and the record's bytes are below 256.
 pub run-count : (n F N t₀ c₀ t₁ c₁ t₂ c₂ : ℕ) → Run (span n F) [] (numbered t₀ c₀ t₁ c₁ t₂ c₂ N) → (1 ≤ N) × (N ≤ 3)
 unfolding span
 run-count n F N t₀ c₀ t₁ c₁ t₂ c₂ r = (r .0, r .1)

@@ -1,5 +1,5 @@
--- Lists of numbers, each between bounds that those before it give: all of them in order, and the next one after one of them, where the
--- last number that can be raised is raised and those behind it take their least.
+-- Lists of numbers, each within bounds that the numbers before it give. The lemmas make all such lists in order, and the next list after a given
+-- one: the last number that can be raised is raised, and those behind it take their least.
 use mathlib.Core.Path.{_≡_, refl, sym, ap, subst}
 use mathlib.Core.Bool.{Bool, true, false, cond}
 use mathlib.Core.List.{List, [], _∷_, map, flatMap, List·Memᴰ, List·Memᴰ·head, List·Memᴰ·tail, List·Memᴰ·not-nil}
@@ -37,7 +37,7 @@ module _ (bounds : List ℕ → ℕ × ℕ) where
       let both : (length (x ∷ ys) ≡ suc k) × Run bounds p (x ∷ ys) = (ap suc l, (a, omega arith, r)) in
       subst (λ (w : List ℕ). (length w ≡ suc k) × Run bounds p w) (sym e) both
 
-  -- lists that begin with one number, then those that begin with the next
+  -- Lists that begin with one number, followed by those that begin with the next number, ascend.
   spread-ascends : (make : ℕ → List (List ℕ)) → ((x : ℕ) → Ascends (make x)) → (a m : ℕ) →
       Ascends (flatMap (λ x. map (λ xs. x ∷ xs) (make x)) (from a m))
   unfolding from flatMap
@@ -67,7 +67,7 @@ module _ (bounds : List ℕ → ℕ × ℕ) where
   length-least zero p = refl
   length-least (suc k) p = ap suc (length-least k (bounds p .0 ∷ p))
 
-  -- no list of as many numbers comes before the least
+  -- No list of k numbers within the bounds comes before the least one.
   pub least-run : (k : ℕ) (p ys : List ℕ) → Run bounds p ys → length ys ≡ k → Before ys (leastRun bounds k p) → ⊥
   unfolding leastRun precedes
   least-run zero p [] r e h = false-true h
@@ -78,14 +78,14 @@ module _ (bounds : List ℕ → ℕ × ℕ) where
       (λ q. least-run k (bounds p .0 ∷ p) ys (subst (λ (w : ℕ). Run bounds (w ∷ p) ys) (q .0) r) (omega (arith, e)) (q .1))
       (before-parts y (bounds p .0) ys (leastRun bounds k (bounds p .0 ∷ p)) h)
 
-  -- zs comes behind xs, keeps the bounds, and nothing is between
+  -- zs comes after xs, is within the bounds, and no list is between them.
   pub record Next (p xs zs : List ℕ) : Type 0 where
     pub long : length zs ≡ length xs
     pub run : Run bounds p zs
     pub above : Before xs zs
     pub least : (ys : List ℕ) → Run bounds p ys → length ys ≡ length xs → Before xs ys → Before ys zs → ⊥
 
-  -- what raising gives
+  -- What raising gives: the next list, or none where no list comes after.
   abbrev pub Raises : List ℕ → List ℕ → Option (List ℕ) → Type 0
   Raises p xs none = (ys : List ℕ) → Run bounds p ys → length ys ≡ length xs → Before xs ys → ⊥
   Raises p xs (some zs) = Next p xs zs

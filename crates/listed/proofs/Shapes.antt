@@ -1,5 +1,5 @@
--- The shapes of small graphs, computed: of all choices of links between at most three nodes by features below F, those that are their own
--- written form are the ones that the numbers state, and each of these is read and is its own written form.
+-- The shapes of small graphs, computed. Of all choices of links between at most three nodes by features below F, those that are their own written
+-- form are the ones that the numbers state, and each of these is read and is its own written form.
 use mathlib.Core.Path.{_≡_, refl}
 use mathlib.Core.Bool.{Bool, true, false, cond, not, _&&_, _||_}
 use mathlib.Core.List.{List, [], _∷_, _++_, map, flatMap}
@@ -18,12 +18,12 @@ use Rattle.listed.specs.Listing.{linkSet, span, runs}
 abbrev pub Links : Type 0
 Links = List (List (ℕ × ℕ))
 
--- all choices of links by some features to nodes below N
+-- All choices of links by the given features to nodes below N.
 unfoldable pub chosen : ℕ → List ℕ → Links
 chosen N [] = [] ∷ []
 chosen N (f ∷ fs) = chosen N fs ++ flatMap (λ w. map (λ ls. (f, w) ∷ ls) (chosen N fs)) (from 0 N)
 
--- all lists of k of them
+-- All lists of k members of a list.
 unfoldable pub tuples : {X : Type 0} → List X → ℕ → List (List X)
 tuples xs zero = [] ∷ []
 tuples xs (suc k) = flatMap (λ x. map (λ r. x ∷ r) (tuples xs k)) xs
@@ -31,7 +31,7 @@ tuples xs (suc k) = flatMap (λ x. map (λ r. x ∷ r) (tuples xs k)) xs
 abbrev pub linkIn : Links → ℕ → ℕ → Option ℕ
 linkIn ks v f = target (getD ks v []) f
 
--- the graph with these links, each node's number its label
+-- The graph with these links, in which each node's label is its number.
 abbrev pub bare : Links → Graph ℕ ℕ
 bare ks = record { root = 0; label = λ v. v; link = linkIn ks }
 
@@ -50,7 +50,7 @@ sameAll [] (b ∷ bs) = false
 sameAll (a ∷ xs) [] = false
 sameAll (a ∷ xs) (b ∷ bs) = sameLinks a b && sameAll xs bs
 
--- a written form has these links
+-- A written form has these links.
 abbrev pub hasLinks : Links → Canonical ℕ → Bool
 hasLinks ks manyNodes = false
 hasLinks ks manyLinks = false
@@ -69,7 +69,7 @@ codeOf (l ∷ m ∷ k ∷ ls) = 5
 unfoldable pub within : ℕ × ℕ → ℕ → Bool
 within s x = leb (s .0) x && leb x (s .1)
 
--- the links of N nodes are those of the numbers, and the numbers are within their bounds; the types play no part in these
+-- The links are those of some numbers, and these are within their bounds. The types play no part.
 unfoldable pub shaped : ℕ → Links → Bool
 shaped F [] = false
 shaped F (a ∷ []) = within (span 2 F (1 ∷ 1 ∷ [])) (codeOf a) && sameLinks a (linkSet 0 (codeOf a))
@@ -82,12 +82,12 @@ shaped F (a ∷ b ∷ c ∷ []) =
     (within (span 2 F (1 ∷ codeOf b ∷ 1 ∷ codeOf a ∷ 1 ∷ 3 ∷ [])) (codeOf c) && sameLinks c (linkSet 2 (codeOf c))))))
 shaped F (a ∷ b ∷ c ∷ d ∷ ks) = false
 
--- of all choices, those that are acyclic and their own written form have such a shape
+-- Of all choices, those that have no loop and are their own written form have such a shape.
 unfoldable pub test : ℕ → ℕ → Bool
 test F N = allOf (tuples (chosen N (from 0 F)) N) λ ks. loops ks || (not (own ks) || shaped F ks)
 
--- Each list of numbers states links that ascend, lead by features below F to nodes there are, without a loop, reach every node, and are
--- their own written form with each node in its place.
+-- Each list of numbers states links that ascend, have features below F, lead to nodes of the graph, make no loop and reach every node. The links
+-- are their own written form, with each node in its place.
 
 unfoldable pub sameNumbers : List ℕ → List ℕ → Bool
 sameNumbers [] [] = true

@@ -1,4 +1,4 @@
--- Listed records are those that numbers within their bounds state.
+-- The listed records are those that seven numbers within their bounds state.
 use mathlib.Core.Path.{_≡_, refl, sym, _∙_, ap, ap₂, subst, fun-ext}
 use mathlib.Core.Bool.{Bool, true, false, not, _&&_, _||_}
 use mathlib.Core.List.{List, [], _∷_, _++_, map, map-map, flatMap, List·Memᴰ, List·Memᴰ·head, List·Memᴰ·tail, List·Memᴰ·not-nil, List·Memᴰ·cases-cons, Memᴰ·append-left, Memᴰ·append-right}
@@ -134,7 +134,7 @@ loops-rows rows =
     ap (λ (n : ℕ). anyOf (from 0 n) λ v. deep (linkIn (linksOfRows rows)) n v) (length-map rows (λ r. r .1))
     ∙ ap (λ (next : ℕ → ℕ → Option ℕ). anyOf (from 0 (length rows)) λ v. deep next (length rows) v) (sym (link-same rows))
 
--- A written form has the links of its own form.
+-- A form that is its own written form has links that are their own written form.
 own-rows : (form : List (Row Label)) → canonical eqb (graphOfRows form) ≡ written form → own (linksOfRows form) ≡ true
 unfolding own
 own-rows form e = go (canonical eqb (bare (linksOfRows form))) (sym (canonical-rows form) ∙ e)
@@ -147,7 +147,7 @@ own-rows form e = go (canonical eqb (bare (linksOfRows form))) (sym (canonical-r
         let same : map (λ r. r .1) rows ≡ linksOfRows form = sym (map-map (λ (r : Row Label). r .1) (relabelRow (labelIn form)) rows) ∙ ap linksOfRows is in
         subst (λ (ks : Links). sameAll (map (λ r. r .1) rows) ks ≡ true) same (all-same (map (λ r. r .1) rows))
 
--- Every choice is listed.
+-- Every choice of links is one of the choices computed.
 
 chosen-member : (N f k : ℕ) (ls : List (ℕ × ℕ)) → Ascending ls →
     ((l : ℕ × ℕ) → List·Memᴰ l ls → (f ≤ l .0) × (l .0 < f + k) × (l .1 < N)) → List·Memᴰ ls (chosen N (from f k))
@@ -201,7 +201,7 @@ tested F N (inr e) low high = subst (λ (f : ℕ). test f N ≡ true) (sym e) (g
     go (no p) (yes q) = subst (λ (m : ℕ). test 2 m ≡ true) (sym q) two-two
     go (no p) (no d) = let q : N ≡ 3 = omega arith in subst (λ (m : ℕ). test 2 m ≡ true) (sym q) two-three
 
--- What a listed record's rows keep.
+-- The rules that the rows of a listed record keep.
 record Small (n F : ℕ) (form : List (Row Label)) : Type 0 where
   rules : Rules n form
   own-form : canonical eqb (graphOfRows form) ≡ written form
@@ -262,7 +262,7 @@ stated-row : (v c : ℕ) (r : Row Label) → isFull (r .0) ≡ true → sameLink
     _≡_ {A = Row Label} r (plain (r .0 .type), linkSet v c)
 stated-row v c r full e = ap₂ {C = Row Label} (λ (a : Label) (b : List (ℕ × ℕ)). (a, b)) (full-plain (r .0) full) (same-links (r .1) (linkSet v c) e)
 
--- numbers that state the rows
+-- Seven numbers within their bounds state the rows.
 pub record Told (n F : ℕ) (form : List (Row Label)) : Type 0 where
   pub numbers : List ℕ
   pub seven : length numbers ≡ 7
@@ -328,7 +328,7 @@ module _ (n F : ℕ) (f : Counts F) where
       }
   small-told (a ∷ b ∷ c ∷ d ∷ form) s = let h = s .few in absurd (omega arith)
 
-  -- a listed record is stated by numbers
+  -- Seven numbers within their bounds state each listed record.
   pub listed-told : (bytes : List ℕ) → Listed n F bytes → (d : List ℕ) × (length d ≡ 7) × Run (span n F) [] d × (bytes ≡ encoded (statedRows d))
   listed-told bytes l =
       let t = small-told (l .form) (listed-small n F bytes l) in
@@ -338,7 +338,7 @@ abbrev rest : {X : Type 0} → List X → List X
 rest [] = []
 rest (x ∷ xs) = xs
 
--- The other way: what numbers state is listed.
+-- The other way: what numbers within their bounds state is listed.
 
 ascends-links : (ls : List (ℕ × ℕ)) → ascends ls ≡ true → Ascending ls
 unfolding ascends
@@ -370,7 +370,7 @@ in-place (r ∷ rows) (x ∷ form) lab j h e q =
     (in-place rows form lab (suc j) (λ i l. let s : suc j + i ≡ j + suc i = omega arith in ap lab s ∙ h (suc i) (omega arith)) later places)
 
 module _ (n F : ℕ) (small : n ≤ 64) (f : Counts F) where
-  -- rows with types of the table, without ranges, and links that pass the test
+  -- Rows with types of the table, without ranges, whose links pass the test, are a listed record.
   good-listed : (rows : List (Row Label)) → 0 < length rows → length rows ≤ 3 →
       ((r : Row Label) → List·Memᴰ r rows → (isFull (r .0) ≡ true) × (0 < r .0 .type) × (r .0 .type < n)) →
       good F (linksOfRows rows) ≡ true → Listed n F (encoded rows)
@@ -502,7 +502,7 @@ module _ (n F : ℕ) (small : n ≤ 64) (f : Counts F) where
       (omega arith, omega arith, (omega arith, omega arith, (lc₀, hc₀, (omega arith, omega arith, (lc₁, hc₁, (omega arith, omega arith, (lc₂, hc₂, tt))))))) refl)
   run-listed-at (suc (suc (suc (suc N)))) t₀ c₀ t₁ c₁ t₂ c₂ (a, b, r) = absurd (omega arith)
 
-  -- what numbers state is listed
+  -- What seven numbers within their bounds state is listed.
   pub run-listed : (d : List ℕ) → length d ≡ 7 → Run (span n F) [] d → Listed n F (encoded (statedRows d))
   run-listed [] e r = absurd (omega arith)
   run-listed (a ∷ []) e r = absurd (omega arith)

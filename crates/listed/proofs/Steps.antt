@@ -1,4 +1,4 @@
--- Raising seven numbers, place by place from the last.
+-- How seven numbers are raised, place by place from the last.
 use mathlib.Core.Path.{_≡_, refl, _∙_, ap, ap₂}
 use mathlib.Core.Bool.{Bool, true, false, cond, _&&_}
 use mathlib.Core.List.{List, [], _∷_}
@@ -63,7 +63,7 @@ module _ (n F N t₀ c₀ t₁ c₁ t₂ c₂ : ℕ) where
   abbrev whole : Option (List ℕ)
   whole = raised (span n F) [] (N ∷ t₀ ∷ c₀ ∷ t₁ ∷ c₁ ∷ t₂ ∷ c₂ ∷ [])
 
-  -- what follows a raised place, with the places before it
+  -- Raising a later place leaves the places before it.
   front₁ : (zs : List ℕ) → raised (span n F) (t₁ ∷ c₀ ∷ t₀ ∷ N ∷ []) (c₁ ∷ t₂ ∷ c₂ ∷ []) ≡ some zs → whole ≡ some (N ∷ t₀ ∷ c₀ ∷ t₁ ∷ zs)
   front₁ zs e =
       later (span n F) [] N (t₀ ∷ c₀ ∷ t₁ ∷ c₁ ∷ t₂ ∷ c₂ ∷ []) (t₀ ∷ c₀ ∷ t₁ ∷ zs)
@@ -100,7 +100,7 @@ module _ (n F N t₀ c₀ t₁ c₁ t₂ c₂ : ℕ) where
       front₁ ((c₁ + 1) ∷ leastBehind1 N)
       (here (span n F) (t₁ ∷ c₀ ∷ t₀ ∷ N ∷ []) c₁ (t₂ ∷ c₂ ∷ []) (none₁ h k) l ∙ ap (λ (ls : List ℕ). some ((c₁ + 1) ∷ ls)) (least-behind n F N t₀ c₀ t₁ (c₁ + 1)))
 
-  -- nothing behind the type of node 1 can be raised
+  -- Nothing behind the type of node 1 can be raised.
   abbrev pub Stuck : Type 0
   Stuck = raised (span n F) (t₁ ∷ c₀ ∷ t₀ ∷ N ∷ []) (c₁ ∷ t₂ ∷ c₂ ∷ []) ≡ none
 

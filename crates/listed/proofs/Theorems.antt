@@ -1,5 +1,5 @@
--- The listing: its records are the listed ones, it ascends, `following` gives the least listed record above the one given, and calls from the
--- first on give each listed record once.
+-- The list has the listed records and no others, and it ascends. `following` gives the least listed record above the given one, and calls from
+-- the first on give each listed record once.
 use mathlib.Core.Path.{_≡_, refl, sym, _∙_, ap, subst}
 use mathlib.Core.Bool.{Bool, true, false, cond, _&&_}
 use mathlib.Core.List.{List, [], _∷_, List·Memᴰ, List·Memᴰ·head, List·Memᴰ·tail, List·Memᴰ·not-nil, Memᴰ·cast}
@@ -16,7 +16,7 @@ use Rattle.listed.proofs.Runs.{Raises, raises, member-run, run-member, 
 use Rattle.listed.proofs.Stated.{Counts, listed-told, run-listed}
 use Rattle.listed.proofs.Bytes.{record-before}
 
--- the k-th of a list
+-- Member k of a list.
 unfoldable nth : List (List ℕ) → ℕ → Option (List ℕ)
 nth [] k = none
 nth (x ∷ xs) zero = some x
@@ -69,7 +69,7 @@ hit : (L : List (List ℕ)) (x y : List ℕ) → Before x y → firstAfter x (y 
 unfolding firstAfter
 hit L x y h = ap (λ (b : Bool). cond {A = Option (List ℕ)} b (some y) (firstAfter x L)) h
 
--- where all of a list come after x, its first comes next
+-- If all members of a list come after x, the first of them follows x.
 all-after : (L : List (List ℕ)) (x : List ℕ) → ((y : List ℕ) → List·Memᴰ y L → Before x y) → firstAfter x L ≡ nth L 0
 unfolding nth firstAfter
 all-after [] x h = refl
@@ -90,7 +90,7 @@ nth-past [] j e = refl
 nth-past (x ∷ L) zero e = let z : _≡_ {A = ℕ} 0 1 = cc in absurd (omega arith)
 nth-past (x ∷ L) (suc j) e = nth-past L j e
 
--- Every number's bounds leave room.
+-- The bounds of each number leave at least one choice.
 pub span-fits : (n F : ℕ) → 2 ≤ n → (p : List ℕ) → span n F p .0 ≤ span n F p .1
 unfolding span
 span-fits n F h [] = omega arith
@@ -128,7 +128,7 @@ span-fits n F h (t₂ ∷ c₁ ∷ t₁ ∷ c₀ ∷ t₀ ∷ N ∷ []) = go (eq
 span-fits n F h (c₂ ∷ t₂ ∷ c₁ ∷ t₁ ∷ c₀ ∷ t₀ ∷ N ∷ more) = omega arith
 
 module _ (n F : ℕ) (low : 2 ≤ n) (small : n ≤ 64) (f : Counts F) where
-  -- the listing has the listed records
+  -- The list has the listed records and no others.
   pub listing-exactly : (bytes : List ℕ) → List·Memᴰ bytes (listing n F) ↔ Listed n F bytes
   unfolding listing
   listing-exactly bytes = (
@@ -141,7 +141,7 @@ module _ (n F : ℕ) (low : 2 ≤ n) (small : n ≤ 64) (f : Counts F) where
         Memᴰ·cast e (map-member recordOf (subst (λ (k : ℕ). List·Memᴰ d (runs (span n F) [] k)) seven (member-run (span n F) [] d r))),
   )
 
-  -- "in the order of their bytes"
+  -- The list is "in the order of their bytes".
   pub listing-ascends : Ascends (listing n F)
   unfolding listing
   listing-ascends =
@@ -169,7 +169,7 @@ module _ (n F : ℕ) (low : 2 ≤ n) (small : n ≤ 64) (f : Counts F) where
             (l .least s (listing-exactly s .0 m) h);
       }
 
-  -- "the next": the least listed record above the one given; of no bytes, the least of all
+  -- "the next": the least listed record above the given one; for no bytes, the least of all.
   pub following-least : (bytes r : List ℕ) → (following n F bytes ≡ some r) ↔ LeastAbove n F bytes r
   unfolding following
   following-least bytes r = (
@@ -177,7 +177,7 @@ module _ (n F : ℕ) (low : 2 ≤ n) (small : n ≤ 64) (f : Counts F) where
     λ l. least-first (listing n F) bytes r listing-ascends (from-above bytes r l),
   )
 
-  -- "or the end": exactly where there is none
+  -- "or the end": there is no next record exactly where no listed record is above.
   pub following-end : (bytes : List ℕ) → (following n F bytes ≡ none) ↔ ((s : List ℕ) → Listed n F s → precedes bytes s ≡ true → ⊥)
   unfolding following
   following-end bytes = (
@@ -185,7 +185,7 @@ module _ (n F : ℕ) (low : 2 ≤ n) (small : n ≤ 64) (f : Counts F) where
     λ h. above-none (listing n F) bytes listing-ascends (λ s m b. h s (listing-exactly s .0 m) b),
   )
 
-  -- what raising the numbers gives is what follows
+  -- Raising the numbers of a record gives the record that follows.
   pub following-raised : (d : List ℕ) → length d ≡ 7 → Run (span n F) [] d → following n F (recordOf d) ≡ Option·map recordOf (raised (span n F) [] d)
   unfolding following
   following-raised d seven r = go (raised (span n F) [] d) (raises (span n F) (span-fits n F low) [] d r)
@@ -246,7 +246,7 @@ module _ (n F : ℕ) (low : 2 ≤ n) (small : n ≤ 64) (f : Counts F) where
       let (k, e) = member-nth (listing n F) bytes (listing-exactly bytes .1 l) in
       (k, calls-nth k ∙ e, λ j q. nth-once (listing n F) listing-ascends j k bytes (sym (calls-nth j) ∙ q) e)
 
-  -- and then the list ends: as many calls as there are records give one, and the next gives none
+  -- As many calls as there are listed records give a record, and the next call gives none.
   pub calls-end : (calls n F (length (listing n F)) ≡ none) × ((j : ℕ) → j < length (listing n F) → (bytes : List ℕ) × (calls n F j ≡ some bytes))
   calls-end = (
     calls-nth (length (listing n F)) ∙ nth-out (listing n F),

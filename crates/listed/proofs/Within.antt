@@ -1,4 +1,4 @@
--- Seven numbers within their bounds, place by place.
+-- When seven numbers are within their bounds, place by place.
 use mathlib.Core.List.{[], _∷_}
 use mathlib.Core.Bool.{true}
 use Prim.Native.Nat.{ℕ, _≤_}

@@ -1,3 +1,3 @@
--- The listed records and their order.
+-- The listed records, their order, and the seven numbers that state a listed record.
 pub mod Listing
 pub mod Numbers

@@ -1,4 +1,4 @@
--- All small graphs in the order of their records' bytes (document 02, Paper 14). F is the number of features, n that of the types.
+-- All small graphs in the order of their records' bytes (document 02, Paper 14). F is the number of features, n the number of types.
 use mathlib.Core.Path.{_≡_}
 use mathlib.Core.Bool.{Bool, true, false, cond, not, _&&_, _||_}
 use mathlib.Core.List.{List, [], _∷_, map, flatMap}
@@ -15,7 +15,7 @@ use Rattle.lattice.specs.Label.{Label, plain, isFull}
 use Rattle.encode.specs.Encode.{encoded}
 use Rattle.record.specs.Read.{reading, accepted, graphOfRows}
 
--- "the order of their bytes": at the first place where they differ the byte is less, or the first list ends there
+-- "the order of their bytes": at the first place where the two lists differ, the first has the lesser byte, or it ends there.
 unfoldable pub precedes : List ℕ → List ℕ → Bool
 precedes [] [] = false
 precedes [] (y ∷ ys) = true
@@ -30,7 +30,7 @@ featuresBelow F rows = allOf rows λ r. allOf (r .1) λ l. ltb (l .0) F
 unfoldable pub unrangedRows : List (Row Label) → Bool
 unrangedRows rows = allOf rows λ r. isFull (r .0)
 
--- "at most 3 nodes .. all written records without ranges that use features below F"
+-- "at most 3 nodes .. all written records without ranges that use features below F".
 pub record Listed (n F : ℕ) (bytes : List ℕ) : Type 0 where
   pub form : List (Row Label)
   pub reads : reading n bytes ≡ accepted form
@@ -40,20 +40,21 @@ pub record Listed (n F : ℕ) (bytes : List ℕ) : Type 0 where
   pub features : featuresBelow F form ≡ true
   pub unranged : unrangedRows form ≡ true
 
--- r is the least listed record above the bytes; above no bytes, the least of all
+-- r is the least listed record above the bytes; above no bytes, this is the least of all.
 pub record LeastAbove (n F : ℕ) (bytes r : List ℕ) : Type 0 where
   pub listed : Listed n F r
   pub above : precedes bytes r ≡ true
   pub least : (s : List ℕ) → Listed n F s → precedes bytes s ≡ true → (s ≡ r) ⊎ (precedes r s ≡ true)
 
--- A listed record is told by seven numbers: how many nodes it has, and for each of three nodes its type and its links, as a number; 0 and
--- 0 for a node that is not there. The links of a node, by number: none; feature 0, feature 1 or both to one node, which is the node
--- that the visit numbers next after it; and 4, of the root alone, feature 0 to node 1 and feature 1 to node 2.
+-- Seven numbers state a listed record: the number of its nodes, and for each of three nodes its type and its links, as a number. A node that is
+-- not there has 0 and 0. The links of a node, by number: 0, none; 1, 2 and 3, by feature 0, by feature 1 and by both to one node, which is node 2
+-- from node 1 and node 1 from the others; 4, of the root alone, feature 0 to node 1 and feature 1 to node 2.
 
--- 2 below node 1, 1 below the others
+-- The one node that the links of node v lead to: 2 from node 1, and 1 from the others.
 abbrev pub heir : ℕ → ℕ
 heir v = cond (eqb v 1) 2 1
 
+-- The links of node v, by their number.
 abbrev pub linkSet : ℕ → ℕ → List (ℕ × ℕ)
 linkSet v zero = []
 linkSet v (suc zero) = (0, heir v) ∷ []
@@ -68,25 +69,29 @@ statedRows d =
     ((plain (getD d 1 0), linkSet 0 (getD d 2 0)) ∷ (plain (getD d 3 0), linkSet 1 (getD d 4 0)) ∷
     (plain (getD d 5 0), linkSet 2 (getD d 6 0)) ∷ [])
 
--- the highest number of links to one node
+-- The number of choices of links to one node: 1 for F of 1, 3 for F of 2.
 abbrev pub sets : ℕ → ℕ
 sets F = cond (eqb F 1) 1 3
 
--- What may stand at a place, the least and the greatest: the type of a node that is there or not, and the links of each node.
+-- The least and the greatest number that may stand at a place: for the type of a node, which is there or not, and for the links of each node.
 
+-- The span of the type of a node, which is there or not.
 abbrev pub typeSpan : ℕ → Bool → ℕ × ℕ
 typeSpan n there = cond there (1, n - 1) (0, 0)
 
+-- The span of the root's links.
 abbrev pub rootSpan : ℕ → ℕ → ℕ × ℕ
 rootSpan F N = cond (eqb N 1) (0, 0) (1, cond (eqb N 3 && eqb F 2) 4 (sets F))
 
+-- The span of the links of node 1.
 abbrev pub middleSpan : ℕ → ℕ → ℕ → ℕ × ℕ
 middleSpan F N c₀ = cond (eqb N 3) (cond (eqb c₀ 4) 0 1, sets F) (0, 0)
 
+-- The span of the links of node 2.
 abbrev pub lastSpan : ℕ → ℕ → ℕ → ℕ × ℕ
 lastSpan N c₀ c₁ = cond (eqb N 3 && eqb c₀ 4 && eqb c₁ 0) (0, 3) (0, 0)
 
--- by the numbers before it, of which the last comes first
+-- The bounds of the next number, by the numbers before it, the last of them first.
 unfoldable pub span : ℕ → ℕ → List ℕ → ℕ × ℕ
 span n F [] = (1, 3)
 span n F (N ∷ []) = typeSpan n true
@@ -97,22 +102,22 @@ span n F (c₁ ∷ t₁ ∷ c₀ ∷ t₀ ∷ N ∷ []) = typeSpan n (eqb N 3)
 span n F (t₂ ∷ c₁ ∷ t₁ ∷ c₀ ∷ t₀ ∷ N ∷ []) = lastSpan N c₀ c₁
 span n F (c₂ ∷ t₂ ∷ c₁ ∷ t₁ ∷ c₀ ∷ t₀ ∷ N ∷ more) = (0, 0)
 
--- each number is between its bounds
+-- Each number is between its bounds.
 abbrev pub Run : (List ℕ → ℕ × ℕ) → List ℕ → List ℕ → Type 0
 Run bounds p [] = Unit {0}
 Run bounds p (x ∷ xs) = (bounds p .0 ≤ x) × (x ≤ bounds p .1) × Run bounds (x ∷ p) xs
 
--- all lists of k numbers that may stand behind those given, in order
+-- All lists of k numbers that may stand behind the given ones, in order.
 unfoldable pub runs : (List ℕ → ℕ × ℕ) → List ℕ → ℕ → List (List ℕ)
 runs bounds p zero = [] ∷ []
 runs bounds p (suc k) = flatMap (λ x. map (λ xs. x ∷ xs) (runs bounds (x ∷ p) k)) (from (bounds p .0) (suc (bounds p .1) - bounds p .0))
 
--- the least k numbers behind those given
+-- The least k numbers behind the given ones.
 unfoldable pub leastRun : (List ℕ → ℕ × ℕ) → ℕ → List ℕ → List ℕ
 leastRun bounds zero p = []
 leastRun bounds (suc k) p = bounds p .0 ∷ leastRun bounds k (bounds p .0 ∷ p)
 
--- the next of those lists: the last number that can be raised is raised, and those behind it take their least
+-- The next of these lists: the last number that can be raised is raised by one, and those behind it take their least.
 unfoldable pub raised : (List ℕ → ℕ × ℕ) → List ℕ → List ℕ → Option (List ℕ)
 raised bounds p [] = none
 raised bounds p (x ∷ xs) =
@@ -127,20 +132,20 @@ recordOf d = encoded (statedRows d)
 unfoldable pub listing : ℕ → ℕ → List (List ℕ)
 listing n F = map recordOf (runs (span n F) [] 7)
 
--- whether bytes are among the listed records: neither comes before the other
+-- The bytes are one of the listed records: neither comes before the other.
 unfoldable pub isListed : ℕ → ℕ → List ℕ → Bool
 isListed n F bytes = anyOf (listing n F) λ r. not (precedes bytes r || precedes r bytes)
 
--- the first of a list that bytes precede
+-- The first record of a list that the bytes precede.
 unfoldable pub firstAfter : List ℕ → List (List ℕ) → Option (List ℕ)
 firstAfter bytes [] = none
 firstAfter bytes (r ∷ rs) = cond (precedes bytes r) (some r) (firstAfter bytes rs)
 
--- the next record, the first where there are no bytes, or the end
+-- The next listed record; the first one where there are no bytes; none at the end.
 unfoldable pub following : ℕ → ℕ → List ℕ → Option (List ℕ)
 following n F bytes = firstAfter bytes (listing n F)
 
--- what the k-th call gives where each goes on from what the one before gave, and the first from no bytes
+-- What call k gives: call 0 has no record, and each later call has the record that the call before it gave.
 unfoldable pub calls : ℕ → ℕ → ℕ → Option (List ℕ)
 calls n F zero = following n F []
 calls n F (suc k) = bind (calls n F k) (λ bytes. following n F bytes)

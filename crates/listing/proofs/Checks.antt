@@ -1,4 +1,4 @@
--- The order of the checks: the table, the record, then what the call continues with.
+-- The order of the checks: the table, the record, then what the call goes on with.
 use mathlib.Core.Path.{_≡_, refl, sym, _∙_, ap}
 use mathlib.Core.List.{List, [], _∷_}
 use mathlib.Core.Logic.{_≢_}

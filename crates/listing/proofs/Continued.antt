@@ -1,4 +1,4 @@
--- What the call replies over an accepted table, by the numbers of the record given.
+-- What the call replies over an accepted table, by the numbers of the given record.
 use mathlib.Core.Path.{_≡_, refl, sym, _∙_, ap, ap₂, subst}
 use mathlib.Core.Bool.{Bool, true, false, cond, not, _||_}
 use mathlib.Core.List.{List, [], _∷_}
@@ -23,7 +23,7 @@ use Rattle.listing.specs.declared.raising.Raised.{Raised}
 use Rattle.listing.specs.Numbers.{numberList, raisedList, Nodes}
 use Rattle.listing.specs.Call.{begins, delivered, continued, counted}
 
--- F is 1 or 2, or 23
+-- 23 is given where F is neither 1 nor 2.
 
 pub counts-told : (F : ℕ) → (eqb F 1 || eqb F 2) ≡ true → Counts F
 counts-told F e = go (eqb F 1) refl e
@@ -41,7 +41,7 @@ module _ (F : ℕ) (next : Result) (out : List ℕ) where
   unfolding counted
   counted-off e = ap (λ (b : Bool). cond b next (refusing FeatureCount out)) e
 
--- by the test that was made
+-- The same, by the test that the code made.
 module _ (F : ℕ) {b : Bool} (tells : b ≡ (eqb F 1 || eqb F 2)) where
   pub count-refused : (next : Result) (out : List ℕ) → not b ≡ true → refusing FeatureCount out ≡ counted F next out
   count-refused next out e = sym (counted-off F next out (sym tells ∙ not-true b e))
@@ -83,7 +83,7 @@ module _ (n F : ℕ) (out : List ℕ) where
         ap (λ (l : List ℕ). resultOf (fitted (recordOf l) out)) e
         ∙ sym (ap (λ (o : Option (List ℕ)). delivered o out) (following-first n F low small f))
 
-    -- numbers within their bounds can be written
+    -- Numbers within their bounds state a record that can be written.
     pub run-written : (d : Numbers) → Run (span n F) [] (numberList d) → Nodes d × Small (recordOf (numberList d))
     run-written d r = (
       run-count n F (d .nodes) (d .type0) (d .links0) (d .type1) (d .links1) (d .type2) (d .links2) r,

@@ -1,4 +1,4 @@
--- Comparing and storing a record byte by byte.
+-- How a record is compared and stored byte by byte.
 use mathlib.Core.Path.{_≡_, sym, _∙_, ap, subst}
 use mathlib.Core.Bool.{Bool, cond}
 use mathlib.Core.List.{List, _++_}
@@ -16,7 +16,7 @@ use Rattle.encode.proofs.Outcomes.{fitted-short}
 use Rattle.replies.specs.declared.Reply.the-variants.{Length, NoRoom}
 use Rattle.replies.specs.Reply.{resulting, resultOf}
 
--- one place more is the same
+-- Bytes that agree before place i and at place i agree before i + 1.
 pub same-more : (xs ys : List ℕ) (i : ℕ) → ((j : ℕ) → j < i → getD xs j 0 ≡ getD ys j 0) → getD xs i 0 ≡ getD ys i 0 → (j : ℕ) → j < i + 1 → getD xs j 0 ≡ getD ys j 0
 same-more xs ys i h e j l = go (ℕ-discrete j i)
   where

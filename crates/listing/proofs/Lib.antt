@@ -1,4 +1,4 @@
--- What the proofs of the listing's functions share.
+-- The lemmas that the proofs of the listing's functions share, and the theorems on its call.
 pub mod Ends
 pub mod Copying
 pub mod Continued

@@ -1,4 +1,4 @@
--- Paper 14, sentence by sentence, about `stepping`, which the call is proved equal to.
+-- The proofs of Paper 14, sentence by sentence, about `stepping`, which the call is proved equal to.
 use mathlib.Core.Path.{_≡_, refl, sym, _∙_, ap}
 use mathlib.Core.Bool.{Bool, true, false, cond, _||_}
 use mathlib.Core.List.{List, [], _∷_, _++_, List·Memᴰ}
@@ -66,11 +66,11 @@ listed-exactly n F t bytes = (
     accepted-injective : {x y : List (Row Label)} → graph.accepted x ≡ graph.accepted y → x ≡ y
     accepted-injective e = cc
 
--- no bytes, or a record that is read
+-- The call has no bytes, or a record that is accepted.
 abbrev pub Read : ℕ → List ℕ → Type 0
 Read n bytes = (bytes ≡ []) ⊎ ((rows : List (Row Label)) × (graph.reading n bytes ≡ graph.accepted rows))
 
--- no bytes, or a listed record
+-- The call has no bytes, or a listed record.
 abbrev pub Begun : ℕ → ℕ → List ℕ → Type 0
 Begun n F bytes = (bytes ≡ []) ⊎ Listed n F bytes
 
@@ -90,7 +90,7 @@ counts-false F h = go (eqb F 1 || eqb F 2) refl
     go false e = refl
 
 module _ (n : ℕ) (t : List ℕ) (F : ℕ) (bytes out : List ℕ) where
-  -- Refusals in their order: the table's 1 to 3;
+  -- The refusals in their order. The table's 1 to 3 come first.
 
   pub table-refused : (fault : TableFault) → table.opened n t ≡ opened.Refused fault → stepping n t F bytes out ≡ refusing (Table fault) out
   unfolding stepping
@@ -107,7 +107,7 @@ module _ (n : ℕ) (t : List ℕ) (F : ℕ) (bytes out : List ℕ) where
     small : n ≤ 64
     small = accepted-size n t (opened-accepted n t opened.Accepted (sym ok) refl) .1
 
-    -- the record's own 4 to 7, as of the first graph;
+    -- The record's own 4 to 7, as the first graph, come next.
     pub record-refused : (fault : GraphFault) → (bytes ≡ [] → ⊥) → graph.reading n bytes ≡ graph.refused fault →
         stepping n t F bytes out ≡ refusing (Graph fault First) out
     unfolding stepped
@@ -126,7 +126,7 @@ module _ (n : ℕ) (t : List ℕ) (F : ℕ) (bytes out : List ℕ) where
         go (b ∷ bs) (inl p) next = let z : _≡_ {A = ℕ} 0 1 = cc in absurd (omega arith)
         go (b ∷ bs) (inr (rows, q)) next = ap (λ (r : graph.Reading). afterReading r out next) q
 
-    -- "F outside 1 and 2 is 23", after them;
+    -- "F outside 1 and 2 is 23", after the record.
     pub count-refused : Read n bytes → (Counts F → ⊥) → stepping n t F bytes out ≡ refusing FeatureCount out
     count-refused r h = read-on r ∙ counted-off F (continued n F bytes out) out (counts-false F h)
 
@@ -166,11 +166,11 @@ module _ (n : ℕ) (t : List ℕ) (F : ℕ) (bytes out : List ℕ) where
           go (x ∷ xs) (inl p) o = let z : _≡_ {A = ℕ} 0 1 = cc in absurd (omega arith)
           go (x ∷ xs) (inr p) o = ap (λ (c : Bool). cond c (delivered o out) (refusing NotListed out)) (list-calls.is-listed n F low small f (x ∷ xs) .1 p)
 
-      -- "with a listed record the next": the least listed record above it by bytes, 8 where it does not fit
+      -- "with a listed record the next": the call gives the least listed record above the given one, or 8 where the output is shorter.
       pub next-given : Begun n F bytes → (r : List ℕ) → LeastAbove n F bytes r → stepping n t F bytes out ≡ resultOf (fitted r out)
       next-given b r l = delivers b ∙ ap (λ (o : Option (List ℕ)). delivered o out) (list.following-least n F low small f bytes r .1 l)
 
-      -- "or the end, the output then unchanged"
+      -- "or the end, the output then unchanged".
       pub end-given : Begun n F bytes → ((s : List ℕ) → Listed n F s → precedes bytes s ≡ true → ⊥) → stepping n t F bytes out ≡ refusing End out
       end-given b h = delivers b ∙ ap (λ (o : Option (List ℕ)). delivered o out) (list.following-end n F low small f bytes .1 h)
 
@@ -224,7 +224,7 @@ told n t F bytes out = tabled (table.opened n t) refl
 
 -- What is exact.
 
--- a record that is delivered has its length or 8 as reply
+-- The reply for a record that is delivered is its length or 8.
 fitted-reply : (r out : List ℕ) (x : Reply) → x ≡ resultOf (fitted r out) .reply → (x ≡ Length (length r)) ⊎ (x ≡ NoRoom)
 unfolding fitted
 fitted-reply r out x = go (leb (length r) (length out))
@@ -251,7 +251,7 @@ module _ (n : ℕ) (t : List ℕ) (F : ℕ) (bytes out : List ℕ) where
   by : {x : Result} → stepping n t F bytes out ≡ x → replied ≡ x .reply
   by e = ap (λ (y : Result). y .reply) e
 
-  -- 24 exactly for records that are accepted and not listed
+  -- 24 is given exactly for records that are accepted and not listed.
   pub unlisted-exactly : (replied ≡ NotListed) ↔
       ((rows : List (Row Label)) × (table.opened n t ≡ opened.Accepted) × Counts F × (bytes ≡ [] → ⊥) × (graph.reading n bytes ≡ graph.accepted rows) × (Listed n F bytes → ⊥))
   unlisted-exactly = (λ e. go e (told n t F bytes out), λ (rows, ok, f, h, q, l). by (unlisted-refused n t F bytes out ok f rows q h l))
@@ -268,7 +268,7 @@ module _ (n : ℕ) (t : List ℕ) (F : ℕ) (bytes out : List ℕ) where
           (⊎-elim (λ (k : NotListed ≡ Length (length r)). let z : _≡_ {A = ℕ} 0 1 = cc k in omega arith)
           (λ (k : NotListed ≡ NoRoom). let z : _≡_ {A = ℕ} 0 1 = cc k in omega arith) (fitted-reply r out NotListed (sym e ∙ by q)))
 
-  -- 23 exactly where F is not 1 or 2, over an accepted table, with no record or one that is read
+  -- 23 is given exactly where F is neither 1 nor 2, over an accepted table, with no record or an accepted one.
   pub count-exactly : (replied ≡ FeatureCount) ↔ ((table.opened n t ≡ opened.Accepted) × Read n bytes × (Counts F → ⊥))
   count-exactly = (λ e. go e (told n t F bytes out), λ (ok, r, f). by (count-refused n t F bytes out ok r f))
     where
@@ -283,7 +283,7 @@ module _ (n : ℕ) (t : List ℕ) (F : ℕ) (bytes out : List ℕ) where
           (⊎-elim (λ (k : FeatureCount ≡ Length (length r)). let z : _≡_ {A = ℕ} 0 1 = cc k in omega arith)
           (λ (k : FeatureCount ≡ NoRoom). let z : _≡_ {A = ℕ} 0 1 = cc k in omega arith) (fitted-reply r out FeatureCount (sym e ∙ by q)))
 
-  -- the end exactly where there is no listed record above
+  -- The end is given exactly where no listed record is above the given one.
   pub end-exactly : (replied ≡ End) ↔
       ((table.opened n t ≡ opened.Accepted) × Counts F × Begun n F bytes × ((s : List ℕ) → Listed n F s → precedes bytes s ≡ true → ⊥))
   end-exactly = (λ e. go e (told n t F bytes out), λ (ok, f, b, h). by (end-given n t F bytes out ok f b h))
@@ -300,7 +300,7 @@ module _ (n : ℕ) (t : List ℕ) (F : ℕ) (bytes out : List ℕ) where
           (⊎-elim (λ (k : End ≡ Length (length r)). let z : _≡_ {A = ℕ} 0 1 = cc k in omega arith)
           (λ (k : End ≡ NoRoom). let z : _≡_ {A = ℕ} 0 1 = cc k in omega arith) (fitted-reply r out End (sym e ∙ by q)))
 
-  -- "the output then unchanged": where no record is delivered, the output is as it was
+  -- "the output then unchanged": where no record is delivered, the output stays as it was.
   pub output-kept : ((l : ℕ) → replied ≡ Length l → ⊥) → stepping n t F bytes out .output ≡ out
   output-kept h = go (told n t F bytes out)
     where
@@ -332,7 +332,7 @@ module _ (n : ℕ) (t : List ℕ) (F : ℕ) (out : List ℕ) (ok : table.opened 
       next-given n t F [] out ok f (inl refl) r
       (record { listed = l; above = list.listed-bytes n F (low n t F [] out ok) (small n t F [] out ok) f r l; least = λ s i h. least s i })
 
-  -- the next record, in the output's first bytes, the others unchanged
+  -- The next record stands in the first bytes of the output, and the other bytes are unchanged.
   pub next-written : 32 ≤ length out → (bytes : List ℕ) → Begun n F bytes → (r : List ℕ) → LeastAbove n F bytes r →
       stepping n t F bytes out ≡ resulting (Length (length r)) (r ++ drop (length r) out)
   next-written room bytes b r l = next-given n t F bytes out ok f b r l ∙ room-for F n r out f (l .listed) room
@@ -349,28 +349,28 @@ module _ (n : ℕ) (t : List ℕ) (F : ℕ) (out : List ℕ) (ok : table.opened 
       delivers n t F bytes out ok f (inr (list.comes-up n F (low n t F bytes out ok) (small n t F bytes out ok) f k bytes e))
       ∙ ap (λ (o : Option (List ℕ)). delivered (bind o (λ b. following n F b)) out) (sym e)
 
-  -- every call gives a listed record,
+  -- Every call that gives a record gives a listed one.
   pub calls-listed : (k : ℕ) (bytes : List ℕ) → calls n F k ≡ some bytes → Listed n F bytes
   calls-listed = list.comes-up n F (low n t F [] out ok) (small n t F [] out ok) f
 
-  -- "Every such graph comes up once": each listed record at one call and no other,
+  -- "Every such graph comes up once": each listed record comes up at one call and no other.
   pub calls-once : (bytes : List ℕ) → Listed n F bytes → (k : ℕ) × (calls n F k ≡ some bytes) × ((j : ℕ) → calls n F j ≡ some bytes → j ≡ k)
   calls-once = list.once n F (low n t F [] out ok) (small n t F [] out ok) f
 
-  -- and then the calls end: as many as there are listed records give one, and the next gives none
+  -- As many calls as there are listed records give a record, and the next call gives none.
   pub calls-end : (calls n F (length (listing n F)) ≡ none) × ((j : ℕ) → j < length (listing n F) → (bytes : List ℕ) × (calls n F j ≡ some bytes))
   calls-end = list.calls-end n F (low n t F [] out ok) (small n t F [] out ok) f
 
--- A listed record of each meaning, and one alone.
+-- Each small graph is the meaning of one listed record and no other.
 
--- the listed record that means what a graph means
+-- One listed record, and no other, means what the graph means.
 pub record OneListed (n F : ℕ) (t : List ℕ) {A : Type 0} (g : GraphOn Label A) : Type 0 where
   pub bytes : List ℕ
   pub listed : Listed n F bytes
   pub means : SameMeaning (tableLabels n t) g (graph.graphOfRows (listed .form))
   pub alone : (other : List ℕ) (also : Listed n F other) → SameMeaning (tableLabels n t) g (graph.graphOfRows (also .form)) → other ≡ bytes
 
--- of an accepted record with at most three nodes, features below F and no range
+-- An accepted record with at most three nodes, features below F and no range has the meaning of one listed record and no other.
 pub record-once : (n F : ℕ) (t bytes : List ℕ) (rows : List (Row Label)) → graph.reading n bytes ≡ graph.accepted rows → length rows ≤ 3 →
     featuresBelow F rows ≡ true → unrangedRows rows ≡ true → OneListed n F t (graph.graphOfRows rows)
 record-once n F t bytes rows ok few below full =
@@ -378,8 +378,8 @@ record-once n F t bytes rows ok few below full =
     let (l, m) = meaning.graph-listed n F t bytes rows ok few below full form e in
     record { bytes = encoded form; listed = l; means = m; alone = meaning.graph-once n F t bytes rows ok few below full form e }
 
--- of a graph of any size, on nodes of any kind, where at most three nodes are reached: some list of at most three holds them all. Each link
--- of a reached node has a feature below F, and no reached node has a range.
+-- A graph of any size, on nodes of any type, has the meaning of one listed record and no other, if some list of at most three nodes has all its
+-- reached nodes, each link of a reached node has a feature below F, and no reached node has a range.
 pub graph-once : (n F : ℕ) (t : List ℕ) {A : Type 0} (same : A → A → Bool) → TellsApart same → (g : GraphOn Label A) → OfAnySize n t g → n ≤ 64 →
     (nodes : List A) → ((v : A) → Reached g v → List·Memᴰ v nodes) → length nodes ≤ 3 →
     ((v w : A) (f : ℕ) → Reached g v → g .link v f ≡ some w → f < F) → ((v : A) → Reached g v → isFull (g .label v) ≡ true) → OneListed n F t g
@@ -400,10 +400,10 @@ pub three-chains : listing 2 1 ≡
     encoded (statedRows (3 ∷ 1 ∷ 1 ∷ 1 ∷ 1 ∷ 1 ∷ 0 ∷ [])) ∷ []
 three-chains = list-calls.three
 
--- How many there are, where m types besides the contradiction are in the table: m + m² + m³ with F of 1,
+-- With m types besides the contradiction there are m + m² + m³ listed records for F of 1.
 pub amount-one : (n : ℕ) → 2 ≤ n → length (listing n 1) ≡ (n - 1) + ((n - 1) * (n - 1) + (n - 1) * ((n - 1) * (n - 1)))
 amount-one = amounts.amount-one
 
--- and m + 3 m² + 16 m³ with F of 2
+-- With m types besides the contradiction there are m + 3 m² + 16 m³ listed records for F of 2.
 pub amount-two : (n : ℕ) → 2 ≤ n → length (listing n 2) ≡ (n - 1) + (3 * ((n - 1) * (n - 1)) + 16 * ((n - 1) * ((n - 1) * (n - 1))))
 amount-two = amounts.amount-two

@@ -1,4 +1,4 @@
--- What the inner functions promise of the seven numbers.
+-- What the inner functions of the listing promise about the seven numbers that state a record.
 use mathlib.Core.Path.{_≡_}
 use mathlib.Core.Bool.{cond}
 use mathlib.Core.List.{List, [], _∷_}
@@ -20,5 +20,6 @@ Nodes d = (1 ≤ d .nodes) × (d .nodes ≤ 3)
 abbrev pub Ends : Span → ℕ × ℕ → Type 0
 Ends s ends = (s .low ≡ ends .0) × (s .high ≡ ends .1)
 
+-- The raised numbers as a list; none where no number can be raised.
 abbrev pub raisedList : Raised → Option (List ℕ)
 raisedList r = cond (r .more) (some (numberList (r .numbers))) none

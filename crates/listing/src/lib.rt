@@ -1,6 +1,6 @@
-// Every small graph in the order of its record's bytes (document 02, Paper 14): from a listed record the next one, from no bytes the first.
-// A listed record is told by seven numbers (`numbers`), each within a span that those before it give (`spans`); the next record has the
-// numbers raised (`raising`).
+// Every small graph in the order of its record's bytes (document 02, Paper 14): the call gives the next record after a listed one, and the first
+// record for no bytes. Seven numbers state a listed record (`numbers`). Each number is within a span that the numbers before it give (`spans`),
+// and raising the numbers gives the next record (`raising`).
 
 use lattice::Opened;
 use numbers::Numbers;
@@ -23,7 +23,7 @@ pub mod numbers;
 pub mod raising;
 pub mod spans;
 
-// The record that numbers state where it fits.
+// Writes the record that the numbers state, where it fits.
 fn write(d: Numbers, out: &mut [u8]) -> Reply
     requires { ⌜ Nodes d × ((i : ℕ) → getD (recordOf (numberList d)) i 0 < 256) ⌝ }
     ensures { λ r. ⌜ resulting r (now (out .exit)) ≡ resultOf (fitted (recordOf (numberList d)) (now (out .entry))) ⌝ }
@@ -50,7 +50,7 @@ fn is_count(features: usize) -> bool
     features == 2
 }
 
-// The first record of all.
+// Writes the first listed record.
 fn first(features: usize, out: &mut [u8]) -> Reply
     ensures { λ r. ⌜ ((n : ℕ) → 2 ≤ n → n ≤ 64 → resulting r (now (out .exit)) ≡
         counted features (continued n features [] (now (out .entry))) (now (out .entry))) ⌝ }
@@ -62,7 +62,7 @@ fn first(features: usize, out: &mut [u8]) -> Reply
     write(d, out)
 }
 
-// From an accepted record, over an accepted table with n types.
+// Writes the listed record after an accepted record, over an accepted table with n types.
 fn go_on(n: usize, features: usize, bytes: &[u8], out: &mut [u8]) -> Reply
     requires { ⌜ (2 ≤ n) × (n ≤ 64) × (0 < length (now bytes)) ⌝ }
     ensures { λ r. ⌜ resulting r (now (out .exit)) ≡ counted features (continued n features (now (bytes .entry)) (now (out .entry))) (now (out .entry)) ⌝ }
@@ -85,7 +85,7 @@ fn go_on(n: usize, features: usize, bytes: &[u8], out: &mut [u8]) -> Reply
     write(next, out)
 }
 
-// Over an accepted table with n types.
+// The call over an accepted table with n types.
 fn next_over(n: usize, features: usize, bytes: &[u8], out: &mut [u8]) -> Reply
     requires { ⌜ (2 ≤ n) × (n ≤ 64) ⌝ }
     ensures { λ r. ⌜ resulting r (now (out .exit)) ≡ stepped n features (now (bytes .entry)) (now (out .entry)) ⌝ }
@@ -101,7 +101,7 @@ fn next_over(n: usize, features: usize, bytes: &[u8], out: &mut [u8]) -> Reply
     }
 }
 
-// The listed record after the given one, or the end; of no bytes, the first.
+// Writes the listed record after the given one, or answers the end. For no bytes it writes the first listed record.
 pub fn next(n: usize, table: &[u8], features: usize, bytes: &[u8], out: &mut [u8]) -> Reply
     ensures { λ r. ⌜ resulting r (now (out .exit)) ≡ stepping n (now (table .entry)) features (now (bytes .entry)) (now (out .entry)) ⌝ }
 {

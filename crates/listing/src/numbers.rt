@@ -1,4 +1,4 @@
-// The seven numbers that state a listed record, and the record's bytes by them.
+// The seven numbers that state a listed record, and the record's bytes by these numbers.
 
 ghost use mathlib.Core.Path.{_≡_};
 ghost use mathlib.Core.Bool.{cond, true};
@@ -10,8 +10,8 @@ ghost use Rattle.listed.specs.Numbers.{rootLinks, numbersOf, rowBytes};
 ghost use Rattle.listed.specs.Numbers.{width as widthOf};
 ghost use Rattle.listing.specs.Numbers.{numberList, Nodes};
 
-// How many nodes a record has, and the type and the links of each of three; 0 and 0 for a node that is not there. Links by number: 0 none;
-// 1, 2, 3 feature 0, feature 1 or both to one node; 4, of the root alone, feature 0 to node 1 and feature 1 to node 2.
+// The number of nodes, and the type and the links of each of three nodes, by number; a node that is not there has 0 and 0. Links by number: 0,
+// none; 1, 2 and 3, by feature 0, by feature 1 and by both to one node; 4, of the root alone, feature 0 to node 1 and feature 1 to node 2.
 pub struct Numbers {
     pub nodes: usize,
     pub type0: usize,
@@ -22,7 +22,7 @@ pub struct Numbers {
     pub links2: usize,
 }
 
-// The number of links that a number states.
+// How many links the number of a node's links stands for.
 fn width(links: usize) -> usize
     ensures { λ r. ⌜ (r ≡ widthOf links) × (r ≤ 2) ⌝ }
 {
@@ -35,7 +35,7 @@ fn width(links: usize) -> usize
     2
 }
 
-// The byte at a place, 0 behind the end.
+// The byte at a place; 0 behind the end.
 fn byte_at(bytes: &[u8], at: usize) -> usize
     ensures { λ r. ⌜ (r ≡ getD (now (bytes .entry)) at 0) ⌝ }
 {
@@ -46,14 +46,14 @@ fn byte_at(bytes: &[u8], at: usize) -> usize
     }
 }
 
-// The byte at a place of a node that is there, else 0.
+// The byte at a place where the node is there, else 0.
 fn byte_if(there: bool, bytes: &[u8], at: usize) -> usize
     ensures { λ r. ⌜ r ≡ cond there (getD (now (bytes .entry)) at 0) 0 ⌝ }
 {
     if there { byte_at(bytes, at) } else { 0 }
 }
 
-// The number of the root's links by the bytes.
+// The number of the root's links, by the bytes of a record.
 fn root_links(bytes: &[u8]) -> usize
     ensures { λ r. ⌜ r ≡ rootLinks (now (bytes .entry)) ⌝ }
 {
@@ -67,7 +67,7 @@ fn root_links(bytes: &[u8]) -> usize
     4
 }
 
-// The numbers by which a record would be stated.
+// The seven numbers that these bytes would have as a listed record.
 pub fn numbers_of(bytes: &[u8]) -> Numbers
     ensures { λ r. ⌜ numberList r ≡ numbersOf (now (bytes .entry)) ⌝ }
 {
@@ -91,7 +91,7 @@ pub fn numbers_of(bytes: &[u8]) -> Numbers
     }
 }
 
-// The length of the record that numbers state.
+// The length of the record that the numbers state.
 pub fn length_of(d: Numbers) -> usize
     requires { ⌜ Nodes d ⌝ }
     ensures { λ r. ⌜ r ≡ length (recordOf (numberList d)) ⌝ }
@@ -107,7 +107,7 @@ pub fn length_of(d: Numbers) -> usize
     two + 9 + width(d.links2)
 }
 
-// The node that the visit numbers next after node v.
+// The one node that the links of node v lead to: 2 from node 1, and 1 from the others.
 fn heir_of(v: usize) -> usize
     ensures { λ r. ⌜ r ≡ heir v ⌝ }
 {
@@ -128,7 +128,7 @@ fn row_byte(v: usize, label: usize, links: usize, at: usize) -> usize
     row[at]
 }
 
-// The byte at a place of the record that numbers state.
+// The byte at a place of the record that the numbers state.
 pub fn record_byte(d: Numbers, at: usize) -> usize
     requires { ⌜ Nodes d × (at < length (recordOf (numberList d))) ⌝ }
     ensures { λ r. ⌜ r ≡ getD (recordOf (numberList d)) at 0 ⌝ }
@@ -147,7 +147,7 @@ pub fn record_byte(d: Numbers, at: usize) -> usize
     row_byte(2, d.type2, d.links2, at - two)
 }
 
-// Whether bytes are the record that numbers state.
+// Whether the bytes are the record that the numbers state.
 pub fn is_record(d: Numbers, bytes: &[u8]) -> bool
     requires { ⌜ Nodes d ⌝ }
     ensures { λ r. ⌜ (r ≡ true) ↔ (now (bytes .entry) ≡ recordOf (numberList d)) ⌝ }

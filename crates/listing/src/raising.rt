@@ -1,4 +1,4 @@
-// Raising: the numbers of the next record. The last that can be raised is raised, and those behind it take their least.
+// Raises the numbers of a record to those of the next one: the last number that can be raised is raised, and those behind it take their least.
 
 use crate::numbers::Numbers;
 use crate::spans::is_within;
@@ -54,7 +54,7 @@ pub fn are_within(n: usize, features: usize, d: Numbers) -> bool
     is_within(last_span(nodes, links0, links1), d.links2)
 }
 
-// Numbers of which the last take their least: those of node 2, the links of node 1, all of node 1, all but the count and a type.
+// The given numbers, with the least for node 2.
 fn from_type2(nodes: usize, type0: usize, links0: usize, type1: usize, links1: usize) -> Numbers
     ensures { λ r. ⌜ numberList r ≡ nodes ∷ type0 ∷ links0 ∷ type1 ∷ links1 ∷ leastBehind1 nodes ⌝ }
 {
@@ -70,6 +70,7 @@ fn from_type2(nodes: usize, type0: usize, links0: usize, type1: usize, links1: u
     }
 }
 
+// The given numbers, with the least for the links of node 1 and for node 2.
 fn from_links1(features: usize, nodes: usize, type0: usize, links0: usize, type1: usize) -> Numbers
     ensures { λ r. ⌜ numberList r ≡ nodes ∷ type0 ∷ links0 ∷ type1 ∷ leastLinks1 features nodes links0 ⌝ }
 {
@@ -78,6 +79,7 @@ fn from_links1(features: usize, nodes: usize, type0: usize, links0: usize, type1
     from_type2(nodes, type0, links0, type1, low)
 }
 
+// The given numbers, with the least for nodes 1 and 2.
 fn from_type1(features: usize, nodes: usize, type0: usize, links0: usize) -> Numbers
     ensures { λ r. ⌜ numberList r ≡ nodes ∷ type0 ∷ links0 ∷ leastType1 features nodes links0 ⌝ }
 {
@@ -87,6 +89,7 @@ fn from_type1(features: usize, nodes: usize, type0: usize, links0: usize) -> Num
     from_links1(features, nodes, type0, links0, 0)
 }
 
+// The given numbers, with the least for the root's links and for nodes 1 and 2.
 pub fn from_links0(features: usize, nodes: usize, type0: usize) -> Numbers
     ensures { λ r. ⌜ numberList r ≡ nodes ∷ type0 ∷ leastLinks0 features nodes ⌝ }
 {
@@ -95,7 +98,7 @@ pub fn from_links0(features: usize, nodes: usize, type0: usize) -> Numbers
     from_type1(features, nodes, type0, low)
 }
 
-// The numbers of the next record: the last that can be raised is raised, and those behind it take their least.
+// The numbers of the next record: the last number that can be raised is raised, and those behind it take their least.
 pub fn raise(n: usize, features: usize, d: Numbers) -> Raised
     requires { ⌜ 0 < n ⌝ }
     ensures { λ r. ⌜ raisedList r ≡ raised (span n features) [] (numberList d) ⌝ }
@@ -150,7 +153,7 @@ pub fn raise(n: usize, features: usize, d: Numbers) -> Raised
     raise_first(n, features, d)
 }
 
-// The same where nothing behind the type of node 1 can be raised
+// The numbers of the next record, where nothing behind the type of node 1 can be raised.
 fn raise_first(n: usize, features: usize, d: Numbers) -> Raised
     requires { ⌜ 0 < n ⌝ }
     requires { ⌜ raised (span n features) (d .type1 ∷ d .links0 ∷ d .type0 ∷ d .nodes ∷ []) (d .links1 ∷ d .type2 ∷ d .links2 ∷ []) ≡ none ⌝ }

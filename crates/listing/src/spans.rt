@@ -1,4 +1,4 @@
-// What may stand at each place of the seven numbers: an interval that the numbers before it give.
+// What may stand at each place of the seven numbers: a span that the numbers before it give.
 
 ghost use mathlib.Core.Path.{_≡_};
 ghost use mathlib.Core.Bool.{true};
@@ -7,13 +7,13 @@ ghost use Prim.Native.Nat.{_≤_, _<_};
 ghost use Rattle.listed.specs.Listing.{sets, typeSpan, rootSpan, middleSpan, lastSpan};
 ghost use Rattle.listing.specs.Numbers.{Ends};
 
-// The least and the greatest of what may stand at one place.
+// The least and the greatest number that may stand at one place.
 pub struct Span {
     pub low: usize,
     pub high: usize,
 }
 
-// The types of a node that is there or not, over a table with n types.
+// The span of a node's type over a table with n types, for a node that is there or not.
 pub fn type_span(n: usize, there: bool) -> Span
     requires { ⌜ 0 < n ⌝ }
     ensures { λ r. ⌜ Ends r (typeSpan n there) ⌝ }
@@ -35,7 +35,7 @@ fn link_sets(features: usize) -> usize
     if features == 1 { 1 } else { 3 }
 }
 
-// The links of the root.
+// The span of the root's links.
 pub fn root_span(features: usize, nodes: usize) -> Span
     ensures { λ r. ⌜ Ends r (rootSpan features nodes) ⌝ }
 {
@@ -57,7 +57,7 @@ pub fn root_span(features: usize, nodes: usize) -> Span
     Span { low: 1, high: 4 }
 }
 
-// The links of node 1.
+// The span of the links of node 1.
 pub fn middle_span(features: usize, nodes: usize, links0: usize) -> Span
     ensures { λ r. ⌜ Ends r (middleSpan features nodes links0) ⌝ }
 {
@@ -76,7 +76,7 @@ pub fn middle_span(features: usize, nodes: usize, links0: usize) -> Span
     }
 }
 
-// The links of node 2.
+// The span of the links of node 2.
 pub fn last_span(nodes: usize, links0: usize, links1: usize) -> Span
     ensures { λ r. ⌜ Ends r (lastSpan nodes links0 links1) ⌝ }
 {

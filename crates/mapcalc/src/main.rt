@@ -1,5 +1,5 @@
-// Reads what is asked for from standard input, and prints the one line that answers it. It knows `request` alone.
-// A line that cannot be written whole is told on standard error. A program of this language has no exit status of its own.
+// Reads what is asked for from standard input, and prints the one line that answers it. This program knows `request` alone. A line that cannot be
+// written whole is told on standard error. A program of this language has no exit status of its own.
 
 use libc::STDERR_FILENO;
 use libc::STDIN_FILENO;

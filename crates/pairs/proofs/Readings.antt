@@ -1,5 +1,5 @@
--- What reading one record or two says: the rows of an accepted graph are those that its words hold, and a call goes on by them or
--- gives the first refusal.
+-- What reading one record or two says: the words hold the rows of an accepted graph, and a call goes on with these rows or gives the first
+-- refusal.
 use mathlib.Core.Path.{_≡_, refl, sym, _∙_, ap, ap₂, subst}
 use mathlib.Core.Bool.{Bool, true, false, cond}
 use mathlib.Core.List.{List}
@@ -29,10 +29,10 @@ use Rattle.pairs.specs.declared.PairVerdict.{PairVerdict}
 use Rattle.pairs.specs.declared.PairVerdict.the-variants as pair
 use Rattle.pairs.specs.Pair.{Optional, ReadsBoth, ReadsBeside, readBoth, readingBeside, jointVerdict}
 
--- A list or none.
+-- Reading with a list or without one.
 
 module _ (n : ℕ) (t list bytes : List ℕ) where
-  -- an empty list is none
+  -- An empty list stands for no list.
   pub reading-plain : eqb (length list) 0 ≡ true → readingBeside n t list bytes ≡ reading n bytes
   unfolding readingBeside
   reading-plain e = ap (λ (b : Bool). cond b (reading n bytes) (readingAppropriate n t list bytes)) e
@@ -41,7 +41,7 @@ module _ (n : ℕ) (t list bytes : List ℕ) where
   unfolding readingBeside
   reading-listed e = ap (λ (b : Bool). cond b (reading n bytes) (readingAppropriate n t list bytes)) e
 
-  -- with a list and without it, what is accepted is an accepted record
+  -- A record that is accepted, with a list or without, is an accepted record.
   pub accepted-beside : (rows : List (Row Label)) → readingBeside n t list bytes ≡ accepted rows → reading n bytes ≡ accepted rows
   accepted-beside rows is = go (eqb (length list) 0) refl
     where
@@ -53,7 +53,7 @@ module _ (n : ℕ) (t list bytes : List ℕ) where
 pub accepted-long : (n : ℕ) (list : List ℕ) → listAccepted n list ≡ true → eqb (length list) 0 ≡ false
 accepted-long n list e = ap (λ (k : ℕ). eqb k 0) (list-long n list e)
 
--- Reading beside a list that is empty, and one that is not.
+-- Reading with an empty list, and with a list that is not empty.
 module _ (n : ℕ) (t list bytes : List ℕ) {v : Verdict} {ws : List ℕ} where
   pub tells-plain : length list ≡ 0 → ReadsAs n (reading n bytes) v ws → ReadsAs n (readingBeside n t list bytes) v ws
   tells-plain none = subst (λ (o : Reading). ReadsAs n o v ws) (sym (reading-plain n t list bytes (eq-eqb (length list) 0 none)))
@@ -61,7 +61,7 @@ module _ (n : ℕ) (t list bytes : List ℕ) {v : Verdict} {ws : List ℕ} where
   pub tells-listed : (length list ≡ 0 → ⊥) → ReadsAs n (readingAppropriate n t list bytes) v ws → ReadsAs n (readingBeside n t list bytes) v ws
   tells-listed some = subst (λ (o : Reading). ReadsAs n o v ws) (sym (reading-listed n t list bytes (ne-eqb (length list) 0 some)))
 
--- words that hold the rows that a reading accepts
+-- The words hold the rows that a reading accepts.
 pub record Told (n : ℕ) (o : Reading) (ws : List ℕ) : Type 0 where
   pub is : o ≡ accepted (rowsOf ws)
   pub holds : Holds n (rowsOf ws) ws
@@ -70,7 +70,7 @@ told-held : {n : ℕ} {o : Reading} {ws : List ℕ} {rows : List (Row Label)} �
 told-held {n} {ws = ws} e held =
     record { is = e ∙ ap accepted (sym (held .rows-are)); holds = subst (λ (rs : List (Row Label)). Holds n rs ws) (sym (held .rows-are)) held }
 
--- they hold acceptable rows
+-- Words that hold the rows that a reading accepts are `Loaded`.
 pub told-loaded : (n : ℕ) (t list bytes : List ℕ) {ws : List ℕ} → Told n (readingBeside n t list bytes) ws → Loaded n ws
 told-loaded n t list bytes {ws} told =
     let held = told .holds in
@@ -109,7 +109,7 @@ module _ {n : ℕ} {o p : Reading} {v : PairVerdict} {ws ws₂ : List ℕ} (read
       go (accepted rows) (accepted others) d c = (told-held d (reads .one rows d), told-held c (reads .other e others c))
 
   module _ {X : Type 0} (refuse : Reply → X) (next : List (Row Label) → List (Row Label) → X) where
-    -- a refusal, and of which graph
+    -- A refusal, and which graph is refused.
     pub both-refused : (fault : GraphFault) (side : Side) → v ≡ pair.Refused fault side → readBoth refuse o p next ≡ refuse (Graph fault side)
     both-refused fault side e = go o p refl refl
       where
@@ -125,13 +125,13 @@ module _ {n : ℕ} {o p : Reading} {v : PairVerdict} {ws ws₂ : List ℕ} (read
         go (accepted rows) (refused other) d c = same (joint e d c)
         go (accepted rows) (accepted others) d c = let z : _≡_ {A = ℕ} 0 1 = cc (joint e d c) in absurd (omega arith)
 
-    -- what comes next, over the rows that the words hold
+    -- Where both are accepted, the call goes on with the rows that the words hold.
     pub both-next : v ≡ pair.Both → readBoth refuse o p next ≡ next (rowsOf ws) (rowsOf ws₂)
     both-next e =
         let (one, other) = both-told e in
         ap₂ (λ (i j : Reading). readBoth refuse i j next) (one .is) (other .is)
 
--- What reading one after the other comes to.
+-- What reading one record after the other gives.
 module _ {n : ℕ} {o : Reading} {v : Verdict} {ws : List ℕ} (one : ReadsAs n o v ws) where
   pub reads-first-refused : {p : Reading} {ws₂ : List ℕ} {fault : GraphFault} → v ≡ Refused fault →
       ReadsBoth n o p (pair.Refused fault First) ws ws₂
@@ -157,7 +157,7 @@ module _ {n : ℕ} {o : Reading} {v : Verdict} {ws : List ℕ} (one : ReadsAs n 
     pub reads-accepted : w ≡ Accepted → ReadsBoth n o p pair.Both ws ws₂
     reads-accepted e = subst (λ (u : Verdict). ReadsBoth n o p (jointVerdict Accepted u) ws ws₂) e reads-second
 
--- both records' words hold acceptable rows
+-- The words of both accepted records are `Loaded`.
 pub both-loaded : (n : ℕ) (t list a b : List ℕ) {v : PairVerdict} {ws ws₂ : List ℕ} → ReadsBeside n t list a b v ws ws₂ → v ≡ pair.Both →
     Loaded n ws × Loaded n ws₂
 both-loaded n t list a b reads e = let (one, other) = both-told reads e in (told-loaded n t list a one, told-loaded n t list b other)
@@ -174,11 +174,11 @@ reads-plain n t list a b {v} {ws} {ws₂} none reads =
     subst (λ (o : Reading). ReadsBoth n o (reading n b) v ws ws₂) (reading-plain n t list a e)
     (subst (λ (p : Reading). ReadsBoth n (readingBeside n t list a) p v ws ws₂) (reading-plain n t list b e) reads)
 
--- what a reading accepts keeps the rules
+-- The rows that a reading accepts keep the rules.
 abbrev pub Ruled : ℕ → Reading → Type 0
 Ruled n o = (rows : List (Row Label)) → o ≡ accepted rows → Rules n rows
 
--- what comes next matters for accepted records only
+-- Two calls that agree on accepted records agree on all records.
 pub both-same : {n : ℕ} {o p : Reading} → Ruled n o → Ruled n p → {X : Type 0} (refuse : Reply → X) (next other : List (Row Label) → List (Row Label) → X) →
     ((g h : List (Row Label)) → Rules n g → Rules n h → next g h ≡ other g h) → readBoth refuse o p next ≡ readBoth refuse o p other
 both-same {o = refused fault} one two refuse next other same = refl

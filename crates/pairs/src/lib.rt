@@ -1,6 +1,6 @@
-// Reading the records of a call over an accepted table, the first graph's refusal before the second's (document 01, "Returned by a call"),
-// with or without a list of types for features (document 02, Paper 9). An empty list stands for no list. It knows records and an accepted
-// table, and no operation.
+// Reads the records of a call over an accepted table, with the first graph's refusal before the second's (document 01, "Returned by a call"),
+// with a list of types for features (document 02, Paper 9) or without one. An empty list stands for no list. This crate knows records and an
+// accepted table, and no operation.
 
 use record::GraphFault;
 use record::reading::Verdict;
@@ -13,13 +13,13 @@ ghost use Rattle.decode.specs.Answers.{Roomy};
 ghost use Rattle.record.specs.Reads.{ReadsAs};
 ghost use Rattle.pairs.specs.Pair.{Optional, ReadsBeside, readingBeside};
 
-// Whether two records are accepted; else the first refusal and which graph it tells of.
+// Whether both records are accepted; else the first refusal, and which graph is refused.
 pub enum PairVerdict {
     Both,
     Refused(GraphFault, Side),
 }
 
-// Whether two records are short, so that the graph of each has room in `layout::SHORT` words.
+// Whether both records are short, so that `layout::SHORT` words have room for the graph of each.
 pub fn are_short(first: &[u8], second: &[u8]) -> bool
     ensures { λ r. ⌜ (r ≡ true → (length (now (first .entry)) ≤ 510) × (length (now (second .entry)) ≤ 510)) ⌝ }
 {
@@ -29,7 +29,7 @@ pub fn are_short(first: &[u8], second: &[u8]) -> bool
     second.len() <= decode::rows::SHORT
 }
 
-// Reads a record over a table with n types into lent words, which are unspecified on refusal.
+// Reads a record over a table with n types into lent words. On a refusal nothing is said of the words.
 pub fn read_one(n: usize, table: &[u8], list: &[u8], bytes: &[u8], graph: &mut [u16]) -> Verdict
     requires { ⌜ (n ≤ 64) × Optional n (now list) × Roomy (now bytes) (now graph) ⌝ }
     ensures { λ r. ⌜ ReadsAs n (readingBeside n (now (table .entry)) (now (list .entry)) (now (bytes .entry))) r (now (graph .exit)) ⌝ }

@@ -1,4 +1,4 @@
--- The grounds of each reply of import and export. Every other reply has none, so it is never given.
+-- When each reply of import and export is due. No other reply is ever due, so no other reply is given.
 use Prim.Native.Nat.{ℕ}
 use Rattle.lattice.specs.declared.TableFault.{TableFault}
 use Rattle.record.specs.declared.GraphFault.{GraphFault}
@@ -9,7 +9,7 @@ use Rattle.replies.specs.declared.Reply.the-variants.{Length, Same, Under, Abov
 pub record Grounds : Type 1 where
   pub for-length : ℕ → Type 0
   pub for-counts : ℕ → ℕ → Type 0
-  -- 1 to 3, 4 to 7 of the first graph, 8, 14 and 15
+  -- The grounds of 1 to 3, of 4 to 7 of the first graph, of 8, 14 and 15.
   pub for-table : TableFault → Type 0
   pub for-graph : GraphFault → Type 0
   pub for-room : Type 0

@@ -1,4 +1,4 @@
--- Export gives each reply exactly where it is due: 1 to 3, 4 to 7 and 8 in this order, else the counts; and what it fills (document 02, Papers 2 and 7).
+-- Export gives each reply exactly where it is due: 1 to 3, 4 to 7 and 8 in this order, else the counts (document 02, Papers 2 and 7).
 use mathlib.Core.Path.{_≡_, refl, sym, _∙_, ap, ap₂, subst}
 use mathlib.Core.Bool.{Bool, true, cond}
 use mathlib.Core.List.{List}
@@ -35,7 +35,7 @@ use Rattle.planning.specs.Planning.{Exported, exportedAs, fits, exported
 use Rattle.planning.proofs.Due.{Grounds, Due}
 use Rattle.planning.proofs.Exports.{exporting-refused, exporting-accepted}
 
--- whether rows and node bytes have room for a form
+-- The test of room says whether rows and node bytes have room for a form.
 fits-exact : (form : List (Row Label)) (rows : List lent.Row) (nodes : List ℕ) → (fits form rows nodes ≡ true) ↔ ((linksIn form ≤ length rows) × (length form * 3 ≤ length nodes))
 unfolding fits
 fits-exact form rows nodes = (
@@ -73,7 +73,7 @@ module _ (n : ℕ) (t bytes : List ℕ) (rows : List lent.Row) (nodes : List ℕ
         for-twice = ⊥;
       }
 
-  -- One of these holds.
+  -- One of these cases holds.
   data Told : Type 0 where
     bad-table : (fault : TableFault) → grounds .for-table fault → Told
     bad-graph : (fault : GraphFault) → grounds .for-graph fault → Told
@@ -145,29 +145,29 @@ module _ (n : ℕ) (t bytes : List ℕ) (rows : List lent.Row) (nodes : List ℕ
   exact : (r : Reply) → (Due grounds r → result .reply ≡ r) → (result .reply ≡ r) ↔ Due grounds r
   exact r back = (λ e. subst (Due grounds) e export-due, back)
 
-  -- 1 to 3
+  -- 1 to 3 are given exactly where they are due.
   pub table-exact : (fault : TableFault) → (result .reply ≡ Table fault) ↔ (table.opened n t ≡ opened.Refused fault)
   table-exact fault = exact (Table fault) (λ g. ap (λ (x : Exported). x .reply) (table-result fault g))
 
-  -- 4 to 7
+  -- 4 to 7 are given exactly where they are due.
   pub graph-exact : (fault : GraphFault) → (result .reply ≡ Graph fault First) ↔ (Opens × (reading n bytes ≡ refused fault))
   graph-exact fault = exact (Graph fault First) (λ g. ap (λ (x : Exported). x .reply) (graph-result fault g))
 
-  -- 8
+  -- 8 is given exactly where it is due.
   pub room-exact : (result .reply ≡ NoRoom) ↔ (Opens × ((form : List (Row Label)) × WrittenForm n bytes form × Few form))
   room-exact = exact NoRoom (λ g. ap (λ (x : Exported). x .reply) (room-result g))
 
-  -- the counts of nodes and rows
+  -- The counts of nodes and rows are given exactly where no refusal is due.
   pub counts-exact : (a b : ℕ) → (result .reply ≡ Counts a b) ↔
       (Opens × ((form : List (Row Label)) × WrittenForm n bytes form × (length form ≡ a) × (linksIn form ≡ b) × Room form))
   counts-exact a b =
       exact (Counts a b) (λ (e, (form, f, p, q, enough)). ap (λ (x : Exported). x .reply) (counts-result e form f enough) ∙ ap₂ Counts p q)
 
-  -- 11 is no reply
+  -- 11 is no reply of export.
   pub never-large : result .reply ≡ TooLarge → ⊥
   never-large e = subst (Due grounds) e export-due
 
-  -- a refusal leaves both outputs as they were
+  -- A refusal leaves both outputs as they were.
   pub refused-unchanged : (k : ℕ) → refusal (result .reply) ≡ some k → (result .rows ≡ rows) × (result .nodes ≡ nodes)
   refused-unchanged k q = go told
     where

@@ -1,4 +1,4 @@
--- What export does in each case: refusals, and the rows and node bytes of the written form.
+-- What export does in each case: a refusal, or the rows and node bytes of the written form.
 use mathlib.Core.Path.{_≡_, refl, sym, _∙_, ap, ap₂, subst}
 use mathlib.Core.Bool.{Bool, true, false, cond, _&&_}
 use mathlib.Core.List.{List, [], _∷_, _++_}
@@ -41,7 +41,7 @@ use Rattle.pairs.proofs.Readings.{told-accepted, told-refused}
 use Rattle.calls.proofs.Tables.{table-refused, table-accepted}
 use Rattle.planning.specs.Planning.{Exported, exportedAs, fits, exportedForm, exportedRows, exported, exporting, Makes}
 
--- A refusal: nothing is stored.
+-- A refusal stores nothing.
 pub makes-none : {export : List lent.Row → Exported} {room : ℕ} {answer said : Reply} {count : ℕ} {at : List lent.Row} {nodes : List ℕ} → said ≡ answer → count ≡ 0 →
     ((rows : List lent.Row) → length rows ≡ room → exportedAs answer rows nodes ≡ export rows) → Makes export room said count at nodes
 makes-none {at = at} {nodes = nodes} e none h =
@@ -52,12 +52,12 @@ makes-none {at = at} {nodes = nodes} e none h =
           ap₂ (λ (a : Reply) (k : ℕ). exportedAs a (take k at ++ drop k rows) nodes) e none ∙ h rows l;
     }
 
--- The same export under another name.
+-- `Makes` holds for an equal export.
 pub makes-as : {export other : List lent.Row → Exported} {room : ℕ} {answer : Reply} {count : ℕ} {at : List lent.Row} {nodes : List ℕ} →
     Makes export room answer count at nodes → ((rows : List lent.Row) → export rows ≡ other rows) → Makes other room answer count at nodes
 makes-as m h = record { inside = m .inside; few = m .few; stored = λ rows l. m .stored rows l ∙ h rows }
 
--- A graph in words.
+-- The export of a graph in words.
 module _ {ws : List ℕ} (sound : Sound ws) {b : Bool} {new : List ℕ} (r : Renumbers (canonical eqb (graphIn ws)) b new) where
   narrow : (v w f : ℕ) → Reached (graphIn ws) v → graphIn ws .link v f ≡ some w → f < 64
   narrow v w f reached e = link-known sound v f w (reached-inside sound v reached) e .0
@@ -103,7 +103,7 @@ module _ {ws : List ℕ} (sound : Sound ws) {b : Bool} {new : List ℕ} (r : Ren
       unfolding exportedRows
       fitted = ap (λ (x : Canonical Label). exportedForm x rows nodes) (form is)
 
-      -- 8
+      -- 8 is given where rows or node bytes are too few.
       pub export-few-rows : length rows < linksIn (rowsOf new) → exportedAs NoRoom rows nodes ≡ exportedRows (rowsOf ws) rows nodes
       unfolding fits
       export-few-rows h =
@@ -124,7 +124,7 @@ module _ {ws : List ℕ} (sound : Sound ws) {b : Bool} {new : List ℕ} (r : Ren
           (le-leb (length (lentRows (rowsOf new))) (length rows) (omega (arith, links-are)))
           (le-leb (length (lentNodes (rowsOf new))) (length nodes) (omega (arith, bytes-are))))
 
-    -- rows and bytes are made
+    -- Rows and node bytes are made where there is room.
     pub makes-full : {room count links : ℕ} {at : List lent.Row} (nodes : List ℕ) {made : List ℕ} → links ≡ linksIn (rowsOf new) → links ≤ room → count ≡ size new →
         size new * 3 ≤ length nodes → made ≡ filled (lentNodes (rowsOf new)) nodes → take (linksIn (rowsOf new)) at ≡ lentRows (rowsOf new) →
         Makes (λ rows. exportedRows (rowsOf ws) rows nodes) room (Counts count links) links at made
@@ -142,7 +142,7 @@ module _ {ws : List ℕ} (sound : Sound ws) {b : Bool} {new : List ℕ} (r : Ren
               ∙ export-full rows nodes (omega arith) bytes;
         }
 
--- A record.
+-- The export of a record.
 module _ {n : ℕ} {o : Reading} {v : Verdict} {ws : List ℕ} (tells : ReadsAs n o v ws) (nodes : List ℕ) where
   pub read-refused : (fault : GraphFault) → v ≡ Refused fault → (rows : List lent.Row) → exportedAs (Graph fault First) rows nodes ≡ exported o rows nodes
   read-refused fault e rows = sym (ap (λ (i : Reading). exported i rows nodes) (told-refused tells fault e))

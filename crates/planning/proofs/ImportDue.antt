@@ -50,7 +50,7 @@ use Rattle.planning.proofs.Due.{Grounds, Due}
 use Rattle.planning.proofs.Imports.{import-whole, import-size, import-unknown, import-twice, import-written, importing-refused, importing-accepted}
 use Rattle.planning.proofs.TableGraph.{table-length, table-row, table-source, table-linked, inside-range, importable-rules}
 
--- 5, 6 and 7: what the tests of the graph decide.
+-- When 5, 6 and 7 are due: what the tests of the graph decide.
 
 label-decide : (n : ℕ) (l : Label) → OutsideLabel n l ⊎ InsideLabel n l
 label-decide n l = go (ℕ-discrete (l .type) 0) (decLt (l .type) n) (decLe (l .lowest) (l .highest)) (decLe (l .highest) 255)
@@ -68,7 +68,7 @@ label-clash n l (inr (inl f)) (a, b, c, d) = omega arith
 label-clash n l (inr (inr (inl f))) (a, b, c, d) = omega arith
 label-clash n l (inr (inr (inr f))) (a, b, c, d) = omega arith
 
--- Each number has one of two properties: then some number below n has the first, or all have the second.
+-- If each number has one of two properties, then some number below n has the first, or all have the second.
 below-search : (P Q : ℕ → Type 0) → ((v : ℕ) → P v ⊎ Q v) → (n : ℕ) → ((v : ℕ) × (v < n) × P v) ⊎ ((v : ℕ) → v < n → Q v)
 below-search P Q decide zero = inr (λ v h. absurd (omega arith))
 below-search P Q decide (suc n) = go (decide n) (below-search P Q decide n)
@@ -119,7 +119,7 @@ module _ (nodes : List ℕ) (rows : List lent.Row) (formed : Formed nodes rows) 
         λ all. back (omega (arith, table-length nodes rows, formed .sized .2), λ v h. all v (omega (arith, table-length nodes rows))),
       )
 
-  -- the nodes that are reached are those of the written form
+  -- The nodes that are reached are those of the written form, so reaching a node is decided.
   reached-decide : (v : ℕ) → (Reached (tableGraph nodes rows) v → ⊥) ⊎ Reached (tableGraph nodes rows) v
   reached-decide v =
       let small = narrow (tableRows nodes rows) linked in
@@ -159,7 +159,7 @@ module _ (n : ℕ) (graph : List (Row Label)) where
   judged-accepted i c a = rw (i, c, a)
 
 module _ (n : ℕ) (t : List ℕ) (rows : List lent.Row) (nodes out : List ℕ) where
-  -- the graph has a record, and its length is such a number
+  -- The graph has a record, and P holds for the record's length.
   abbrev RecordLength : (ℕ → Type 0) → Type 0
   RecordLength P = (form : List (Row Label)) × (canonical eqb (tableGraph nodes rows) ≡ written form) × P (length (encoded form))
 
@@ -169,7 +169,7 @@ module _ (n : ℕ) (t : List ℕ) (rows : List lent.Row) (nodes out : List ℕ) 
   abbrev Labelled : Type 0
   Labelled = (v : ℕ) → v < nodesIn nodes → InsideLabel n (labelIn nodes v)
 
-  -- 4 to 7
+  -- The grounds of 4 to 7.
   abbrev forGraph : GraphFault → Type 0
   forGraph Malformed = Opens × Unsized nodes (length rows)
   forGraph OutOfRange = Opens × Formed nodes rows × ((v : ℕ) × (v < nodesIn nodes) × OutsideLabel n (labelIn nodes v))
@@ -268,14 +268,14 @@ module _ (n : ℕ) (t : List ℕ) (rows : List lent.Row) (nodes out : List ℕ) 
       (judged-unreached n (tableRows nodes rows) (labels-exact n nodes rows f .1 l) (loopless-exact nodes rows f .1 loopless) (unreachable-exact nodes rows f .1 u))
   graph-result Inappropriate never = absurd never
 
-  -- a table of which no refusal but 8 applies: its graph is written
+  -- Where no refusal before 8 applies, import writes the planning table's graph.
   pub import-is : Opens → Importable n nodes rows → result ≡ rewrittenRows out (tableRows nodes rows)
   import-is e ok =
       judged-result e (ok .formed)
       (judged-accepted n (tableRows nodes rows) (labels-exact n nodes rows (ok .formed) .1 (ok .labels)) (loopless-exact nodes rows (ok .formed) .1 (ok .loopless))
       (all-exact nodes rows (ok .formed) .1 (ok .reached)))
 
-  -- that the output has room for
+  -- Where the output has room for it, the record is written.
   pub length-result : Opens → Importable n nodes rows → (form : List (Row Label)) → canonical eqb (tableGraph nodes rows) ≡ written form →
       length (encoded form) ≤ length out → result ≡ resulting (Length (length (encoded form))) (filled (encoded form) out)
   unfolding writtenOut fitted
@@ -317,42 +317,42 @@ module _ (n : ℕ) (t : List ℕ) (rows : List lent.Row) (nodes out : List ℕ) 
   exact : (r : Reply) → (Due grounds r → result .reply ≡ r) → (result .reply ≡ r) ↔ Due grounds r
   exact r back = (λ e. subst (Due grounds) e import-due, back)
 
-  -- 1 to 3
+  -- 1 to 3 are given exactly where they are due.
   pub table-exact : (fault : TableFault) → (result .reply ≡ Table fault) ↔ (table.opened n t ≡ opened.Refused fault)
   table-exact fault = exact (Table fault) (λ g. ap (λ (x : Result). x .reply) (table-result fault g))
 
-  -- 4, 5, 6 and 7
+  -- 4, 5, 6 and 7 are given exactly where they are due.
   pub graph-exact : (fault : GraphFault) → (result .reply ≡ Graph fault First) ↔ forGraph fault
   graph-exact fault = exact (Graph fault First) (λ g. ap (λ (x : Result). x .reply) (graph-result fault g))
 
-  -- "a type with bit 7 is 5": an accepted table has at most 64 types
+  -- "a type with bit 7 is 5", since an accepted table has at most 64 types.
   pub bit-seven : Opens → Formed nodes rows → (v : ℕ) → v < nodesIn nodes → 128 ≤ getD nodes (v * 3) 0 → result .reply ≡ Graph OutOfRange First
   bit-seven e f v h high = graph-exact OutOfRange .1 (e, f, (v, h, inr (inl (omega (arith, few-types n t (table.opened n t) refl e)))))
 
-  -- 14
+  -- 14 is given exactly where it is due.
   pub unknown-exact : (result .reply ≡ RowOutOfRange) ↔
       (Opens × Sized nodes (length rows) × ((r : lent.Row) × List·Memᴰ r rows × UnknownRow (nodesIn nodes) r))
   unknown-exact = exact RowOutOfRange (λ g. ap (λ (x : Result). x .reply) (unknown-result g))
 
-  -- 15
+  -- 15 is given exactly where it is due.
   pub row-twice-exact : (result .reply ≡ RowTwice) ↔
       (Opens × Sized nodes (length rows) × ((r : lent.Row) → List·Memᴰ r rows → KnownRow (nodesIn nodes) r) × Twice rows)
   row-twice-exact = exact RowTwice (λ g. ap (λ (x : Result). x .reply) (twice-result g))
 
-  -- 8
+  -- 8 is given exactly where it is due.
   pub room-exact : (result .reply ≡ NoRoom) ↔ (Opens × Importable n nodes rows × RecordLength (λ m. length out < m))
   room-exact = exact NoRoom (λ g. ap (λ (x : Result). x .reply) (room-result g))
 
-  -- a length
+  -- A length is given exactly where no refusal is due.
   pub length-exact : (l : ℕ) → (result .reply ≡ Length l) ↔ (Opens × Importable n nodes rows × RecordLength (λ m. (m ≡ l) × (m ≤ length out)))
   length-exact l =
       exact (Length l) (λ (e, ok, (form, q, (is, h))). ap (λ (x : Result). x .reply) (length-result e ok form q h) ∙ ap Length is)
 
-  -- 11 is no reply
+  -- 11 is no reply of import.
   pub never-large : result .reply ≡ TooLarge → ⊥
   never-large e = subst (Due grounds) e import-due
 
-  -- a refusal leaves the output as it was, or else the graph is written
+  -- Either import is refused and the output stays as it was, or the graph is written.
   pub refused-or-written : ((r : Reply) × (k : ℕ) × (refusal r ≡ some k) × (result ≡ refusing r out)) ⊎ (Opens × Importable n nodes rows)
   refused-or-written = go told
     where

@@ -1,4 +1,4 @@
--- What import does in each case: the counts, the tests of rows, and the graph of placed rows.
+-- What import does in each case: it tests the counts and the rows, and writes the graph of the placed rows.
 use mathlib.Core.Path.{_≡_, refl, sym, _∙_, ap, subst}
 use mathlib.Core.Bool.{Bool, true, false, cond, not}
 use mathlib.Core.List.{List, List·Memᴰ, Memᴰ·map}
@@ -65,7 +65,7 @@ module _ (n : ℕ) (nodes targets : List ℕ) where
   abbrev graph : List (Row Label)
   graph = placedRows nodes targets (nodesIn nodes)
 
-  -- 5 where a type has bit 7
+  -- 5 is given where a type has bit 7.
   pub unstated : n ≤ 64 → Labelled nodes false → (out : List ℕ) → resulting (Graph OutOfRange First) out ≡ rewritten (judged n (some graph)) out
   unstated types labelled out =
       let (v, h, high) = labelled .unknown refl in
@@ -91,7 +91,7 @@ module _ (n count : ℕ) (rows : List lent.Row) (nodes out : List ℕ) where
   abbrev known : Result
   known = cond (allKnown (nodesIn nodes) rows) once (refusing RowOutOfRange out)
 
-  -- 4
+  -- 4 is given where the counts are not those of a planning table.
   pub import-size : isSized nodes count ≡ false → resulting (Graph Malformed First) out ≡ imported n count rows nodes out
   unfolding imported
   import-size e = sym (ap (λ (b : Bool). cond b known (refusing (Graph Malformed First) out)) e)
@@ -101,7 +101,7 @@ module _ (n count : ℕ) (rows : List lent.Row) (nodes out : List ℕ) where
     unfolding imported
     import-known = ap (λ (b : Bool). cond b known (refusing (Graph Malformed First) out)) sized
 
-    -- 14
+    -- 14 is given where some row is out of range.
     pub import-unknown : allKnown (nodesIn nodes) rows ≡ false → resulting RowOutOfRange out ≡ imported n count rows nodes out
     import-unknown e = sym (import-known ∙ ap (λ (b : Bool). cond b once (refusing RowOutOfRange out)) e)
 
@@ -109,14 +109,14 @@ module _ (n count : ℕ) (rows : List lent.Row) (nodes out : List ℕ) where
       import-once : imported n count rows nodes out ≡ once
       import-once = import-known ∙ ap (λ (b : Bool). cond b once (refusing RowOutOfRange out)) inside
 
-      -- 15
+      -- 15 is given where two rows have one parent and feature.
       pub import-twice : hasTwice rows ≡ true → resulting RowTwice out ≡ imported n count rows nodes out
       import-twice e = sym (import-once ∙ ap (λ (b : Bool). cond b (refusing RowTwice out) written) e)
 
       pub import-written : hasTwice rows ≡ false → imported n count rows nodes out ≡ written
       import-written e = import-once ∙ ap (λ (b : Bool). cond b (refusing RowTwice out) written) e
 
--- rows that are placed
+-- Rows that are placed make a graph of 1 to 255 nodes and at most 2,048 links.
 pub placeable : (nodes targets : List ℕ) (all : List lent.Row) (count : ℕ) → isSized nodes count ≡ true → length all ≡ 2048 → Placed (take count all) targets →
     length targets ≡ 16320 → Placeable nodes targets
 placeable nodes targets all count sized long placed wide =
@@ -160,7 +160,7 @@ module _ (n : ℕ) (t : List ℕ) (count : ℕ) (rows : List lent.Row) (nodes ou
   unfolding importing
   importing-accepted e = sym (table-accepted (λ r. refusing r out) (imported n count rows nodes out) e)
 
--- Of more than 2,048 rows, which are not read, none matters.
+-- Rows past the first 2,048 do not matter, since import then refuses by their count.
 pub import-whole : (n : ℕ) (t : List ℕ) (rows : List lent.Row) (nodes out : List ℕ) →
     importingRows n t rows nodes out ≡ importing n t (length rows) rows nodes out
 unfolding importing

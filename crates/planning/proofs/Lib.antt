@@ -1,4 +1,4 @@
--- Laws of import and export.
+-- Laws and theorems of import and export.
 pub mod Imports
 pub mod Exports
 pub mod Theorems

@@ -1,5 +1,5 @@
--- What export fills; "Importing what was exported yields the written record"; and exporting what was imported gives the rows of its written form
--- (document 02, Paper 2).
+-- What export fills, and both ways round (document 02, Paper 2): "Importing what was exported yields the written record", and exporting what was
+-- imported gives the rows of its written form.
 use mathlib.Core.Path.{_≡_, refl, sym, _∙_, ap, ap₂, subst}
 use mathlib.Core.Bool.{Bool, true, false, cond}
 use mathlib.Core.List.{List, _++_, List·Memᴰ}
@@ -49,7 +49,7 @@ use Rattle.planning.proofs.TableGraph.{table-label, table-link, importa
 use Rattle.planning.proofs.ImportDue as import
 use Rattle.planning.proofs.ExportDue as export
 
--- rewriting an accepted record writes its graph
+-- Rewriting an accepted record writes its graph.
 rewriting-is : (n : ℕ) (t bytes : List ℕ) (graph : List (Row Label)) → table.opened n t ≡ opened.Accepted → reading n bytes ≡ accepted graph → (out : List ℕ) →
     rewriting n t bytes out ≡ rewrittenRows out graph
 unfolding rewriting
@@ -64,7 +64,7 @@ fitted-bytes bytes old l = go (leb (length bytes) (length old))
     go false e = let z : _≡_ {A = ℕ} 0 1 = cc in absurd (omega arith)
     go true e = let same : length bytes ≡ l = cc in take-at bytes (drop (length bytes) old) l same
 
--- The rows and node bytes of a written form, as a table that is lent.
+-- The rows and node bytes of a written form, as a planning table.
 module _ (n : ℕ) (t bytes : List ℕ) (form : List (Row Label)) (w : WrittenForm n bytes form) where
   again : (reading n (encoded form) ≡ accepted form) × (canonical eqb (graphOfRows form) ≡ written form) × SameMeaning (tableLabels n t) (graphOfRows (w .graph)) (graphOfRows form)
   again = written-accepted n t bytes (w .graph) (w .reads) form (w .is)
@@ -111,7 +111,7 @@ module _ (n : ℕ) (t bytes : List ℕ) (form : List (Row Label)) (w : WrittenFo
       ap (λ (r : Result). reading n (take l (r .output))) e
       ∙ ap (reading n) (fitted-bytes (encoded form) out l (sym (ap (λ (r : Result). r .reply) e) ∙ q)) ∙ again .0
 
-  -- and is exported as the record is
+  -- The record that rewriting writes is exported as the given record is.
   pub form-exported : table.opened n t ≡ opened.Accepted → (out : List ℕ) (l : ℕ) → rewriting n t bytes out .reply ≡ Length l →
       (rs : List lent.Row) (ns : List ℕ) → exporting n t (take l (rewriting n t bytes out .output)) rs ns ≡ exporting n t bytes rs ns
   unfolding exportedRows
@@ -129,7 +129,7 @@ full-exact l = (
   λ (a, b). true-both (eqb (l .lowest) 0) (eqb (l .highest) 255) (eq-eqb (l .lowest) 0 a) (eq-eqb (l .highest) 255 b),
 )
 
--- a record has one written form
+-- A record has one written form.
 same-form : (n : ℕ) (bytes : List ℕ) (form other : List (Row Label)) → WrittenForm n bytes form → WrittenForm n bytes other → form ≡ other
 same-form n bytes form other w v =
     let e : w .graph ≡ v .graph = accepted-injective (sym (w .reads) ∙ v .reads) in
@@ -174,7 +174,7 @@ module _ (n : ℕ) (t bytes : List ℕ) (rows : List lent.Row) (nodes : List ℕ
   pub filled-nodes : take (a * 3) (result .nodes) ≡ lentNodes form
   filled-nodes = ap (take (a * 3)) nodes-are ∙ take-at (lentNodes form) (drop (length (lentNodes form)) nodes) (a * 3) wide
 
-  -- and those past them
+  -- The rows and node bytes past those that are filled stay as they were.
   pub other-rows : drop b (result .rows) ≡ drop b rows
   other-rows =
       ap (drop b) rows-are ∙ drop-at (lentRows form) (drop (length (lentRows form)) rows) b long ∙ ap (λ (k : ℕ). drop k rows) long
@@ -234,7 +234,7 @@ module _ (n : ℕ) (t bytes : List ℕ) (rows : List lent.Row) (nodes : List ℕ
       subst (λ (g : List (Row Label)). SameMeaning (tableLabels n t) (graphOfRows (w .graph)) (graphOfRows g))
       (sym (ap₂ tableRows filled-nodes filled-rows ∙ states n t bytes form w)) (again n t bytes form w .2)
 
--- EXPORT, THEN IMPORT: where export answers counts, importing that many rows and nodes replies and writes as rewriting the record does.
+-- Export, then import: where export answers counts, importing that many rows and nodes gives the reply and output of rewriting the record.
 pub export-import : (n : ℕ) (t bytes : List ℕ) (rows : List lent.Row) (nodes : List ℕ) (a b : ℕ) → exporting n t bytes rows nodes .reply ≡ Counts a b → (out : List ℕ) →
     importingRows n t (take b (exporting n t bytes rows nodes .rows)) (take (a * 3) (exporting n t bytes rows nodes .nodes)) out ≡ rewriting n t bytes out
 export-import n t bytes rows nodes a b counts out =
@@ -243,12 +243,12 @@ export-import n t bytes rows nodes a b counts out =
     (filled-nodes n t bytes rows nodes a b counts form w)
     ∙ lent-imported n t bytes form w opens out
 
--- Import that answers a length.
+-- Facts on an import that answers a length.
 module _ (n : ℕ) (t : List ℕ) (rows : List lent.Row) (nodes out : List ℕ) (l : ℕ) (told : importingRows n t rows nodes out .reply ≡ Length l) where
   abbrev bytes : List ℕ
   bytes = take l (importingRows n t rows nodes out .output)
 
-  -- what is written is the written record of the table's graph
+  -- Import writes the written record of the planning table's graph.
   pub imported-bytes : (form : List (Row Label)) → canonical eqb (tableGraph nodes rows) ≡ written form → bytes ≡ encoded form
   imported-bytes form e =
       let (opens, ok, (other, q, (is, h))) = import.length-exact n t rows nodes out l .0 told in
@@ -262,7 +262,7 @@ module _ (n : ℕ) (t : List ℕ) (rows : List lent.Row) (nodes out : List ℕ) 
       let (reads, again, _) = written-accepted n t (encoded (tableRows nodes rows)) (tableRows nodes rows) (rules-read n (tableRows nodes rows) rules) form e in
       record { graph = form; reads = ap (reading n) (imported-bytes form e) ∙ reads; is = again }
 
-  -- IMPORT, THEN EXPORT: what import wrote is exported as the rows of the table's graph are, sorted, with the numbers of the written record.
+  -- Import, then export: what import wrote is exported as the rows of the planning table's graph, sorted, with the numbers of the written record.
   pub import-export : (rs : List lent.Row) (ns : List ℕ) → exporting n t bytes rs ns ≡ exportedRows (tableRows nodes rows) rs ns
   unfolding exportedRows
   import-export rs ns =

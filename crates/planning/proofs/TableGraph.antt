@@ -1,5 +1,5 @@
--- The graph of a lent table: its labels are what the node bytes say, its links what the rows say (document 02, Paper 2). A table of which none of 4,
--- 14, 15 and 5 to 7 applies keeps the rules of an accepted record.
+-- The graph of a planning table: the node bytes give its labels, and the rows its links (document 02, Paper 2). A planning table to which none of
+-- 4, 14, 15 and 5 to 7 applies keeps the rules of an accepted record.
 use mathlib.Core.Path.{_≡_, sym, _∙_, ap, subst}
 use mathlib.Core.List.{List, [], map, List·Memᴰ, Memᴰ·map, Memᴰ·of-map}
 use mathlib.Core.Logic.{_↔_}
@@ -32,7 +32,7 @@ getD-from g d zero k i h = absurd (omega arith)
 getD-from g d (suc n) k zero h = ap g (sym (add-zero k))
 getD-from g d (suc n) k (suc i) h = getD-from g d n (suc k) i (omega arith) ∙ ap g (suc-add k i ∙ sym (add-suc k i))
 
--- what the test of a record's labels asks
+-- A label inside the range passes the test of a record's labels.
 pub inside-range : (n : ℕ) (l : Label) → InsideLabel n l → LabelInRange n l
 inside-range n l (low, high, up, top) = (low, record { type = high; lowest = omega arith; highest = top }, up)
 
@@ -60,7 +60,7 @@ module _ (nodes : List ℕ) (rows : List lent.Row) where
       let (v, i, e) = Memᴰ·of-map (stated nodes rows) (from 0 (nodesIn nodes)) m in
       (v, omega (arith, from-range 0 (nodesIn nodes) v i .1), e)
 
-  -- each node's label is its three bytes
+  -- Each node's label is its three bytes.
   pub table-label : (v : ℕ) → v < nodesIn nodes → tableGraph nodes rows .label v ≡ labelIn nodes v
   table-label v h = ap (λ (r : Row Label). r .0) (table-at v h)
 
@@ -71,7 +71,7 @@ module _ (nodes : List ℕ) (rows : List lent.Row) where
       (linksOf-ascending (targetIn rows v) 0 64, λ l j. features-small (l .0) (linksOf-source (targetIn rows v) features l j .0))
 
   module _ (formed : Formed nodes rows) where
-    -- THE GRAPH OF ROWS: node v has a link by f to w exactly when some row says so.
+    -- The graph of rows: node v has a link by f to w exactly when some row says so.
     pub table-link : (v f w : ℕ) → (tableGraph nodes rows .link v f ≡ some w) ↔ List·Memᴰ (record { parent = v; feature = f; target = w }) rows
     unfolding target
     table-link v f w = go (decLt v (nodesIn nodes))
@@ -105,7 +105,7 @@ module _ (nodes : List ℕ) (rows : List lent.Row) where
               omega (arith, table-length, known .2);
         }
 
-  -- none of the refusals of a table applies
+  -- If no refusal applies to the planning table, its rows keep the rules of an accepted record.
   pub importable-rules : (n : ℕ) → n ≤ 64 → Importable n nodes rows → Rules n (tableRows nodes rows)
   importable-rules n types ok =
       record {
@@ -126,7 +126,7 @@ module _ (nodes : List ℕ) (rows : List lent.Row) where
         reached = λ v h. ok .reached v (omega (arith, table-length));
       }
 
-  -- and conversely
+  -- If its rows keep the rules of an accepted record, no refusal applies to the planning table.
   pub rules-importable : (n : ℕ) → Formed nodes rows → Rules n (tableRows nodes rows) → Importable n nodes rows
   rules-importable n formed rules =
       record {

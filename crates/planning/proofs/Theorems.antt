@@ -1,4 +1,4 @@
--- What import promises of rows in any order (document 02, Paper 2: "rows in any order and the root being node 0").
+-- What import promises for rows in any order (document 02, Paper 2: "rows in any order and the root being node 0").
 use mathlib.Core.Path.{_≡_, refl, sym, _∙_, ap, ap₂}
 use mathlib.Core.Bool.{Bool, true, false, cond}
 use mathlib.Core.List.{List}
@@ -24,7 +24,7 @@ use Rattle.calls.specs.Calls.{checked}
 use Rattle.planning.specs.Planning.{imported, importing, importingRows}
 use Rattle.planning.proofs.Imports.{import-whole}
 
--- one reply and one output, over an accepted table
+-- Over an accepted table, rows with the same members, and as many, give one reply and one output.
 imported-members : (n count : ℕ) (nodes out : List ℕ) {xs ys : List lent.Row} → SameMembers xs ys → length xs ≡ length ys →
     imported n count xs nodes out ≡ imported n count ys nodes out
 unfolding imported
@@ -47,7 +47,7 @@ imported-members n count nodes out {xs} {ys} members long =
         ap (λ (b : Bool). cond b (refusing RowTwice out) (writes (tableRows nodes xs))) e ∙ ap writes (members-table members e (sym same ∙ e) nodes)
         ∙ sym (ap (λ (b : Bool). cond b (refusing RowTwice out) (writes (tableRows nodes ys))) (sym same ∙ e))
 
--- ROWS WITH THE SAME MEMBERS: two tables that have the same rows, and as many, give one reply and one output;
+-- Rows with the same members: two planning tables that have the same rows, and as many, give one reply and one output.
 pub import-members : (n : ℕ) (t nodes out : List ℕ) {xs ys : List lent.Row} → SameMembers xs ys → length xs ≡ length ys →
     importingRows n t xs nodes out ≡ importingRows n t ys nodes out
 unfolding importing
@@ -57,12 +57,12 @@ import-members n t nodes out {xs} {ys} members long =
     (imported-members n (length xs) nodes out members long ∙ ap (λ (k : ℕ). imported n k ys nodes out) long)
     ∙ sym (import-whole n t ys nodes out)
 
--- so do two that have the same rows, where neither has two rows with one parent and feature;
+-- Two planning tables that have the same rows give one reply and one output, where neither has two rows with one parent and feature.
 pub import-members-once : (n : ℕ) (t nodes out : List ℕ) {xs ys : List lent.Row} → SameMembers xs ys → (Twice xs → ⊥) → (Twice ys → ⊥) →
     importingRows n t xs nodes out ≡ importingRows n t ys nodes out
 import-members-once n t nodes out {xs} {ys} members once once′ =
     import-members n t nodes out members (members-length members (once-exact xs .1 once) (once-exact ys .1 once′))
 
--- ROWS IN ANY ORDER: so do two whose rows are the same in another order.
+-- Rows in any order: two planning tables whose rows are the same in another order give one reply and one output.
 pub import-any : (n : ℕ) (t nodes out : List ℕ) {xs ys : List lent.Row} → Reordered xs ys → importingRows n t xs nodes out ≡ importingRows n t ys nodes out
 import-any n t nodes out r = import-members n t nodes out (members-any r) (length-any r)

@@ -8,7 +8,7 @@ use Rattle.graphs.specs.Number.{canonical, written}
 use Rattle.lattice.specs.Label.{Label}
 use Rattle.record.specs.Read.{reading, accepted, graphOfRows}
 
--- the record is accepted, and its written record has these rows
+-- The record is accepted, and its written form has these rows.
 pub record WrittenForm (n : ℕ) (bytes : List ℕ) (form : List (Row Label)) : Type 0 where
   pub graph : List (Row Label)
   pub reads : reading n bytes ≡ accepted graph

@@ -1,4 +1,4 @@
--- What import and export reply and leave in their outputs.
+-- What import and export reply and leave in their outputs, and when their refusals apply.
 pub mod Planning
 pub mod Importable
 pub mod Exportable

@@ -1,4 +1,4 @@
--- Import and export of a graph as rows and three bytes for each node (document 02, Papers 2 and 7): what each call replies, and leaves in its
+-- Import and export of a graph as rows and three bytes for each node (document 02, Papers 2 and 7): what each call replies and leaves in its
 -- outputs.
 use mathlib.Core.Path.{_≡_}
 use mathlib.Core.Bool.{Bool, true, cond, _&&_}
@@ -24,9 +24,9 @@ use Rattle.replies.specs.Reply.{Result, refusing}
 use Rattle.engine.specs.Rewriting.{rewritten}
 use Rattle.calls.specs.Calls.{checked}
 
--- IMPORT over an accepted table with n types, of `count` rows, which are given where there are at most 2,048: 4 by the counts; "afterwards a
--- row with a feature above 63 or a node number outside the count is 14, two rows with one parent and feature are 15, and then 5 for types and
--- 6, 7 and 8 as for records"
+-- Import over an accepted table with n types. `count` is the number of lent rows; `rows` are these rows where there are at most 2,048. 4 comes
+-- from the counts; "afterwards a row with a feature above 63 or a node number outside the count is 14, two rows with one parent and feature are
+-- 15, and then 5 for types and 6, 7 and 8 as for records".
 unfoldable pub imported : ℕ → ℕ → List lent.Row → List ℕ → List ℕ → Result
 imported n count rows nodes out =
     cond (isSized nodes count)
@@ -35,29 +35,30 @@ imported n count rows nodes out =
     (refusing RowOutOfRange out))
     (refusing (Graph Malformed First) out)
 
--- the table's 1 to 3 before that
+-- Import with the table's 1 to 3 before the rest.
 unfoldable pub importing : ℕ → List ℕ → ℕ → List lent.Row → List ℕ → List ℕ → Result
 importing n t count rows nodes out = checked (λ r. refusing r out) (table.opened n t) (imported n count rows nodes out)
 
--- import of lent rows: more than 2,048 are not read
+-- Import of lent rows. Past the first 2,048 no row is read.
 abbrev pub importingRows : ℕ → List ℕ → List lent.Row → List ℕ → List ℕ → Result
 importingRows n t rows nodes out = importing n t (length rows) (take 2048 rows) nodes out
 
--- a reply, and what the lent rows and node bytes hold beside it
+-- The reply of export, and what the lent rows and node bytes hold beside it.
 pub record Exported : Type 0 where
   pub reply : Reply
   pub rows : List lent.Row
   pub nodes : List ℕ
 
+-- This reply with these rows and node bytes.
 abbrev pub exportedAs : Reply → List lent.Row → List ℕ → Exported
 exportedAs reply rows nodes = record { reply = reply; rows = rows; nodes = nodes }
 
--- whether the rows and node bytes of a graph have room in those lent
+-- The rows and node bytes of a graph have room in those lent.
 unfoldable pub fits : List (Row Label) → List lent.Row → List ℕ → Bool
 fits form rows nodes = leb (length (lentRows form)) (length rows) && leb (length (lentNodes form)) (length nodes)
 
--- EXPORT of a written form: "fills such rows sorted by parent and then feature and returns the counts of nodes and rows .. and does not touch
--- rows and types past those it fills"; "Too few rows or types lent to export is 8, both unchanged"
+-- Export of a written form: it "fills such rows sorted by parent and then feature and returns the counts of nodes and rows .. and does not touch
+-- rows and types past those it fills"; "Too few rows or types lent to export is 8, both unchanged".
 abbrev pub exportedForm : Canonical Label → List lent.Row → List ℕ → Exported
 exportedForm manyNodes rows nodes = exportedAs TooLarge rows nodes
 exportedForm manyLinks rows nodes = exportedAs TooLarge rows nodes
@@ -70,23 +71,23 @@ exportedForm (written form) rows nodes =
 unfoldable pub exportedRows : List (Row Label) → List lent.Row → List ℕ → Exported
 exportedRows graph rows nodes = exportedForm (canonical eqb (graphOfRows graph)) rows nodes
 
--- the record's 4 to 7, then 8
+-- Export of a record that was read: its 4 to 7 come before 8.
 abbrev pub exported : Reading → List lent.Row → List ℕ → Exported
 exported (refused fault) rows nodes = exportedAs (Graph fault First) rows nodes
 exported (accepted graph) rows nodes = exportedRows graph rows nodes
 
--- the table's 1 to 3 before that
+-- Export with the table's 1 to 3 before the rest.
 unfoldable pub exporting : ℕ → List ℕ → List ℕ → List lent.Row → List ℕ → Exported
 exporting n t bytes rows nodes = checked (λ r. exportedAs r rows nodes) (table.opened n t) (exported (reading n bytes) rows nodes)
 
--- What export makes before rows are stored: whichever rows are lent, `room` of them, storing the first `count` of `at` there is the export.
--- `export` is what it is to be, of the lent rows.
+-- What export makes before rows are stored. `export` gives the result that is due for lent rows: whichever `room` rows are lent, storing the
+-- first `count` rows of `at` there gives that result.
 pub record Makes (export : List lent.Row → Exported) (room : ℕ) (answer : Reply) (count : ℕ) (at : List lent.Row) (nodes : List ℕ) : Type 0 where
   pub inside : count ≤ room
   pub few : count ≤ 2048
   pub stored : (rows : List lent.Row) → length rows ≡ room → exportedAs answer (take count at ++ drop count rows) nodes ≡ export rows
 
--- What import asks of the placed rows: 1 to 255 nodes and at most 2,048 links.
+-- What import asks of the placed rows: there are 1 to 255 nodes and at most 2,048 links.
 pub record Placeable (nodes targets : List ℕ) : Type 0 where
   pub some-nodes : 1 ≤ nodesIn nodes
   pub small : nodesIn nodes ≤ 255

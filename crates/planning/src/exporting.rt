@@ -1,4 +1,4 @@
-// Export: the rows and node bytes of a record's graph, numbered as the written record.
+// Export: makes the rows and node bytes of a record's graph, numbered as in the written record.
 
 use lattice::Opened;
 use record::reading::Verdict;
@@ -12,7 +12,7 @@ ghost use Rattle.layout.specs.Layout.{Sound, longest, rowsOf};
 ghost use Rattle.record.specs.Read.{reading};
 ghost use Rattle.planning.specs.Planning.{Makes, exportedAs, exportedRows, exported, exporting};
 
-// What export makes: the answer, how many rows are to be stored, and these. On a refusal there are none.
+// What export makes: the answer, how many rows are to be stored, and these rows. A refusal has none.
 pub struct Made {
     pub answer: Reply,
     pub count: usize,
@@ -35,7 +35,7 @@ fn refuse(answer: Reply) -> Made
     }
 }
 
-// Export of a graph in words: its nodes get the numbers of the written record; then refusal 8.
+// Export of a graph in words: the nodes get the numbers of the written record, and then 8 is checked.
 fn export_graph(graph: &[u16], room: usize, nodes: &mut [u8]) -> Made
     requires { ⌜ Sound (now graph) × (length (now graph) ≤ longest) ⌝ }
     ensures { λ r. ⌜ Makes (λ rows. exportedRows (rowsOf (now (graph .entry))) rows (now (nodes .entry))) room (r .answer) (r .count) (r .at) (now (nodes .exit)) ⌝ }
@@ -60,7 +60,7 @@ fn export_graph(graph: &[u16], room: usize, nodes: &mut [u8]) -> Made
     }
 }
 
-// Export over an accepted table with n types: refusals 4 to 7 before that.
+// Export over an accepted table with n types: refusals 4 to 7, then the export of the graph.
 fn export_accepted(n: usize, bytes: &[u8], room: usize, nodes: &mut [u8]) -> Made
     ensures { λ r. ⌜ Makes (λ rows. exported (reading n (now (bytes .entry))) rows (now (nodes .entry))) room (r .answer) (r .count) (r .at) (now (nodes .exit)) ⌝ }
 {
@@ -72,7 +72,7 @@ fn export_accepted(n: usize, bytes: &[u8], room: usize, nodes: &mut [u8]) -> Mad
     }
 }
 
-// Export, of which the rows are still to be stored in the `room` lent ones.
+// Export up to storing the rows, which has to be done in the `room` lent rows.
 pub fn export_made(n: usize, table: &[u8], bytes: &[u8], room: usize, nodes: &mut [u8]) -> Made
     ensures { λ r. ⌜ Makes (λ rows. exporting n (now (table .entry)) (now (bytes .entry)) rows (now (nodes .entry))) room (r .answer) (r .count) (r .at) (now (nodes .exit)) ⌝ }
 {

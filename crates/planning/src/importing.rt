@@ -1,4 +1,4 @@
-// Import: the record of the graph that rows state.
+// Import: writes the record of the graph that rows and node bytes state.
 
 use lattice::Opened;
 use record::GraphFault;
@@ -18,7 +18,7 @@ ghost use Rattle.replies.specs.Reply.{resulting};
 ghost use Rattle.engine.specs.Rewriting.{rewritten};
 ghost use Rattle.planning.specs.Planning.{imported, importing, Placeable};
 
-// Whether the counts of node bytes and rows are those of a table; refusal 4 otherwise.
+// Whether the counts of node bytes and rows are those of a planning table; else 4 is due.
 fn is_sized(nodes: &[u8], count: usize) -> bool
     ensures { λ r. ⌜ r ≡ isSized (now (nodes .entry)) count ⌝ }
 {

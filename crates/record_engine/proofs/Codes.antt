@@ -1,4 +1,4 @@
--- From what a call results in to what the exported function of it yields.
+-- What an exported function yields, by the result of its call.
 use mathlib.Core.Path.{_≡_, _∙_, ap}
 use mathlib.Core.List.{List, _++_}
 use Prim.Native.Nat.{ℕ, _≤_}
@@ -13,16 +13,16 @@ use Rattle.record_engine.specs.Code.{codeOf}
 use Rattle.record_engine.specs.Coded.{coded, codedBoth, yieldingBoth}
 use Rattle.record_engine.specs.CodedRows.{Stores, codedRows, yieldingRows}
 
--- the code of a call's reply, beside the output that the call leaves
+-- The code of a call's reply, beside the output that the call leaves.
 pub codes : {result : Result} {r : Reply} {k : ℕ} {out : List ℕ} → k ≡ codeOf r → resulting r out ≡ result → yielding k out ≡ coded result
 codes {out = out} code results = ap (λ (k : ℕ). yielding k out) code ∙ ap coded results
 
--- and beside two outputs
+-- The code of a call's reply, beside two outputs.
 pub codes-both : {result : Explained} {r : Reply} {k : ℕ} {out reasons : List ℕ} → k ≡ codeOf r → explainedResult r out reasons ≡ result →
     yieldingBoth k out reasons ≡ codedBoth result
 codes-both {out = out} {reasons = reasons} code results = ap (λ (k : ℕ). yieldingBoth k out reasons) code ∙ ap codedBoth results
 
--- and beside rows that are made
+-- The code of export's reply, beside the rows that are made.
 pub codes-rows : {export : List Row → Exported} {room : ℕ} {answer : Reply} {count k : ℕ} {at : List Row} {nodes : List ℕ} → k ≡ codeOf answer →
     Makes export room answer count at nodes → ((count ≤ room) × (count ≤ 2048)) × Stores export room k count at nodes
 codes-rows {count = count} {at = at} {nodes = nodes} code makes = (

@@ -13,7 +13,8 @@ use Rattle.replies.specs.Reply.{answerOf, Bounded, Counted}
 use Rattle.replies.proofs.Numbers.{numberIn, number-small, answer-injective, answer-bounded, answer-counted}
 use Rattle.record_engine.specs.Code.{codeFor, codeOf, countsCode}
 
--- What a code tells: from the counts on, from the order's answers and the end on, from the side 2 on, from 1 on, from 0 on, and whatever it is.
+-- What a code tells, by its range: counts; the order's answers and the end; a refusal of the second graph, of the first, of no graph; else a
+-- length.
 
 abbrev fromCounts : ℕ → Answer
 fromCounts c = Counts ((c - 17179869184) / 65536) ((c - 17179869184) % 65536)
@@ -91,7 +92,7 @@ code-told (RefusedGraph number First) short few small =
 code-told (RefusedGraph number Second) short few small =
     second-told (codeFor (RefusedGraph number Second)) (omega arith) (omega arith) ∙ ap (λ (m : ℕ). RefusedGraph m Second) (omega arith)
 
--- two replies with one code are one reply, if their lengths are at most those of the longest record and the largest store and their counts those of the largest
+-- Two replies with one code are one reply, if their lengths are at most 16,384 and their counts at most 255 nodes and 2,048 rows.
 pub codes-differ : (r q : Reply) → Bounded r 16384 → Bounded q 16384 → Counted r 255 2048 → Counted q 255 2048 → codeOf r ≡ codeOf q → r ≡ q
 codes-differ r q short brief few scarce e =
     answer-injective r q

@@ -1,3 +1,3 @@
--- Laws of the codes.
+-- Laws of the codes: what an exported function yields, and that different replies have different codes.
 pub mod Codes
 pub mod Distinct

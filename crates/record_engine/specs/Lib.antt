@@ -1,4 +1,4 @@
--- What the exported functions answer.
+-- What the exported functions answer, as codes.
 pub mod Code
 pub mod Coded
 pub mod CodedRows

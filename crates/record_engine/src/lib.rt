@@ -1,7 +1,7 @@
-// The engine's calls for programs in other languages: a static library whose functions take a number of types, a table, one or two records
-// and an output or two, each slice as a pointer and a length, and answer one number. One function goes through all small graphs, four are on
-// the bytes of a gathering, two take rows as a slice of structs, and one gives the table of the house types. It knows the calls, the
-// listing, the gathering and the planning tables, and gives each reply its code.
+// The engine's calls for programs in other languages: a static library. Each function takes its slices as a pointer and a length, and answers one
+// number, the code of the reply. Most functions take a number of types, a table, one or two records, and an output or two. One goes through all
+// small graphs, four are on the bytes of a gathering, three on the bytes of a store, two take rows as a slice of structs, one checks a table, and
+// one gives the table of the house types. This crate knows the calls, the listing, the gathering, the store and the planning tables.
 
 use replies::Reply;
 use replies::Side;
@@ -23,7 +23,7 @@ ghost use Rattle.record_engine.specs.Coded.{coded, codedBoth, yieldingBo
 ghost use Rattle.record_engine.specs.CodedRows.{Stores, codedRows, yieldingRows};
 ghost use Rattle.record_engine.specs.House.{tabling};
 
-// A record in written form: the code of the reply, and the output that the engine leaves.
+// Writes a record in written form. Answers the code of the reply.
 #[no_mangle]
 pub extern "C" fn record_rewrite(n: usize, table: &[u8], bytes: &[u8], out: &mut [u8]) -> u64
     ensures { λ r. ⌜ yielding r (now (out .exit)) ≡ coded (rewriting n (now (table .entry)) (now (bytes .entry)) (now (out .entry))) ⌝ }
@@ -31,7 +31,7 @@ pub extern "C" fn record_rewrite(n: usize, table: &[u8], bytes: &[u8], out: &mut
     code(calls::rewriting::rewrite(n, table, bytes, out))
 }
 
-// The same beside a list that gives for each feature the broadest type that may have it.
+// Writes a record in written form, beside a list that gives for each feature the broadest type that may have it. Answers the code of the reply.
 #[no_mangle]
 pub extern "C" fn record_rewrite_appropriate(
     n: usize,
@@ -45,7 +45,7 @@ pub extern "C" fn record_rewrite_appropriate(
     code(calls::rewriting::rewrite_appropriate(n, table, list, bytes, out))
 }
 
-// The order, is the first below the second: the code of the reply.
+// Answers the code of the order of two records, seen from the first.
 #[no_mangle]
 pub extern "C" fn record_order(n: usize, table: &[u8], first: &[u8], second: &[u8]) -> u64
     ensures { λ r. ⌜ r ≡ codeOf (ordering n (now (table .entry)) (now (first .entry)) (now (second .entry))) ⌝ }
@@ -53,7 +53,7 @@ pub extern "C" fn record_order(n: usize, table: &[u8], first: &[u8], second: &[u
     code(calls::ordering::order(n, table, first, second))
 }
 
-// The common part in written form: the code of the reply, and the output that the engine leaves.
+// Writes the common part of two records. Answers the code of the reply.
 #[no_mangle]
 pub extern "C" fn record_generalize(
     n: usize,
@@ -67,7 +67,8 @@ pub extern "C" fn record_generalize(
     code(calls::generalizing::generalize(n, table, first, second, out))
 }
 
-// The same beside a list that gives for each feature the broadest type that may have it.
+// Writes the common part of two records, beside a list that gives for each feature the broadest type that may have it. Answers the code of the
+// reply.
 #[no_mangle]
 pub extern "C" fn record_generalize_appropriate(
     n: usize,
@@ -82,7 +83,7 @@ pub extern "C" fn record_generalize_appropriate(
     code(calls::generalizing::generalize_appropriate(n, table, list, first, second, out))
 }
 
-// The combination in written form: the code of the reply, and the output that the engine leaves.
+// Writes the combination of two records. Answers the code of the reply.
 #[no_mangle]
 pub extern "C" fn record_unify(
     n: usize,
@@ -96,7 +97,8 @@ pub extern "C" fn record_unify(
     code(calls::unifying::unify(n, table, first, second, out))
 }
 
-// The same beside a list that gives for each feature the broadest type that may have it.
+// Writes the combination of two records, beside a list that gives for each feature the broadest type that may have it. Answers the code of the
+// reply.
 #[no_mangle]
 pub extern "C" fn record_unify_appropriate(
     n: usize,
@@ -111,7 +113,7 @@ pub extern "C" fn record_unify_appropriate(
     code(calls::unifying::unify_appropriate(n, table, list, first, second, out))
 }
 
-// The difference of the first graph, g, and the second, s, in written form: the code of the reply, and the output that the engine leaves.
+// Writes the difference of the first graph, g, and the second, s. Answers the code of the reply.
 #[no_mangle]
 pub extern "C" fn record_difference(
     n: usize,
@@ -125,7 +127,7 @@ pub extern "C" fn record_difference(
     code(calls::differing::difference(n, table, first, second, out))
 }
 
-// The same with links ordered by the features of a list, which has all 64, each once.
+// Writes the difference, with links ordered by a list that has all 64 features, each once. Answers the code of the reply.
 #[no_mangle]
 pub extern "C" fn record_difference_by(
     n: usize,
@@ -140,8 +142,7 @@ pub extern "C" fn record_difference_by(
     code(calls::differing::difference_by(n, table, list, first, second, out))
 }
 
-// The difference, and in a second output the reason for each link of its record: the code of the reply, and the outputs that the engine
-// leaves.
+// Writes the difference, and into a second output the reason for each link of its record. Answers the code of the reply.
 #[no_mangle]
 pub extern "C" fn record_difference_explained(
     n: usize,
@@ -157,7 +158,7 @@ pub extern "C" fn record_difference_explained(
     code(calls::differing::difference_explained(n, table, first, second, out, reasons))
 }
 
-// The same with links ordered by the features of a list.
+// Writes the difference and the reasons, with links ordered by a list that has all 64 features, each once. Answers the code of the reply.
 #[no_mangle]
 pub extern "C" fn record_difference_explained_by(
     n: usize,
@@ -174,8 +175,8 @@ pub extern "C" fn record_difference_explained_by(
     code(calls::differing::difference_explained_by(n, table, list, first, second, out, reasons))
 }
 
-// The record after the given one in the list of all small graphs over a number of features, the first where no bytes are given: the code of
-// the reply, and the output that the engine leaves.
+// Writes the record after the given one in the list of all small graphs over a number of features; for no bytes, the first. Answers the code of
+// the reply.
 #[no_mangle]
 pub extern "C" fn record_next(
     n: usize,
@@ -189,7 +190,7 @@ pub extern "C" fn record_next(
     code(listing::next(n, table, features, bytes, out))
 }
 
-// Begins a gathering over a table in lent bytes: the code of the reply, and the bytes that the engine leaves.
+// Begins a gathering over a table in lent bytes. Answers the code of the reply.
 #[no_mangle]
 pub extern "C" fn record_gathering_begin(n: usize, table: &[u8], state: &mut [u8]) -> u64
     ensures { λ r. ⌜ yielding r (now (state .exit)) ≡ coded (begun n (now (table .entry)) (now (state .entry))) ⌝ }
@@ -197,7 +198,7 @@ pub extern "C" fn record_gathering_begin(n: usize, table: &[u8], state: &mut [u8
     code(gathering::begin(n, table, state))
 }
 
-// Adds a record to a gathering: the code of the reply, and the bytes that the engine leaves.
+// Adds a record to a gathering. Answers the code of the reply.
 #[no_mangle]
 pub extern "C" fn record_gathering_add(state: &mut [u8], bytes: &[u8]) -> u64
     ensures { λ r. ⌜ yielding r (now (state .exit)) ≡ coded (adding (now (state .entry)) (now (bytes .entry))) ⌝ }
@@ -205,7 +206,7 @@ pub extern "C" fn record_gathering_add(state: &mut [u8], bytes: &[u8]) -> u64
     code(gathering::add(state, bytes))
 }
 
-// The order of a record to what is gathered: the code of the reply.
+// Answers the code of the order of a record to what is gathered.
 #[no_mangle]
 pub extern "C" fn record_gathering_order(state: &[u8], bytes: &[u8]) -> u64
     ensures { λ r. ⌜ r ≡ codeOf (comparing (now (state .entry)) (now (bytes .entry))) ⌝ }
@@ -213,7 +214,7 @@ pub extern "C" fn record_gathering_order(state: &[u8], bytes: &[u8]) -> u64
     code(gathering::order(state, bytes))
 }
 
-// What is gathered in written form: the code of the reply, and the output that the engine leaves.
+// Writes what is gathered. Answers the code of the reply.
 #[no_mangle]
 pub extern "C" fn record_gathering_finish(state: &[u8], out: &mut [u8]) -> u64
     ensures { λ r. ⌜ yielding r (now (out .exit)) ≡ coded (finishing (now (state .entry)) (now (out .entry))) ⌝ }
@@ -221,7 +222,7 @@ pub extern "C" fn record_gathering_finish(state: &[u8], out: &mut [u8]) -> u64
     code(gathering::finish(state, out))
 }
 
-// Puts a program into a store as a version that is absent: the code of the reply, and the store that the engine leaves.
+// Puts a program into a store under a version number that is absent. Answers the code of the reply.
 #[no_mangle]
 pub extern "C" fn record_store_put(
     n: usize,
@@ -235,7 +236,7 @@ pub extern "C" fn record_store_put(
     code(store::put(n, table, buffer, version, bytes))
 }
 
-// The record of a version of a store: the code of the reply, and the output that the engine leaves.
+// Writes the record of a version of a store. Answers the code of the reply.
 #[no_mangle]
 pub extern "C" fn record_store_read(
     n: usize,
@@ -249,7 +250,7 @@ pub extern "C" fn record_store_read(
     code(store::read(n, table, buffer, version, out))
 }
 
-// Drops a version of a store: the code of the reply, and the store that the engine leaves.
+// Drops a version of a store. Answers the code of the reply.
 #[no_mangle]
 pub extern "C" fn record_store_drop(
     n: usize,
@@ -262,7 +263,7 @@ pub extern "C" fn record_store_drop(
     code(store::drop(n, table, buffer, version))
 }
 
-// Import: the record of the graph that lent rows and node bytes state; the code of the reply, and the output that the engine leaves.
+// Imports: writes the record of the graph that lent rows and node bytes state. Answers the code of the reply.
 #[no_mangle]
 pub extern "C" fn record_import(
     n: usize,
@@ -278,7 +279,7 @@ pub extern "C" fn record_import(
     import_coded(n, table, all, count, nodes, out)
 }
 
-// Export: the rows and node bytes of a record's graph; the code of the reply, and the rows and bytes that the engine leaves.
+// Exports: fills lent rows and node bytes with those of a record's graph. Answers the code of the reply.
 #[no_mangle]
 pub extern "C" fn record_export(
     n: usize,
@@ -295,7 +296,7 @@ pub extern "C" fn record_export(
     made.answer
 }
 
-// Import of rows that are loaded: `all` holds the first 2,048 of `count`.
+// Imports rows that are loaded: `all` has the first 2,048 of `count` rows.
 fn import_coded(
     n: usize,
     table: &[u8],
@@ -309,14 +310,14 @@ fn import_coded(
     code(planning::importing::import_loaded(n, table, all, count, nodes, out))
 }
 
-// What export makes: the code of its answer, how many rows are to be stored, and these.
+// What export makes: the code of its answer, how many rows are to be stored, and these rows.
 pub struct Made {
     pub answer: u64,
     pub count: usize,
     pub at: [Row; 2048],
 }
 
-// Export, of which the rows are still to be stored in the `room` lent ones.
+// Export up to storing the rows, which has to be done in the `room` lent rows.
 fn export_coded(n: usize, table: &[u8], bytes: &[u8], room: usize, nodes: &mut [u8]) -> Made
     ensures { λ r. ⌜ ((r .count ≤ room) × (r .count ≤ 2048)) ×
         Stores (λ rows. exporting n (now (table .entry)) (now (bytes .entry)) rows (now (nodes .entry))) room (r .answer) (r .count) (r .at) (now (nodes .exit)) ⌝ }
@@ -329,7 +330,7 @@ fn export_coded(n: usize, table: &[u8], bytes: &[u8], room: usize, nodes: &mut [
     Made { answer, count, at }
 }
 
-// Whether a table is accepted: the code of the reply, 0 where it is.
+// Answers 0 where the table is accepted, else the code of its refusal.
 #[no_mangle]
 pub extern "C" fn record_check_table(n: usize, table: &[u8]) -> u64
     ensures { λ r. ⌜ r ≡ codeOf (checking n (now (table .entry))) ⌝ }
@@ -337,7 +338,7 @@ pub extern "C" fn record_check_table(n: usize, table: &[u8]) -> u64
     code(calls::checking::check(n, table))
 }
 
-// The type table of the house types, for n = 64: the code of the reply, and the output that the engine leaves.
+// Writes the type table of the house types, for n = 64. Answers the code of the reply.
 #[no_mangle]
 pub extern "C" fn record_house_table(out: &mut [u8]) -> u64
     ensures { λ r. ⌜ yielding r (now (out .exit)) ≡ coded (tabling (now (out .entry))) ⌝ }
@@ -349,7 +350,7 @@ pub extern "C" fn record_house_table(out: &mut [u8]) -> u64
     }
 }
 
-// The number that stands for a reply.
+// The code of a reply.
 fn code(reply: Reply) -> u64
     ensures { λ r. ⌜ r ≡ codeOf reply ⌝ }
 {
@@ -367,14 +368,14 @@ fn code(reply: Reply) -> u64
     }
 }
 
-// The code of counts, of each the lowest 16 bits.
+// The code of counts, each by its lowest 16 bits.
 fn counts(nodes: u64, rows: u64) -> u64
     ensures { λ r. ⌜ r ≡ countsCode nodes rows ⌝ }
 {
     17179869184 + 65536 * (nodes % 65536) + rows % 65536
 }
 
-// The code of a refusal: its number in document 01, and which graph it tells of.
+// The code of a refusal: its number in documents 01 and 02, and the side of the graph that it tells, 0 for none.
 fn refusal(number: u64, side: u64) -> u64
     requires { ⌜ number < 256 ⌝ }
     requires { ⌜ side < 256 ⌝ }
@@ -383,6 +384,7 @@ fn refusal(number: u64, side: u64) -> u64
     4294967296 + 256 * side + number
 }
 
+// The number of a side: 1 for the first graph, 2 for the second.
 fn side_number(side: Side) -> u64
     ensures is { λ r. ⌜ r ≡ sideNumber side ⌝ }
     ensures small { λ r. ⌜ r < 256 ⌝ }

@@ -1,2 +1,2 @@
--- Laws of replies.
+-- Laws of replies, which other crates use.
 pub mod Numbers

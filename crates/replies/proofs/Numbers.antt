@@ -1,4 +1,4 @@
--- What a reply tells tells which reply it is, and the number of a refusal is small.
+-- No two replies tell the same, so what a reply tells determines the reply; and the number of a refusal is small.
 use mathlib.Core.Path.{_≡_, refl, sym, _∙_, ap, subst}
 use mathlib.Core.Bool.{true, cond}
 use mathlib.Core.List.{List, [], _∷_}
@@ -15,21 +15,21 @@ use Rattle.replies.specs.declared.Reply.{Reply}
 use Rattle.replies.specs.declared.Reply.the-variants.{Length, Same, Under, Above, Neither, Counts, End, Table, Graph, NoRoom, Cycle, Clash, TooLarge, NotBelow, NoWantedType, RowOutOfRange, RowTwice, NothingGathered, TypeList, ReadingOrder, WrongVersion, NoStoreRoom, NoReasonRoom, FeatureCount, NotListed}
 use Rattle.replies.specs.Reply.{answerOf, Bounded, Counted}
 
--- refusals by their numbers, of which 0, 4 to 7 and 18 are not among these
+-- The refusals by their numbers. 0, 4 to 7 and 18 are not among them.
 refusals : List Reply
 refusals =
     Neither ∷ Table Size ∷ Table Order ∷ Table Bounds ∷ Neither ∷ Neither ∷ Neither ∷ Neither ∷ NoRoom ∷ Cycle ∷ Clash ∷ TooLarge ∷ NotBelow ∷ NoWantedType ∷
     RowOutOfRange ∷ RowTwice ∷ NothingGathered ∷ TypeList ∷ Neither ∷ ReadingOrder ∷ WrongVersion ∷ NoStoreRoom ∷ NoReasonRoom ∷ FeatureCount ∷ NotListed ∷ []
 
--- 4 to 7
+-- The faults of a graph with the numbers 4 to 7.
 faults : List GraphFault
 faults = Malformed ∷ OutOfRange ∷ Cyclic ∷ Unreached ∷ []
 
--- and 18
+-- The fault of a graph with a number from 4 to 7, or 18.
 faultIn : ℕ → GraphFault
 faultIn number = cond (eqb number 18) Inappropriate (getD faults (number - 4) Malformed)
 
--- the reply that tells this
+-- The reply that tells the answer.
 replyIn : Answer → Reply
 replyIn (answer.Length l) = Length l
 replyIn answer.Same = Same
@@ -87,18 +87,18 @@ tells NoReasonRoom = (refl, refl)
 tells FeatureCount = (refl, refl)
 tells NotListed = (refl, refl)
 
--- different replies tell different things
+-- Different replies tell different answers.
 pub answer-injective : (r q : Reply) → answerOf r ≡ answerOf q → r ≡ q
 answer-injective r q e = sym (tells r .0) ∙ ap replyIn e ∙ tells q .0
 
 pub number-small : (r : Reply) {k : Answer} → answerOf r ≡ k → numberIn k < 256
 number-small r e = subst (λ (k : Answer). numberIn k < 256) e (ltb-true (numberIn (answerOf r)) 256 (tells r .1))
 
--- the length that a reply tells
+-- A length that a reply tells is within the bound of the reply.
 pub answer-bounded : (r : Reply) {most : ℕ} → Bounded r most → (l : ℕ) → answerOf r ≡ answer.Length l → l ≤ most
 answer-bounded r bounded l e = bounded l (answer-injective r (Length l) e)
 
--- the counts that a reply tells
+-- Counts that a reply tells are within the bounds of the reply.
 pub answer-counted : (r : Reply) {most many : ℕ} → Counted r most many → (nodes rows : ℕ) → answerOf r ≡ answer.Counts nodes rows →
     (nodes ≤ most) × (rows ≤ many)
 answer-counted r counted nodes rows e = counted nodes rows (answer-injective r (Counts nodes rows) e)

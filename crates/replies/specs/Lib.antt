@@ -1,2 +1,2 @@
--- What a call answers, and the output beside it.
+-- The replies of all calls, and the output beside a reply.
 pub mod Reply

@@ -1,4 +1,4 @@
--- Replies: the number that documents 01 ("Returned by a call") and 02 give to each, and a reply beside the output.
+-- Replies: the number that documents 01 ("Returned by a call") and 02 give to each refusal, and a reply with the output beside it.
 use mathlib.Core.Path.{_≡_}
 use mathlib.Core.List.{List}
 use mathlib.Core.Option.{Option, none, some}
@@ -13,7 +13,7 @@ use Rattle.replies.specs.declared.answers.Answer.the-variants as answer
 use Rattle.replies.specs.declared.Reply.{Reply}
 use Rattle.replies.specs.declared.Reply.the-variants.{Length, Same, Under, Above, Neither, Counts, End, Table, Graph, NoRoom, Cycle, Clash, TooLarge, NotBelow, NoWantedType, RowOutOfRange, RowTwice, NothingGathered, TypeList, ReadingOrder, WrongVersion, NoStoreRoom, NoReasonRoom, FeatureCount, NotListed}
 
--- what a reply tells: a refusal has a number, and one of a graph tells which of the two it is
+-- What a reply tells. A refusal has a number, and a refusal of a graph also tells which of the two graphs it is.
 abbrev pub answerOf : Reply → Answer
 answerOf (Length l) = answer.Length l
 answerOf Same = answer.Same
@@ -41,6 +41,7 @@ answerOf NoReasonRoom = answer.Refused 22
 answerOf FeatureCount = answer.Refused 23
 answerOf NotListed = answer.Refused 24
 
+-- The number in an answer that is a refusal.
 abbrev pub refusalIn : Answer → Option ℕ
 refusalIn (answer.Length l) = none
 refusalIn answer.Same = none
@@ -56,6 +57,7 @@ refusalIn (answer.RefusedGraph number side) = some number
 abbrev pub refusal : Reply → Option ℕ
 refusal reply = refusalIn (answerOf reply)
 
+-- The length in an answer that has one.
 abbrev pub lengthIn : Answer → Option ℕ
 lengthIn (answer.Length l) = some l
 lengthIn answer.Same = none
@@ -67,15 +69,15 @@ lengthIn answer.End = none
 lengthIn (answer.Refused number) = none
 lengthIn (answer.RefusedGraph number side) = none
 
--- the record's length, where a reply tells of one
+-- The record's length, where a reply tells one.
 abbrev pub lengthOf : Reply → Option ℕ
 lengthOf reply = lengthIn (answerOf reply)
 
--- a record that a reply tells of has at most so many bytes
+-- A length that the reply tells is at most `most`.
 abbrev pub Bounded : Reply → ℕ → Type 0
 Bounded reply most = (l : ℕ) → reply ≡ Length l → l ≤ most
 
--- counts that a reply tells are at most so many nodes and so many rows
+-- Counts that the reply tells are at most `most` nodes and `many` rows.
 abbrev pub Counted : Reply → ℕ → ℕ → Type 0
 Counted reply most many = (nodes rows : ℕ) → reply ≡ Counts nodes rows → (nodes ≤ most) × (rows ≤ many)
 
@@ -84,15 +86,17 @@ pub record Result : Type 0 where
   pub reply : Reply
   pub output : List ℕ
 
+-- This reply and this output, as a result.
 abbrev pub resulting : Reply → List ℕ → Result
 resulting r out = record { reply = r; output = out }
 
+-- The reply that tells the answer of writing.
 abbrev pub replyOf : Written → Reply
 replyOf (written.Length l) = Length l
 replyOf written.TooLarge = TooLarge
 replyOf written.NoRoom = NoRoom
 
--- what writing a result answers
+-- The result of a call that ends in writing.
 abbrev pub resultOf : Outcome → Result
 resultOf o = resulting (replyOf (o .answer)) (o .output)
 

@@ -1,4 +1,4 @@
-// Replies by what they tell, with the numbers that documents 01 ("Returned by a call") and 02 give to refusals.
+// What each reply tells, with the numbers that documents 01 ("Returned by a call") and 02 give to refusals.
 
 use crate::Reply;
 use crate::Side;
@@ -9,7 +9,7 @@ ghost use Rattle.lattice.specs.Reply.{tableNumber};
 ghost use Rattle.record.specs.Read.{graphNumber};
 ghost use Rattle.replies.specs.Reply.{answerOf};
 
-// What a reply tells: a refusal has a number, and one of a graph tells which of the two it is.
+// What a reply tells. A refusal has a number, and a refusal of a graph also tells which of the two graphs it is.
 pub enum Answer {
     Length(usize),
     Same,
@@ -55,6 +55,7 @@ pub fn answer_of(reply: Reply) -> Answer
     }
 }
 
+// The number of a table's refusal.
 fn table_number(fault: TableFault) -> usize
     ensures { λ r. ⌜ r ≡ tableNumber fault ⌝ }
 {
@@ -65,6 +66,7 @@ fn table_number(fault: TableFault) -> usize
     }
 }
 
+// The number of a graph's refusal.
 fn graph_number(fault: GraphFault) -> usize
     ensures { λ r. ⌜ r ≡ graphNumber fault ⌝ }
 {

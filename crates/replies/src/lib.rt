@@ -1,4 +1,5 @@
-// The answers of all calls of documents 01 and 02, and the number of each refusal. It knows the faults of tables and graphs, and no call.
+// The replies of all calls of documents 01 and 02, with the number of each refusal, for every crate that makes a call. This crate knows the
+// faults of tables and graphs, and no call.
 
 use encode::Written;
 use lattice::TableFault;
@@ -8,14 +9,14 @@ ghost use Rattle.replies.specs.Reply.{replyOf};
 
 pub mod answers;
 
-// Which of two graphs is refused; a lone graph counts as the first.
+// Which of two graphs is refused. A lone graph counts as the first.
 pub enum Side {
     First,
     Second,
 }
 
-// What a call answers: the record's length, one of the order's four answers, seen from the first graph, the counts of nodes and rows, the
-// end of a listing, or a refusal.
+// What a call answers: the record's length; one of the order's four answers, seen from the first graph; the counts of nodes and rows; the end of
+// a listing; or a refusal.
 pub enum Reply {
     Length(usize),
     Same,
@@ -44,7 +45,7 @@ pub enum Reply {
     NotListed,
 }
 
-// What writing a result answers, as a reply.
+// The reply that tells the answer of writing.
 pub fn reply_of(written: Written) -> Reply
     ensures { λ r. ⌜ r ≡ replyOf written ⌝ }
 {

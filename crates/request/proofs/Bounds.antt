@@ -1,4 +1,4 @@
--- A record that a reply tells of fits in the output, so every line is short.
+-- A record whose length a reply tells fits in the output, so every line is short.
 use mathlib.Core.Path.{_≡_, refl, sym, _∙_, ap}
 use mathlib.Core.Bool.{Bool, true, false, cond}
 use mathlib.Core.List.{List, _++_}
@@ -49,11 +49,11 @@ use Rattle.text.proofs.Texts.{decimal-short, length-hexadecimal}
 
 -- A reply's length fits in the output.
 
--- a refusal tells of no record
+-- A refusal tells no length.
 refused-bounded : (r : Reply) (number : ℕ) → refusal r ≡ some number → (most : ℕ) → Bounded r most
 refused-bounded r number q most l e = absurd (none-some (sym (ap refusal e) ∙ q))
 
--- what holds of every refusal, and of what a call does over accepted graphs, holds of the call
+-- A property holds for a call if it holds for every refusal and for what the call does over accepted graphs.
 module _ {X : Type 0} (refuse : Reply → X) (good : X → Type 0) (refused-good : (r : Reply) → ((most : ℕ) → Bounded r most) → good (refuse r))
   where
     checked-good : (o : Opened) (next : X) → good next → good (checked refuse o next)
@@ -105,7 +105,7 @@ compared-bounded most false true l e = let z : _≡_ {A = ℕ} 0 1 = cc in absur
 compared-bounded most false false l e = let z : _≡_ {A = ℕ} 0 1 = cc in absurd (omega arith)
 
 module _ (n : ℕ) (t a b : List ℕ) where
-  -- a call that writes a record
+  -- The bound for a call that writes a record.
   writing-bounded : (out : List ℕ) (next : List (Row Label) → List (Row Label) → Result) →
       ((g h : List (Row Label)) → Bounded (next g h .reply) (length out)) →
       Bounded (checked (λ r. refusing r out) (table.opened n t) (readBoth (λ r. refusing r out) (graph.reading n a) (graph.reading n b) next) .reply) (length out)

@@ -32,7 +32,7 @@ unfolding takeBytes
 bytes-there k bytes h =
     ap (λ b. cond b (some (take k bytes, drop k bytes)) none) (le-leb k (length bytes) h)
 
--- from a place to another
+-- The bytes from one place to another.
 part-there : (input : List ℕ) (start k : ℕ) → start + k ≤ length input →
     takeBytes k (drop start input) ≡ some (between input (record { start = start; end = start + k }), drop (start + k) input)
 part-there input start k h =
@@ -184,7 +184,7 @@ module _ (operation : Operation) (input : List ℕ) (some-bytes : 2 ≤ length i
 
 -- The operation byte.
 
--- nothing comes of a value that may be missing where nothing comes of any value
+-- If every value gives nothing, a value that may be missing gives nothing.
 pub bind-none : {X Y : Type 0} (o : Option X) (next : X → Option Y) → ((x : X) → o ≡ some x → next x ≡ none) → bind o next ≡ none
 unfolding bind
 bind-none none next h = refl
@@ -211,7 +211,7 @@ module _ (input : List ℕ) (some-bytes : 2 ≤ length input) where
   unfolding bind
   parses-other e = parses-none (requested-is none e)
 
--- the four operations, and no other
+-- The byte of each of the four operations.
 abbrev byteOf : Operation → ℕ
 byteOf Generalize = 1
 byteOf Unify = 2

@@ -1,4 +1,4 @@
--- From what the parts of a line are to what is put: equal replies, calls and requests have equal words.
+-- From the parts of a line to what is put: equal replies, calls and requests have equal words.
 use mathlib.Core.Path.{_≡_, refl, sym, _∙_, ap, ap₂, subst}
 use mathlib.Core.List.{List, [], _∷_, _++_}
 use mathlib.Core.Option.{Option, none, some}

@@ -1,4 +1,4 @@
--- What reading no more than 18,431 bytes rests on: a longer input is bad, and so is its start.
+-- Why 18,431 bytes of the input are enough to read: a longer input is bad, and so are its first 18,431 bytes.
 use mathlib.Core.Path.{_≡_, refl, sym, _∙_, ap, subst}
 use mathlib.Core.Bool.{Bool, true, false, cond}
 use mathlib.Core.List.{List, [], _∷_}
@@ -15,7 +15,7 @@ use Rattle.request.specs.Request.{operationOf, takeBytes, takeRecord, as
 use Rattle.request.specs.Line.{lineFor, lineOf}
 use Rattle.request.proofs.Parsing.{bind-none, end-left}
 
--- what is taken of the bytes, and what is left
+-- The bytes that are taken, and those that are left.
 
 bytes-count : (k : ℕ) (bytes : List ℕ) (p : List ℕ × List ℕ) → takeBytes k bytes ≡ some p → length bytes ≡ k + length (p .1)
 unfolding takeBytes
@@ -38,7 +38,7 @@ record-count (low ∷ high ∷ rest) p e = go (leb (low + 256 * high) 8192) refl
     go true h q = omega (arith, leb-true (low + 256 * high) 8192 h, bytes-count (low + 256 * high) rest p q)
     go false h q = absurd (none-some q)
 
--- more than 18,430 bytes are bad, of which the second is n
+-- An input of more than 18,430 bytes is bad, where its second byte, n, is below 256.
 long-bad : (input : List ℕ) → getD input 1 0 < 256 → 18430 < length input → requested input ≡ none
 unfolding requested askedOf
 long-bad [] small long = refl
@@ -56,7 +56,7 @@ long-bad (o ∷ n ∷ rest) small long =
       record-count (first .1) second s,
     )
 
--- "or has bytes left": an input of bytes has the line of its first 18,431
+-- "or has bytes left": an input has the line of its first 18,431 bytes.
 pub line-of-start : (input : List ℕ) → getD input 1 0 < 256 → lineOf (take 18431 input) ≡ lineOf input
 unfolding lineOf
 line-of-start input small = go (decLt (length input) 18431)

@@ -1,4 +1,4 @@
--- What the input asks for, and the line that answers it.
+-- What the input of `mapcalc` asks for, and the line that answers it.
 pub mod Request
 pub mod Parse
 pub mod Line

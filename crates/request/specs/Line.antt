@@ -24,7 +24,7 @@ badInput = 98 ∷ 97 ∷ 100 ∷ 32 ∷ 105 ∷ 110 ∷ 112 ∷ 117 ∷ 116 ∷ 
 abbrev pub okText : ℕ → List ℕ → List ℕ
 okText l bytes = (111 ∷ 107 ∷ 32 ∷ []) ++ decimal l ++ (32 ∷ []) ++ hexadecimal bytes
 
--- `counts`, the nodes and the rows, of each count the last four digits: there are at most 255 and 2,048
+-- `counts`, the nodes and the rows. Each count shows its last four digits; there are at most 255 nodes and 2,048 rows.
 abbrev pub countsText : ℕ → ℕ → List ℕ
 countsText nodes rows = (99 ∷ 111 ∷ 117 ∷ 110 ∷ 116 ∷ 115 ∷ 32 ∷ []) ++ decimal (nodes % 10000) ++ (32 ∷ []) ++ decimal (rows % 10000)
 
@@ -37,7 +37,7 @@ abbrev pub sideText : Side → List ℕ
 sideText First = 32 ∷ 102 ∷ 105 ∷ 114 ∷ 115 ∷ 116 ∷ []
 sideText Second = 32 ∷ 115 ∷ 101 ∷ 99 ∷ 111 ∷ 110 ∷ 100 ∷ []
 
--- the words of what a reply tells: the record is the output's first bytes, and a refused graph is named, "for 4 to 7 `first` or `second`"
+-- The words of what a reply tells. The record is the first bytes of the output, and a refused graph is named: "for 4 to 7 `first` or `second`".
 abbrev pub answerText : Answer → List ℕ → List ℕ
 answerText (Length l) out = okText l (take l out)
 answerText Same out = 115 ∷ 97 ∷ 109 ∷ 101 ∷ []
@@ -61,7 +61,7 @@ ended words = words ++ (10 ∷ [])
 unfoldable pub textOf : Result → List ℕ
 textOf result = ended (replyText (result .reply) (result .output))
 
--- what the call that is asked for answers, and leaves in the output
+-- What the call that is asked for answers and leaves in the output.
 abbrev pub answering : Operation → ℕ → List ℕ → List ℕ → List ℕ → List ℕ → Result
 answering Generalize n table first second out = generalizing n table first second out
 answering Unify n table first second out = unifying n table first second out
@@ -77,10 +77,10 @@ abbrev pub lineFor : Option Request → List ℕ
 lineFor none = ended badInput
 lineFor (some request) = textOf (answered request)
 
--- a text as it is printed: its bytes first, zeros behind them, and how many they are
+-- A text as it is printed: its bytes, zeros behind them, and the number of its bytes.
 abbrev pub printed : List ℕ → Printed
 printed text = record { bytes = text ++ drop (length text) (replicate 9717 0); count = length text }
 
--- the line that an input is answered by
+-- The line that answers an input.
 unfoldable pub lineOf : List ℕ → List ℕ
 lineOf input = lineFor (requested input)

@@ -1,4 +1,4 @@
--- What parsing promises: what is to be read of the input stands at the places that it answers.
+-- What parsing promises: the parts that are read of the input stand at the places that parsing answers.
 use mathlib.Core.Path.{_≡_}
 use mathlib.Core.List.{List}
 use mathlib.Core.Option.{Option, none, some}
@@ -17,7 +17,7 @@ use Rattle.request.specs.Request.{Request}
 abbrev pub between : List ℕ → Part → List ℕ
 between input part = take (part .end - part .start) (drop (part .start) input)
 
--- a part stands in the input
+-- The part stands in the input.
 pub record Inside (input : List ℕ) (part : Part) : Type 0 where
   pub rising : part .start ≤ part .end
   pub inside : part .end ≤ length input
@@ -27,6 +27,7 @@ abbrev pub recordAt : List ℕ → Located → Option (List ℕ × List ℕ)
 recordAt input located.Bad = none
 recordAt input (located.At part) = some (between input part, drop (part .end) input)
 
+-- The answer of parsing one record: the record that was read stands in the input at the place answered.
 pub record Takes (read : Option (List ℕ × List ℕ)) (input : List ℕ) (answer : Located) : Type 0 where
   pub read-is : read ≡ recordAt input answer
   pub inside : (part : Part) → answer ≡ located.At part → Inside input part
@@ -41,16 +42,18 @@ requestAt input operation parts = record {
   second = between input (parts .second);
 }
 
+-- The request that parsing answers; none where the input is bad.
 abbrev pub requestIn : List ℕ → Parsed → Option Request
 requestIn input Bad = none
 requestIn input (Asked operation parts) = some (requestAt input operation parts)
 
--- every part stands in the input
+-- Every part stands in the input.
 pub record AllInside (input : List ℕ) (parts : Parts) : Type 0 where
   pub table : Inside input (parts .table)
   pub first : Inside input (parts .first)
   pub second : Inside input (parts .second)
 
+-- The answer of parsing the input: it is the request that the input is, with all its parts inside.
 pub record Parses (read : Option Request) (input : List ℕ) (answer : Parsed) : Type 0 where
   pub read-is : read ≡ requestIn input answer
   pub inside : (operation : Operation) (parts : Parts) → answer ≡ Asked operation parts → AllInside input parts

@@ -1,4 +1,4 @@
-// The line that `mapcalc` prints, made from the bytes of its input. It knows the calls and their replies, and reads and writes no file.
+// Makes the line that `mapcalc` prints from the bytes of its input. This crate knows the calls and their replies, and reads and writes no file.
 
 pub mod parse;
 pub mod reply;
@@ -18,13 +18,13 @@ ghost use Rattle.text.specs.Text.{Puts};
 ghost use Rattle.request.specs.Line.{answering, lineOf, printed};
 ghost use Rattle.request.specs.Words.{wordsFor};
 
-// What is to be printed: the first `count` of the bytes. The longest line has 9,717.
+// What is printed: the first `count` of the bytes. The longest line has 9,717.
 pub struct Printed {
     pub bytes: [u8; 9717],
     pub count: usize,
 }
 
-// What the call that is asked for answers, and leaves in the output.
+// What the call that is asked for answers and leaves in the output.
 fn answer(
     operation: Operation,
     n: usize,
@@ -43,7 +43,7 @@ fn answer(
     }
 }
 
-// The words that answer a request, whose parts stand in the input.
+// Puts the words that answer a request. The parts of the request stand in the input.
 fn put_answer(operation: Operation, parts: Parts, input: &[u8], out: &mut [u8]) -> usize
     requires { ⌜ AllInside (now input) parts ⌝ }
     requires { ⌜ 9716 ≤ length (now out) ⌝ }
@@ -58,7 +58,7 @@ fn put_answer(operation: Operation, parts: Parts, input: &[u8], out: &mut [u8]) 
     reply::put_reply(reply, &output, out)
 }
 
-// The line without its end.
+// Puts the line without its line end.
 fn put_words(input: &[u8], out: &mut [u8]) -> usize
     requires { ⌜ 9716 ≤ length (now out) ⌝ }
     ensures { λ r. ⌜ Puts (wordsFor (requested (now (input .entry)))) 0 (now (out .entry)) r (now (out .exit)) ⌝ }

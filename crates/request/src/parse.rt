@@ -1,4 +1,4 @@
-// Parsing: where the parts of the input stand, or bad input.
+// Parses the input of `mapcalc`: finds where its parts stand, or answers that it is bad.
 
 ghost use mathlib.Core.Path.{_≡_};
 ghost use Prim.Native.Nat.{_≤_};
@@ -6,7 +6,7 @@ ghost use lib.ListN.{length, drop};
 ghost use Rattle.request.specs.Request.{askedOf, requested, takeRecord};
 ghost use Rattle.request.specs.Parse.{Inside, Parses, Takes, between};
 
-// What is asked for: the common part, the combination, the difference, the order.
+// What is asked for: the common part, the combination, the difference or the order.
 pub enum Operation {
     Generalize,
     Unify,
@@ -34,7 +34,7 @@ pub enum Parsed {
     Asked(Operation, Parts),
 }
 
-// A record of the input.
+// Where a record of the input stands, or that the input is bad.
 pub enum Located {
     Bad,
     At(Part),
@@ -62,7 +62,7 @@ fn record_at(input: &[u8], at: usize) -> Located
     Located::At(Part { start, end })
 }
 
-// What follows the operation byte.
+// Parses what follows the operation byte.
 fn parse_after(operation: Operation, input: &[u8]) -> Parsed
     requires { ⌜ 2 ≤ length (now input) ⌝ }
     ensures { λ r. ⌜ Parses (askedOf operation (drop 1 (now (input .entry)))) (now (input .entry)) r ⌝ }
@@ -97,7 +97,7 @@ fn parse_after(operation: Operation, input: &[u8]) -> Parsed
     )
 }
 
-// The parts of the input.
+// Parses the whole input.
 pub fn parse(input: &[u8]) -> Parsed
     ensures { λ r. ⌜ Parses (requested (now (input .entry))) (now (input .entry)) r ⌝ }
 {

@@ -1,4 +1,4 @@
-// A reply as the words of a line.
+// Puts a reply as the words of a line. Each function answers the place behind its words.
 
 use replies::Reply;
 use replies::Side;
@@ -15,7 +15,7 @@ ghost use Rattle.replies.specs.Reply.{Bounded};
 ghost use Rattle.text.specs.Text.{Puts};
 ghost use Rattle.request.specs.Line.{countsText, okText, refusedText, replyText, sideText};
 
-// A record and its length.
+// Puts a record with its length.
 fn put_record(count: usize, bytes: &[u8], out: &mut [u8]) -> usize
     requires { ⌜ count ≤ 4854 ⌝ }
     requires { ⌜ length (now bytes) ≤ 4854 ⌝ }
@@ -28,7 +28,7 @@ fn put_record(count: usize, bytes: &[u8], out: &mut [u8]) -> usize
     put_hexadecimal(bytes, space, out)
 }
 
-// The counts of nodes and rows, of each the last four digits.
+// Puts the counts of nodes and rows, each by its last four digits.
 fn put_counts(nodes: usize, rows: usize, out: &mut [u8]) -> usize
     requires { ⌜ 9716 ≤ length (now out) ⌝ }
     ensures { λ r. ⌜ Puts (countsText nodes rows) 0 (now (out .entry)) r (now (out .exit)) ⌝ }
@@ -39,7 +39,7 @@ fn put_counts(nodes: usize, rows: usize, out: &mut [u8]) -> usize
     put_decimal(rows % 10000, space, out)
 }
 
-// A refusal's number.
+// Puts the number of a refusal.
 fn put_refused(number: usize, out: &mut [u8]) -> usize
     requires { ⌜ number < 256 ⌝ }
     requires { ⌜ 9716 ≤ length (now out) ⌝ }
@@ -49,7 +49,7 @@ fn put_refused(number: usize, out: &mut [u8]) -> usize
     put_decimal(number, refused, out)
 }
 
-// Which graph is refused.
+// Puts which graph is refused.
 fn put_side(side: Side, at: usize, out: &mut [u8]) -> usize
     requires { ⌜ at + 7 ≤ length (now out) ⌝ }
     ensures { λ r. ⌜ Puts (sideText side) at (now (out .entry)) r (now (out .exit)) ⌝ }
@@ -60,7 +60,7 @@ fn put_side(side: Side, at: usize, out: &mut [u8]) -> usize
     }
 }
 
-// A refusal of a graph.
+// Puts a refusal of a graph.
 fn put_refused_graph(number: usize, side: Side, out: &mut [u8]) -> usize
     requires { ⌜ number < 256 ⌝ }
     requires { ⌜ 9716 ≤ length (now out) ⌝ }
@@ -70,7 +70,7 @@ fn put_refused_graph(number: usize, side: Side, out: &mut [u8]) -> usize
     put_side(side, refused, out)
 }
 
-// The words of a reply, with the output beside it.
+// Puts the words of a reply. `output` is what the call left beside the reply.
 pub fn put_reply(reply: Reply, output: &[u8], out: &mut [u8]) -> usize
     requires { ⌜ Bounded reply (length (now output)) ⌝ }
     requires { ⌜ length (now output) ≤ 4854 ⌝ }

@@ -1,2 +1,2 @@
--- Proofs about the small set.
+-- The proofs on the small set.
 pub mod SmallSet

@@ -1,5 +1,5 @@
--- Document 01's small set, computed: "The small set is one table proved by one result about the definitions." Every definition that
--- a case runs through is named where it unfolds.
+-- Document 01's small set, computed: "The small set is one table proved by one result about the definitions." Each result names the definitions
+-- that its cases unfold.
 use mathlib.Core.Path.{_≡_, refl, ap, _∙_}
 use mathlib.Core.Bool.{Bool, true, false, not, _&&_, _||_}
 use mathlib.Core.List.{List, flatMap}
@@ -140,7 +140,7 @@ three-middles-opened : opened (threeMiddles .count) (threeMiddles .table) ≡ Ac
 unfolding opened sized ordered confined reflexive antisymmetric transitive least greatest bounded meet isMeet join isJoin every last below
 three-middles-opened = refl
 
--- every two types below one another have a wanted type, but for type 0, which no node has
+-- For every two types, the first below the second, there is a wanted type. Type 0 is left out, for no node has it.
 three-middles-wanted : every 5 (λ p. every 5 λ q. implies (not (eqb p 0) && below (threeMiddles .table) p q)
     (found (wanted (threeMiddles .count) (threeMiddles .table) p q))) ≡ true
 unfolding wanted isWanted restores meet isMeet every last below
@@ -150,7 +150,7 @@ or-first : (b c : Bool) → b || c ≡ false → b ≡ false
 or-first true c e = e
 or-first false c e = refl
 
--- 13 for no two accepted graphs, where the table is accepted and has such types
+-- Over an accepted table whose types are so, 13 is given for no two accepted graphs.
 no-unwanted : (n : ℕ) (t first second out : List ℕ) (g s : List (Row Label)) → opened n t ≡ Accepted →
     every n (λ p. every n λ q. implies (not (eqb p 0) && below t p q) (found (wanted n t p q))) ≡ true →
     reading n first ≡ accepted g → reading n second ≡ accepted s → differing n t first second out .reply ≡ NoWantedType → ⊥

@@ -1,5 +1,5 @@
--- Document 01's small set ("Fittings to check", cases 1 to 12): one table of calls on bytes, each with what it replies and leaves in the
--- output.
+-- Document 01's small set ("Fittings to check", cases 1 to 12): one table of calls on bytes, each with what it replies and leaves in the output.
+-- Cases of document 02 stand beside it.
 use mathlib.Core.Path.{_≡_}
 use mathlib.Core.Bool.{Bool, true, false}
 use mathlib.Core.List.{List, [], _∷_, _++_, map}
@@ -51,11 +51,11 @@ top = 3
 abbrev pub threeMiddles : Types
 threeMiddles = record { count = 5; table = rows (0x01 ∷ 0x03 ∷ 0x05 ∷ 0x09 ∷ 0x1F ∷ []) }
 
--- of Paper 6: "six types, 0 below 1, 1 below 2, 3 and 4, which are mutually unordered, and 5 top"
+-- Paper 6: "six types, 0 below 1, 1 below 2, 3 and 4, which are mutually unordered, and 5 top".
 abbrev pub threeOverOne : Types
 threeOverOne = record { count = 6; table = rows (0x01 ∷ 0x03 ∷ 0x07 ∷ 0x0B ∷ 0x13 ∷ 0x3F ∷ []) }
 
--- of case 13, which is not in the small set: "Types 1, 2 both under 3 and 4, which are unordered, and 5 top"
+-- Case 13, which is not in the small set: "Types 1, 2 both under 3 and 4, which are unordered, and 5 top".
 abbrev pub twoOverTwo : Types
 twoOverTwo = record { count = 6; table = rows (0x01 ∷ 0x03 ∷ 0x05 ∷ 0x0F ∷ 0x17 ∷ 0x3F ∷ []) }
 
@@ -91,18 +91,18 @@ R = 2 ∷ node top 0x03 (1 ∷ 1 ∷ []) ++ leaf a
 abbrev pub Call : Type 0
 Call = ℕ → List ℕ → List ℕ → List ℕ → List ℕ → Result
 
--- rewriting the first record; the second is not looked at
+-- Rewriting the first record. The second record is not looked at.
 abbrev pub rewritingFirst : Call
 rewritingFirst n t first second out = rewriting n t first out
 
--- the same, and the common part, beside a list that gives for each feature the broadest type that may have it
+-- Rewriting and the common part, beside a list that gives for each feature the broadest type that may have it.
 abbrev pub rewritingBeside : List ℕ → Call
 rewritingBeside list n t first second out = rewritingAppropriate n t list first out
 
 abbrev pub generalizingBeside : List ℕ → Call
 generalizingBeside list n t first second out = generalizingAppropriate n t list first second out
 
--- of Paper 9: feature 0 belongs to a, the others to every type
+-- Paper 9: feature 0 belongs to a, the others to every type.
 abbrev pub zeroOfA : List ℕ
 zeroOfA = a ∷ replicate 63 top
 
@@ -116,7 +116,7 @@ abbrev pub Answers : List ℕ → Answer → Result → Type 0
 Answers out (gives bytes) r = r ≡ record { reply = Length (length bytes); output = bytes ++ drop (length bytes) out }
 Answers out (refuses number) r = _≡_ {A = Option ℕ × List ℕ} (refusal (r .reply), r .output) (some number, out)
 
--- a call, what is handed to it, and what it gives
+-- A case: a call, what is handed to it, and what it gives.
 pub record Case : Type 0 where
   pub call : Call
   pub types : Types
@@ -128,16 +128,17 @@ pub record Case : Type 0 where
 abbrev pub lent : List ℕ
 lent = replicate 40 0xEE
 
+-- The call of the case gives the answer of the case, in the lent output.
 abbrev pub Holds : Case → Type 0
 Holds c = Answers lent (c .answer) (c .call (c .types .count) (c .types .table) (c .first) (c .second) lent)
 
--- each case of a list holds
+-- Each case of a list holds.
 infixr 1 _and_
 pub data AllHold : List Case → Type 0 where
   none-left : AllHold []
   _and_ : {c : Case} {cs : List Case} → Holds c → AllHold cs → AllHold (c ∷ cs)
 
--- a case over the diamond; "the difference takes g first, s second"
+-- A case over the diamond. "The difference takes g first, s second."
 abbrev pub overDiamond : Call → List ℕ → List ℕ → Answer → Case
 overDiamond call first second answer =
     record { call = call; types = diamond; first = first; second = second; answer = answer }
@@ -147,7 +148,7 @@ abbrev pub overThreeMiddles : Call → List ℕ → List ℕ → Answer → Case
 overThreeMiddles call first second answer =
     record { call = call; types = threeMiddles; first = first; second = second; answer = answer }
 
--- "Cases 1 to 12 are the small set.", with case 12 and a new case as Paper 6 has them, and cases of Papers 7 and 9
+-- "Cases 1 to 12 are the small set." Case 12 and a new case are as Paper 6 has them; cases of Papers 7 and 9 follow.
 abbrev pub cases : List Case
 cases =
     -- 1. Common part of a[0: b] and b: a lone top, 01 03 and eight 00.
@@ -199,8 +200,8 @@ cases =
     ∷ overDiamond rewritingFirst (1 ∷ ranged a 0 255) [] (gives (lone a))
     -- A lowest level above the highest: 5.
     ∷ overDiamond rewritingFirst (1 ∷ ranged a 20 10) [] (refuses 5)
-    -- Paper 9, with feature 0 of a: "A difference need not obey it". Difference of g = a, s = a[0: b]: top[0: b], which is 18, though s
-    -- obeys the list; combined with g through the plain call it gives s.
+    -- Paper 9, with a list by which feature 0 belongs to a: "A difference need not obey it". The difference of g = a, s = a[0: b] is top[0: b],
+    -- which the list refuses by 18, though s obeys the list. The plain call combines it with g to s.
     ∷ overDiamond (rewritingBeside zeroOfA) (2 ∷ node a 0x01 (1 ∷ []) ++ leaf b) [] (gives (2 ∷ node a 0x01 (1 ∷ []) ++ leaf b))
     ∷ overDiamond differing (lone a) (2 ∷ node a 0x01 (1 ∷ []) ++ leaf b) (gives (2 ∷ node top 0x01 (1 ∷ []) ++ leaf b))
     ∷ overDiamond (rewritingBeside zeroOfA) (2 ∷ node top 0x01 (1 ∷ []) ++ leaf b) [] (refuses 18)
@@ -208,12 +209,12 @@ cases =
     -- The second graph's 18 comes after the first's 4 to 7.
     ∷ overDiamond (generalizingBeside zeroOfA) (lone a) (2 ∷ node top 0x01 (1 ∷ []) ++ leaf b) (refuses 18)
     ∷ overDiamond (generalizingBeside zeroOfA) (lone 0) (2 ∷ node top 0x01 (1 ∷ []) ++ leaf b) (refuses 5)
-    -- A list of 63 bytes, and one with an entry of n: 17.
+    -- A list of 63 bytes is 17, and so is a list with an entry of n.
     ∷ overDiamond (rewritingBeside (replicate 63 top)) (lone a) [] (refuses 17)
     ∷ overDiamond (rewritingBeside (4 ∷ replicate 63 top)) (lone a) [] (refuses 17)
     ∷ []
 
--- no difference of two graphs accepted over a table gives 13, whatever output is lent
+-- No difference of two graphs accepted over a table gives 13, whatever output is lent.
 abbrev pub NeverUnwanted : Types → Type 0
 NeverUnwanted types =
     (first second out : List ℕ) (g s : List (Row Label)) →
@@ -221,15 +222,16 @@ NeverUnwanted types =
     reading (types .count) second ≡ accepted s →
     differing (types .count) (types .table) first second out .reply ≡ NoWantedType → ⊥
 
--- "a graph's difference from itself is a lone top", of every graph accepted over a table: its record where it fits, else 8
+-- "a graph's difference from itself is a lone top", for every graph accepted over a table: the call writes its record, or gives 8 where the
+-- output is shorter.
 abbrev pub ItselfTop : Types → Type 0
 ItselfTop types =
     (bytes out : List ℕ) (s : List (Row Label)) →
     reading (types .count) bytes ≡ accepted s →
     differing (types .count) (types .table) bytes bytes out ≡ resultOf (fitted (loneTop (types .count)) out)
 
--- The small set: every case of the table holds, and of case 12 for all graphs that no difference gives 13 and that a graph's difference
--- from itself is a lone top.
+-- The small set: every case of the table holds. For case 12, over all graphs, no difference gives 13, and a graph's difference from itself is a
+-- lone top.
 pub record SmallSet : Type 0 where
   pub all-hold : AllHold cases
   pub never-unwanted : NeverUnwanted threeMiddles
@@ -252,7 +254,7 @@ pub record FourAnswers : Type 0 where
 abbrev pub lentBeside : List ℕ
 lentBeside = replicate 4 0xDD
 
--- the difference over the diamond gives a record and the reasons for its links
+-- The difference over the diamond gives this record and these reasons for its links.
 abbrev pub Explains : List ℕ → List ℕ → List ℕ → List ℕ → Type 0
 Explains general specific bytes reasons =
     explaining (diamond .count) (diamond .table) general specific lent lentBeside ≡
@@ -260,9 +262,9 @@ Explains general specific bytes reasons =
 
 -- Paper 13: cases 7, 8 and 11 with their reasons, a link that nothing of the general graph lies over, and too few bytes for the reasons.
 pub record Reasons : Type 0 where
-  -- the shared node is kept for its type, by one link
+  -- One link keeps the shared node, for its type.
   pub wanted : Explains P R (2 ∷ node top 0x01 (1 ∷ []) ++ leaf a) (3 ∷ [])
-  -- in R over Q the shared node has two groups
+  -- In R over Q the shared node has two groups.
   pub shared : Explains Q R R (2 ∷ 2 ∷ [])
   pub rejoined : Explains (3 ∷ node top 0x07 (1 ∷ 1 ∷ 2 ∷ []) ++ leaf top ++ leaf top) (2 ∷ node top 0x07 (1 ∷ 1 ∷ 1 ∷ []) ++ leaf top)
       (2 ∷ node top 0x05 (1 ∷ 1 ∷ []) ++ leaf top) (2 ∷ 2 ∷ [])
@@ -279,27 +281,27 @@ oneFirst = 1 ∷ 0 ∷ from 2 62
 abbrev pub zeroTwice : List ℕ
 zeroTwice = 0 ∷ 0 ∷ from 2 62
 
--- a node that the root reaches by feature 1, and by feature 0 twice
+-- A graph with a node that two paths lead to: feature 1, and feature 0 twice.
 abbrev pub deeper : ℕ → List ℕ
 deeper type = 3 ∷ node top 0x03 (1 ∷ 2 ∷ []) ++ node top 0x01 (2 ∷ []) ++ leaf type
 
--- the difference over the diamond by a list
+-- The difference over the diamond by a list gives this record.
 abbrev pub DiffersBy : List ℕ → List ℕ → List ℕ → List ℕ → Type 0
 DiffersBy list general specific bytes =
     differingBy (diamond .count) (diamond .table) list general specific lent ≡
     resulting (Length (length bytes)) (bytes ++ drop (length bytes) lent)
 
--- Paper 10: which link leads its group, by two lists and without one.
+-- Paper 10: which link leads its group, by two lists and without a list.
 pub record ReadingOrders : Type 0 where
-  -- one parent: the feature that the list names first
+  -- Both links have one parent: the link whose feature the list names first leads.
   pub zero-first : DiffersBy zeroFirst P R (2 ∷ node top 0x01 (1 ∷ []) ++ leaf a)
   pub one-first : DiffersBy oneFirst P R (2 ∷ node top 0x02 (1 ∷ []) ++ leaf a)
-  -- two parents: the features in their own order are not document 01's order, where the parent comes first
+  -- The links have two parents. A list of the features in their own order is not document 01's order, where the parent comes first.
   pub feature-first : DiffersBy zeroFirst (deeper top) (deeper a) (3 ∷ node top 0x01 (1 ∷ []) ++ node top 0x01 (2 ∷ []) ++ leaf a)
   pub parent-first : differing (diamond .count) (diamond .table) (deeper top) (deeper a) lent ≡
       resulting (Length (length (2 ∷ node top 0x02 (1 ∷ []) ++ leaf a)))
       ((2 ∷ node top 0x02 (1 ∷ []) ++ leaf a) ++ drop (length (2 ∷ node top 0x02 (1 ∷ []) ++ leaf a)) lent)
-  -- the reasons for its links
+  -- The reasons beside the difference by a list.
   pub explained : explainingBy (diamond .count) (diamond .table) zeroFirst (deeper top) (deeper a) lent lentBeside ≡
       explainedResult (Length (length (3 ∷ node top 0x01 (1 ∷ []) ++ node top 0x01 (2 ∷ []) ++ leaf a)))
       ((3 ∷ node top 0x01 (1 ∷ []) ++ node top 0x01 (2 ∷ []) ++ leaf a) ++
@@ -316,8 +318,9 @@ spreads types = distributive (types .count) (types .table)
 abbrev pub setsOf : Types → List ℕ
 setsOf types = map (setOf (types .count) (types .table)) (upto (types .count))
 
--- Paper 12: the diamond is distributive, tables with three rival types are not, and a set has the irreducible types as bits: 1 and 2 of the
--- diamond, whose top is their join; of three rivals over a type that type too.
+-- Paper 12: the meet spreads over the join in the diamond, but not in the tables with three rival types. The bits of a type's set are the
+-- irreducible types below or equal to it. In the diamond these are 1 and 2, whose join is top; with three rivals over a type, that type is
+-- irreducible too.
 pub record AsSets : Type 0 where
   pub diamond-spreads : spreads diamond ≡ true
   pub rivals-do-not : spreads threeMiddles ≡ false
@@ -326,7 +329,7 @@ pub record AsSets : Type 0 where
   pub rival-sets : setsOf threeMiddles ≡ 0 ∷ 2 ∷ 4 ∷ 8 ∷ 14 ∷ []
   pub raised-rival-sets : setsOf threeOverOne ≡ 0 ∷ 2 ∷ 6 ∷ 10 ∷ 18 ∷ 30 ∷ []
 
--- of Paper 14: "a two-type table"
+-- Paper 14: "a two-type table".
 abbrev pub twoTypes : Types
 twoTypes = record { count = 2; table = rows (0x01 ∷ 0x03 ∷ []) }
 
@@ -337,10 +340,11 @@ twoChain = 2 ∷ node 1 0x01 (1 ∷ []) ++ leaf 1
 abbrev pub threeChain : List ℕ
 threeChain = 3 ∷ node 1 0x01 (1 ∷ []) ++ node 1 0x01 (2 ∷ []) ++ leaf 1
 
--- what a call over two types with F features gives after a record
+-- What a call over two types with F features gives for a record.
 abbrev pub stepsOver : ℕ → List ℕ → Result
 stepsOver F bytes = stepping (twoTypes .count) (twoTypes .table) F bytes lent
 
+-- With F of 1, the call gives `next` for this record.
 abbrev pub Follows : List ℕ → List ℕ → Type 0
 Follows bytes next = stepsOver 1 bytes ≡ resulting (Length (length next)) (next ++ drop (length next) lent)
 
@@ -356,6 +360,6 @@ pub record Chains : Type 0 where
   -- "F outside 1 and 2 is 23", whether the record is listed or not
   pub no-feature : stepsOver 0 [] ≡ refusing FeatureCount lent
   pub three-features : stepsOver 3 (2 ∷ node 1 0x02 (1 ∷ []) ++ leaf 1) ≡ refusing FeatureCount lent
-  -- "a record that is read but not listed is 24": by feature 1, by a full range spelled out
+  -- "a record that is read but not listed is 24": one with feature 1, and one that spells out a full range.
   pub other-feature : stepsOver 1 (2 ∷ node 1 0x02 (1 ∷ []) ++ leaf 1) ≡ refusing NotListed lent
   pub spelled-out : stepsOver 1 (1 ∷ ranged 1 0 255) ≡ refusing NotListed lent

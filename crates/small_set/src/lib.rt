@@ -1,2 +1,2 @@
-// Document 01's small set: its cases 1 to 12 as one table in specs/, and the one result about the definitions in proofs/. There is no code
-// here. It knows the definitions of the calls.
+// Document 01's small set: specs/ has its cases 1 to 12 as one table, and proofs/ has the one result about the definitions of the calls. The
+// crate has no code.

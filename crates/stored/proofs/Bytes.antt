@@ -1,4 +1,4 @@
--- The bytes of a state, read back: lengths, records behind their lengths, and first bytes.
+-- The bytes of a state are read back: lengths, records behind their lengths, and first bytes.
 use mathlib.Core.Path.{_≡_, refl, sym, _∙_, ap, ap₂}
 use mathlib.Core.Bool.{Bool, true, false, cond, _&&_}
 use mathlib.Core.List.{List, [], _∷_, _++_}
@@ -11,11 +11,11 @@ use lib.ListN.{length, take, drop, length-append}
 use lib.Seq.{take-append-seam, drop-append-seam}
 use Rattle.versions.specs.State.{twoBytes, measured, takeMeasured, startsWith}
 
--- a number of 16 bits stands in its two bytes
+-- A number of 16 bits is read back from its two bytes.
 pub two-bytes-read : (x : ℕ) → x < 65536 → x % 256 + 256 * (x / 256 % 256) ≡ x
 two-bytes-read x h = omega arith
 
--- a record behind its length is taken again
+-- A record behind its length is read back.
 pub measured-taken : (bytes rest : List ℕ) → length bytes < 65536 → takeMeasured (measured bytes ++ rest) ≡ some (bytes, rest)
 unfolding takeMeasured measured twoBytes
 measured-taken bytes rest h =
@@ -30,7 +30,7 @@ unfolding startsWith
 starts-append [] rest = refl
 starts-append (x ∷ xs) rest = ap (λ b. b && startsWith xs (xs ++ rest)) (eq-eqb x x refl) ∙ starts-append xs rest
 
--- a list that begins with bytes is these bytes and what stands behind them
+-- A list that begins with some bytes is these bytes and what stands behind them.
 pub starts-with : (xs bytes : List ℕ) → startsWith xs bytes ≡ true → bytes ≡ xs ++ drop (length xs) bytes
 unfolding startsWith
 starts-with [] bytes h = refl

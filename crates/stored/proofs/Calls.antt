@@ -1,4 +1,4 @@
--- Put, drop and read on a buffer that holds programs; and calls in turn.
+-- Put, drop and read on a buffer that holds programs, and calls in turn.
 use mathlib.Core.Path.{_≡_, refl, sym, _∙_, ap, ap₂, subst}
 use mathlib.Core.Bool.{Bool, true, false, cond, _&&_}
 use mathlib.Core.List.{List, [], _∷_, _++_}
@@ -30,7 +30,7 @@ use Rattle.stored.proofs.Way.{state-long, state-fits}
 use Rattle.stored.proofs.Stops.{way-meets, met-silent}
 use Rattle.stored.proofs.Held.{some-injective, held-complete, empty-held}
 
--- A version that is put or dropped leaves 16 versions, each a written record.
+-- A put or a drop of a version leaves 16 versions, and each that exists is a written record.
 
 set-at : (ps : Programs) (i v : ℕ) (o : Option (List ℕ)) (q : List ℕ) → getD (set ps i o) v none ≡ some q → (o ≡ some q) ⊎ (getD ps v none ≡ some q)
 set-at [] i v o q e = inr e
@@ -48,7 +48,7 @@ set-versions n ps version o versions one =
     }
 
 module _ (n : ℕ) (t : List ℕ) where
-  -- a buffer that holds programs has two bytes or more
+  -- A buffer that holds programs has two bytes or more.
   pub holds-long : (buffer : List ℕ) (ps : Programs) → Holds n t buffer ps → 2 ≤ length buffer
   holds-long buffer ps holds =
       omega (
@@ -58,14 +58,14 @@ module _ (n : ℕ) (t : List ℕ) where
         length-append (holds .state) (drop (length (holds .state)) buffer),
       )
 
-  -- and keeps its length where a state is written over its first bytes:
+  -- A buffer keeps its length where a state is written over its first bytes.
   pub over-length : (buffer : List ℕ) (ps qs : Programs) → Holds n t buffer ps → Versions n qs → (s : List ℕ) → way n t (length buffer) qs ≡ made s →
       length (s ++ drop (length s) buffer) ≡ length buffer
   over-length buffer ps qs holds versions s reached =
       let fits : length s ≤ length buffer = state-fits n t (length buffer) qs versions s reached (holds-long buffer ps holds) in
       length-append s (drop (length s) buffer) ∙ ap (λ (k : ℕ). length s + k) (length-drop (length s) buffer) ∙ omega arith
 
-  -- it then holds the programs of that state
+  -- A buffer over whose first bytes a state is written holds the programs of that state.
   pub written-over : (buffer : List ℕ) (ps qs : Programs) → Holds n t buffer ps → Versions n qs → (s : List ℕ) → way n t (length buffer) qs ≡ made s →
       Holds n t (s ++ drop (length s) buffer) qs
   written-over buffer ps qs holds versions s reached =
@@ -79,7 +79,7 @@ module _ (n : ℕ) (t : List ℕ) where
       }
 
   module _ (opens : opened n t ≡ Accepted) (buffer : List ℕ) (ps : Programs) (holds : Holds n t buffer ps) where
-    -- what follows the checks of the table and the buffer
+    -- After the checks of the table and the buffer, a call goes on with the programs.
     past-checks : (next : Programs → Made) → inTable n t next buffer ≡ next ps
     past-checks next =
         ap₂ (λ (o : Opened) (h : Option Programs). checked stopped o (onHeld h next)) opens (held-complete n t opens buffer ps holds)
@@ -96,7 +96,7 @@ module _ (n : ℕ) (t : List ℕ) where
     unfolding fetching
     fetching-is version out = ap (given out) (past-checks (λ ps. onPresent (getD ps version none) made))
 
-    -- Once `m` is settled the buffer has its length; it holds `qs` where a length is told, else the programs as they were.
+    -- Once `m` is settled, the buffer has the same length, and holds `qs` where a length is told, else the programs as they were.
     abbrev After : Made → Programs → Type 0
     After m qs =
         (length (settled buffer m .output) ≡ length buffer) × Holds n t (settled buffer m .output) (whereGiven (lengthOf (settled buffer m .reply)) ps qs)
@@ -129,7 +129,8 @@ module _ (n : ℕ) (t : List ℕ) where
     unchanged none = refl
     unchanged (some l) = refl
 
-    -- After a call the buffer has its length and holds the programs as the call left them: changed where it gave a length, else as they were.
+    -- After a call the buffer has the same length, and holds the programs that the call makes where the reply is a length, else the programs as
+    -- they were.
     pub called-holds : (c : Call) → (length (called n t buffer c .output) ≡ length buffer) ×
         Holds n t (called n t buffer c .output) (whereGiven (lengthOf (called n t buffer c .reply)) ps (done n t c ps))
     called-holds (put version bytes) =
@@ -143,7 +144,7 @@ module _ (n : ℕ) (t : List ℕ) where
     called-holds (fetch version out) =
         (refl, subst (Holds n t buffer) (sym (unchanged (lengthOf (fetching n t buffer version out .reply)))) holds)
 
-    -- a put that gives a length names a version from 0 to 15 that is absent, and a program that is accepted
+    -- A put that is answered by a length names a version from 0 to 15 that is absent, and a program that is accepted.
     pub put-given : (version : ℕ) (bytes : List ℕ) (l : ℕ) → lengthOf (putting n t buffer version bytes .reply) ≡ some l →
         (version < 16) × (getD ps version none ≡ none) × ((rows : List (Row Label)) × (reading n bytes ≡ accepted rows))
     put-given version bytes l e =
@@ -164,7 +165,7 @@ module _ (n : ℕ) (t : List ℕ) where
             let (few, free) = test rows (ltb version 16) refl (getD ps version none) refl d in
             (few, free, (rows, q))
 
-  -- Calls in turn: the buffer has its length and holds the programs put and not dropped,
+  -- After any calls in turn the buffer has the same length and holds the programs that remain.
   pub calls-hold : opened n t ≡ Accepted → (cs : List Call) (buffer : List ℕ) (ps : Programs) → Holds n t buffer ps →
       (length (bufferAfter n t buffer cs) ≡ length buffer) × Holds n t (bufferAfter n t buffer cs) (programsAfter n t buffer ps cs)
   unfolding bufferAfter programsAfter
@@ -175,7 +176,7 @@ module _ (n : ℕ) (t : List ℕ) where
       calls-hold opens cs (called n t buffer c .output) (whereGiven (lengthOf (called n t buffer c .reply)) ps (done n t c ps)) next in
       (longer ∙ long, last)
 
-  -- from an empty store on, two zero bytes and anything behind them.
+  -- From an empty store on, which is two zero bytes with anything behind them, the buffer holds the programs that were put and not dropped.
   pub store-holds : opened n t ≡ Accepted → (rest : List ℕ) → length rest ≤ 16382 → (cs : List Call) →
       held n t (bufferAfter n t (emptyState ++ rest) cs) ≡ some (programsAfter n t (emptyState ++ rest) noPrograms cs)
   store-holds opens rest lent cs =

@@ -34,12 +34,12 @@ use Rattle.stored.proofs.Held.{some-injective, held-sound, held-complet
 use Rattle.stored.proofs.Stops.{way-meets}
 use Rattle.stored.proofs.Calls.{set-versions, putting-is, dropping-is, fetching-is}
 
--- no version stands above 15
+-- No version above 15 exists.
 above-absent : (n : ℕ) (ps : Programs) → Versions n ps → (version : ℕ) → 15 < version → getD ps version none ≡ none
 above-absent n ps versions version h = List·getD-eq-default ps none (omega (arith, versions .sixteen))
 
 module _ (n : ℕ) (t : List ℕ) where
-  -- the programs after a put, and after a drop
+  -- After a put, and after a drop, there are 16 versions, and each that exists is a written record.
   pub put-versions : (buffer : List ℕ) (version : ℕ) (bytes : List ℕ) (ps : Programs) (rows : List (Row Label)) → PutChecked n t buffer version bytes ps rows →
       Versions n (set ps version (some (writtenRecord rows)))
   put-versions buffer version bytes ps rows passes =
@@ -50,7 +50,7 @@ module _ (n : ℕ) (t : List ℕ) where
   drop-versions buffer version ps p passes = set-versions n ps version none (passes .holds .versions) (λ q d. none-some d)
 
   module _ (buffer : List ℕ) (version : ℕ) where
-    -- what follows where the table is refused, and where no programs are held
+    -- What a call goes on with, by the table's check and by what the buffer holds.
     table-first : (o : Opened) → opened n t ≡ o → (next : Programs → Made) → inTable n t next buffer ≡ checked stopped o (onHeld (held n t buffer) next)
     table-first o e next = ap (λ (x : Opened). checked stopped x (onHeld (held n t buffer) next)) e
 
@@ -107,7 +107,7 @@ module _ (n : ℕ) (t : List ℕ) where
           table (Refused fault) e = due.table fault e
           table Accepted e = state e (held n t buffer) refl
 
-      -- A put that passes its checks goes the way of the new programs;
+      -- A put that passes its checks goes the way of the new programs.
       pub put-goes : (ps : Programs) (rows : List (Row Label)) → PutChecked n t buffer version bytes ps rows →
           putting n t buffer version bytes ≡ settled buffer (way n t (length buffer) (set ps version (some (writtenRecord rows))))
       put-goes ps rows passes =
@@ -147,7 +147,7 @@ module _ (n : ℕ) (t : List ℕ) where
       pub put-exact : (r : Reply) → (putting n t buffer version bytes .reply ≡ r) ↔ PutDue n t buffer version bytes r
       put-exact r = (λ e. subst (PutDue n t buffer version bytes) e put-due, put-replies)
 
-    -- a version that drop or read refuses by 20 is absent
+    -- A version that a drop or a read refuses by 20 is absent.
     pub wrong-absent : (ps : Programs) → Holds n t buffer ps → (15 < version) ⊎ (getD ps version none ≡ none) → getD ps version none ≡ none
     wrong-absent ps holds = ⊎-elim (above-absent n ps (holds .versions) version) (λ e. e)
 
@@ -179,7 +179,7 @@ module _ (n : ℕ) (t : List ℕ) where
         table (Refused fault) e = due.table fault e
         table Accepted e = state e (held n t buffer) refl
 
-    -- so does a drop;
+    -- A drop that passes its checks goes the way of the remaining programs.
     pub drop-goes : (ps : Programs) (p : List ℕ) → VersionChecked n t buffer version ps p →
         dropping n t buffer version ≡ settled buffer (way n t (length buffer) (set ps version none))
     drop-goes ps p passes =
@@ -235,7 +235,7 @@ module _ (n : ℕ) (t : List ℕ) where
           table (Refused fault) e = due.table fault e
           table Accepted e = state e (held n t buffer) refl
 
-      -- and such a read writes the record.
+      -- A read that passes its checks writes the version's record.
       pub read-goes : (ps : Programs) (p : List ℕ) → VersionChecked n t buffer version ps p → fetching n t buffer version out ≡ resultOf (fitted p out)
       read-goes ps p passes =
           fetching-is n t (passes .opens) buffer ps (passes .holds) version out ∙

@@ -1,4 +1,4 @@
--- What a buffer holds: programs whose way in its length ends in its first bytes, and no others; what stands behind does not matter.
+-- What a buffer holds: the programs whose way in its length ends in its first bytes, and no others. The bytes behind these do not matter.
 use mathlib.Core.Path.{_≡_, refl, sym, _∙_, ap, subst}
 use mathlib.Core.Bool.{Bool, true, false, cond}
 use mathlib.Core.List.{List, [], _∷_, _++_}
@@ -47,11 +47,11 @@ absent-all zero v = refl
 absent-all (suc k) zero = refl
 absent-all (suc k) (suc v) = absent-all k v
 
--- an empty store has its 16 versions absent
+-- An empty store has 16 versions, all of them absent.
 empty-versions : (n : ℕ) → Versions n noPrograms
 empty-versions n = record { sixteen = refl; written = λ v p e. none-some (sym (absent-all 16 v) ∙ e) }
 
--- so many versions, each a written record
+-- There are `count` versions, and each that exists is a written record.
 abbrev Some : ℕ → ℕ → Programs → Type 0
 Some n count ps = (length ps ≡ count) × ((v : ℕ) (p : List ℕ) → getD ps v none ≡ some p → WrittenRecord n p)
 
@@ -92,7 +92,7 @@ module _ (n : ℕ) (t : List ℕ) where
           let (qs, rest, whole) = map-eq-some-iff (λ ps. none ∷ ps) (restored n t part count (bits / 2) bytes) .0 d in
           subst (Some n (suc count)) {x = none ∷ qs} whole (some-more n count none qs (λ q s. none-some s) (more bytes qs rest))
 
-  -- what is unpacked are versions
+  -- What is unpacked has 16 versions, and each that exists is a written record.
   unpacked-versions : (bytes : List ℕ) (ps : Programs) → unpacked n t bytes ≡ some ps → Versions n ps
   unfolding unpacked
   unpacked-versions [] ps e = none-some e
@@ -113,7 +113,7 @@ module _ (n : ℕ) (t : List ℕ) where
   begins-made (made state) buffer e = (state, refl, starts-with state buffer e)
   begins-made (stopped r) buffer e = let z : _≡_ {A = ℕ} 0 1 = cc in absurd (omega arith)
 
-  -- Programs that a buffer holds are those whose way in its length ends in its first bytes,
+  -- The programs that `held` gives are programs that the buffer holds.
   pub held-sound : (buffer : List ℕ) (ps : Programs) → held n t buffer ≡ some ps → Holds n t buffer ps
   unfolding held bind-eq-some-iff
   held-sound buffer ps e = go (leb (length buffer) 16384) refl e
@@ -135,14 +135,14 @@ module _ (n : ℕ) (t : List ℕ) where
       go false q d = none-some d
 
   module _ (opens : opened n t ≡ Accepted) where
-    -- and all such are held:
+    -- Programs that a buffer holds are given by `held`.
     pub held-complete : (buffer : List ℕ) (ps : Programs) → Holds n t buffer ps → held n t buffer ≡ some ps
     held-complete buffer ps holds =
         ap (held n t) (holds .first) ∙
         reached-held n t opens (length buffer) ps (holds .versions) (holds .state) (holds .reached)
         (drop (length (holds .state)) buffer) (ap length (sym (holds .first))) (holds .lent)
 
-    -- it is decided by reading and going the way.
+    -- `held` decides which programs a buffer holds: it reads the state and goes the way.
     pub held-exact : (buffer : List ℕ) (ps : Programs) → (held n t buffer ≡ some ps) ↔ Holds n t buffer ps
     held-exact buffer ps = (held-sound buffer ps, held-complete buffer ps)
 
@@ -158,12 +158,12 @@ module _ (n : ℕ) (t : List ℕ) where
           first = first;
         })
 
-  -- The way of no programs ends in two zero bytes, whatever the table and the room;
+  -- The way of no programs ends in two zero bytes, whatever the table and the room.
   pub empty-way : (room : ℕ) → way n t room noPrograms ≡ made emptyState
   unfolding way wayFrom
   empty-way room = refl
 
-  -- an empty store begins with them.
+  -- A buffer that begins with two zero bytes holds no programs.
   pub empty-held : (rest : List ℕ) → length rest ≤ 16382 → Holds n t (emptyState ++ rest) noPrograms
   empty-held rest h =
       record { versions = empty-versions n; lent = omega arith; state = emptyState; reached = empty-way (length (emptyState ++ rest)); first = refl }

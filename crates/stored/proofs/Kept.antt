@@ -30,7 +30,7 @@ gone [] v = refl
 gone (x ∷ ps) zero = refl
 gone (x ∷ ps) (suc v) = gone ps v
 
--- the first of the calls drops the version, or a later one
+-- Either the first of the calls drops the version, or a later one does.
 first-drops : (n : ℕ) (t : List ℕ) (version : ℕ) (buffer : List ℕ) (c : Call) (cs : List Call) → Drops n t version buffer (c ∷ cs) →
     ((c ≡ remove version) × ((l : ℕ) × (dropping n t buffer version .reply ≡ Length l))) ⊎ Drops n t version (called n t buffer c .output) cs
 first-drops n t version _ _ _ (turns.here buffer l cs e) = inl (refl, (l, e))
@@ -43,7 +43,7 @@ module _ (n : ℕ) (t : List ℕ) (opens : opened n t ≡ Accepted) where
 
   module _ (version : ℕ) where
     module _ (buffer : List ℕ) (ps : Programs) (holds : Holds n t buffer ps) (cs : List Call) where
-      -- a version that exists and is not dropped stays
+      -- A version that exists and is not dropped by the call stays.
       stays : (p : List ℕ) → getD ps version none ≡ some p → (c : Call) → (Drops n t version buffer (c ∷ cs) → ⊥) → getD (after buffer ps c) version none ≡ some p
       stays p e (put w bytes) kept = go (lengthOf (putting n t buffer w bytes .reply)) refl
         where
@@ -68,7 +68,7 @@ module _ (n : ℕ) (t : List ℕ) (opens : opened n t ≡ Accepted) where
           go none = e
           go (some l) = e
 
-      -- the version after a call: put by it, or there before and not dropped by it
+      -- A version that exists after a call was put by the call, or existed before and was not dropped by it.
       came : (p : List ℕ) (c : Call) → getD (after buffer ps c) version none ≡ some p →
           ((bytes : List ℕ) × (l : ℕ) × (c ≡ put version bytes) × (putting n t buffer version bytes .reply ≡ Length l) × (p ≡ writtenIn (reading n bytes))) ⊎
           ((getD ps version none ≡ some p) × ((Drops n t version (called n t buffer c .output) cs → ⊥) → Drops n t version buffer (c ∷ cs) → ⊥))
@@ -125,7 +125,7 @@ module _ (n : ℕ) (t : List ℕ) (opens : opened n t ≡ Accepted) where
           go none i = i
           go (some l) i = i
 
-    -- a version that exists is there after calls that do not drop it
+    -- A version that exists is there after any calls that do not drop it.
     kept-on : (cs : List Call) (buffer : List ℕ) (ps : Programs) → Holds n t buffer ps → (p : List ℕ) → getD ps version none ≡ some p →
         (Drops n t version buffer cs → ⊥) → getD (programsAfter n t buffer ps cs) version none ≡ some p
     unfolding programsAfter
@@ -134,7 +134,7 @@ module _ (n : ℕ) (t : List ℕ) (opens : opened n t ≡ Accepted) where
         kept-on cs (called n t buffer c .output) (after buffer ps c) (called-holds n t opens buffer ps holds c .1) p (stays buffer ps holds cs p e c kept)
         (λ d. kept (turns.later buffer c cs d))
 
-    -- a program that is kept
+    -- A program that is kept is accepted, and its written record is there after the calls.
     pub kept-program : (bytes : List ℕ) (cs : List Call) (buffer : List ℕ) (ps : Programs) → Holds n t buffer ps → Keeps n t version bytes buffer cs →
         (rows : List (Row Label)) × (reading n bytes ≡ accepted rows) × (getD (programsAfter n t buffer ps cs) version none ≡ some (writtenRecord rows))
     unfolding programsAfter
@@ -155,7 +155,7 @@ module _ (n : ℕ) (t : List ℕ) (opens : opened n t ≡ Accepted) where
     kept-program bytes (c ∷ cs) buffer ps holds (turns.later _ _ _ more) =
         kept-program bytes cs (called n t buffer c .output) (after buffer ps c) (called-holds n t opens buffer ps holds c .1) more
 
-    -- every program is kept, or was there before and is not dropped
+    -- Every program that is there after the calls is kept, or was there before them and is not dropped.
     pub program-kept : (cs : List Call) (buffer : List ℕ) (ps : Programs) → Holds n t buffer ps → (p : List ℕ) →
         getD (programsAfter n t buffer ps cs) version none ≡ some p →
         ((bytes : List ℕ) × Keeps n t version bytes buffer cs × (p ≡ writtenIn (reading n bytes))) ⊎

@@ -1,4 +1,4 @@
--- Theorems about stores.
+-- The theorems on stores: `Paper11` has one for each sentence of document 02, Paper 11, and the other files prove them.
 pub mod Bytes
 pub mod Records
 pub mod Restoring

@@ -28,7 +28,7 @@ use Rattle.stored.specs.Theorem as due
 use Rattle.stored.proofs.Held.{some-injective}
 use Rattle.stored.proofs.Exact.{put-exact, drop-exact, read-exact}
 
--- 11, 13 and 21, the numbers that are met on a way
+-- The numbers that are met on a way: 11, 13 and 21.
 pub data OnTheWay : Reply → Type 0 where
   eleven : OnTheWay TooLarge
   thirteen : OnTheWay NoWantedType
@@ -195,7 +195,7 @@ module _ (n : ℕ) (t buffer : List ℕ) (version : ℕ) where
         go : ReadDue n t buffer version (length out) NoRoom → (ps : Programs) × (p : List ℕ) × VersionChecked n t buffer version ps p × (length out < length p)
         go (due.shorter ps p passes less) = (ps, p, passes, less)
 
-  -- By no other numbers is a call refused.
+  -- A call is refused by no other numbers.
   module _ (k : ℕ) where
     pub put-numbers : (bytes : List ℕ) → refusal (putting n t buffer version bytes .reply) ≡ some k →
         ((1 ≤ k) × (k ≤ 7)) ⊎ (k ≡ 11) ⊎ (k ≡ 13) ⊎ (k ≡ 20) ⊎ (k ≡ 21)

@@ -1,6 +1,7 @@
--- Paper 11: a patient's versions in one buffer, one theorem for each sentence, about the definitions that the calls are proved equal to: `putting`
--- is put, `dropping` drop, `fetching` read. The proofs are those of the files beside this one. n and t are the table, ps and qs programs by their
--- version numbers, out an output, cs any calls in turn. Nothing says that a drop cannot be refused, or that fewer programs need less room.
+-- Paper 11: a patient's versions in one buffer. There is one theorem for each sentence, about the definitions that the calls are proved equal to:
+-- `putting` is put, `dropping` is drop, `fetching` is read. The files beside this one have the proofs. n and t are the table, ps and qs are
+-- programs by their version numbers, out is an output, cs are any calls in turn. No theorem says that a drop cannot be refused, or that fewer
+-- programs need less room.
 use mathlib.Core.Path.{_≡_, refl}
 use mathlib.Core.Bool.{true}
 use mathlib.Core.List.{List, _++_}
@@ -61,27 +62,27 @@ pub used-bytes : (n : ℕ) (t buffer : List ℕ) (ps : Programs) (holds : Holds 
     (holds .state ≡ stateOf ps part ds))
 used-bytes n t buffer ps holds = Way.state-bytes n t (length buffer) ps (holds .versions) (holds .state) (holds .reached)
 
--- "Each step of that way stores the common part of its programs, folded in version order, and every program's difference from it": the way ends in
--- a state exactly where such steps lead past all versions to it.
+-- "Each step of that way stores the common part of its programs, folded in version order, and every program's difference from it": the way ends
+-- in a state exactly where such steps lead past all versions to that state.
 pub way-steps : (n : ℕ) (t : List ℕ) (room : ℕ) (ps : Programs) (s : List ℕ) →
     (way n t room ps ≡ made s) ↔ ((part : Option (List ℕ)) × Passed n t room ps part s)
 way-steps = Way.way-passes
 
 module _ (n : ℕ) (t : List ℕ) (opens : opened n t ≡ Accepted) where
-  -- A buffer holds programs exactly where their way in its length ends in its first bytes: `held` decides it.
+  -- A buffer holds programs exactly where their way in its length ends in its first bytes: `held` decides this.
   pub held-exact : (buffer : List ℕ) (ps : Programs) → (held n t buffer ≡ some ps) ↔ Holds n t buffer ps
   held-exact = Held.held-exact n t opens
 
-  -- There is at most one such list,
+  -- A buffer holds at most one list of programs.
   pub held-one : (buffer : List ℕ) (ps qs : Programs) → Holds n t buffer ps → Holds n t buffer qs → ps ≡ qs
   held-one = Theorems.holds-one n t opens
 
-  -- since no two lists of programs have one state, in rooms of whatever length.
+  -- No two lists of programs have one state, in rooms of whatever length.
   pub one-state : (room other : ℕ) (ps qs : Programs) → Versions n ps → Versions n qs → (s : List ℕ) → way n t room ps ≡ made s → way n t other qs ≡ made s →
       ps ≡ qs
   one-state = Way.one-state n t opens
 
-  -- A state that is reached restores: every buffer of that length that begins with it holds exactly these programs.
+  -- A state that is reached restores its programs: every buffer of that length that begins with the state holds exactly these programs.
   pub state-restores : (room : ℕ) (ps : Programs) → Versions n ps → (s : List ℕ) → way n t room ps ≡ made s → (rest : List ℕ) → length (s ++ rest) ≡ room →
       room ≤ 16384 → held n t (s ++ rest) ≡ some ps
   state-restores = Way.reached-held n t opens
@@ -90,29 +91,30 @@ module _ (n : ℕ) (t : List ℕ) (opens : opened n t ≡ Accepted) where
   pub empty-store : (buffer : List ℕ) → (held n t buffer ≡ some noPrograms) ↔ ((rest : List ℕ) × (buffer ≡ emptyState ++ rest) × (length rest ≤ 16382))
   empty-store = Theorems.empty-exact n t opens
 
--- One call.
+-- Single calls.
 
 module _ (n : ℕ) (t buffer : List ℕ) (version : ℕ) where
   -- "Put names a version number from 0 to 15 that is absent": a put that is answered by a length passed its checks, and the buffer then holds the
-  -- program's written record under that number, beside the others. "Put and drop return the used length": it is that length. The bytes past the
-  -- used ones stay.
+  -- program's written record under that number, beside the other programs. "Put and drop return the used length": the reply is that length. The
+  -- bytes past the used ones stay.
   pub put-adds : (bytes : List ℕ) (l : ℕ) → putting n t buffer version bytes .reply ≡ Length l →
       (ps : Programs) × (rows : List (Row Label)) × PutChecked n t buffer version bytes ps rows ×
       Changed n t buffer l (putting n t buffer version bytes .output) (set ps version (some (writtenRecord rows)))
   put-adds = Theorems.put-changes n t buffer version
 
-  -- "drop removes the one named"
+  -- "drop removes the one named": a drop that is answered by a length passed its checks, and the buffer then holds the other programs.
   pub drop-removes : (l : ℕ) → dropping n t buffer version .reply ≡ Length l →
       (ps : Programs) × (p : List ℕ) × VersionChecked n t buffer version ps p ×
       Changed n t buffer l (dropping n t buffer version .output) (set ps version none)
   drop-removes = Theorems.drop-changes n t buffer version
 
-  -- "read gives back the written record that was put": straight after the put, the reply and the output that rewriting the program gives;
+  -- "read gives back the written record that was put": straight after the put, a read gives the reply and the output that rewriting the program
+  -- gives.
   pub read-put : (bytes : List ℕ) (l : ℕ) → putting n t buffer version bytes .reply ≡ Length l → (out : List ℕ) →
       fetching n t (putting n t buffer version bytes .output) version out ≡ rewriting n t bytes out
   read-put = Theorems.read-put n t buffer version
 
-  -- straight after the drop, 20. Every other version is read as before.
+  -- Straight after a drop, a read of the version gives 20. After a put or a drop, every other version is read as before it.
   pub read-dropped : (l : ℕ) → dropping n t buffer version .reply ≡ Length l → (out : List ℕ) →
       fetching n t (dropping n t buffer version .output) version out ≡ refusing WrongVersion out
   read-dropped = Theorems.drop-removes n t buffer version
@@ -125,51 +127,52 @@ module _ (n : ℕ) (t buffer : List ℕ) (version : ℕ) where
       fetching n t (dropping n t buffer version .output) other out ≡ fetching n t buffer other out
   drop-others = Theorems.drop-others n t buffer version
 
-  -- What is read of a version that a buffer holds: its record where it fits, else 8.
+  -- A read of a version that the buffer holds writes its record, or gives 8 where the output is shorter.
   pub read-held : (out : List ℕ) (ps : Programs) (p : List ℕ) → VersionChecked n t buffer version ps p →
       fetching n t buffer version out ≡ resultOf (fitted p out)
   read-held = Exact.read-goes n t buffer version
 
-  -- Read leaves the buffer.
+  -- A read leaves the buffer as it was.
   pub read-leaves : (out : List ℕ) → called n t buffer (fetch version out) .output ≡ buffer
   read-leaves out = refl
 
--- "With one table and nobody else writing the buffer": calls in turn, from an empty store on. `rest` stands behind its two zero bytes.
+-- "With one table and nobody else writing the buffer": these theorems are on calls in turn, from an empty store on. `rest` stands behind its two
+-- zero bytes.
 
 module _ (n : ℕ) (t : List ℕ) (opens : opened n t ≡ Accepted) (rest : List ℕ) (short : length rest ≤ 16382) where
   abbrev start : List ℕ
   start = emptyState ++ rest
 
-  -- The way of programs is "an empty store into which the remaining programs were put in version order under their numbers": the same used bytes,
-  -- or the same first number.
+  -- The way of programs is "an empty store into which the remaining programs were put in version order under their numbers": the puts give the
+  -- same used bytes, or the same first number.
   pub way-by-puts : (ps : Programs) → Versions n ps → putsFrom n t (emptyState ++ rest) emptyState 0 ps ≡ way n t (length (emptyState ++ rest)) ps
   way-by-puts = Puts.way-by-puts n t opens rest short
 
   module _ (cs : List Call) where
-    -- "after any calls" the buffer holds the remaining programs,
+    -- "after any calls" the buffer holds the remaining programs.
     pub calls-hold : held n t (bufferAfter n t (emptyState ++ rest) cs) ≡ some (programsAfter n t (emptyState ++ rest) noPrograms cs)
     calls-hold = Calls.store-holds n t opens rest short cs
 
-    -- which are those that were put and not dropped;
+    -- The remaining programs are those that were put and not dropped.
     pub calls-keep : (version : ℕ) (p : List ℕ) → (getD (programsAfter n t (emptyState ++ rest) noPrograms cs) version none ≡ some p) ↔
         ((bytes : List ℕ) × (rows : List (Row Label)) × Keeps n t version bytes (emptyState ++ rest) cs × (reading n bytes ≡ accepted rows) × (p ≡ writtenRecord rows))
     calls-keep = Theorems.put-and-kept n t opens rest short cs
 
-    -- "the used bytes are those of an empty store into which the remaining programs were put in version order under their numbers, so dropped room
-    -- serves again": of any empty store of that length.
+    -- "the used bytes are those of an empty store into which the remaining programs were put in version order under their numbers, so dropped
+    -- room serves again": this holds for every empty store of that length.
     pub used-by-puts : (s : List ℕ) ×
         ((other : List ℕ) → length other ≡ length rest →
         putsFrom n t (emptyState ++ other) emptyState 0 (programsAfter n t (emptyState ++ rest) noPrograms cs) ≡ made s) ×
         (bufferAfter n t (emptyState ++ rest) cs ≡ s ++ drop (length s) (bufferAfter n t (emptyState ++ rest) cs))
     used-by-puts = Theorems.used-by-puts n t opens rest short cs
 
-    -- No program opens as another: what is read of a version, after any calls since its put that did not drop it, is the written record of the
-    -- program that was put under that version: reply and output are those of rewriting it.
+    -- No program opens as another: if no call since the put has dropped the version, a read gives the written record of the program that was put
+    -- under the version, with the reply and output of rewriting that program.
     pub no-program-opens-as-another : (version : ℕ) (bytes : List ℕ) → Keeps n t version bytes (emptyState ++ rest) cs → (out : List ℕ) →
         fetching n t (bufferAfter n t (emptyState ++ rest) cs) version out ≡ rewriting n t bytes out
     no-program-opens-as-another = Theorems.read-kept n t opens start noPrograms (Held.empty-held n t rest short) cs
 
-    -- Two versions read as equal bytes exactly when what was put means the same: equal paths, types, ranges and sharing.
+    -- Two versions are read as equal bytes exactly when the programs that were put mean the same: equal paths, types, ranges and sharing.
     pub equal-bytes-equal-meaning : (v w : ℕ) (a b : List ℕ) → Keeps n t v a (emptyState ++ rest) cs → Keeps n t w b (emptyState ++ rest) cs →
         (s g : List (Row Label)) → reading n a ≡ accepted s → reading n b ≡ accepted g → (out : List ℕ) (l m : ℕ) →
         fetching n t (bufferAfter n t (emptyState ++ rest) cs) v out .reply ≡ Length l →
@@ -178,25 +181,25 @@ module _ (n : ℕ) (t : List ℕ) (opens : opened n t ≡ Accepted) (rest : List
         (take l (fetching n t (bufferAfter n t (emptyState ++ rest) cs) v out .output) ≡ take m (fetching n t (bufferAfter n t (emptyState ++ rest) cs) w out .output))
     equal-bytes-equal-meaning = Theorems.read-meaning n t opens start noPrograms (Held.empty-held n t rest short) cs
 
-    -- The same for whole results: every output lent gets the same reply and the same bytes.
+    -- Two versions are read with equal reply and output, whatever output is lent, exactly when the programs that were put mean the same.
     pub equal-reads-equal-meaning : (v w : ℕ) (a b : List ℕ) → Keeps n t v a (emptyState ++ rest) cs → Keeps n t w b (emptyState ++ rest) cs →
         (s g : List (Row Label)) → reading n a ≡ accepted s → reading n b ≡ accepted g →
         SameMeaning (tableLabels n t) (graphOfRows s) (graphOfRows g) ↔
         ((out : List ℕ) → fetching n t (bufferAfter n t (emptyState ++ rest) cs) v out ≡ fetching n t (bufferAfter n t (emptyState ++ rest) cs) w out)
     equal-reads-equal-meaning = Theorems.read-same n t opens start noPrograms (Held.empty-held n t rest short) cs
 
-    -- Read is refused by 20 exactly where no program was put under the version, or it was dropped since.
+    -- A read is refused by 20 exactly where no program was put under the version, or the version was dropped since.
     pub read-not-kept : (version : ℕ) (out : List ℕ) → (fetching n t (bufferAfter n t (emptyState ++ rest) cs) version out .reply ≡ WrongVersion) ↔
         ((bytes : List ℕ) → Keeps n t version bytes (emptyState ++ rest) cs → ⊥)
     read-not-kept = Theorems.read-unkept n t opens rest short cs
 
--- "Bytes past the used ones may hold anything": two buffers of one length with the same used bytes
+-- "Bytes past the used ones may hold anything": these theorems are on two buffers of one length with the same used bytes.
 module _ (n : ℕ) (t : List ℕ) (opens : opened n t ≡ Accepted) (buffer other : List ℕ) (alike : Alike n t buffer other) where
-  -- hold the same programs,
+  -- Both buffers hold the same programs.
   pub past-used : Holds n t other (alike .programs)
   past-used = Theorems.other-holds n t opens buffer other alike
 
-  -- get the same replies and are left with the same used bytes,
+  -- A put, and a drop, gives both buffers the same reply and leaves them the same used bytes.
   pub same-put : (version : ℕ) (bytes : List ℕ) → (putting n t other version bytes .reply ≡ putting n t buffer version bytes .reply) ×
       Alike n t (putting n t buffer version bytes .output) (putting n t other version bytes .output)
   same-put = Theorems.put-alike n t opens buffer other alike
@@ -205,23 +208,24 @@ module _ (n : ℕ) (t : List ℕ) (opens : opened n t ≡ Accepted) (buffer othe
       Alike n t (dropping n t buffer version .output) (dropping n t other version .output)
   same-drop = Theorems.drop-alike n t opens buffer other alike
 
-  -- are read with the same reply and output,
+  -- A read gives the same reply and output for both buffers.
   pub same-read : (version : ℕ) (out : List ℕ) → fetching n t other version out ≡ fetching n t buffer version out
   same-read = Theorems.read-alike n t opens buffer other alike
 
-  -- and all this in any calls in turn.
+  -- Any calls in turn give both buffers the same replies and leave them the same used bytes.
   pub same-calls : (cs : List Call) → (replies n t other cs ≡ replies n t buffer cs) × Alike n t (bufferAfter n t buffer cs) (bufferAfter n t other cs)
   same-calls cs = Theorems.calls-alike n t opens cs buffer other alike
 
 -- Refusals.
 
--- "A put or drop that cannot reach that state is refused with the first number met on that way": over an accepted table the way of written records
--- stops by a reply exactly where it is the first number met, 11, 13 or 21.
+-- "A put or drop that cannot reach that state is refused with the first number met on that way": over an accepted table, the way of written
+-- records stops with a reply exactly where that reply is the first number met, 11, 13 or 21.
 pub first-number : (n : ℕ) (t : List ℕ) → opened n t ≡ Accepted → (room : ℕ) (ps : Programs) → Versions n ps → (r : Reply) →
     (way n t room ps ≡ stopped r) ↔ Met n t room ps r
 first-number = Stops.way-meets
 
--- "and the buffer is unchanged": a refused put or drop leaves the buffer, a refused read the output, whatever is handed in.
+-- "and the buffer is unchanged": whatever is handed in, a refused put or drop leaves the buffer as it was, and a refused read leaves the output
+-- as it was.
 module _ (n : ℕ) (t buffer : List ℕ) (version : ℕ) (k : ℕ) where
   pub put-unchanged : (bytes : List ℕ) → refusal (putting n t buffer version bytes .reply) ≡ some k → putting n t buffer version bytes .output ≡ buffer
   put-unchanged = Theorems.put-refused n t buffer version k
@@ -232,7 +236,7 @@ module _ (n : ℕ) (t buffer : List ℕ) (version : ℕ) (k : ℕ) where
   pub read-unchanged : (out : List ℕ) → refusal (fetching n t buffer version out .reply) ≡ some k → fetching n t buffer version out .output ≡ out
   read-unchanged = Theorems.read-refused n t buffer version k
 
--- Each reply is given exactly where it is due, whatever is handed in: `PutDue`, `DropDue` and `ReadDue` say where that is.
+-- Each reply is given exactly where it is due, whatever is handed in: `PutDue`, `DropDue` and `ReadDue` say where each reply is due.
 module _ (n : ℕ) (t buffer : List ℕ) (version : ℕ) where
   pub put-exact : (bytes : List ℕ) (r : Reply) → (putting n t buffer version bytes .reply ≡ r) ↔ PutDue n t buffer version bytes r
   put-exact = Exact.put-exact n t buffer version
@@ -243,7 +247,7 @@ module _ (n : ℕ) (t buffer : List ℕ) (version : ℕ) where
   pub read-exact : (out : List ℕ) (r : Reply) → (fetching n t buffer version out .reply ≡ r) ↔ ReadDue n t buffer version (length out) r
   read-exact = Exact.read-exact n t buffer version
 
-  -- In numbers. "The table is checked first": 1 to 3 exactly where the table is refused by them.
+  -- The same, number by number. "The table is checked first": 1 to 3 are given exactly where opening the table gives them.
   pub put-table : (bytes : List ℕ) (fault : TableFault) → (putting n t buffer version bytes .reply ≡ Table fault) ↔ (opened n t ≡ Refused fault)
   put-table = Numbers.put-table n t buffer version
 
@@ -253,7 +257,8 @@ module _ (n : ℕ) (t buffer : List ℕ) (version : ℕ) where
   pub read-table : (out : List ℕ) (fault : TableFault) → (fetching n t buffer version out .reply ≡ Table fault) ↔ (opened n t ≡ Refused fault)
   read-table = Numbers.read-table n t buffer version
 
-  -- "then the buffer, where one holding no state so reached within its length is 4 of the first graph": exactly there.
+  -- "then the buffer, where one holding no state so reached within its length is 4 of the first graph": 4 of the first graph is given exactly
+  -- there.
   pub put-stateless : (bytes : List ℕ) → (putting n t buffer version bytes .reply ≡ Graph Malformed First) ↔ ((opened n t ≡ Accepted) × HoldsNone n t buffer)
   put-stateless = Numbers.put-stateless n t buffer version
 
@@ -282,9 +287,9 @@ module _ (n : ℕ) (t buffer : List ℕ) (version : ℕ) where
       ((opened n t ≡ Accepted) × ((ps : Programs) × Holds n t buffer ps × ((15 < version) ⊎ (getD ps version none ≡ none))))
   read-wrong-version = Numbers.read-numbered n t buffer version
 
-  -- "and on the way, after a step's 11 and 13, too few bytes for its state is 21": each exactly where the call passes its checks and the number is
-  -- the first met on the way to the new state. `Met` says where: 11 where a step's common part is too large, 13 where a node of one of its programs
-  -- has no wanted type, 21 where its state has more bytes than the buffer.
+  -- "and on the way, after a step's 11 and 13, too few bytes for its state is 21": each of 11, 13 and 21 is given exactly where the call passes
+  -- its checks and the number is the first met on the way to the new state. `Met` says where: 11 where a step's common part is too large, 13
+  -- where a node of one of the step's programs has no wanted type, 21 where the step's state has more bytes than the buffer.
   pub put-too-large : (bytes : List ℕ) → (putting n t buffer version bytes .reply ≡ TooLarge) ↔
       ((ps : Programs) × (rows : List (Row Label)) × PutChecked n t buffer version bytes ps rows ×
       Met n t (length buffer) (set ps version (some (writtenRecord rows))) TooLarge)
@@ -312,12 +317,12 @@ module _ (n : ℕ) (t buffer : List ℕ) (version : ℕ) where
       ((ps : Programs) × (p : List ℕ) × VersionChecked n t buffer version ps p × Met n t (length buffer) (set ps version none) NoStoreRoom)
   drop-no-room = Numbers.drop-met n t buffer version Numbers.twenty-one
 
-  -- 8 of read exactly where the version's record is longer than the output.
+  -- A read gives 8 exactly where the version's record is longer than the output.
   pub read-no-room : (out : List ℕ) → (fetching n t buffer version out .reply ≡ NoRoom) ↔
       ((ps : Programs) × (p : List ℕ) × VersionChecked n t buffer version ps p × (length out < length p))
   read-no-room = Numbers.read-shorter n t buffer version
 
-  -- Over a table that admits differences 13 never comes.
+  -- Over a table that admits differences, 13 is never given.
   module _ (differ : admits n t ≡ true) where
     pub put-always-wanted : (bytes : List ℕ) → putting n t buffer version bytes .reply ≡ NoWantedType → ⊥
     put-always-wanted = Theorems.put-wanted n t differ buffer version
@@ -325,7 +330,7 @@ module _ (n : ℕ) (t buffer : List ℕ) (version : ℕ) where
     pub drop-always-wanted : dropping n t buffer version .reply ≡ NoWantedType → ⊥
     drop-always-wanted = Theorems.drop-wanted n t differ buffer version
 
-  -- By no other numbers is a call refused.
+  -- A call is refused by no other numbers.
   module _ (k : ℕ) where
     pub put-refusals : (bytes : List ℕ) → refusal (putting n t buffer version bytes .reply) ≡ some k →
         ((1 ≤ k) × (k ≤ 7)) ⊎ (k ≡ 11) ⊎ (k ≡ 13) ⊎ (k ≡ 20) ⊎ (k ≡ 21)
@@ -337,7 +342,7 @@ module _ (n : ℕ) (t buffer : List ℕ) (version : ℕ) where
     pub read-refusals : (out : List ℕ) → refusal (fetching n t buffer version out .reply) ≡ some k → ((1 ≤ k) × (k ≤ 4)) ⊎ (k ≡ 20) ⊎ (k ≡ 8)
     read-refusals = Numbers.read-numbers n t buffer version k
 
--- "A buffer above 16,384 bytes is 4", and so is one below 2: neither holds programs.
+-- "A buffer above 16,384 bytes is 4", and so is a buffer of fewer than 2 bytes: neither holds programs.
 pub long-stateless : (n : ℕ) (t buffer : List ℕ) → 16384 < length buffer → HoldsNone n t buffer
 long-stateless = Theorems.long-none
 

@@ -1,5 +1,5 @@
--- The way is what its name says: "an empty store into which the remaining programs were put in version order under their numbers", with the
--- same used bytes, or the same first number.
+-- The way is what its name says: "an empty store into which the remaining programs were put in version order under their numbers". The puts give
+-- the same used bytes, or the same first number.
 use mathlib.Core.Path.{_≡_, refl, sym, _∙_, ap, ap₂, subst}
 use mathlib.Core.Bool.{Bool, cond, _&&_}
 use mathlib.Core.List.{List, [], _∷_, _++_}
@@ -30,7 +30,7 @@ use Rattle.stored.proofs.Held.{some-injective, empty-held}
 use Rattle.stored.proofs.Stops.{way-meets, met-silent}
 use Rattle.stored.proofs.Calls.{set-versions, over-length, written-over, putting-is}
 
--- as many versions, all absent
+-- As many versions, all of them absent.
 abbrev emptied : Programs → Programs
 emptied [] = []
 emptied (p ∷ ps) = none ∷ emptied ps
@@ -39,19 +39,19 @@ emptied-none : (ps : Programs) → emptied ps ≡ replicate (length ps) none
 emptied-none [] = refl
 emptied-none (p ∷ ps) = ap (λ (qs : Programs). none ∷ qs) (emptied-none ps)
 
--- a written record is the written record of what it is read as
+-- A written record is the written record of the rows that it is read as.
 written-own : (n : ℕ) (p : List ℕ) (one : WrittenRecord n p) → writtenRecord (one .form) ≡ p
 written-own n p one = ap (λ (c : Canonical Label). encoded (numbered c)) (one .own) ∙ sym (one .bytes-are)
 
 module _ (n : ℕ) (t : List ℕ) where
-  -- versions that do not exist leave the state
+  -- On the way, versions that do not exist leave the state as it was.
   from-emptied : (room : ℕ) (ahead behind : Programs) (part : Option (List ℕ)) (state : List ℕ) → wayFrom n t room behind part state (emptied ahead) ≡ made state
   unfolding wayFrom
   from-emptied room [] behind part state = refl
   from-emptied room (p ∷ ahead) behind part state = from-emptied room ahead (behind ++ none ∷ []) part state
 
   module _ (opens : opened n t ≡ Accepted) where
-    -- a put behind all programs goes their way and one step more
+    -- A put under a number behind all programs goes their way and one step more.
     put-last : (room : ℕ) (ahead behind : Programs) (buffer : List ℕ) (version : ℕ) → length buffer ≡ room → version ≡ length behind → version < 16 →
         Holds n t buffer (behind ++ none ∷ emptied ahead) → (p : List ℕ) → WrittenRecord n p →
         putting n t buffer version p ≡ settled buffer (way n t room (behind ++ some p ∷ emptied ahead))
@@ -66,7 +66,7 @@ module _ (n : ℕ) (t : List ℕ) where
         ap₂ (λ (k : ℕ) (rs : Programs). way n t k rs) long
         (ap (λ (v : ℕ). set qs v (some p)) at ∙ set-append-seam behind none (emptied ahead) (some p)))
 
-    -- that put, and the puts of what is ahead
+    -- The put of one program, and then the puts of the programs ahead.
     module _ (room : ℕ) (ahead behind : Programs) (part : Option (List ℕ)) (state buffer : List ℕ) (version : ℕ) (long : length buffer ≡ room)
         (p : List ℕ) (one : WrittenRecord n p) (holds : Holds n t buffer (behind ++ none ∷ emptied ahead)) (passed : Passed n t room behind part state) where
       abbrev qs : Programs
@@ -75,7 +75,7 @@ module _ (n : ℕ) (t : List ℕ) where
       abbrev onwards : Made → Made
       onwards m = onLength (lengthOf (settled buffer m .reply)) (settled buffer m) λ after used. putsFrom n t after used (suc version) ahead
 
-      -- what is ahead once a step is made
+      -- The claim for the programs ahead, once a step is made.
       abbrev Rest : Type 0
       Rest = (c s : List ℕ) → length (s ++ drop (length s) buffer) ≡ room →
           Holds n t (s ++ drop (length s) buffer) ((behind ++ some p ∷ []) ++ emptied ahead) → Passed n t room (behind ++ some p ∷ []) (some c) s →
@@ -132,7 +132,7 @@ module _ (n : ℕ) (t : List ℕ) where
         (λ c s long₂ holds₂ passed₂. from-puts room ahead (behind ++ some p ∷ []) (some c) s (s ++ drop (length s) buffer) (suc version) long₂
         (omega (arith, length-append behind (some p ∷ []))) (omega arith) (λ v. written (suc v)) holds₂ passed₂)
 
-    -- The way of programs is the puts of them into an empty store, in version order under their numbers.
+    -- The way of programs gives what putting them into an empty store gives, in version order under their numbers.
     pub way-by-puts : (rest : List ℕ) → length rest ≤ 16382 → (ps : Programs) → Versions n ps →
         putsFrom n t (emptyState ++ rest) emptyState 0 ps ≡ way n t (length (emptyState ++ rest)) ps
     unfolding way

@@ -1,4 +1,4 @@
--- What a call writes into room for the longest record: a written record; and a difference, combined with the common part, gives the program.
+-- A call that writes into room for the longest record writes a written record. A difference, combined with the common part, gives the program.
 use mathlib.Core.Path.{_≡_, refl, sym, _∙_, ap, subst}
 use mathlib.Core.List.{List}
 use mathlib.Core.Option.{Option, none, some}
@@ -32,7 +32,7 @@ made-injective e = cc
 pub stopped-made : {X : Type 0} {r : Reply} {b : List ℕ} → stopped r ≡ made b → X
 stopped-made e = let z : _≡_ {A = ℕ} 0 1 = cc in absurd (omega arith)
 
--- the bytes that are taken stand beside a length
+-- The bytes that are taken of a result stand beside a length.
 pub taken-made : (r : Result) (b : List ℕ) → taken r ≡ made b → (l : ℕ) × (r .reply ≡ Length l) × (take l (r .output) ≡ b)
 taken-made r b e = go (lengthOf (r .reply)) refl e
   where
@@ -45,7 +45,7 @@ taken-written n out r b leaves e =
     let (l, q, d) = taken-made r b e in
     subst (WrittenRecord n) d (leaves .holds l q)
 
--- the record that a gathering takes
+-- A record that a gathering takes is taken here too.
 taken-some : (r : Result) (p : List ℕ) → gatheredTaken r ≡ some p → taken r ≡ made p
 taken-some r p e = go (lengthOf (r .reply)) refl e
   where
@@ -53,11 +53,11 @@ taken-some r p e = go (lengthOf (r .reply)) refl e
     go none q d = none-some d
     go (some l) q d = let i : take l (r .output) ≡ p = cc in ap made i
 
--- a record is taken again where it fits
+-- A record that fits is taken whole.
 taken-fitted : (p out : List ℕ) → length p ≤ length out → taken (resultOf (fitted p out)) ≡ made p
 taken-fitted p out h = taken-some (resultOf (fitted p out)) p (gathered-fitted p out h)
 
--- the written record of a program
+-- The written record of an accepted program is a `WrittenRecord`.
 pub program-written : (n : ℕ) (t bytes : List ℕ) (rows : List (Row Label)) → reading n bytes ≡ accepted rows →
     WrittenRecord n (encoded (numbered (canonical eqb (graphOfRows rows))))
 program-written n t bytes rows reads = go (accepted-fits n bytes rows reads)
@@ -82,7 +82,7 @@ module _ (n : ℕ) (t a b c : List ℕ) where
   unfolding differenceOf
   difference-written e = taken-written n blank (differing n t a b blank) c (differing-leaves n t blank a b) e
 
--- a difference restores
+-- A difference that is made, combined with the common part, gives the program.
 pub difference-restored : (n : ℕ) (t part p d : List ℕ) → opened n t ≡ Accepted → WrittenRecord n part → WrittenRecord n p →
     differenceOf n t part p ≡ made d → combination n t d part ≡ made p
 unfolding differenceOf combination

@@ -1,4 +1,4 @@
--- A state read back: its map, its common part and its differences give the programs.
+-- A state is read back: its map, its common part and its differences give the programs.
 use mathlib.Core.Path.{_≡_, refl, sym, _∙_, ap}
 use mathlib.Core.Bool.{Bool, cond}
 use mathlib.Core.List.{List, [], _∷_, _++_, append-assoc, append-nil}
@@ -37,7 +37,7 @@ use Rattle.stored.proofs.Bytes.{two-bytes-read, measured-taken}
 use Rattle.gathered.proofs.Records.{written-short}
 use Rattle.stored.proofs.Records.{made-injective, stopped-made, difference-written, difference-restored}
 
--- what comes after bytes that are made
+-- If one thing after another is made, the first is made and so is the second.
 pub then-made : (m : Made) (next : List ℕ → Made) (b : List ℕ) → andThen m next ≡ made b → (x : List ℕ) × (m ≡ made x) × (next x ≡ made b)
 then-made (made x) next b e = (x, refl, e)
 then-made (stopped r) next b e = stopped-made e
@@ -48,13 +48,13 @@ count-one : {X : Type 0} (o : Option X) → countSome o ≤ 1
 count-one none = omega arith
 count-one (some x) = omega arith
 
--- as many bits as versions
+-- The map has no more bits than there are versions.
 map-small : (ps : Programs) → mapOf ps < 2 ^ length ps
 unfolding mapOf
 map-small [] = omega arith
 map-small (p ∷ ps) = omega (arith, count-one p, map-small ps, two-pow-succ (length ps))
 
--- no bit stands where there are no programs
+-- A map of 0 says that no version exists.
 pub map-zero : (ps : Programs) → mapOf ps ≡ 0 → ps ≡ replicate (length ps) none
 unfolding mapOf
 map-zero [] e = refl
@@ -63,7 +63,7 @@ map-zero (some p ∷ ps) e = absurd (omega arith)
 
 module _ (n : ℕ) (t : List ℕ) where
   module _ (opens : opened n t ≡ Accepted) (part : List ℕ) (one : WrittenRecord n part) where
-    -- the differences of programs from a common part give the programs, behind those restored before
+    -- The differences of programs from a common part give these programs, behind those that are restored already.
     restored-behind : (before ps : Programs) → ((v : ℕ) (p : List ℕ) → getD ps v none ≡ some p → WrittenRecord n p) → (ds rest : List ℕ) →
         differences n t part ps ≡ made ds → restoredOn n t before part (length ps) (mapOf ps) (ds ++ rest) ≡ some (before ++ ps)
     unfolding differences mapOf
@@ -92,7 +92,7 @@ module _ (n : ℕ) (t : List ℕ) where
         map-eq-some-iff (λ (qs : Programs). qs) (restored n t part (length ps) (mapOf ps) (ds ++ rest)) .0 (restored-behind [] ps written ds rest e) in
         is ∙ ap some same
 
-    -- so does a state
+    -- A state gives its programs, whatever stands behind it.
     pub state-unpacked : (ps : Programs) → Versions n ps → (ds rest : List ℕ) → differences n t part ps ≡ made ds → 0 < mapOf ps →
         unpacked n t (stateOf ps part ds ++ rest) ≡ some ps
     unfolding unpacked stateOf twoBytes bind

@@ -1,5 +1,5 @@
 -- Which number is met first on a way of written records over an accepted table: 11, 13 or 21, each exactly where it is due. A program is below
--- the common part of those up to it, so no difference gives 12, and none is too large.
+-- the common part of the programs up to it, so no difference gives 12, and no difference is too large.
 use mathlib.Core.Path.{_≡_, refl, sym, _∙_, ap, subst}
 use mathlib.Core.Bool.{Bool, true, false, cond}
 use mathlib.Core.List.{List, [], _∷_, _++_}
@@ -79,7 +79,7 @@ use Rattle.stored.proofs.Way.{snoc-first, passed-on}
 stop-injective : {q r : Reply} → stopped q ≡ stopped r → q ≡ r
 stop-injective e = cc
 
--- a reply that tells of no length stops, and no other
+-- Where nothing is taken of a call, it stops with the call's reply, which tells no length.
 taken-stopped : (x : Result) (q : Reply) → taken x ≡ stopped q → (x .reply ≡ q) × (lengthOf (x .reply) ≡ none)
 taken-stopped x q e = go (lengthOf (x .reply)) refl e
   where
@@ -90,7 +90,7 @@ taken-stopped x q e = go (lengthOf (x .reply)) refl e
 stopped-taken : (x : Result) (q : Reply) → lengthOf q ≡ none → x .reply ≡ q → taken x ≡ stopped q
 stopped-taken x q silent e = ap (λ (o : Option ℕ). takenBy o x) (ap lengthOf e ∙ silent) ∙ ap stopped e
 
--- what stops one thing after another
+-- If one thing after another stops with a reply, the first stops with it, or the first is made and the second stops with it.
 then-stopped : (m : Made) (next : List ℕ → Made) (r : Reply) → andThen m next ≡ stopped r →
     (m ≡ stopped r) ⊎ ((b : List ℕ) × (m ≡ made b) × (next b ≡ stopped r))
 then-stopped (made b) next r e = inr (b, refl, e)
@@ -115,13 +115,13 @@ append-first [] others v p e = none-some e
 append-first (x ∷ ps) others zero p e = e
 append-first (x ∷ ps) others (suc v) p e = append-first ps others v p e
 
--- Two records.
+-- Facts on two accepted records.
 module _ (n : ℕ) (t a b : List ℕ) (g h : List (Row Label)) (given : Given n t a b g h) where
   common-is : (out : List ℕ) → generalizing n t a b out ≡ resultFor samePair (common n t g h) out
   unfolding generalizing generalized
   common-is out = rw (given .opens, given .first, given .second)
 
-  -- the common part is stopped by 11 alone, and where it is too large
+  -- The common part is stopped by 11 alone, and only where it is too large.
   common-stops : (r : Reply) → commonPart n t a b ≡ stopped r → (TooLarge ≡ r) × Large (common n t g h)
   unfolding commonPart
   common-stops r e =
@@ -135,7 +135,7 @@ module _ (n : ℕ) (t a b : List ℕ) (g h : List (Row Label)) (given : Given n 
   common-large large =
       stopped-taken (generalizing n t a b blank) TooLarge refl (common-part-writes n t a b g h given blank .too-large .1 large)
 
-  -- the difference of what lies below is stopped by 13 alone, and where a node has no wanted type; a is the general record
+  -- Where the second record is below the first, their difference is stopped by 13 alone, and only where a node has no wanted type.
   module _ (below : Below (tableLabels n t) (graphOfRows h) (graphOfRows g)) where
     difference-stops : (r : Reply) → differenceOf n t a b ≡ stopped r → (NoWantedType ≡ r) × SomeUnwanted n t (graphOfRows h) (graphOfRows g)
     unfolding differenceOf
@@ -188,13 +188,13 @@ module _ (n : ℕ) (t : List ℕ) (opens : opened n t ≡ Accepted) where
       let part = common-part n t a b (x .form) (y .form) (both x y) blank l q in
       (subst (AnswersBelow n t a) is (part .first-below), subst (AnswersBelow n t b) is (part .second-below))
 
-  -- written records below one
+  -- The programs are written records, and each is below the record `part`.
   abbrev Under : List ℕ → Programs → Type 0
   Under part ps = (v : ℕ) (p : List ℕ) → getD ps v none ≡ some p → WrittenRecord n p × AnswersBelow n t p part
 
-  -- Differences from a record.
+  -- Differences of programs from the record `part`.
   module _ (part : List ℕ) (g : List (Row Label)) (reads : reading n part ≡ accepted g) where
-    -- a node of the record has no wanted type
+    -- Some node of the program has no wanted type.
     abbrev Lacks : List ℕ → Type 0
     Lacks p = (s : List (Row Label)) × (reading n p ≡ accepted s) × SomeUnwanted n t (graphOfRows s) (graphOfRows g)
 
@@ -250,7 +250,7 @@ module _ (n : ℕ) (t : List ℕ) (opens : opened n t ≡ Accepted) where
         go more (made d) e = ap (λ (m : Made). andThen m λ ds. made (measured d ++ ds)) more
         go more (stopped r) e = ap stopped (sym (one-stops (under 0 q refl) r e .0))
 
-  -- the common part of what is behind, if any, is a written record above all that is behind
+  -- The common part of the programs behind, if there are any, is a written record above all of them.
   data Above (done : Programs) : Option (List ℕ) → Type 0 where
     nothing : ((v : ℕ) (p : List ℕ) → getD done v none ≡ some p → ⊥) → Above done none
     above : (part : List ℕ) → WrittenRecord n part → Under part done → Above done (some part)
@@ -285,7 +285,7 @@ module _ (n : ℕ) (t : List ℕ) (opens : opened n t ≡ Accepted) where
       let (one, under) = above-present here program (written (length behind) program (getD-append-seam behind (some program) [] none)) c is in
       above c one under
 
-  -- A way that stops has met its number,
+  -- A way that stops with a reply has met that number.
   module _ (room : ℕ) (ps : Programs) where
     step-met : (step : Step n t room ps) → Above (step .behind) (step .part) → WrittenRecord n (step .program) → (r : Reply) →
         (joined n t (step .part) (step .program) ≡ stopped r) ⊎
@@ -335,7 +335,7 @@ module _ (n : ℕ) (t : List ℕ) (opens : opened n t ≡ Accepted) where
             ⊎-elim (λ d. step-met step here (written 0 p refl) r (inr (c, is, d))) (λ (s, reached, end). more c s is reached (above c common under) end)
             (then-stopped (stored n t room c (behind ++ some p ∷ [])) (λ s. wayFrom n t room (behind ++ some p ∷ []) (some c) s ahead) r on)
 
-    -- and one on which a number is met stops by it.
+    -- A way on which a number is met stops with it.
     module _ (versions : Versions n ps) where
       step-written : (step : Step n t room ps) → ((v : ℕ) (p : List ℕ) → getD (step .behind ++ some (step .program) ∷ step .ahead) v none ≡ some p → WrittenRecord n p)
       step-written step v p e = versions .written v p (ap (λ (qs : Programs). getD qs v none) (step .whole) ∙ e)
@@ -377,7 +377,7 @@ module _ (n : ℕ) (t : List ℕ) (opens : opened n t ≡ Accepted) where
       unfolding way
       way-meets r = (from-met ps [] none emptyState refl start (nothing (λ v p d. none-some d)) (versions .written) r, met-stops)
 
--- A number that is met tells of no length.
+-- A number that is met on a way tells no length.
 pub met-silent : {n : ℕ} {t : List ℕ} {room : ℕ} {ps : Programs} {r : Reply} → Met n t room ps r → lengthOf r ≡ none
 met-silent (too-large step part g h is one other large) = refl
 met-silent (unwanted step c v p g s is at one other lacks) = refl

@@ -1,4 +1,4 @@
--- What is shown of the calls of a store: what they leave, what is read, and that bytes past the used ones do not matter.
+-- The proofs on the calls of a store: what the calls leave in the buffer, what a read gives, and that bytes past the used ones do not matter.
 use mathlib.Core.Path.{_≡_, refl, sym, _∙_, ap, ap₂, subst}
 use mathlib.Core.Bool.{Bool, true, false, cond, _&&_}
 use mathlib.Core.List.{List, [], _∷_, _++_}
@@ -57,7 +57,7 @@ written-record n t bytes rows opens reads out =
         ap (λ (c : Canonical Label). resultOf (writtenOut c out)) e ∙
         ap (λ (c : Canonical Label). resultOf (fitted (encoded (numbered c)) out)) (sym e)
 
--- A refused call leaves every byte, whatever is handed in.
+-- A refused call leaves every byte as it was, whatever is handed in.
 settled-refused : (buffer : List ℕ) (m : Made) (k : ℕ) → refusal (settled buffer m .reply) ≡ some k → settled buffer m .output ≡ buffer
 settled-refused buffer (made state) k e = none-some e
 settled-refused buffer (stopped r) k e = refl
@@ -94,12 +94,12 @@ module _ (n : ℕ) (t : List ℕ) where
   pub short-none : (buffer : List ℕ) → length buffer < 2 → HoldsNone n t buffer
   short-none buffer h ps holds = omega (arith, holds-long n t buffer ps holds)
 
-  -- the state of a buffer is where the way ends
+  -- The state of a buffer is the end of its programs' way.
   state-is : (buffer : List ℕ) (ps : Programs) (holds : Holds n t buffer ps) (room : ℕ) → length buffer ≡ room → (s : List ℕ) → way n t room ps ≡ made s →
       holds .state ≡ s
   state-is buffer ps holds room long s e = made-injective (sym (holds .reached) ∙ ap (λ (k : ℕ). way n t k ps) long ∙ e)
 
-  -- a state written over the first bytes
+  -- Writing the state of programs over the first bytes leaves a buffer that holds these programs.
   changed-over : (buffer : List ℕ) (ps qs : Programs) → Holds n t buffer ps → Versions n qs → (s : List ℕ) → way n t (length buffer) qs ≡ made s →
       Changed n t buffer (length s) (s ++ drop (length s) buffer) qs
   changed-over buffer ps qs holds versions s reached =
@@ -112,7 +112,7 @@ module _ (n : ℕ) (t : List ℕ) where
         long = long;
       }
 
-  -- What a put that is answered by a length leaves,
+  -- What a put that is answered by a length leaves.
   pub put-changes : (buffer : List ℕ) (version : ℕ) (bytes : List ℕ) (l : ℕ) → putting n t buffer version bytes .reply ≡ Length l →
       (ps : Programs) × (rows : List (Row Label)) × PutChecked n t buffer version bytes ps rows ×
       Changed n t buffer l (putting n t buffer version bytes .output) (set ps version (some (writtenRecord rows)))
@@ -131,7 +131,7 @@ module _ (n : ℕ) (t : List ℕ) where
       )
       go m (due.met ps rows _ passes meets) = elim meets [ ]
 
-  -- and such a drop.
+  -- What a drop that is answered by a length leaves.
   pub drop-changes : (buffer : List ℕ) (version : ℕ) (l : ℕ) → dropping n t buffer version .reply ≡ Length l →
       (ps : Programs) × (p : List ℕ) × VersionChecked n t buffer version ps p ×
       Changed n t buffer l (dropping n t buffer version .output) (set ps version none)
@@ -150,7 +150,7 @@ module _ (n : ℕ) (t : List ℕ) where
       )
       go m (due.met ps p _ passes meets) = elim meets [ ]
 
-  -- Straight after a put the version is read as rewriting gives the program,
+  -- Straight after a put, a read of the version gives what rewriting the program gives.
   pub read-put : (buffer : List ℕ) (version : ℕ) (bytes : List ℕ) (l : ℕ) → putting n t buffer version bytes .reply ≡ Length l → (out : List ℕ) →
       fetching n t (putting n t buffer version bytes .output) version out ≡ rewriting n t bytes out
   read-put buffer version bytes l e out =
@@ -162,7 +162,7 @@ module _ (n : ℕ) (t : List ℕ) where
       }) ∙
       sym (written-record n t bytes rows (passes .opens) (passes .reads) out)
 
-  -- and the others as before;
+  -- A put leaves the other versions readable as before it.
   pub put-others : (buffer : List ℕ) (version : ℕ) (bytes : List ℕ) (l : ℕ) → putting n t buffer version bytes .reply ≡ Length l →
       (other : ℕ) → other ≢ version → (out : List ℕ) → fetching n t (putting n t buffer version bytes .output) other out ≡ fetching n t buffer other out
   put-others buffer version bytes l e other apart out =
@@ -171,7 +171,7 @@ module _ (n : ℕ) (t : List ℕ) where
       ap (λ (o : Option (List ℕ)). given out (onPresent o made)) (getD-set-other ps version other (some (writtenRecord rows)) none apart) ∙
       sym (fetching-is n t (passes .opens) buffer ps (passes .holds) other out)
 
-  -- straight after a drop the version is refused by 20, and the others are read as before.
+  -- Straight after a drop, a read of the version gives 20, and the other versions are read as before the drop.
   pub drop-removes : (buffer : List ℕ) (version : ℕ) (l : ℕ) → dropping n t buffer version .reply ≡ Length l → (out : List ℕ) →
       fetching n t (dropping n t buffer version .output) version out ≡ refusing WrongVersion out
   drop-removes buffer version l e out =
@@ -187,7 +187,7 @@ module _ (n : ℕ) (t : List ℕ) where
       ap (λ (o : Option (List ℕ)). given out (onPresent o made)) (getD-set-other ps version other none none apart) ∙
       sym (fetching-is n t (passes .opens) buffer ps (passes .holds) other out)
 
-  -- Over a table that admits differences 13 never comes.
+  -- Over a table that admits differences, 13 is never given.
   module _ (differ : admits n t ≡ true) (buffer : List ℕ) (version : ℕ) where
     pub put-wanted : (bytes : List ℕ) → putting n t buffer version bytes .reply ≡ NoWantedType → ⊥
     put-wanted bytes e = go (put-exact n t buffer version bytes NoWantedType .0 e)
@@ -209,7 +209,7 @@ module _ (n : ℕ) (t : List ℕ) where
     holds-one buffer ps qs one other =
         some-injective (sym (held-complete n t opens buffer ps one) ∙ held-complete n t opens buffer qs other)
 
-    -- An empty store is two zero bytes, and whatever stands behind them.
+    -- An empty store is two zero bytes with anything behind them.
     pub empty-exact : (buffer : List ℕ) → (held n t buffer ≡ some noPrograms) ↔ ((rest : List ℕ) × (buffer ≡ emptyState ++ rest) × (length rest ≤ 16382))
     empty-exact buffer = (
       λ e. let holds = held-sound n t buffer noPrograms e in
@@ -231,7 +231,7 @@ module _ (n : ℕ) (t : List ℕ) where
       now-holds : Holds n t now programs
       now-holds = calls-hold n t opens cs start ps begins .1
 
-      -- a program that was put under a version and not dropped is read as rewriting gives it
+      -- A program that was put under a version and not dropped is read as rewriting gives it.
       pub read-kept : (version : ℕ) (bytes : List ℕ) → Keeps n t version bytes start cs → (out : List ℕ) →
           fetching n t (bufferAfter n t start cs) version out ≡ rewriting n t bytes out
       read-kept version bytes keeps out =
@@ -239,7 +239,7 @@ module _ (n : ℕ) (t : List ℕ) where
           read-goes n t now version out programs (writtenRecord rows) (record { opens = opens; holds = now-holds; present = at }) ∙
           sym (written-record n t bytes rows opens reads out)
 
-      -- so two versions are read alike exactly when what was put means the same: whatever output is lent,
+      -- Two versions are read with equal reply and output, whatever output is lent, exactly when the programs that were put mean the same.
       pub read-same : (v w : ℕ) (a b : List ℕ) → Keeps n t v a start cs → Keeps n t w b start cs →
           (s g : List (Row Label)) → reading n a ≡ accepted s → reading n b ≡ accepted g →
           SameMeaning (tableLabels n t) (graphOfRows s) (graphOfRows g) ↔
@@ -250,7 +250,7 @@ module _ (n : ℕ) (t : List ℕ) where
             λ same. back (λ out. sym (read-kept v a one out) ∙ same out ∙ read-kept w b other out),
           )
 
-      -- and by the bytes of their records
+      -- Two versions are read as equal bytes exactly when the programs that were put mean the same.
       pub read-meaning : (v w : ℕ) (a b : List ℕ) → Keeps n t v a start cs → Keeps n t w b start cs →
           (s g : List (Row Label)) → reading n a ≡ accepted s → reading n b ≡ accepted g → (out : List ℕ) (l m : ℕ) →
           fetching n t (bufferAfter n t start cs) v out .reply ≡ Length l → fetching n t (bufferAfter n t start cs) w out .reply ≡ Length m →
@@ -266,7 +266,7 @@ module _ (n : ℕ) (t : List ℕ) where
             λ same. back (sym (ap (λ (x : Result). take l (x .output)) e) ∙ same ∙ ap (λ (x : Result). take m (x .output)) d),
           )
 
-    -- From an empty store on.
+    -- Calls from an empty store on.
     module _ (rest : List ℕ) (short : length rest ≤ 16382) (cs : List Call) where
       abbrev start : List ℕ
       start = emptyState ++ rest
@@ -274,7 +274,7 @@ module _ (n : ℕ) (t : List ℕ) where
       begins : Holds n t start noPrograms
       begins = empty-held n t rest short
 
-      -- the programs are those that were put and not dropped
+      -- The programs are those that were put and not dropped.
       pub put-and-kept : (version : ℕ) (p : List ℕ) → (getD (programsAfter n t (emptyState ++ rest) noPrograms cs) version none ≡ some p) ↔
           ((bytes : List ℕ) × (rows : List (Row Label)) × Keeps n t version bytes (emptyState ++ rest) cs × (reading n bytes ≡ accepted rows) × (p ≡ writtenRecord rows))
       put-and-kept version p = (
@@ -288,7 +288,7 @@ module _ (n : ℕ) (t : List ℕ) where
             at ∙ ap (λ (r : List (Row Label)). some (writtenRecord r)) same ∙ ap some (sym is),
       )
 
-      -- 20 of read: no program was put under the version, or it was dropped
+      -- A read gives 20 exactly where no program was put under the version, or the version was dropped since.
       pub read-unkept : (version : ℕ) (out : List ℕ) → (fetching n t (bufferAfter n t (emptyState ++ rest) cs) version out .reply ≡ WrongVersion) ↔
           ((bytes : List ℕ) → Keeps n t version bytes (emptyState ++ rest) cs → ⊥)
       read-unkept version out = (
@@ -316,7 +316,8 @@ module _ (n : ℕ) (t : List ℕ) where
           missing unkept none e = e
           missing unkept (some p) e = let (bytes, _, keeps, _, _) = put-and-kept version p .0 e in absurd (unkept bytes keeps)
 
-      -- the used bytes are those of an empty store of that length, whatever stands in it, into which they were put in version order
+      -- The used bytes are those of an empty store of the same length, with anything behind its two bytes, into which the programs were put in
+      -- version order.
       pub used-by-puts : (s : List ℕ) ×
           ((other : List ℕ) → length other ≡ length rest →
           putsFrom n t (emptyState ++ other) emptyState 0 (programsAfter n t (emptyState ++ rest) noPrograms cs) ≡ made s) ×
@@ -341,7 +342,7 @@ module _ (n : ℕ) (t : List ℕ) where
           (sym (take-append-drop (length (alike .holds .state)) other) ∙
           ap (λ (s : List ℕ). s ++ drop (length (alike .holds .state)) other) (alike .same)))
 
-      -- what is settled in both, where a state is the end of a way
+      -- Where a state is the end of a way, settling it in both buffers gives the same reply and leaves the same used bytes.
       settled-alike : (m : Made) → ((s : List ℕ) → m ≡ made s → (qs : Programs) × Versions n qs × (way n t (length buffer) qs ≡ made s)) →
           (settled other m .reply ≡ settled buffer m .reply) × Alike n t (settled buffer m .output) (settled other m .output)
       settled-alike (stopped r) ends = (refl, alike)
@@ -360,7 +361,7 @@ module _ (n : ℕ) (t : List ℕ) where
             },
           )
 
-      -- what a put makes is the end of a way
+      -- The state that a put makes is the end of a way.
       put-ends : (version : ℕ) (bytes s : List ℕ) → putAmong n t (length buffer) version bytes ps ≡ made s →
           (qs : Programs) × Versions n qs × (way n t (length buffer) qs ≡ made s)
       put-ends version bytes s e = read (reading n bytes) refl e
@@ -390,7 +391,7 @@ module _ (n : ℕ) (t : List ℕ) where
           go none d = stopped-made d
           go (some p) d = (set ps version none, set-versions n ps version none (alike .holds .versions) (λ q i. none-some i), d)
 
-      -- get the same replies and are left with the same used bytes
+      -- A put, and a drop, gives both buffers the same reply and leaves them the same used bytes.
       pub put-alike : (version : ℕ) (bytes : List ℕ) → (putting n t other version bytes .reply ≡ putting n t buffer version bytes .reply) ×
           Alike n t (putting n t buffer version bytes .output) (putting n t other version bytes .output)
       put-alike version bytes =
@@ -424,7 +425,7 @@ module _ (n : ℕ) (t : List ℕ) where
     call-alike (remove version) buffer other alike = drop-alike buffer other alike version
     call-alike (fetch version out) buffer other alike = (ap (λ (x : Result). x .reply) (read-alike buffer other alike version out), alike)
 
-    -- and so in any calls
+    -- Any calls give both buffers the same replies and leave them the same used bytes.
     pub calls-alike : (cs : List Call) (buffer other : List ℕ) → Alike n t buffer other → (replies n t other cs ≡ replies n t buffer cs) ×
         Alike n t (bufferAfter n t buffer cs) (bufferAfter n t other cs)
     unfolding replies bufferAfter

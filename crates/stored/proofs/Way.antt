@@ -1,4 +1,4 @@
--- The way: where it ends, the programs are read back from the state; what a buffer holds is what its first bytes were reached by.
+-- The way. Where it ends in a state, the programs are read back from that state, and a buffer that begins with the state holds them.
 use mathlib.Core.Path.{_≡_, refl, sym, _∙_, ap, ap₂, subst}
 use mathlib.Core.Bool.{Bool, true, false, cond}
 use mathlib.Core.List.{List, [], _∷_, _++_, append-nil}
@@ -44,7 +44,7 @@ use Rattle.stored.proofs.Bytes.{starts-append}
 use Rattle.stored.proofs.Records.{made-injective, stopped-made, common-written}
 use Rattle.stored.proofs.Restoring.{then-made, map-zero, state-unpacked}
 
--- what stands before the last stays
+-- A version stays where it is when one more version is added behind.
 pub snoc-first : (ps : Programs) (o : Option (List ℕ)) (v : ℕ) (p : List ℕ) → getD ps v none ≡ some p → getD (ps ++ o ∷ []) v none ≡ some p
 snoc-first [] o v p e = none-some e
 snoc-first (x ∷ ps) o zero p e = e
@@ -84,7 +84,7 @@ module _ (n : ℕ) (t : List ℕ) where
       ap₂ (λ (m : Made) (x : ℕ). andThen m λ ds. within room (twoBytes x ++ (measured part ++ ds)))
       (differences-absent part ps) (map-absent ps)
 
-  -- where the way stands: no program yet, or the common part of the programs done and their state
+  -- Where the way stands: no program is done, or there is the common part of the programs that are done, with their state.
   data At (room : ℕ) (done : Programs) : Option (List ℕ) → List ℕ → Type 0 where
     empty : mapOf done ≡ 0 → At room done none emptyState
     storing : (part state : List ℕ) → WrittenRecord n part → 0 < mapOf done → stored n t room part done ≡ made state → At room done (some part) state
@@ -94,7 +94,7 @@ module _ (n : ℕ) (t : List ℕ) where
   at-absent {room} {done} (storing part state one there e) =
       storing part state one (omega (arith, map-absent done)) (stored-absent room part done ∙ e)
 
-  -- the common part of what is done with one more is a written record
+  -- The common part of the programs that are done and one more is a written record.
   joined-written : {room : ℕ} {done : Programs} {part : Option (List ℕ)} {state : List ℕ} → At room done part state → (p c : List ℕ) → WrittenRecord n p →
       joined n t part p ≡ made c → WrittenRecord n c
   joined-written (empty _) p c one e = subst (WrittenRecord n) (made-injective e) one
@@ -111,7 +111,7 @@ module _ (n : ℕ) (t : List ℕ) where
       (written (length behind) program (getD-append-seam behind (some program) [] none)) is)
       (map-present behind program) reached
 
-  -- where the way ends
+  -- A way that ends in a state has passed all versions.
   from-passed : (room : ℕ) (ahead behind : Programs) (part : Option (List ℕ)) (state b : List ℕ) → Passed n t room behind part state →
       wayFrom n t room behind part state ahead ≡ made b → (last : Option (List ℕ)) × Passed n t room (behind ++ ahead) last b
   unfolding wayFrom
@@ -128,7 +128,7 @@ module _ (n : ℕ) (t : List ℕ) where
       let (last, there) = from-passed room ahead (behind ++ some p ∷ []) (some c) s b (steps behind part state p c s here is state-is) on in
       (last, subst (λ (ds : Programs). Passed n t room ds last b) (append-snoc behind (some p) ahead) there)
 
-  -- Past versions the way goes on from their common part and state,
+  -- Past some versions, the way goes on from their common part and state.
   pub passed-on : {room : ℕ} {behind : Programs} {part : Option (List ℕ)} {state : List ℕ} → Passed n t room behind part state → (ahead : Programs) →
       way n t room (behind ++ ahead) ≡ wayFrom n t room behind part state ahead
   unfolding way wayFrom
@@ -139,7 +139,7 @@ module _ (n : ℕ) (t : List ℕ) where
       ap (way n t room) (append-snoc behind (some program) ahead) ∙ passed-on before (some program ∷ ahead) ∙
       way-step n t room behind ahead part state program c s is reached
 
-  -- and it ends in a state exactly where it passes all versions and comes to that state.
+  -- The way ends in a state exactly where it passes all versions and comes to that state.
   pub way-passes : (room : ℕ) (ps : Programs) (b : List ℕ) → (way n t room ps ≡ made b) ↔ ((last : Option (List ℕ)) × Passed n t room ps last b)
   unfolding way wayFrom
   way-passes room ps b = (
@@ -182,11 +182,11 @@ module _ (n : ℕ) (t : List ℕ) where
       let (same, fits) = within-made room (stateOf ps part ds) state more in
       omega (arith, ap length same)
 
-  -- A state has two bytes or more,
+  -- A state has two bytes or more.
   pub state-long : (room : ℕ) (ps : Programs) → Versions n ps → (b : List ℕ) → way n t room ps ≡ made b → 2 ≤ length b
   state-long room ps versions b reached = at-long (way-at room ps versions b reached .1)
 
-  -- and stands in its room.
+  -- A state is no longer than its room.
   pub state-fits : (room : ℕ) (ps : Programs) → Versions n ps → (b : List ℕ) → way n t room ps ≡ made b → 2 ≤ room → length b ≤ room
   state-fits room ps versions b reached = at-fits (way-at room ps versions b reached .1)
 
@@ -202,11 +202,11 @@ module _ (n : ℕ) (t : List ℕ) where
         state-unpacked n t opens part one ps versions ds rest is there
 
     module _ (room : ℕ) (ps : Programs) (versions : Versions n ps) (b : List ℕ) (reached : way n t room ps ≡ made b) where
-      -- A state that is reached gives its programs, whatever stands behind it;
+      -- A state that is reached gives its programs, whatever stands behind it.
       reached-unpacked : (rest : List ℕ) → unpacked n t (b ++ rest) ≡ some ps
       reached-unpacked rest = let (last, here) = way-at room ps versions b reached in at-unpacked room ps last b rest versions here
 
-      -- a buffer of that length that begins with it holds them.
+      -- A buffer of the room's length that begins with the state holds these programs.
       pub reached-held : (rest : List ℕ) → length (b ++ rest) ≡ room → room ≤ 16384 → held n t (b ++ rest) ≡ some ps
       unfolding held bind
       reached-held rest long lent =

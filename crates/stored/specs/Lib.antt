@@ -1,3 +1,3 @@
--- The words that the theorems about stores are stated in.
+-- The definitions that only the theorems on stores use.
 pub mod Turns
 pub mod Theorem

@@ -1,5 +1,5 @@
--- What is shown of a store: which programs it may have, what a buffer that holds programs is, where a way ends or which number is met first on
--- it, and what is checked before the way of a call.
+-- Definitions for the theorems on stores: which programs a store may have, when a buffer holds programs, where a way ends or which number is met
+-- first on it, and when each reply of a call is due.
 use mathlib.Core.Path.{_≡_}
 use mathlib.Core.List.{List, [], _∷_, _++_}
 use mathlib.Core.Logic.{_⊎_}
@@ -22,12 +22,12 @@ use Rattle.demands.specs.Demand.{WrittenRecord, Large, common}
 use Rattle.versions.specs.State.{made, Programs, emptyState, stateOf, differences, stored, joined, way}
 use Rattle.store.specs.Calls.{writtenRecord}
 
--- "up to 16 versions", each the written record of a program
+-- "up to 16 versions": each that exists is the written record of a program.
 pub record Versions (n : ℕ) (ps : Programs) : Type 0 where
   pub sixteen : length ps ≡ 16
   pub written : (v : ℕ) (p : List ℕ) → getD ps v none ≡ some p → WrittenRecord n p
 
--- The buffer holds the programs: their way in the buffer's length ends in its first bytes, the used ones.
+-- The buffer holds the programs: their way in the buffer's length ends in the used bytes, which are the first bytes of the buffer.
 pub record Holds (n : ℕ) (t buffer : List ℕ) (ps : Programs) : Type 0 where
   pub versions : Versions n ps
   pub lent : length buffer ≤ 16384
@@ -35,12 +35,12 @@ pub record Holds (n : ℕ) (t buffer : List ℕ) (ps : Programs) : Type 0 where
   pub reached : way n t (length buffer) ps ≡ made state
   pub first : buffer ≡ state ++ drop (length state) buffer
 
--- no list of programs is held
+-- The buffer holds no list of programs.
 abbrev pub HoldsNone : ℕ → List ℕ → List ℕ → Type 0
 HoldsNone n t buffer = (ps : Programs) → Holds n t buffer ps → ⊥
 
--- The way, in a room of so many bytes, has passed versions: their common part so far, if one of them exists, and the state that stores them.
--- "Each step of that way stores the common part of its programs, folded in version order, and every program's difference from it."
+-- "Each step of that way stores the common part of its programs, folded in version order, and every program's difference from it." In a room of
+-- so many bytes, the way has passed these versions, and has their common part so far, if a version exists, and the state that stores them.
 pub data Passed (n : ℕ) (t : List ℕ) (room : ℕ) : Programs → Option (List ℕ) → List ℕ → Type 0 where
   start : Passed n t room [] none emptyState
   absent : (behind : Programs) (part : Option (List ℕ)) (state : List ℕ) → Passed n t room behind part state → Passed n t room (behind ++ none ∷ []) part state
@@ -48,7 +48,7 @@ pub data Passed (n : ℕ) (t : List ℕ) (room : ℕ) : Programs → Option (Lis
       joined n t part program ≡ made c → stored n t room c (behind ++ some program ∷ []) ≡ made s →
       Passed n t room (behind ++ some program ∷ []) (some c) s
 
--- A step of the way of programs: one of them, with the versions behind it passed.
+-- A step of the way of the programs ps: one program, with all versions behind it passed.
 pub record Step (n : ℕ) (t : List ℕ) (room : ℕ) (ps : Programs) : Type 0 where
   pub behind : Programs
   pub program : List ℕ
@@ -62,21 +62,21 @@ pub record Step (n : ℕ) (t : List ℕ) (room : ℕ) (ps : Programs) : Type 0 w
 abbrev pub programsOf : {n : ℕ} {t : List ℕ} {room : ℕ} {ps : Programs} → Step n t room ps → Programs
 programsOf step = step .behind ++ some (step .program) ∷ []
 
--- "the first number met on that way": the way passes every step before one, and stops there by
+-- "the first number met on that way": the way passes every step before some step and stops at that step.
 pub data Met (n : ℕ) (t : List ℕ) (room : ℕ) (ps : Programs) : Reply → Type 0 where
-  -- 11, where the common part so far and the step's program have a common part of "over 255 nodes or 2,048 links",
+  -- 11 is met where the common part so far and the step's program have a common part of "over 255 nodes or 2,048 links".
   too-large : (step : Step n t room ps) (part : List ℕ) (g h : List (Row Label)) → step .part ≡ some part →
       reading n part ≡ accepted g → reading n (step .program) ≡ accepted h → Large (common n t g h) → Met n t room ps TooLarge
-  -- 13, where it is made, and some node of one of the step's programs has no wanted type for the difference from it,
+  -- 13 is met where the common part is made and some node of one of the step's programs has no wanted type for the difference from it.
   unwanted : (step : Step n t room ps) (c : List ℕ) (v : ℕ) (p : List ℕ) (g s : List (Row Label)) → joined n t (step .part) (step .program) ≡ made c →
       getD (programsOf step) v none ≡ some p → reading n c ≡ accepted g → reading n p ≡ accepted s →
       SomeUnwanted n t (graphOfRows s) (graphOfRows g) → Met n t room ps NoWantedType
-  -- or 21, where all differences are made too: "after a step's 11 and 13, too few bytes for its state is 21".
+  -- 21 is met where all differences are made too: "after a step's 11 and 13, too few bytes for its state is 21".
   short : (step : Step n t room ps) (c ds : List ℕ) → joined n t (step .part) (step .program) ≡ made c →
       differences n t c (programsOf step) ≡ made ds → room < length (stateOf (programsOf step) c ds) → Met n t room ps NoStoreRoom
 
--- A put that passes the checks before its way: the table is accepted, the buffer holds programs, the program is accepted, and the version
--- number is "from 0 to 15" and "absent".
+-- A put passes the checks before its way: the table is accepted, the buffer holds programs, the program is accepted, and the version number is
+-- "from 0 to 15" and "absent".
 pub record PutChecked (n : ℕ) (t buffer : List ℕ) (version : ℕ) (bytes : List ℕ) (ps : Programs) (rows : List (Row Label)) : Type 0 where
   pub opens : opened n t ≡ Accepted
   pub holds : Holds n t buffer ps
@@ -84,31 +84,31 @@ pub record PutChecked (n : ℕ) (t buffer : List ℕ) (version : ℕ) (bytes : L
   pub numbered : version < 16
   pub absent : getD ps version none ≡ none
 
--- A drop or a read that passes its checks: the table is accepted, the buffer holds programs, and the version is one of them.
+-- A drop or a read passes its checks: the table is accepted, the buffer holds programs, and the version is one of them.
 pub record VersionChecked (n : ℕ) (t buffer : List ℕ) (version : ℕ) (ps : Programs) (p : List ℕ) : Type 0 where
   pub opens : opened n t ≡ Accepted
   pub holds : Holds n t buffer ps
   pub present : getD ps version none ≡ some p
 
--- What a put or drop that is answered by the length l leaves of the buffer: it holds the new programs, the length is that of the used bytes, and
--- the bytes past them stay.
+-- What a put or drop that is answered by the length l leaves in the buffer: the buffer holds the new programs, the used bytes have that length,
+-- and the bytes past them stay.
 pub record Changed (n : ℕ) (t buffer : List ℕ) (l : ℕ) (new : List ℕ) (qs : Programs) : Type 0 where
   pub holds : Holds n t new qs
   pub used : length (holds .state) ≡ l
   pub others : drop l new ≡ drop l buffer
   pub long : length new ≡ length buffer
 
--- Two buffers of one length with the same used bytes.
+-- The two buffers have one length and the same used bytes.
 pub record Alike (n : ℕ) (t buffer other : List ℕ) : Type 0 where
   pub long : length other ≡ length buffer
   pub programs : Programs
   pub holds : Holds n t buffer programs
   pub same : take (length (holds .state)) other ≡ holds .state
 
--- When each reply of a call is due: the checks stand in their order.
+-- When each reply of a call is due. The cases stand in the order of the checks.
 
 module _ (n : ℕ) (t buffer : List ℕ) (version : ℕ) where
-  -- of put
+  -- The replies of a put.
   pub data PutDue (bytes : List ℕ) : Reply → Type 0 where
     -- 1 to 3: "The table is checked first".
     table : (fault : TableFault) → opened n t ≡ Refused fault → PutDue bytes (Table fault)
@@ -127,7 +127,7 @@ module _ (n : ℕ) (t buffer : List ℕ) (version : ℕ) where
     used : (ps : Programs) (rows : List (Row Label)) (s : List ℕ) → PutChecked n t buffer version bytes ps rows →
         way n t (length buffer) (set ps version (some (writtenRecord rows))) ≡ made s → PutDue bytes (Length (length s))
 
-  -- of drop
+  -- The replies of a drop.
   pub data DropDue : Reply → Type 0 where
     -- 1 to 3
     table : (fault : TableFault) → opened n t ≡ Refused fault → DropDue (Table fault)
@@ -141,7 +141,7 @@ module _ (n : ℕ) (t buffer : List ℕ) (version : ℕ) where
     used : (ps : Programs) (p s : List ℕ) → VersionChecked n t buffer version ps p → way n t (length buffer) (set ps version none) ≡ made s →
         DropDue (Length (length s))
 
-  -- of read, with an output of so many bytes
+  -- The replies of a read with an output of so many bytes.
   pub data ReadDue (room : ℕ) : Reply → Type 0 where
     -- 1 to 3
     table : (fault : TableFault) → opened n t ≡ Refused fault → ReadDue room (Table fault)

@@ -1,4 +1,5 @@
--- Calls in turn on one buffer, over one table.
+-- Definitions for the theorems on stores: calls in turn on one buffer over one table, the programs that remain after them, and the puts of
+-- programs in version order.
 use mathlib.Core.Path.{_≡_}
 use mathlib.Core.List.{List, [], _∷_}
 use mathlib.Core.Option.{Option, none, some}
@@ -11,7 +12,7 @@ use Rattle.replies.specs.Reply.{Result, resulting, lengthOf}
 use Rattle.versions.specs.State.{Made, made, stopped, Programs}
 use Rattle.store.specs.Calls.{writtenRecord, putting, dropping, fetching}
 
--- put, drop and read, each with its version; put has a program, and to read an output is lent
+-- A put has a version and a program, a drop has a version, and a read has a version and the output that is lent.
 pub data Call : Type 0 where
   put : ℕ → List ℕ → Call
   remove : ℕ → Call
@@ -22,12 +23,12 @@ abbrev pub writtenIn : Reading → List ℕ
 writtenIn (refused fault) = []
 writtenIn (accepted rows) = writtenRecord rows
 
--- the first programs, or the second where a reply tells a length
+-- The second programs where a reply tells a length, else the first.
 abbrev pub whereGiven : Option ℕ → Programs → Programs → Programs
 whereGiven none ps qs = ps
 whereGiven (some l) ps qs = qs
 
--- what follows a reply that tells a length, with the buffer and its used bytes; any other reply stops
+-- A reply that tells a length goes on with the buffer and its used bytes; any other reply stops.
 abbrev pub onLength : Option ℕ → Result → (List ℕ → List ℕ → Made) → Made
 onLength none r next = stopped (r .reply)
 onLength (some l) r next = next (r .output) (take l (r .output))
@@ -39,12 +40,12 @@ module _ (n : ℕ) (t : List ℕ) where
   called buffer (remove version) = dropping n t buffer version
   called buffer (fetch version out) = resulting (fetching n t buffer version out .reply) buffer
 
-  -- the buffer after all
+  -- The buffer after all calls.
   unfoldable pub bufferAfter : List ℕ → List Call → List ℕ
   bufferAfter buffer [] = buffer
   bufferAfter buffer (c ∷ cs) = bufferAfter (called buffer c .output) cs
 
-  -- the replies of all
+  -- The replies of all calls.
   unfoldable pub replies : List ℕ → List Call → List Reply
   replies buffer [] = []
   replies buffer (c ∷ cs) = called buffer c .reply ∷ replies (called buffer c .output) cs
@@ -55,26 +56,26 @@ module _ (n : ℕ) (t : List ℕ) where
   done (remove version) ps = set ps version none
   done (fetch version out) ps = ps
 
-  -- the programs after all: a call counts where it is answered by a length
+  -- The programs after all calls: a call changes them where it is answered by a length.
   unfoldable pub programsAfter : List ℕ → Programs → List Call → Programs
   programsAfter buffer ps [] = ps
   programsAfter buffer ps (c ∷ cs) =
       programsAfter (called buffer c .output) (whereGiven (lengthOf (called buffer c .reply)) ps (done c ps)) cs
 
-  -- "put in version order under their numbers": the used bytes once the programs are put from a version on, or the reply that refuses
-  -- the first
+  -- "put in version order under their numbers": the used bytes after the programs are put, where the list begins with the number `version`; or
+  -- the first reply that refuses a put.
   unfoldable pub putsFrom : List ℕ → List ℕ → ℕ → Programs → Made
   putsFrom buffer used version [] = made used
   putsFrom buffer used version (none ∷ ps) = putsFrom buffer used (suc version) ps
   putsFrom buffer used version (some p ∷ ps) =
       onLength (lengthOf (putting n t buffer version p .reply)) (putting n t buffer version p) λ after state. putsFrom after state (suc version) ps
 
-  -- one of the calls drops the version: it is answered by a length
+  -- One of the calls is a drop of the version that is answered by a length.
   pub data Drops (version : ℕ) : List ℕ → List Call → Type 0 where
     here : (buffer : List ℕ) (l : ℕ) (cs : List Call) → dropping n t buffer version .reply ≡ Length l → Drops version buffer (remove version ∷ cs)
     later : (buffer : List ℕ) (c : Call) (cs : List Call) → Drops version (called buffer c .output) cs → Drops version buffer (c ∷ cs)
 
-  -- One of the calls puts the program under the version, answered by a length, and none of those after it drops the version.
+  -- One of the calls is a put of the program under the version that is answered by a length, and no later call drops the version.
   pub data Keeps (version : ℕ) (bytes : List ℕ) : List ℕ → List Call → Type 0 where
     here : (buffer : List ℕ) (l : ℕ) (cs : List Call) → putting n t buffer version bytes .reply ≡ Length l →
         (Drops version (putting n t buffer version bytes .output) cs → ⊥) → Keeps version bytes buffer (put version bytes ∷ cs)

@@ -1,2 +1,2 @@
-// What is shown of stores (document 02, Paper 11), about the definitions that the calls of `store` are proved equal to. There is no code
-// here.
+// This crate states and proves what document 02, Paper 11, demands of stores. The theorems are about the definitions that the calls of `store`
+// are proved equal to. There is no code here.

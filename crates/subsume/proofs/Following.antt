@@ -1,4 +1,4 @@
--- Following the links of one node: what seeking a feature passes over, what mapping one node more keeps, and what each turn of the
+-- Following the links of one node. The lemmas say what seeking a feature passes over, what mapping one more node keeps, and what each turn of the
 -- loop over a row makes of the map and the queue.
 use mathlib.Core.Path.{_≡_, refl, sym, _∙_, ap, subst}
 use mathlib.Core.Bool.{Bool, true, false, cond}
@@ -24,7 +24,7 @@ pub record Seeking (ws : List ℕ) (at end f k : ℕ) : Type 0 where
   pub high : k ≤ end
   pub before : (i : ℕ) → at ≤ i → i < k → featureAt ws i < f
 
--- the feature of a word by the least word of a feature
+-- A word below the least word of a feature has a lower feature.
 pub feature-under : (w f : ℕ) → w < f * scale → w / scale < f
 feature-under w f h = omega arith
 
@@ -41,7 +41,7 @@ seek-on {ws} {at} {end} {f} {k} s h less =
 
 -- Mapping one node more.
 
--- one less is left
+-- Mapping a node leaves one unmapped node less.
 pub unmapped-fall : (l : List ℕ) (w x : ℕ) → w < length l → getD l w 0 ≡ 65535 → (x ≡ 65535 → ⊥) →
     suc (unmapped (set l w x)) ≡ unmapped l
 unfolding unmapped
@@ -64,7 +64,7 @@ unmapped-some (y ∷ l) (suc w) h e = go (eqb y 65535) (unmapped-some l w (omega
     go true q = omega arith
     go false q = q
 
--- there is room for a node that is not mapped
+-- The queue has room for a node that is not mapped.
 pub room : {map queue : List ℕ} {count w : ℕ} → Queued map queue count → w < 255 → getD map w 0 ≡ 65535 → count < 255
 room {map} {w = w} q h e = omega (arith, q .counted, unmapped-some map w (omega (arith, q .map-long)) e)
 
@@ -150,7 +150,7 @@ nodes {ws} {v} r =
     record { few = omega (arith, r .1, r .0 .small); listed = node .listed }
 
 module _ (s g : List ℕ) (u v : ℕ) where
-  -- At place k of v's row in g and place j of u's row in s: no place before j has the feature at k, nor a later one.
+  -- At place k of v's row in g and place j of u's row in s. The places of u's row before j have lower features than place k has.
   pub record Following (map queue : List ℕ) (count : ℕ) (later longer : List ℕ) (k j more : ℕ) : Type 0 where
     pub s-row : Span s u
     pub g-row : Span g v
@@ -319,7 +319,7 @@ module _ {s g : List ℕ} {u v : ℕ} where
               let (p, m, same) = f .followed .leads i low (omega arith) in
               (p, m, still (targetAt g i) (λ z. missing (f .s-row .within p (m .s-low) (m .s-high)) (sym same ∙ z)) ∙ same)
 
-  -- the same, of arrays that are equal
+  -- `Following` holds for equal arrays and numbers.
   pub following-as : {map queue later longer later′ longer′ : List ℕ} {count k j more more′ : ℕ} → later′ ≡ later → longer′ ≡ longer →
       more′ ≡ more → Following s g u v map queue count later longer k j more →
       Following s g u v map queue count later′ longer′ k j more′

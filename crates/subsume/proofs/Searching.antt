@@ -1,5 +1,5 @@
--- The search over g's nodes: every node mapped and its image are led to by one path, so each failure refutes that s is below g;
--- and once every node in the queue is passed, the map is a node map.
+-- The search over g's nodes. One path leads to every mapped node and to its image, so each failure refutes that s is below g. Once every node in
+-- the queue is passed, the map is a node map.
 use mathlib.Core.Path.{_≡_, refl, sym, _∙_, ap, ap₂}
 use mathlib.Core.Bool.{true, false, true≢false}
 use mathlib.Core.List.{List, [], _∷_, _++_}
@@ -103,7 +103,7 @@ module _ (map queue : List ℕ) (bare : map ≡ replicate 255 65535) (clear : qu
 
 -- s and g are graphs of records, t is the type table.
 module _ (t s g : List ℕ) where
-  -- Node v is passed: its label is over that of its image, and its links are among that node's.
+  -- Node v is passed: its label is above that of its image, and its image has all its links.
   pub record Passed (map : List ℕ) (v : ℕ) : Type 0 where
     pub ordered : (n : ℕ) → tableLabels n t .le (labelAt s (getD map v 0)) (labelAt g v) ≡ true
     pub leads : (k : ℕ) → linksFrom g v ≤ k → k < rowEnd g v →
@@ -131,7 +131,7 @@ pub record Next (s g : List ℕ) (u v : ℕ) : Type 0 where
   pub image-typed : Known 64 (labelAt s u)
 
 module _ {t s g : List ℕ} where
-  -- at the root
+  -- The search begins at the root.
   pub searched-start : (map queue : List ℕ) → Recorded s → Recorded g → map ≡ replicate 255 65535 → queue ≡ replicate 255 0 →
       Searched t s g (set map 0 0) queue 1 0
   searched-start map queue lower upper bare clear =
@@ -153,14 +153,14 @@ module _ {t s g : List ℕ} where
       at w h d = ap (λ (i : ℕ). getD (set map 0 0) i 0) (only-root map queue bare clear w h d) ∙ root-mapped map queue bare clear
 
   module _ {map queue : List ℕ} {count head : ℕ} (f : Searched t s g map queue count head) where
-    -- once all are passed
+    -- Facts that hold once all nodes in the queue are passed.
     module _ (all : count ≤ head) where
       mapped-passed : (v : ℕ) → v < 255 → (getD map v 0 ≡ 65535 → ⊥) → Passed t s g map v
       mapped-passed v h d =
           let (i, low, e) = f .queued .placed v h d in
           rw e at (f .passed i (omega arith))
 
-      -- along a link of g
+      -- A link of g from a mapped node leads to a mapped node, and s has the same link between the images.
       link-mapped : (v w a : ℕ) → v < 255 → (getD map v 0 ≡ 65535 → ⊥) → graphIn g .link v a ≡ some w →
           (w < 255) × (getD map w 0 < 255) × (graphIn s .link (getD map v 0) a ≡ some (getD map w 0))
       link-mapped v w a h d e =
@@ -212,7 +212,7 @@ module _ {t s g : List ℕ} where
     order-no never =
         record { yes-stands = λ e. let z : _≡_ {A = ℕ} 0 1 = cc in absurd (omega arith); no-stands = λ _. never }
 
-    -- at the next node
+    -- Facts on the next node of the queue.
     module _ (next : head < count) where
       abbrev v : ℕ
       v = getD queue head 0
@@ -243,7 +243,7 @@ module _ {t s g : List ℕ} where
             image-typed = f .lower .typed u image-in;
           }
 
-      -- its label is not over that of its image
+      -- If the next node's label is not above that of its image, s is not below g.
       pub order-label : (n : ℕ) {answer : List ℕ} → tableLabels n t .le (labelAt s u) (labelAt g v) ≡ false →
           Orders n t (rowsOf s) (rowsOf g) order.NotBelow answer
       order-label n e =
@@ -257,7 +257,7 @@ module _ {t s g : List ℕ} where
           (link-at (f .upper .sound) v k node-in (m .g-low) (m .g-high) ∙ ap some a)
           (ap (λ (i : ℕ). graphIn s .link u i) (sym (m .feature)) ∙ link-at (f .lower .sound) u j image-in (m .s-low) (m .s-high) ∙ ap some b)
 
-      -- its links clash
+      -- If the next node's links clash, s is not below g.
       pub order-clash : (n : ℕ) {answer : List ℕ} → Clash s g u v map →
           Orders n t (rowsOf s) (rowsOf g) order.NotBelow answer
       order-clash n (lacks k low high never) =
@@ -268,7 +268,7 @@ module _ {t s g : List ℕ} where
           never j a c same
       order-clash n (splits w x y h c d never) = order-no λ b. split-refutes (graphIn s) (graphIn g) n t b (come-together h c) (come-together h d) never
 
-      -- it is passed
+      -- If the next node's label is above that of its image and its links are followed, the node is passed.
       pub searched-on : {later longer : List ℕ} {more : ℕ} → ((n : ℕ) → tableLabels n t .le (labelAt s u) (labelAt g v) ≡ true) →
           Followed s g u v map queue count later longer more
           (rowEnd g v) →
@@ -296,7 +296,7 @@ module _ {t s g : List ℕ} where
           come-image {w} h (kept a b) = rw b at (f .image w h a)
           come-image {w} h (led k j m a b) = rw b at (f .lower .sound .targets u j image-in (m .s-low) (m .s-high))
 
-          -- what was passed stays so
+          -- A node that was passed stays passed.
           stays : (w : ℕ) → w < size g → getD map w 0 < size s → Passed t s g map w →
               getD later w 0 ≡ getD map w 0 → Passed t s g later w
           stays w inside image p same =

@@ -1,3 +1,3 @@
--- What the order answers, and what the search for it keeps.
+-- What the order answers, and what holds during the search for the answer.
 pub mod Promise
 pub mod Following

@@ -1,5 +1,5 @@
-// The order: whether the graph s lies below the graph g (document 01, "Order and results"). A queue over g's nodes; each is mapped to the
-// node of s that the same path leads to. It knows graphs in words and the order of a table.
+// The order: whether the graph s lies below the graph g (document 01, "Order and results"). A queue goes through the nodes of g and maps each to
+// the node of s that the same path leads to. This crate knows graphs in words and the order of a type table.
 
 use layout::Label;
 ghost use mathlib.Core.Path.{_≡_};
@@ -11,6 +11,7 @@ ghost use Rattle.layout.specs.Layout.{Recorded, size, rowsOf};
 ghost use Rattle.subsume.specs.Following.{Follows, Queued, Sought};
 ghost use Rattle.subsume.specs.Promise.{Orders};
 
+// Whether the first graph is below the second.
 pub enum Order {
     Below,
     NotBelow,
@@ -22,10 +23,10 @@ pub struct Ordered {
     pub map: [u16; 255],
 }
 
-// The entry of a node that is not mapped yet.
+// The entry in the map of a node that is not mapped.
 pub const NONE: u16 = 0xFFFF;
 
-// The first place from `at` on, before `end`, whose feature is at least f.
+// The first place from `at` on whose feature is at least f; `end` where there is none.
 pub fn seek(graph: &[u16], at: usize, end: usize, f: u16) -> usize
     requires { ⌜ (at ≤ end) × (end ≤ length (now graph)) × (f < 64) ⌝ }
     ensures { λ r. ⌜ Sought (now (graph .entry)) at end f r ⌝ }
@@ -41,8 +42,8 @@ pub fn seek(graph: &[u16], at: usize, end: usize, f: u16) -> usize
     k
 }
 
-// Maps the targets of v's links, v being mapped to u; answers the new end of the queue, 256 where s lacks a link or would have
-// two nodes for one.
+// Maps the targets of v's links, where v is mapped to u. Answers the new length of the queue, or 256 where s lacks a link or a node of g would be
+// mapped to two nodes of s.
 pub fn follow<'a>(
     s: &'a [u16],
     g: &'a [u16],
@@ -104,7 +105,7 @@ pub fn is_label_below(table: &[u8], a: Label, b: Label) -> bool
     lattice::words::is_below(table, a.kind as usize, b.kind as usize)
 }
 
-// Whether s lies below g.
+// Whether s lies below g, and the map of g's nodes to those of s where it does.
 pub fn subsume<'a>(table: &'a [u8], s: &'a [u16], g: &'a [u16]) -> Ordered
     requires { ⌜ Recorded (now s) × Recorded (now g) ⌝ }
     ensures { λ r. ⌜ ((n : ℕ) → Orders n (now (table .entry)) (rowsOf (now (s .entry))) (rowsOf (now (g .entry))) (r .order) (r .map)) ⌝ }

@@ -1,2 +1,2 @@
--- Laws of texts.
+-- Laws of texts, for the proofs of this crate and of those that print.
 pub mod Texts

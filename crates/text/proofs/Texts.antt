@@ -1,4 +1,4 @@
--- Laws of texts: one behind another, and the turns of the loops that put them.
+-- Laws of texts: one text behind another, and the turns of the loops that put them.
 use mathlib.Core.Path.{_≡_, refl, sym, _∙_, ap, ap₂, subst}
 use mathlib.Core.Bool.{Bool, true, false, cond}
 use mathlib.Core.List.{List, [], _∷_, _++_}
@@ -30,7 +30,7 @@ puts-then {a} {b} {at} {middle} {old = old} p q = record {
 pub puts-byte : (at : ℕ) (old : List ℕ) (x : ℕ) → Puts (x ∷ []) at old (at + 1) (set old at x)
 puts-byte at old x = record { next-is = refl; new-is = refl }
 
--- A text that is put byte by byte: what is left of it.
+-- A text that is put byte by byte: `left` is what is left of it.
 pub record Putting (text : List ℕ) (at : ℕ) (old left : List ℕ) (next : ℕ) (new : List ℕ) : Type 0 where
   pub length-is : length new ≡ length old
   pub next-is : next + length left ≡ at + length text
@@ -99,7 +99,7 @@ cond-else : (b : Bool) (x y z : List ℕ) → (b ≡ false → y ≡ z) → cond
 cond-else true x y z h = refl
 cond-else false x y z h = h refl
 
--- how many digits a number may have does not matter where there may be more than it counts
+-- A limit of digits does not matter where it is above the number itself.
 within-any : (j k n : ℕ) → n < j → n < k → decimalWithin j n ≡ decimalWithin k n
 unfolding decimalWithin
 within-any zero k n hj hk = absurd (omega arith)
@@ -121,7 +121,7 @@ decimal-more n h =
 pub decimal-length : (n : ℕ) → 10 ≤ n → length (decimal n) ≡ length (decimal (n / 10)) + 1
 decimal-length n h = ap length (decimal-more n h) ∙ length-append (decimal (n / 10)) (digitOf (n % 10) ∷ [])
 
--- one digit more for ten times as many numbers
+-- Numbers below ten times m have at most one digit more than those below m.
 shorter : (m k : ℕ) → ((n : ℕ) → n < m → length (decimal n) ≤ k) → (n : ℕ) → n < 10 * m → length (decimal n) ≤ suc k
 shorter m k h n small = go (decLt n 10)
   where

@@ -1,2 +1,2 @@
--- Numbers and words as text.
+-- Numbers and bytes as text, and what putting a text into an output leaves.
 pub mod Text

@@ -21,11 +21,11 @@ unfoldable pub decimalWithin : ℕ → ℕ → List ℕ
 decimalWithin zero n = []
 decimalWithin (suc k) n = cond (ltb n 10) (digitOf n ∷ []) (decimalWithin k (n / 10) ++ (digitOf (n % 10) ∷ []))
 
--- a number in decimal, which has no more digits than it counts
+-- A number in decimal. A number n has at most n + 1 digits.
 abbrev pub decimal : ℕ → List ℕ
 decimal n = decimalWithin (suc n) n
 
--- A text stands in the output from a place on, and nothing else changed; the next place is behind it.
+-- The text stands in the output from `at` on, nothing else changed, and `next` is the place behind it.
 pub record Puts (text : List ℕ) (at : ℕ) (old : List ℕ) (next : ℕ) (new : List ℕ) : Type 0 where
   pub next-is : next ≡ at + length text
   pub new-is : new ≡ sets old at text

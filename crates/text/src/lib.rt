@@ -1,11 +1,11 @@
-// Numbers and words as text: bytes put into the output from a place on; each function answers the next place. It knows bytes alone.
+// Numbers and words as text. Each function puts bytes into the output from `at` on and answers the next place. This crate knows bytes alone.
 
 ghost use mathlib.Core.Path.{_≡_};
 ghost use Prim.Native.Nat.{_+_, _<_, _≤_};
 ghost use lib.ListN.{length};
 ghost use Rattle.text.specs.Text.{Puts, decimal, digitOf, hexadecimal};
 
-// A word.
+// Puts a word.
 pub fn put_word(word: &[u8], at: usize, out: &mut [u8]) -> usize
     requires { ⌜ at + length (now word) ≤ length (now out) ⌝ }
     ensures { λ r. ⌜ Puts (now (word .entry)) at (now (out .entry)) r (now (out .exit)) ⌝ }
@@ -28,7 +28,7 @@ fn digit(d: u8) -> u8
     if d < 10 { 48 + d } else { 87 + d }
 }
 
-// Bytes in hexadecimal, two digits for each.
+// Puts bytes in hexadecimal, two digits for each.
 pub fn put_hexadecimal(bytes: &[u8], at: usize, out: &mut [u8]) -> usize
     requires { ⌜ at + length (hexadecimal (now bytes)) ≤ length (now out) ⌝ }
     ensures { λ r. ⌜ Puts (hexadecimal (now (bytes .entry))) at (now (out .entry)) r (now (out .exit)) ⌝ }
@@ -45,7 +45,7 @@ pub fn put_hexadecimal(bytes: &[u8], at: usize, out: &mut [u8]) -> usize
     next
 }
 
-// A number in decimal.
+// Puts a number in decimal.
 pub fn put_decimal(n: usize, at: usize, out: &mut [u8]) -> usize
     requires { ⌜ at + length (decimal n) ≤ length (now out) ⌝ }
     ensures { λ r. ⌜ Puts (decimal n) at (now (out .entry)) r (now (out .exit)) ⌝ }

@@ -1,4 +1,4 @@
--- Loops that copy: words and spans of the two graphs, and rows of classes.
+-- The loops that copy: the words and spans of the two graphs, and the rows of classes.
 use mathlib.Core.Path.{_≡_, refl, sym, _∙_, ap, subst}
 use mathlib.Core.List.{List}
 use Prim.Native.Nat.{ℕ, _+_, _-_, _%_, _≤_, _<_}
@@ -9,7 +9,7 @@ use Rattle.layout.specs.Layout.{header, rowFrom, rowEnd}
 use Rattle.classes.proofs.Roots.{stored, unstored}
 use Rattle.unify.specs.Rows.{WordsCopied, SpansCopied, RowCopied, classWord}
 
--- a value stored, read at a place that is equal
+-- A stored value is read back at an equal place.
 pub stored-at : (l : List ℕ) (i a k : ℕ) → i < length l → k ≡ i → getD (set l i a) k 0 ≡ a
 stored-at l i a k h e = ap (λ (n : ℕ). getD (set l i a) n 0) e ∙ stored l i a h
 

@@ -30,7 +30,7 @@ pub record Filling (nodes : ℕ) (class labels start end pool graph : List ℕ) 
   pub counted : at ≡ ((nodes + 2) + x * header) + sumTo x (rowLength (λ y. getD class y 0) start end)
   pub rows : ClassRows x class labels start end pool graph
 
--- a node's row by its end
+-- The end of a node's row by its length.
 row-end-is : (class start end : List ℕ) (x : ℕ) → getD start x 0 ≤ getD end x 0 →
     (getD start x 0 + rowLength (λ y. getD class y 0) start end x ≡ endOfRow class start end x) × (endOfRow class start end x ≤ getD end x 0)
 row-end-is class start end x h = go (eqb (getD class x 0) x)
@@ -98,7 +98,7 @@ module _ {nodes : ℕ} {class labels start end pool graph : List ℕ} {at x : �
     opened-long : length opened ≡ length graph
     opened-long = ap length opens ∙ length-put graph at label
 
-    -- what copying the row asks
+    -- What copying the row asks for.
     pub fill-asks : ((getD start x 0 ≤ endOfRow class start end x) × (endOfRow class start end x ≤ length pool) ×
         (at + header + endOfRow class start end x ≤ length opened + getD start x 0) × (length opened ≤ 65535)) ×
         ((k : ℕ) → getD start x 0 ≤ k → k < endOfRow class start end x → (targetAt pool k < 510) × (getD class (targetAt pool k) 0 < 510))

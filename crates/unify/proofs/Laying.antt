@@ -1,4 +1,4 @@
--- The links of a graph in the pool; and the rows of two graphs side by side are rows of nodes as merging asks them.
+-- The links of a graph in the pool. The rows of two graphs side by side are the rows of nodes that merging asks for.
 use mathlib.Core.Path.{_≡_, refl, sym, _∙_, ap, subst}
 use mathlib.Core.Bool.{Bool, cond}
 use mathlib.Core.List.{List}
@@ -19,7 +19,7 @@ use Rattle.layout.proofs.Order.{row-low, row-last}
 use Rattle.layout.proofs.Sums.{rows-end, words-few}
 use Rattle.unify.proofs.Words.{moved-feature, moved-link, moved-target}
 
--- What is copied is placed, and stays so where its words and spans are kept.
+-- Copied words and spans are placed, and stay placed where later writes keep them.
 module _ {ws : List ℕ} (r : Recorded ws) {at shift : ℕ} {p₀ p₁ : List ℕ} {next : ℕ} {s₀ e₀ s₁ e₁ : List ℕ}
     (words : WordsCopied ws (rowsEnd ws) at shift p₀ p₁ next) (spans : SpansCopied ws (size ws) at shift s₀ e₀ s₁ e₁)
     (start end pool : List ℕ) (pool-kept : (k : ℕ) → k < next → getD pool k 0 ≡ getD p₁ k 0)
@@ -63,7 +63,7 @@ module _ {ws : List ℕ} (r : Recorded ws) {at shift : ℕ} {p₀ p₁ : List �
           moved-link r v (linksFrom ws v + i) shift h (omega arith) inside few
 
 module _ {ws : List ℕ} (r : Recorded ws) {shift : ℕ} (few : shift ≤ 255) {start end pool : List ℕ} (p : Placed ws shift start end pool) where
-  -- the place of the graph that a place of the pool has the link of
+  -- The place in the graph whose link stands at place k of the pool.
   abbrev pub origin : ℕ → ℕ → ℕ
   origin v k = linksFrom ws v + (k - getD start (shift + v) 0)
 
@@ -125,7 +125,7 @@ module _ {ws : List ℕ} (r : Recorded ws) {shift : ℕ} (few : shift ≤ 255) {
       let i = origin-in v k h place in
       omega (arith, origin-target v k h place, r .sound .targets v (origin v k) h (i .0) (i .1))
 
-  -- the sum of the lengths
+  -- The sum of the lengths of the rows.
   pub placed-sum : (k : ℕ) → k ≤ size ws →
       sumTo (shift + k) (rowLength (λ y. y) start end) ≡ sumTo shift (rowLength (λ y. y) start end) + linksIn (rowsFrom ws 0 k)
   unfolding sumTo rowsFrom linksIn
@@ -246,7 +246,7 @@ lay {a} {b} ra rb {p₀} {p₁} {pool} {s₀} {e₀} {s₁} {e₁} {start} {end}
     second : Placed b (size a) start end pool
     second = placed rb wb sb start end pool (λ k h. refl) (λ k h. refl) (λ k h. refl) (ra .small)
 
--- there is room for the joins of what is laid
+-- There is room for the joins of two graphs that are laid side by side.
 pub laid-roomy : {a b start end pool : List ℕ} {used room : ℕ} → Laid a b start end pool used →
     Roomy (size a + size b) (linksBoth a b) (wordsIn a + wordsIn b) room → length pool ≡ room →
     Roomy (size a + size b) (linksOf (size a + size b) start end) used (length pool)
@@ -262,7 +262,7 @@ pub closed-classed : {nodes second : ℕ} {start end pool class start′ end′ 
     Closed nodes second start end pool class start′ end′ pool′ used → (x : ℕ) → x < nodes → getD class x 0 < 510
 closed-classed c x h = omega (arith, c .lowest x h, c .rows .few)
 
--- the graph of the classes can be built
+-- The classes' rows are such that the graph of the classes can be built.
 pub closed-fillable : {nodes second : ℕ} {start end pool class start′ end′ pool′ : List ℕ} {used : ℕ} →
     Closed nodes second start end pool class start′ end′ pool′ used → linksOf nodes start end ≤ 4096 → {words : ℕ} →
     (nodes + 2) + nodes * header + linksOf nodes start end ≤ words → Fillable nodes class start′ end′ pool′ words

@@ -1,4 +1,4 @@
--- The loops over the nodes' labels: the labels of classes, and whether one is the contradiction.
+-- The loops over the nodes' labels: they make the labels of classes, and look for a contradiction.
 use mathlib.Core.Path.{_≡_, sym, _∙_, ap, subst}
 use mathlib.Core.Bool.{Bool, true, false, cond, _||_}
 use mathlib.Core.List.{List, [], _∷_, foldr}
@@ -28,7 +28,7 @@ from-empty : (n : ℕ) → from n (n - n) ≡ []
 unfolding from
 from-empty n = let e : n - n ≡ 0 = omega arith in ap (from n) e
 
--- the meet of two labels over n types is one
+-- The meet of two labels over n types is a label over n types.
 pub meet-known : (n : ℕ) (meets : ℕ → ℕ → ℕ) → MeetsBelow n meets → (x y : Label) → Known n x → Known n y →
     Known n (meetRanged meets x y)
 meet-known n meets below x y k l =
@@ -38,7 +38,7 @@ meet-known n meets below x y k l =
       highest = omega (arith, k .highest, l .highest);
     }
 
--- A label that is stored, and the others.
+-- A stored label is read back, and the other labels stay.
 pub class-put : (labels : List ℕ) (c : ℕ) (l : Label) → length labels ≡ labelWords → c < 510 → l .highest ≤ 255 →
     labelOfClass (putLabel labels (header * c) l) c ≡ l
 class-put labels c l long h high = label-put labels (header * c) l (omega arith) high
@@ -123,7 +123,7 @@ module _ {meets : ℕ → ℕ → ℕ} {ws class : List ℕ} {shift : ℕ} {labe
       below n given c h (yes e) = subst (Known n) (sym (here c e)) (new-known n given)
       below n given c h (no d) = subst (Known n) (sym (elsewhere c d)) (s .below n given c h)
 
-      -- one node more
+      -- The fold over one more node.
       unfolded : (c : ℕ) →
           foldr (lowerBy meets ws class shift c) (labelOfClass labels₀ c) (from (v - 1) (size ws - (v - 1))) ≡
           lowerBy meets ws class shift c (v - 1) (foldr (lowerBy meets ws class shift c) (labelOfClass labels₀ c) (from v (size ws - v)))
@@ -155,7 +155,7 @@ module _ {meets : ℕ → ℕ → ℕ} {ws class : List ℕ} {shift : ℕ} {labe
           ap (λ (t : Bool). cond t (meetRanged meets (labelAt ws (v - 1)) (labelOfClass labels c)) (labelOfClass labels c))
           (ne-eqb c₀ c (λ q. d (sym q))))
 
--- words of zeros
+-- Words of zeros are labels over n types.
 pub blank-below : {n : ℕ} → 0 < n → Below n (replicate labelWords 0)
 blank-below {n} some c h =
     let a : _≡_ {A = ℕ} (getD (replicate labelWords 0) (header * c) 0) 0 = getD-replicate {A = ℕ} labelWords (header * c) 0 0 (omega arith) in

@@ -1,5 +1,5 @@
--- The graph of the classes in words is alike with the one that unification defines, by the classes of one node; so it has
--- the same cycles, labels and written form, and what is answered is what the definition says.
+-- The graph of the classes in words is alike with the graph that the definition of the combination gives. So it has the same cycles, labels and
+-- written form, and the answer is the one that the definition gives.
 use mathlib.Core.Path.{_≡_, refl, sym, _∙_, ap, ap₂}
 use mathlib.Core.Bool.{Bool, true, false, cond, _||_}
 use mathlib.Core.List.{List, [], _∷_, _++_, map, foldr, List·Memᴰ, List·Memᴰ·head, List·Memᴰ·tail}
@@ -132,7 +132,7 @@ module _ (n : ℕ) (meets : ℕ → ℕ → ℕ) {a b graph : List ℕ} (left : 
   abbrev clashes : Bool
   clashes = hasClash (meetRanged meets) (plain (n - 1)) contradicts eqb eqb (graphIn a) (from 0 (size a)) (graphIn b) (from 0 (size b))
 
-  -- the unification, by the numbers of nodes
+  -- The combination, with the nodes as numbers.
   abbrev joint : ℕ → ℕ → Unified Label (ℕ ⊎ ℕ)
   joint k l = unificationBy (meetRanged meets) (plain (n - 1)) contradicts eqb eqb (graphIn a) (from 0 k) (graphIn b) (from 0 l)
 
@@ -148,7 +148,7 @@ module _ (n : ℕ) (meets : ℕ → ℕ → ℕ) {a b graph : List ℕ} (left : 
   unlisted : (x : ℕ ⊎ ℕ) → List·Memᴰ x (nodesBeside (from 0 (size a)) (from 0 (size b))) → Inside left right x
   unlisted x i = reached-in left right x (listed-reached given x i)
 
-  -- two names are one exactly where two classes are
+  -- Two nodes have one name exactly where they have one class.
   name-class : (x y : ℕ ⊎ ℕ) → Inside left right x → Inside left right y → name x ≡ name y → cls x ≡ cls y
   name-class x y p q e =
       related-one left right m (name-related given x y (inside-reached left right x p) (inside-reached left right y q) .0 e)
@@ -172,7 +172,7 @@ module _ (n : ℕ) (meets : ℕ → ℕ → ℕ) {a b graph : List ℕ} (left : 
       (nodesBeside (from 0 (size a)) (from 0 (size b))) name c d f e in
       (x, y, unlisted x i, p, l, q)
 
-  -- the class of a node by its name and in the array
+  -- Some node has the name c and the class i.
   abbrev Both : ℕ ⊎ ℕ → ℕ → Type 0
   Both c i = (x : ℕ ⊎ ℕ) × Inside left right x × (name x ≡ c) × (cls x ≡ i)
 
@@ -235,7 +235,7 @@ module _ (n : ℕ) (meets : ℕ → ℕ → ℕ) {a b graph : List ℕ} (left : 
       deep-alike Both u rows both-links (length (from 0 (size a)) + length (from 0 (size b))) (u .root) 0 both-root ∙
       ap₂ (λ (i j : ℕ). deep (rows .link) (i + j) 0) (length-from 0 (size a)) (length-from 0 (size b))
 
-  -- a path of either graph is one of the classes
+  -- A path of either graph is a path of the graph of the classes.
   class-walk : (p : List ℕ) (x : ℕ ⊎ ℕ) → Leads (graphIn a) (graphIn b) p x → walk rows p ≡ some (cls x)
   unfolding follow
   class-walk =
@@ -295,7 +295,7 @@ module _ (n : ℕ) (meets : ℕ → ℕ → ℕ) {a b graph : List ℕ} (left : 
       walk-deep (rows .link) (size a + size b) 0 path y
       (λ q y z f d l. link-known (class-sound left right m) y f z (within (inside-follow q y d)) l .0) e far
 
-  -- along links the places in an order with targets first fall
+  -- Along links, the places in an order with targets first fall.
   module _ {order : List ℕ} {place : ℕ → ℕ} (sorted : TargetsFirst graph order place) where
     falls : (p : List ℕ) (v x : ℕ) → v < size a + size b → follow (rows .link) (some v) p ≡ some x → length p ≤ place v
     unfolding follow
@@ -346,7 +346,7 @@ module _ (n : ℕ) (meets : ℕ → ℕ → ℕ) {a b graph : List ℕ} (left : 
       step y d =
           cond (sameEither (name y) c) (meetRanged meets (labelBeside (graphIn a .label) (graphIn b .label) y) d) d
 
-      -- a node is of the class by either account
+      -- Both accounts agree on which nodes are in the class.
       test : (y : ℕ ⊎ ℕ) → Inside left right y → sameEither (name y) c ≡ eqb (cls y) i
       test y y-in =
           bool-same (sameEither (name y) c) (eqb (cls y) i)
@@ -422,7 +422,7 @@ module _ (n : ℕ) (meets : ℕ → ℕ → ℕ) {a b graph : List ℕ} (left : 
   abbrev answered : Bool → Bool → Unified Label (ℕ ⊎ ℕ)
   answered s t = cond s cycle (cond t clash (unified u))
 
-  -- as many nodes as rows
+  -- There are as many nodes as rows.
   out-is : (old : List ℕ) → unifiedOut (joint (size a) (size b)) old ≡ unifyingOut n meets a b old
   out-is old = sym (ap₂ (λ (k l : ℕ). unifiedOut (joint k l) old) (length-rows a 0 (size a)) (length-rows b 0 (size b)))
 

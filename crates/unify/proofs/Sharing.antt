@@ -1,5 +1,5 @@
--- The classes in the array are those of the graphs' nodes: two nodes have one class exactly when they are related. And what the
--- graph of the classes in words holds: the links of the classes' nodes.
+-- The classes in the array are those of the graphs' nodes: two nodes have one class exactly when they are related. The graph of the classes in
+-- words has the links of the classes' nodes.
 use mathlib.Core.Path.{_≡_, refl, sym, _∙_, ap, subst}
 use mathlib.Core.Bool.{Bool, true, false, cond}
 use mathlib.Core.List.{List}
@@ -24,7 +24,7 @@ use Rattle.classes.proofs.Merging.{feature-same, target-same}
 use Rattle.unify.specs.Rows.{Operand, Merges}
 use Rattle.unify.proofs.Sides.{Inside, number, inside-reached, reached-in, number-in, number-one, node-of, link-in, link-of}
 
--- a row's features ascend, so that a feature stands at one place
+-- The features of a row ascend, so a feature stands at one place.
 span-rises : {ws : List ℕ} {used start end : ℕ} → Span ws used start end → (n j k : ℕ) → k ≡ j + suc n → start ≤ j → k < end →
     featureAt ws j < featureAt ws k
 span-rises {ws} s zero j k e low high =
@@ -42,7 +42,7 @@ span-one s j k j-low j-high k-low k-high e = go (decLt j k) (decLt k j)
     go (no n) (yes l) = absurd (omega (arith, span-rises s (j - suc k) k j (omega arith) k-low j-high))
     go (no n) (no m) = omega arith
 
--- what a link between classes says
+-- The feature and the target of a link between classes.
 word-parts : (f t : ℕ) → t < scale → (linkWord (f, t) / scale ≡ f) × (linkWord (f, t) % scale ≡ t)
 word-parts f t h = (omega arith, omega arith)
 
@@ -76,7 +76,7 @@ module _ {n : ℕ} {meets : ℕ → ℕ → ℕ} {a b graph : List ℕ} (left : 
           let (w, w-in, _, n) = link-of left right (m .first) (m .second) v j v-in (subst (λ (i : ℕ). At (m .start) (m .end) i j) (sym q) place) in
           subst (λ (i : ℕ). i < size a + size b) n (number-in left right w w-in)
 
-  -- the relation of numbers is that of nodes
+  -- Numbers that are the same by the links are the numbers of related nodes.
   alike-related : {i j : ℕ} → Alike i j → (x y : ℕ ⊎ ℕ) → Inside left right x → Inside left right y → number (size a) x ≡ i →
       number (size a) y ≡ j → RelatedBeside (graphIn a) (graphIn b) x y
   alike-related classes.roots x y p q d e =
@@ -144,7 +144,7 @@ module _ {n : ℕ} {meets : ℕ → ℕ → ℕ} {a b graph : List ℕ} (left : 
       m .built .rows .lengths x h ∙
       ap (λ (s : Bool). linksFrom graph x + cond s (getD (m .end′) x 0 - getD (m .start′) x 0) 0) e
 
-  -- a place of a node's row is one of the class that the node represents
+  -- A place in a node's row is a place in the row of the class that the node represents.
   row-place : (x i : ℕ) → x < size a + size b → linksFrom graph x + i < rowEnd graph x →
       (getD class x 0 ≡ x) × (getD (m .start′) x 0 + i < getD (m .end′) x 0)
   row-place x i h inside = go (ℕ-discrete (getD class x 0) x)
@@ -153,7 +153,7 @@ module _ {n : ℕ} {meets : ℕ → ℕ → ℕ} {a b graph : List ℕ} (left : 
       go (yes e) = (e, omega (arith, row-length x h true (eq-eqb (getD class x 0) x e)))
       go (no d) = absurd (omega (arith, row-length x h false (ne-eqb (getD class x 0) x d)))
 
-  -- and the other way
+  -- A place in the row of a class is a place in the row of the node that represents it.
   place-row : (x i : ℕ) → x < size a + size b → getD class x 0 ≡ x → getD (m .start′) x 0 + i < getD (m .end′) x 0 →
       linksFrom graph x + i < rowEnd graph x
   place-row x i h own inside = omega (arith, row-length x h true (eq-eqb (getD class x 0) x own))
@@ -180,7 +180,7 @@ module _ {n : ℕ} {meets : ℕ → ℕ → ℕ} {a b graph : List ℕ} (left : 
         word-parts (featureAt (m .pool′) (getD (m .start′) x 0 + i)) (getD class (targetAt (m .pool′) (getD (m .start′) x 0 + i)) 0)
         target-small .1
 
-  -- a place in terms of its class's row
+  -- Place k of node x's row, by the row of its class.
   record Stands (x k : ℕ) : Type 0 where
     own : getD class x 0 ≡ x
     place : ℕ

@@ -1,5 +1,5 @@
--- The two graphs in their words, and their nodes side by side by number: those of the second come after those of the first. A link
--- of a node is a place of its number's span.
+-- The two graphs in their words, and their nodes side by side by number: those of the second come after those of the first. The links of a node
+-- stand in the span of its number.
 use mathlib.Core.Path.{_≡_, refl, _∙_, ap, subst}
 use mathlib.Core.List.{List}
 use mathlib.Core.Logic.{_⊎_, inl, inr}
@@ -91,7 +91,7 @@ module _ {n : ℕ} {a b : List ℕ} (left : Operand n a) (right : Operand n b) w
     none : 0 ≤ 255
     none = omega arith
 
-    -- a link stands at a place
+    -- A link of a node stands at a place of the pool.
     pub link-in : (x y : ℕ ⊎ ℕ) (f : ℕ) → Inside x → linkBeside (graphIn a) (graphIn b) x f ≡ some y →
         Inside y × ((j : ℕ) × At start end (number (size a) x) j × (featureAt pool j ≡ f) × (targetAt pool j ≡ number (size a) y))
     link-in (inl v) y f i e =
@@ -112,7 +112,7 @@ module _ {n : ℕ} {a b : List ℕ} (left : Operand n a) (right : Operand n b) w
         Inside y × ((j : ℕ) × At start end (size a + v) j × (featureAt pool j ≡ f) × (targetAt pool j ≡ number (size a) y))) q
         (link-known (right .recorded .sound) v f w i d .1, (j, place, feature, target))
 
-    -- a place is a link
+    -- A place of the pool is a link of its node.
     pub link-of : (x : ℕ ⊎ ℕ) (j : ℕ) → Inside x → At start end (number (size a) x) j →
         (y : ℕ ⊎ ℕ) × Inside y × (linkBeside (graphIn a) (graphIn b) x (featureAt pool j) ≡ some y) × (number (size a) y ≡ targetAt pool j)
     link-of (inl v) j i place =

@@ -1,4 +1,4 @@
--- The lent arrays of a size have room for any two graphs that have no more nodes and links than the size.
+-- The lent arrays of a size have room for any two graphs whose nodes and links do not exceed the size.
 use mathlib.Core.Path.{_≡_}
 use mathlib.Core.List.{List}
 use mathlib.Core.Logic.{_⊎_, inl, inr, ⊎-elim}
@@ -10,7 +10,7 @@ use Rattle.layout.proofs.Sums.{rows-end}
 use Rattle.unify.specs.Rows.{Holding, Spacious, linksBoth, wordsIn}
 
 module _ {a b : List ℕ} (ra : Recorded a) (rb : Recorded b) where
-  -- the words of both are their headers and their links
+  -- The words of both graphs are their headers and their links.
   pub words-both : wordsIn a + wordsIn b ≡ header * (size a + size b) + linksBoth a b
   words-both = omega (arith, rows-end a (ra .sound .shaped) (size a) (omega arith), rows-end b (rb .sound .shaped) (size b) (omega arith))
 

@@ -1,4 +1,4 @@
--- The words of the rows of a record's graph: how many they are, and that a target can be moved.
+-- The words of the rows of a record's graph: how many there are, and that a target can be moved.
 use mathlib.Core.Path.{_≡_}
 use mathlib.Core.List.{List}
 use Prim.Native.Nat.{ℕ, _+_, _/_, _%_, _≤_, _<_}
@@ -9,7 +9,7 @@ use Rattle.layout.proofs.Order.{row-low, row-last}
 use Rattle.layout.proofs.Sums.{words-few}
 use Rattle.unify.specs.Rows.{wordsIn}
 
--- a word whose target is moved
+-- The feature and the target of a word whose target is moved.
 pub moved-feature : (w shift : ℕ) → w % scale + shift < scale → (w + shift) / scale ≡ w / scale
 moved-feature w shift h = omega arith
 
@@ -33,7 +33,7 @@ module _ {ws : List ℕ} (r : Recorded ws) where
     omega (arith, row-last shaped v h, words-few r),
   )
 
-  -- a link's word moved by up to 255 does not wrap
+  -- The word of a link, moved by up to 255, does not overflow.
   pub moved-link : (v k shift : ℕ) → v < size ws → linksFrom ws v ≤ k → k < rowEnd ws v → shift ≤ 255 →
       (getD ws k 0 + shift) % 65536 ≡ getD ws k 0 + shift
   moved-link v k shift h low high few = omega (arith, shaped .known v k h low high, r .sound .targets v k h low high, r .small)

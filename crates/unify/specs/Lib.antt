@@ -1,4 +1,4 @@
--- What unification answers, and what its parts keep.
+-- What the combination answers, and what holds in its parts.
 pub mod Outcome
 pub mod Lowered
 pub mod Rows

@@ -1,4 +1,4 @@
--- The labels of classes as they are computed.
+-- The labels of classes as they are computed: each is the meet of the labels of the nodes in its class.
 use mathlib.Core.Path.{_≡_}
 use mathlib.Core.Bool.{false, cond}
 use mathlib.Core.List.{List, foldr}
@@ -11,7 +11,7 @@ use Rattle.lattice.specs.Labels.{Known, meetRanged}
 use Rattle.bounds.specs.Sets.{Seekable, meetIn}
 use Rattle.layout.specs.Layout.{size, header, labelAt, labelFrom}
 
--- the label of the class c met with the label of node v, where the node is of that class
+-- The label a of the class c, met with the label of node v where the node is in that class.
 abbrev pub lowerBy : (ℕ → ℕ → ℕ) → List ℕ → List ℕ → ℕ → ℕ → ℕ → Label → Label
 lowerBy meets ws class shift c v a = cond (eqb (getD class (shift + v) 0) c) (meetRanged meets (labelAt ws v) a) a
 
@@ -19,7 +19,7 @@ lowerBy meets ws class shift c v a = cond (eqb (getD class (shift + v) 0) c) (me
 abbrev pub lowered : (ℕ → ℕ → ℕ) → List ℕ → List ℕ → ℕ → ℕ → Label → Label
 lowered meets ws class shift c label = foldr (lowerBy meets ws class shift c) label (from 0 (size ws))
 
--- the same over the nodes of two graphs, from the greatest of n types
+-- The label of the class c over the nodes of two graphs, from the greatest of n types on.
 abbrev pub loweredBoth : ℕ → (ℕ → ℕ → ℕ) → List ℕ → List ℕ → List ℕ → ℕ → Label
 loweredBoth n meets a b class c = lowered meets a class 0 c (lowered meets b class (size a) c (plain (n - 1)))
 
@@ -27,7 +27,7 @@ loweredBoth n meets a b class c = lowered meets a class 0 c (lowered meets b cla
 abbrev pub MeetsBelow : ℕ → (ℕ → ℕ → ℕ) → Type 0
 MeetsBelow n meets = (i j : ℕ) → i < n → j < n → meets i j < n
 
--- the meets of n types as they are held
+-- The meets of n types, as sets and cells have them.
 pub record Meeting (n : ℕ) (sets : List ℕ) (cells : List (List ℕ)) : Type 0 where
   pub below : MeetsBelow n (meetIn n sets cells)
   pub ready : Seekable false n sets
@@ -36,11 +36,11 @@ pub record Meeting (n : ℕ) (sets : List ℕ) (cells : List (List ℕ)) : Type 
 abbrev pub labelOfClass : List ℕ → ℕ → Label
 labelOfClass labels c = labelFrom labels (header * c)
 
--- the number of such words
+-- The number of words for the labels of 510 classes.
 abbrev pub labelWords : ℕ
 labelWords = 510 * header
 
--- the labels of classes are lowered by the nodes of a graph
+-- The labels of all classes are met with the labels of a graph's nodes.
 abbrev pub Lowers : (ℕ → ℕ → ℕ) → List ℕ → List ℕ → ℕ → List ℕ → List ℕ → Type 0
 Lowers meets ws class shift labels labels′ =
     (c : ℕ) → c < 510 → labelOfClass labels′ c ≡ lowered meets ws class shift c (labelOfClass labels c)
@@ -53,7 +53,7 @@ ClassLabels n meets a b class labels = (c : ℕ) → c < size a + size b → lab
 abbrev pub Below : ℕ → List ℕ → Type 0
 Below n labels = (c : ℕ) → c < 510 → Known n (labelOfClass labels c)
 
--- Labels of classes and of a graph's nodes over n types with their meets.
+-- The labels of the classes and of a graph's nodes are labels over n types, whose meets are given.
 pub record Lowerable (n : ℕ) (meets : ℕ → ℕ → ℕ) (ws labels : List ℕ) : Type 0 where
   pub few : n ≤ 64
   pub meets-below : MeetsBelow n meets

@@ -1,4 +1,4 @@
--- The outcome of a unification: 9 for a loop; 10 for a clash, and no loop; else its record in canonical form, or 11 or 8.
+-- The outcome of a combination (document 01, "Returned by a call"): 9 for a loop; 10 for a clash and no loop; else the written record, 11 or 8.
 use mathlib.Core.Bool.{Bool}
 use mathlib.Core.List.{List}
 use mathlib.Core.Logic.{_⊎_}
@@ -14,21 +14,21 @@ use Rattle.encode.specs.Encode.{Yield, Outcome, yielding, writtenOut}
 use Rattle.unify.specs.declared.Combined.{Combined}
 use Rattle.unify.specs.declared.Combined.the-variants as combined
 
--- type 0, or an empty range
+-- The label is a contradiction: it has type 0, or an empty range.
 abbrev pub contradicts : Label → Bool
 contradicts l = contradictionRanged (λ a. eqb a 0) l
 
--- what writing a unification yields
+-- The outcome of writing, as the outcome of a combination.
 abbrev pub combinedOf : Outcome → Yield Combined
 combinedOf o = yielding (combined.Written (o .answer)) (o .output)
 
--- "combination: loop", "combination: clash, no loop", both with the output unchanged; else what writing the unification yields
+-- "combination: loop" and "combination: clash, no loop" leave the output unchanged; else the result is what writing the combination yields.
 unfoldable pub unifiedOut : Unified Label (ℕ ⊎ ℕ) → List ℕ → Yield Combined
 unifiedOut cycle old = yielding combined.Cycle old
 unifiedOut clash old = yielding combined.Clash old
 unifiedOut (unified u) old = combinedOf (writtenOut (canonical sameEither u) old)
 
--- what unifying the graphs that words hold yields, over n types with their meets, however they are had
+-- What combining the graphs that the words hold yields, over n types with the meets given.
 abbrev pub unifyingOut : ℕ → (ℕ → ℕ → ℕ) → List ℕ → List ℕ → List ℕ → Yield Combined
 unifyingOut n meets a b old =
     unifiedOut (combinationOf (meetRanged meets) (plain (n - 1)) contradicts noLabel (rowsOf a) (rowsOf b)) old

@@ -1,10 +1,10 @@
-// The labels of classes: "a class has the meet of all types in it", and the overlap of all ranges. They stand in words as headers, one
-// after another, that of class c at HEADER * c.
+// The labels of classes: "a class has the meet of all types in it", and the overlap of all ranges. The labels are headers in words, one after
+// another; that of class c stands at HEADER * c.
 
 use layout::HEADER;
 use layout::Label;
 
-// The words of the labels of 510 classes.
+// The number of words for the labels of 510 classes.
 pub const LABELS: usize = 510 * HEADER;
 
 ghost use Prim.Native.Nat.{ℕ, _+_, _-_, _≤_, _<_};
@@ -41,7 +41,8 @@ fn meet<'a>(
     }
 }
 
-// Meets the label of each node's class with the node's label, the last node first. Node v of the graph is node shift + v of both.
+// Meets the label of each node's class with the node's label, the last node first. Node v of the graph has the number shift + v among the nodes
+// of both graphs.
 fn lower<'a>(
     n: usize,
     sets: &'a [u64; bounds::sets::WORDS],
@@ -92,7 +93,7 @@ fn clear(n: usize, nodes: usize, labels: &mut [u16; LABELS])
     }
 }
 
-// The labels of the classes of two graphs' nodes over n types: top, met with the labels of the nodes.
+// The labels of the classes of two graphs' nodes over n types: each is the meet of the labels of its nodes.
 pub fn class_labels<'a>(
     n: usize,
     sets: &'a [u64; bounds::sets::WORDS],

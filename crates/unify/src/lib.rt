@@ -1,5 +1,5 @@
-// Unification, document 01's combination: the nodes of both graphs are merged into classes, and the graph of the classes is written. The
-// nodes of the second graph are numbered after those of the first. It knows graphs in words and the meets that `bounds` holds; `encode`
+// The combination of document 01 (unification). The nodes of both graphs are merged into classes, and the graph of the classes is written. The
+// nodes of the second graph are numbered after those of the first. This crate knows graphs in words and the meets that `bounds` holds; `encode`
 // writes the result.
 
 pub mod labels;
@@ -19,15 +19,15 @@ ghost use Rattle.unify.specs.Lowered.{Meeting};
 ghost use Rattle.unify.specs.Outcome.{unifyingOut};
 ghost use Rattle.unify.specs.Rows.{Holding, Merges, Operand, Spacious, linksBoth};
 
-// What unifying answers: what writing the result answers, or document 01's refusals 9 and 10.
+// The answer of a combination: what writing the result answers, or document 01's refusals 9 and 10.
 pub enum Combined {
     Written(Written),
     Cycle,
     Clash,
 }
 
-// How many nodes and links two graphs have together in each of three sizes, so that what is cleared goes by their size. No two have more
-// than the largest.
+// Three sizes, by how many nodes and links two graphs have together. The arrays that are cleared go by the size, and no two graphs exceed the
+// largest.
 const SMALL_NODES: usize = 20;
 
 const SMALL_LINKS: usize = 48;
@@ -81,7 +81,7 @@ fn merge_within<'a>(
     quotient::quotient(nodes, &class, &labels, &start, &end, pool, graph);
 }
 
-// The same for two small graphs. A merge takes no more places than there are links.
+// Builds the graph of the classes of two small graphs. A merge takes no more places than there are links.
 fn merge_small<'a>(
     n: usize,
     sets: &'a [u64; bounds::sets::WORDS],
@@ -103,7 +103,7 @@ fn merge_small<'a>(
     merge_within(n, sets, cells, a, b, &mut pool, &mut waiting, graph);
 }
 
-// The same for two graphs of middle size. A merge takes up to 64 places.
+// Builds the graph of the classes of two graphs of middle size. A merge takes up to 64 places.
 fn merge_middle<'a>(
     n: usize,
     sets: &'a [u64; bounds::sets::WORDS],
@@ -125,7 +125,7 @@ fn merge_middle<'a>(
     merge_within(n, sets, cells, a, b, &mut pool, &mut waiting, graph);
 }
 
-// The same for any two graphs.
+// Builds the graph of the classes of any two graphs.
 fn merge_large<'a>(
     n: usize,
     sets: &'a [u64; bounds::sets::WORDS],
@@ -146,7 +146,7 @@ fn merge_large<'a>(
     merge_within(n, sets, cells, a, b, &mut pool, &mut waiting, graph);
 }
 
-// The same, in arrays by the size of the graphs.
+// Builds the graph of the classes, in arrays that go by the size of the graphs.
 fn merge<'a>(
     n: usize,
     sets: &'a [u64; bounds::sets::WORDS],
@@ -179,7 +179,7 @@ fn merge<'a>(
     merge_large(n, sets, cells, a, b, graph);
 }
 
-// Tells a cycle or a clash of the graph of the classes, else writes it.
+// Answers a cycle or a clash in the graph of the classes, else writes the graph.
 fn tell(graph: &[u16], out: &mut [u8]) -> Combined
     requires { ⌜ Sound (now graph) ⌝ }
     ensures { λ r. ⌜ ((n : ℕ) (meets : ℕ → ℕ → ℕ) (a b : List ℕ) → Operand n a → Operand n b → Merges n meets a b (now (graph .entry)) →
@@ -195,7 +195,7 @@ fn tell(graph: &[u16], out: &mut [u8]) -> Combined
     Combined::Written(encode::canonical::write(graph, out))
 }
 
-// Writes the unification of two graphs that are small or of middle size.
+// Writes the combination of two graphs that are small or of middle size.
 fn unify_middle<'a>(
     n: usize,
     sets: &'a [u64; bounds::sets::WORDS],
@@ -216,7 +216,7 @@ fn unify_middle<'a>(
     tell(&graph, out)
 }
 
-// The same for any two graphs.
+// Writes the combination of any two graphs.
 fn unify_large<'a>(
     n: usize,
     sets: &'a [u64; bounds::sets::WORDS],
@@ -236,7 +236,7 @@ fn unify_large<'a>(
     tell(&graph, out)
 }
 
-// Writes the unification of two graphs over n types, with the meets of types as they are held.
+// Writes the combination of two graphs over n types. `sets` and `cells` hold the meets of types.
 pub fn unify<'a>(
     n: usize,
     sets: &'a [u64; bounds::sets::WORDS],

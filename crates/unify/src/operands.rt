@@ -1,4 +1,4 @@
-// Two graphs side by side: the words of one's rows after those of the other's, and each node's links as a span of places.
+// Two graphs side by side: the words of one graph's rows stand behind those of the other, and each node's links are a span of places.
 
 ghost use Prim.Native.Nat.{_+_, _≤_};
 ghost use lib.ListN.{length};
@@ -24,8 +24,8 @@ pub fn link_count<'a>(a: &'a [u16], b: &'a [u16]) -> usize
     word_count(a) + word_count(b) - layout::HEADER * nodes
 }
 
-// Copies the words of a graph's rows to the places from `at` on, each target moved by `shift`. Headers come along, wrapped where
-// they must, and stand in no span. Answers the next place.
+// Copies the words of a graph's rows to the places from `at` on, with each target moved by `shift`. Copied headers may overflow; no span has
+// them. Answers the next place.
 pub fn copy_words<'a>(graph: &'a [u16], at: usize, shift: usize, pool: &mut [u16]) -> usize
     requires { ⌜ Recorded (now graph) ⌝ }
     requires { ⌜ (at ≤ 2558) × (shift ≤ 255) × (at + wordsIn (now graph) ≤ length (now pool)) ⌝ }
@@ -44,7 +44,7 @@ pub fn copy_words<'a>(graph: &'a [u16], at: usize, shift: usize, pool: &mut [u16
     next
 }
 
-// Gives the nodes of a graph, each moved by `shift`, their spans of links among the words copied to the places from `at` on.
+// Gives the nodes of a graph, whose numbers are moved by `shift`, their spans of links among the words copied to the places from `at` on.
 pub fn copy_spans<'a>(
     graph: &'a [u16],
     at: usize,

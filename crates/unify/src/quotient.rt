@@ -1,4 +1,4 @@
-// The graph of the classes in words: its nodes are the nodes of both graphs, of which those that represent no class have no links.
+// Builds the graph of the classes in words, whose nodes are the nodes of both graphs. Nodes that represent no class have no links.
 
 use crate::labels::LABELS;
 use layout::HEADER;
@@ -10,7 +10,7 @@ ghost use Rattle.layout.specs.Layout.{targetAt};
 ghost use Rattle.unify.specs.Lowered.{Below, labelWords};
 ghost use Rattle.unify.specs.Rows.{ClassGraph, Fillable, RowCopied, endOfRow};
 
-// Copies a row to the places from `at` on, each target by its class. Answers the next place.
+// Copies a row to the places from `at` on, with each target replaced by its class. Answers the next place.
 pub fn copy_row<'a>(
     class: &'a [u16; 510],
     pool: &'a [u16],
@@ -35,7 +35,7 @@ pub fn copy_row<'a>(
     next
 }
 
-// The end of a node's row: its start where the node represents no class.
+// The end of a node's row; its start, where the node represents no class.
 fn end_of_row<'a>(
     class: &'a [u16; 510],
     start: &'a [u16; 510],

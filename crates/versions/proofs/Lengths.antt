@@ -1,4 +1,4 @@
--- The replies that tell no length stop what follows; any other tells one length.
+-- Replies that tell no length stop what follows; every other reply tells one length.
 use mathlib.Core.Path.{_≡_, refl, sym, _∙_, ap}
 use mathlib.Core.List.{List}
 use mathlib.Core.Option.{Option, none, some}
@@ -24,7 +24,7 @@ module _ (r : Reply) (no : lengthOf r ≡ none) where
   pub none-onward : (next : ℕ → Made) → onward r next ≡ stopped r
   none-onward next = ap (λ (o : Option ℕ). onwardBy o r next) no
 
--- the length that a reply tells
+-- Equal replies tell equal lengths.
 pub length-same : {l k : ℕ} → Length l ≡ Length k → l ≡ k
 length-same e = cc
 

@@ -1,4 +1,4 @@
--- The definitions as loops go through them: what is left of the whole after each step, and where it ends.
+-- The definitions in the order in which loops go through them: what is left of the whole after each step, and where the loop ends.
 use mathlib.Core.Path.{_≡_, refl, sym, _∙_, ap, ap₂}
 use mathlib.Core.Bool.{Bool, true, false, cond}
 use mathlib.Core.List.{List, [], _∷_, _++_, append-assoc, append-nil}
@@ -14,7 +14,7 @@ use Rattle.replies.specs.declared.Reply.the-variants.{NoStoreRoom}
 use Rattle.versions.specs.State.{Made, made, stopped, andThen, recordIn, Programs, twoBytes, mapOf, measured, stateOf, combination, differenceOf, differences, within, stored, joined, wayFrom, takeMeasured, restored}
 use Rattle.versions.specs.Promise.{packed}
 
--- a state that fits, and one that does not
+-- A state that fits is made, and a state that does not fit stops.
 pub within-fits : (room : ℕ) (bytes : List ℕ) → length bytes ≤ room → within room bytes ≡ made bytes
 unfolding within
 within-fits room bytes h = ap (λ (b : Bool). cond b (made bytes) (stopped NoStoreRoom)) (le-leb (length bytes) room h)
@@ -24,7 +24,7 @@ unfolding within
 within-short room bytes h = ap (λ (b : Bool). cond b (made bytes) (stopped NoStoreRoom)) (lt-leb (length bytes) room h)
 
 module _ (n : ℕ) (t : List ℕ) where
-  -- Making a state: `bytes` stand already, the differences of `ps` come behind them.
+  -- A state is made: `bytes` stand already, and the differences of `ps` come behind them.
 
   pub stored-packed : (room : ℕ) (part : List ℕ) (ps : Programs) → stored n t room part ps ≡ packed n t room (twoBytes (mapOf ps) ++ measured part) part ps
   unfolding stored stateOf
@@ -61,7 +61,7 @@ module _ (n : ℕ) (t : List ℕ) where
       go (made ds) = ap (within room) (sym (append-assoc bytes (measured d) ds))
       go (stopped r) = refl
 
-  -- Where the bytes are already too many, it does not matter which they are: 13 may still come, else 21.
+  -- Where there are too many bytes already, it does not matter which bytes they are: 13 may still come, else 21.
   pub packed-over : (room : ℕ) (bytes other part : List ℕ) (ps : Programs) → room < length bytes → room < length other →
       packed n t room bytes part ps ≡ packed n t room other part ps
   packed-over room bytes other part ps h k = go (differences n t part ps)
@@ -94,7 +94,7 @@ module _ (n : ℕ) (t : List ℕ) where
       ap (λ (m : Made). andThen m λ c. andThen (stored n t room c (done ++ some p ∷ [])) λ s. wayFrom n t room (done ++ some p ∷ []) (some c) s ahead) e ∙
       ap (λ (m : Made). andThen m λ s. wayFrom n t room (done ++ some p ∷ []) (some c) s ahead) d
 
-  -- Reading programs back: `before` are restored, `count` versions are left.
+  -- Programs are read back: those in `before` are restored, and `count` versions are left.
   abbrev pub restoredOn : Programs → List ℕ → ℕ → ℕ → List ℕ → Option Programs
   restoredOn before part count bits bytes = Option·map (λ ps. before ++ ps) (restored n t part count bits bytes)
 
@@ -107,7 +107,7 @@ module _ (n : ℕ) (t : List ℕ) where
   more before p none = refl
   more before p (some ps) = ap some (sym (append-snoc before p ps))
 
-  -- one version by its bit
+  -- One version, by its bit in the map.
   abbrev one : List ℕ → ℕ → ℕ → List ℕ → Bool → Option Programs
   one part count bits bytes b =
       cond b

@@ -33,7 +33,7 @@ module _ (at : ℕ) (state : List ℕ) where
   unfolding standing
   standing-over h = ap (λ (b : Bool). cond b (take at state) (replicate (suc (length state)) 0)) (lt-leb at (length state) h)
 
-  -- they tell whether there is room for them
+  -- If there is no room for `at` bytes, the bytes that stand are longer than the state.
   over-long : length state < at → length state < length (standing at state)
   over-long h = omega (arith, ap length (standing-over h) ∙ length-replicate (suc (length state)) 0)
 
@@ -130,7 +130,7 @@ module _ {n : ℕ} {t slots part : List ℕ} {v : ℕ} {r : Reply} {out : List �
         (differs .tells ∙ ap (λ (q : Reply). taken (resulting q out)) e) ∙
         packed-put puts n t part ps ∙ ap (λ (k : ℕ). packed n t (length old) (standing (at + 2 + k) new) part ps) (sym size-is)
 
--- The programs of the first versions are packed up to one, in so much room: what is left makes the whole.
+-- The versions before v are packed, in a room of so many bytes: what is left makes the whole.
 pub record Packing (n : ℕ) (t slots part : List ℕ) (count room : ℕ) (state : List ℕ) (at v : ℕ) : Type 0 where
   pub few : count ≤ 16
   pub low : v ≤ count
@@ -138,7 +138,7 @@ pub record Packing (n : ℕ) (t slots part : List ℕ) (count room : ℕ) (state
   pub long : length state ≡ room
   pub left : packed n t room (standing at state) part (drop v (take count (programsIn slots))) ≡ stored n t room part (take count (programsIn slots))
 
--- two bytes are put first
+-- The map is put as two bytes, first of all.
 module _ (bits : ℕ) (old : List ℕ) {state : List ℕ} (is : state ≡ take 0 old ++ (twoBytes bits ++ drop (0 + 2) old)) where
   pub two-long : 2 ≤ length old → length state ≡ length old
   two-long two =
@@ -147,7 +147,7 @@ module _ (bits : ℕ) (old : List ℕ) {state : List ℕ} (is : state ≡ take 0
   pub two-stand : take 2 state ≡ twoBytes bits
   two-stand = ap (take 2) is ∙ take-at (twoBytes bits) (drop (0 + 2) old) 2 (length-two-bytes bits)
 
--- the map and the common part stand
+-- The map and the common part stand.
 module _ (bits : ℕ) (old : List ℕ) {part state new : List ℕ} (two : 2 ≤ length old) (is : state ≡ take 0 old ++ (twoBytes bits ++ drop (0 + 2) old))
     (puts : Puts part 2 state new) where
   pub start-long : length new ≡ length old
@@ -176,7 +176,7 @@ module _ {n : ℕ} {t slots part : List ℕ} {count room : ℕ} {state : List �
   count-programs : length (take count (programsIn slots)) ≡ count
   count-programs = length-take-le count (programsIn slots) (omega (arith, so-far .few, programs-length slots))
 
-  -- a version is packed
+  -- One version is packed.
   module _ (more : v < count) (r : Reply) (new : List ℕ)
       (goes : (ps : Programs) →
       packed n t (length state) (standing at state) part (slotAt slots v ∷ ps) ≡
@@ -212,7 +212,7 @@ module _ {n : ℕ} {t slots part : List ℕ} {count room : ℕ} {state : List �
     packing-stops refused =
         none-taken r refused new ∙ sym (goes-on ∙ none-onward r refused (λ next. packed n t room (standing next new) part behind))
 
-  -- all are
+  -- All versions are packed.
   module _ (all : count ≤ v) where
     ended : within room (standing at state) ≡ whole
     ended =

@@ -1,4 +1,4 @@
--- A program that is restored: the common part combined with a difference, in the slot of its version.
+-- How a program is restored: the common part combined with a difference is put into the slot of its version.
 use mathlib.Core.Path.{_≡_, refl, sym, _∙_, ap}
 use mathlib.Core.Bool.{true, false}
 use mathlib.Core.List.{List}
@@ -21,7 +21,7 @@ use Rattle.versions.specs.Promise.{Puts, Restores}
 use Rattle.versions.proofs.SlotLaws.{put-slot, put-absent}
 use Rattle.versions.proofs.Written.{length-blank, unifying-fits, taken-made, taken-stopped, taken-least, taken-most, taken-long, taken-length}
 
--- over an accepted table, without a list, combining two records is the call
+-- Over an accepted table and without a list, combining two records is the call `unifying`.
 unified-call : (n : ℕ) (t list a b out : List ℕ) → accepted n t ≡ true → length list ≡ 0 → unifiedBeside n t list a b out ≡ unifying n t a b out
 unified-call n t list a b out ok empty =
     sym (ap (λ (o : Opened). checked (λ r. refusing r out) o (unifiedBeside n t list a b out)) (accepted-opened n t ok)) ∙

@@ -1,4 +1,4 @@
--- The programs in slots: each by its number, and what putting a record into a slot, or clearing one, makes of them.
+-- The programs in slots: how to get each by its number, and what putting a record into a slot, or clearing a slot, makes of them.
 use mathlib.Core.Path.{_≡_, refl, sym, _∙_, ap, ap₂, subst}
 use mathlib.Core.Bool.{Bool, cond}
 use mathlib.Core.List.{List, [], _∷_, _++_, append-assoc, map}
@@ -76,7 +76,7 @@ module _ (slots : List ℕ) (v : ℕ) where
       length-take-le (lengthAt (drop (v * 4856) slots)) (drop (v * 4856 + 2) slots)
       (omega (arith, slotted .short v h, slotted .long, length-drop (v * 4856 + 2) slots))
 
--- A number of 16 bits stands in its two bytes.
+-- A number of 16 bits is read back from its two bytes.
 pub two-bytes-read : (x : ℕ) → x < 65536 → x % 256 + 256 * (x / 256 % 256) ≡ x
 two-bytes-read x h = omega arith
 
@@ -92,7 +92,7 @@ pub length-measured : (p : List ℕ) → length (measured p) ≡ 2 + length p
 unfolding measured
 length-measured p = length-append (twoBytes (length p)) p ∙ ap (λ (k : ℕ). k + length p) (length-two-bytes (length p))
 
--- the record behind its length is read again
+-- A record behind its length is read back.
 module _ (p rest : List ℕ) (short : length p ≤ 4854) where
   pub length-at-measured : lengthAt (measured p ++ rest) ≡ length p
   unfolding measured
@@ -401,7 +401,7 @@ module _ {old new : List ℕ} (parted : Parted old) (is : new ≡ take 0 old ++ 
     measured-none new part-none,
   )
 
--- Whether no version exists from one on: those from it up to another do not.
+-- The search for a version that exists: the versions from `version` on and before v do not exist.
 pub record Seeking (slots : List ℕ) (version v : ℕ) : Type 0 where
   pub slotted : Slotted slots
   pub low : version ≤ v
@@ -432,7 +432,7 @@ count-one : {X : Type 0} (o : Option X) → countSome o ≤ 1
 count-one none = omega arith
 count-one (some x) = omega arith
 
--- as many bits as versions
+-- The map has no more bits than there are versions.
 map-below : (ps : Programs) → mapOf ps < 2 ^ length ps
 unfolding mapOf
 map-below [] = omega arith
@@ -503,6 +503,6 @@ module _ {slots : List ℕ} {count : ℕ} where
     pub map-all : v ≡ 0 → (bits ≡ mapOf (take count (programsIn slots))) × (bits < 65536)
     map-all e = (map .is ∙ ap (λ (k : ℕ). mapOf (drop k (take count (programsIn slots)))) e, map-fits)
 
--- the room of a slot before anything is put there
+-- A slot is empty before anything is put there.
 pub part-blank : Parted (replicate 4856 0)
 part-blank = record { long = length-replicate {A = ℕ} 4856 0; short = omega (arith, zero-at 4856 0, zero-at 4856 1) }

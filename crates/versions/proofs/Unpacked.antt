@@ -1,4 +1,4 @@
--- The programs of a buffer: its map, its common part, then one version after the other.
+-- How the programs of a buffer are unpacked: its map, its common part, then one version after the other.
 use mathlib.Core.Path.{_≡_, refl, sym, _∙_, ap, ap₂, subst}
 use mathlib.Core.Bool.{Bool, true, false, cond}
 use mathlib.Core.List.{List, [], _∷_, _++_}
@@ -43,7 +43,7 @@ take-measured-none (low ∷ high ∷ rest) h =
     ap (λ (b : Bool). cond b (some (take (low + 256 * high) rest, drop (low + 256 * high) rest)) none)
     (lt-leb (low + 256 * high) (length rest) (omega (arith, h)))
 
--- the same from a place on, up to the place where it ends
+-- A record that stands at `at` behind its length, up to the place where it ends.
 module _ (bytes : List ℕ) (at end : ℕ) (inside : at ≤ length bytes) (ends : EndsAt bytes at end) where
   pub measured-short : end ≡ 0 → takeMeasured (drop at bytes) ≡ none
   measured-short e = take-measured-none (drop at bytes) (omega (arith, ends .early e, inside, length-drop at bytes))
@@ -62,7 +62,7 @@ module _ (bytes : List ℕ) (at end : ℕ) (inside : at ≤ length bytes) (ends 
         (ap₂ (λ (k : ℕ) (xs : List ℕ). take k xs) long (drop-drop 2 at bytes))
         (ap (drop l) (drop-drop 2 at bytes) ∙ drop-drop l (at + 2) bytes ∙ ap (λ (k : ℕ). drop k bytes) last)
 
--- The versions before one are restored: what is left of the bits and of the differences gives the others.
+-- The versions before `version` are restored: what is left of the bits and of the differences gives the others.
 pub record Restored (n : ℕ) (t part : List ℕ) (bits : ℕ) (differences slots : List ℕ) (left at version : ℕ) : Type 0 where
   pub low : version ≤ 16
   pub inside : at ≤ length differences
@@ -84,7 +84,7 @@ record-stopped (stopped r) e = (r, refl)
 
 module _ {n : ℕ} {t part : List ℕ} {bits : ℕ} {differences slots : List ℕ} {left at version : ℕ}
     (so : Restored n t part bits differences slots left at version) where
-  -- the same slots and place by other names
+  -- `Restored` holds for equal slots and an equal place.
   pub restored-same : {others : List ℕ} {place : ℕ} → others ≡ slots → place ≡ at → Restored n t part bits differences others left place version
   restored-same {others} {place} e d =
       subst (λ (k : ℕ). Restored n t part bits differences others left k version) (sym d)
@@ -179,7 +179,7 @@ module _ (n : ℕ) (t buffer : List ℕ) (two : 2 ≤ length buffer) {bits : ℕ
       unpacked-by n t buffer two ∙ ap (λ (k : ℕ). unpackedBy n t k (drop 2 buffer)) (sym is) ∙
       ap (λ (x : Bool). cond x (some noPrograms) rest) e
 
-  -- an empty store
+  -- A map of 0 gives an empty store.
   pub unpacks-none : {slots : List ℕ} → Absent slots 0 → bits ≡ 0 → Unpacks n t buffer true slots
   unpacks-none absent e =
       record {
@@ -189,7 +189,7 @@ module _ (n : ℕ) (t buffer : List ℕ) (two : 2 ≤ length buffer) {bits : ℕ
       }
 
   module _ (there : bits ≡ 0 → ⊥) {end : ℕ} (ends : EndsAt buffer 2 end) where
-    -- no common part
+    -- The bytes end before the common part does.
     pub unpacks-short : {slots : List ℕ} → Absent slots 0 → end ≡ 0 → Unpacks n t buffer false slots
     unfolding bind
     unpacks-short absent e =
@@ -205,7 +205,7 @@ module _ (n : ℕ) (t buffer : List ℕ) (two : 2 ≤ length buffer) {bits : ℕ
       pub behind-part : (4 ≤ end) × (end ≤ length buffer)
       behind-part = (omega (arith, ends .whole whole .0), ends .whole whole .1)
 
-      -- the common part, and the differences behind it
+      -- The common part is there, and the differences stand behind it.
       pub unpacks-all : {answer : Bool} {slots : List ℕ} → Slotted slots →
           restored n t (take (end - 4) (drop 4 buffer)) 16 bits (take (length buffer - end) (drop end buffer)) ≡ cond answer (some (programsIn slots)) none →
           Unpacks n t buffer answer slots

@@ -1,5 +1,5 @@
--- What a call that writes a record tells and leaves: a record has at least a byte and at most as many as the output, which stays as long as
--- it was. And the record that is taken from the output.
+-- What a call that writes a record tells and leaves: the record has at least one byte and fits in the output, and the output keeps its length.
+-- The file ends with the record that is taken from the output.
 use mathlib.Core.Path.{_≡_, refl, sym, _∙_, ap, subst}
 use mathlib.Core.Bool.{Bool, true, false, cond}
 use mathlib.Core.List.{List, [], _∷_, _++_}
@@ -81,7 +81,7 @@ module _ (out : List ℕ) where
   rewritten-fits (refused fault) = refused-fits (Graph fault First) refl
   rewritten-fits (accepted rows) = written-fits (canonical eqb (graphOfRows rows))
 
-  -- the refusals before
+  -- The refusals before the call's operation.
   checked-fits : (o : Opened) (r : Result) → Fitting out r → Fitting out (checked (λ q. refusing q out) o r)
   checked-fits (table.Refused fault) r h = refused-fits (Table fault) refl
   checked-fits table.Accepted r h = h
@@ -136,7 +136,7 @@ module _ (out : List ℕ) where
       unfolding differing
       differing-fits = checked-fits (opened n t) _ (both-fits (reading n a) (reading n b) (differedRows byNumber n t out) differed-fits)
 
--- The record that is taken: `call` is what a call yields, `reply` and `new` what was answered and stands in the output.
+-- The record that is taken: `call` is what a call yields, `reply` is what was answered, and `new` is the output.
 module _ {call : Result} {reply : Reply} {new : List ℕ} (is : resulting reply new ≡ call) where
   pub taken-made : (l : ℕ) → reply ≡ Length l → taken call ≡ made (take l new)
   taken-made l e = ap taken (sym is) ∙ ap (λ (q : Reply). taken (resulting q new)) e

@@ -1,4 +1,4 @@
-// The state of a step: the map of its versions, their common part, and each program's difference from it.
+// Packs the state of a step: the map of its versions, their common part, and each program's difference from it.
 
 use difference::Options;
 use replies::Reply;
@@ -14,7 +14,7 @@ ghost use Rattle.versions.specs.State.{Programs, stored, taken};
 ghost use Rattle.versions.specs.Slots.{Slotted, programsIn, slotAt};
 ghost use Rattle.versions.specs.Promise.{onward, packed, standing};
 
-// Writes the state of the programs of the first versions with their common part. The answer tells how many bytes are used; 13, then 21.
+// Writes the state of the first `count` versions with their common part. The answer tells how many bytes are used, or is 13 or 21, in this order.
 pub fn pack(
     n: usize,
     table: &[u8],
@@ -47,8 +47,8 @@ pub fn pack(
     Reply::Length(at)
 }
 
-// Writes the difference of a version, if it exists, from a place on. The answer tells the place behind it, which lies past the end where there
-// is no room.
+// Writes the difference of a version, if the version exists, from `at` on. The answer tells the place behind it, which is past the end where
+// there is no room.
 fn pack_version(
     n: usize,
     table: &[u8],

@@ -1,4 +1,4 @@
-// Records behind their lengths, in two bytes each, low byte first; and the programs of a store, in 16 slots of such records.
+// Records behind their lengths, which are two bytes each, low byte first, and the programs of a store in 16 slots of such records.
 
 ghost use mathlib.Core.Path.{_≡_};
 ghost use mathlib.Core.Bool.{true};
@@ -28,7 +28,7 @@ pub fn put_measured(bytes: &[u8], at: usize, state: &mut [u8])
     gathering::parts::copy(bytes, at + 2, state);
 }
 
-// The place behind the record that stands behind its length at a place; 0 where the bytes end early.
+// The place behind the record that stands at `at` behind its length; 0 where the bytes end early.
 pub fn end_at(bytes: &[u8], at: usize) -> usize
     requires { ⌜ at ≤ length (now bytes) ⌝ }
     ensures { λ r. ⌜ EndsAt (now (bytes .entry)) at r ⌝ }
@@ -40,7 +40,7 @@ pub fn end_at(bytes: &[u8], at: usize) -> usize
     at + 2 + length
 }
 
-// The length of the record in a slot, 0 where the version is absent.
+// The length of the record in a slot; 0 where the version is absent.
 pub fn length_in(slots: &[u8], version: usize) -> usize
     requires { ⌜ Slotted (now slots) × (version < 16) ⌝ }
     ensures { λ r. ⌜ (r ≡ lengthAt (drop (version * 4856) (now (slots .entry)))) × (r ≤ 4854) ⌝ }
@@ -48,7 +48,7 @@ pub fn length_in(slots: &[u8], version: usize) -> usize
     gathering::parts::length_at(slots, version * SLOT)
 }
 
-// Whether no version exists from one on.
+// Whether no version from this one on exists.
 pub fn is_none_from(slots: &[u8], version: usize) -> bool
     requires { ⌜ Slotted (now slots) × (version ≤ 16) ⌝ }
     ensures { λ r. ⌜ (r ≡ true → NoneFrom version 16 (programsIn (now (slots .entry)))) ⌝ }
@@ -63,7 +63,7 @@ pub fn is_none_from(slots: &[u8], version: usize) -> bool
     true
 }
 
-// The map of the first versions: bit v is set where version v exists.
+// The map of the first `count` versions: bit v is set where version v exists.
 pub fn map_of(slots: &[u8], count: usize) -> usize
     requires { ⌜ Slotted (now slots) × (count ≤ 16) ⌝ }
     ensures { λ r. ⌜ (r ≡ mapOf (take count (programsIn (now (slots .entry))))) × (r < 65536) ⌝ }

@@ -1,4 +1,4 @@
-// The programs of a buffer: the common part combined with each difference.
+// Unpacks the programs of a buffer: each is the common part combined with a difference.
 
 use lattice::Opened;
 use replies::Reply;
@@ -13,7 +13,7 @@ ghost use Rattle.versions.specs.State.{combination, restored};
 ghost use Rattle.versions.specs.Slots.{Absent, Slotted, programsIn};
 ghost use Rattle.versions.specs.Promise.{Restores, Unpacks};
 
-// Fills the slots with the programs of a buffer, and answers whether the bytes can be those of a state.
+// Fills the slots with the programs of a buffer. Answers whether the bytes can be those of a state.
 pub fn unpack(n: usize, table: &[u8], buffer: &[u8], slots: &mut [u8]) -> bool
     requires { ⌜ (accepted n (now table) ≡ true) × (2 ≤ length (now buffer)) × Absent (now slots) 0 ⌝ }
     ensures { λ r. ⌜ Unpacks n (now (table .entry)) (now (buffer .entry)) r (now (slots .exit)) ⌝ }
@@ -44,7 +44,7 @@ pub fn unpack(n: usize, table: &[u8], buffer: &[u8], slots: &mut [u8]) -> bool
     }
 }
 
-// Restores the programs of the versions that a map tells of: their differences stand in turn, each behind its length.
+// Restores the programs of the versions in a map. The differences stand one after another, each behind its length.
 fn restore_all<'a>(
     n: usize,
     table: &[u8],

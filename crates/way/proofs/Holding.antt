@@ -1,4 +1,4 @@
--- The programs that a buffer holds: it can be unpacked, and the way of its programs ends in its first bytes.
+-- When a buffer holds programs: it can be unpacked, and the way of its programs ends in its first bytes.
 use mathlib.Core.Path.{_≡_, refl, sym, _∙_, ap, subst}
 use mathlib.Core.Bool.{Bool, true, false, cond}
 use mathlib.Core.List.{List, [], _∷_}
@@ -20,7 +20,7 @@ use Rattle.way.specs.Promise.{Led, Opens}
 true-false : {X : Type 0} → true ≡ false → X
 true-false e = let z : _≡_ {A = ℕ} 0 1 = cc in absurd (omega arith)
 
--- fewer than two bytes
+-- A buffer of fewer than two bytes cannot be unpacked.
 pub unpacked-short : (n : ℕ) (t buffer : List ℕ) → length buffer < 2 → unpacked n t buffer ≡ none
 unfolding unpacked
 unpacked-short n t [] h = refl
@@ -46,7 +46,7 @@ module _ (n : ℕ) (t buffer : List ℕ) (few : length buffer ≤ 16384) where
   held-way ps m e d = held-by (some ps) e ∙ ap (checkedWay ps) d
 
   module _ {slots part : List ℕ} (state : List ℕ) (slotted : Slotted slots) (parted : Parted part) (long : length state ≡ length buffer) where
-    -- it holds none
+    -- A buffer that holds no programs.
     opens-none : held n t buffer ≡ none → Opens n t buffer false slots part state
     opens-none e =
         record { slotted = slotted; parted = parted; long = long; holds = λ d. true-false (sym d); fails = λ d. e }
@@ -54,7 +54,7 @@ module _ (n : ℕ) (t buffer : List ℕ) (few : length buffer ≤ 16384) where
     pub opens-short : length buffer < 2 → Opens n t buffer false slots part state
     opens-short h = opens-none (held-none (unpacked-short n t buffer h))
 
-    -- it cannot be unpacked
+    -- A buffer that cannot be unpacked.
     pub opens-not : {answer : Bool} → Unpacks n t buffer answer slots → answer ≡ false → Opens n t buffer false slots part state
     opens-not unpacks e = opens-none (held-none (unpacks .fails e))
 
@@ -63,11 +63,11 @@ module _ (n : ℕ) (t buffer : List ℕ) (few : length buffer ≤ 16384) where
       went : way n t (length buffer) (programsIn slots) ≡ taken (resulting r state)
       went = sym (goes ∙ ap (λ (k : ℕ). way n t k (programsIn slots)) rooms)
 
-      -- the way stops
+      -- The way of its programs stops.
       pub opens-stops : lengthOf r ≡ none → Opens n t buffer false slots part state
       opens-stops refused = opens-none (held-way (programsIn slots) (stopped r) (unpacks .unpacks all) (went ∙ none-taken r refused state))
 
-      -- it ends
+      -- The way of its programs ends in a state.
       pub opens-by : (used : ℕ) → r ≡ Length used → Led n t room (programsIn slots) 16 part (take used state) → (b : Bool) →
           b ≡ startsWith (take used state) buffer → Opens n t buffer b slots part state
       opens-by used e led b is =

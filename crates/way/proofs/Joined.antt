@@ -1,4 +1,4 @@
--- A program joins the common part so far: it is the first, their common part is too large, or their common part is put.
+-- How a program joins the common part so far: it is the first program, the new common part is too large, or the new common part is put.
 use mathlib.Core.Path.{_≡_, refl, sym, _∙_, ap}
 use mathlib.Core.Bool.{true}
 use mathlib.Core.List.{List}
@@ -25,7 +25,7 @@ use Rattle.versions.proofs.Written.{Fitting, generalizing-fits, taken-least, ta
 use Rattle.versions.proofs.Lengths.{none-taken, length-same}
 use Rattle.way.specs.Promise.{Joins}
 
--- A record is put: its length and its bytes are read again.
+-- A record is put, and its length and its bytes are read back.
 module _ {p old new : List ℕ} (parted : Parted old) (short : length p ≤ 4854) (some-bytes : 1 ≤ length p) (puts : Puts p 0 old new) where
   bytes-read : take (length p) (drop 2 new) ≡ p
   bytes-read =
@@ -49,7 +49,7 @@ pub joins-first : (n : ℕ) (t : List ℕ) {p old new : List ℕ} {l : ℕ} → 
 joins-first n t {p} {old} is e parted short some-bytes puts =
     joins-put parted short some-bytes puts (length p) refl (ap (λ (o : Option (List ℕ)). joined n t o p) (measured-none old (sym is ∙ e)))
 
--- the common part of two, as a call replies and leaves it
+-- The common part of two records, as the call replies and leaves it.
 pub record Common (n : ℕ) (t old p : List ℕ) (r : Reply) (out : List ℕ) : Type 0 where
   pub parted : Parted old
   pub tells : joined n t (measuredIn old) p ≡ taken (resulting r out)

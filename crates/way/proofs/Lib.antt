@@ -1,4 +1,4 @@
--- Laws of the way.
+-- Laws of the way: comparing bytes, joining a program, going step by step, and opening a buffer.
 pub mod Starts
 pub mod Joined
 pub mod Ways

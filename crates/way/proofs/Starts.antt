@@ -1,4 +1,4 @@
--- Bytes that begin with others, compared one by one.
+-- Whether bytes begin with others, compared one by one.
 use mathlib.Core.Path.{_≡_, refl, sym, _∙_, ap, ap₂}
 use mathlib.Core.Bool.{Bool, true, false, _&&_}
 use mathlib.Core.List.{List, [], _∷_}
@@ -10,7 +10,7 @@ use lib.ListN.{length, drop, getD, drop-of-length-le}
 use lib.Seq.{drop-cons}
 use Rattle.versions.specs.State.{startsWith}
 
--- too few
+-- Too few bytes do not begin with the others.
 pub starts-short : (start bytes : List ℕ) → length bytes < length start → startsWith start bytes ≡ false
 unfolding startsWith
 starts-short [] bytes h = absurd (omega arith)
@@ -29,7 +29,7 @@ one-starts : (x : ℕ) (xs : List ℕ) (b : ℕ) (bs : List ℕ) → startsWith 
 unfolding startsWith
 one-starts x xs b bs = refl
 
--- the first bytes are the same: what is left decides
+-- The first i bytes agree, so the rest decides.
 pub record Begun (start bytes : List ℕ) (i : ℕ) : Type 0 where
   pub low : i ≤ length start
   pub long : length start ≤ length bytes

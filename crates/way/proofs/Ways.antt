@@ -1,4 +1,4 @@
--- The way, version by version: one step, and where it has led.
+-- The way, version by version: one step, and where the way has led.
 use mathlib.Core.Path.{_≡_, refl, sym, _∙_, ap, ap₂, subst}
 use mathlib.Core.List.{List, [], _∷_, _++_, append-nil}
 use mathlib.Core.Option.{Option, none, some}
@@ -46,7 +46,7 @@ module _ {n : ℕ} {t slots part : List ℕ} {v : ℕ} {r : Reply} {new : List �
   one-more : take (suc v) (programsIn slots) ≡ take v (programsIn slots) ++ some (recordAt slots v) ∷ []
   one-more = take-program slots v (so .inside) ∙ ap (λ (p : Option (List ℕ)). take v (programsIn slots) ++ p ∷ []) (so .there)
 
-  -- the common part is too large
+  -- The new common part is too large.
   pub steps-large : lengthOf r ≡ none → Steps n t (programsIn slots) v part state r new state
   steps-large refused =
       record {
@@ -60,7 +60,7 @@ module _ {n : ℕ} {t slots part : List ℕ} {v : ℕ} {r : Reply} {new : List �
             sym (none-onward r refused (λ k. wayFrom n t (length state) (take (suc v) (programsIn slots)) (measuredIn new) (take k state) ahead));
       }
 
-  -- it stands behind its length
+  -- The new common part stands behind its length.
   module _ (size : ℕ) (e : r ≡ Length size) where
     pub size-short : size ≤ 4854
     size-short = omega (arith, so .joins .tells size e .0, so .joins .parted .short)
@@ -134,7 +134,7 @@ pub record Going (n : ℕ) (t slots : List ℕ) (room : ℕ) (part state : List 
   pub fits : used ≤ room
   pub led : Led n t room (programsIn slots) v part (take used state)
 
--- the empty store
+-- The way begins at the empty store.
 pub going-start : (n : ℕ) (t slots old part before : List ℕ) {state : List ℕ} → Parted old → 2 ≤ length before →
     part ≡ take 0 old ++ (twoBytes 0 ++ drop (0 + 2) old) → state ≡ take 0 before ++ (twoBytes 0 ++ drop (0 + 2) before) →
     Going n t slots (length state) part state 2 0
@@ -159,13 +159,13 @@ module _ {n : ℕ} {t slots : List ℕ} {room : ℕ} {part state : List ℕ} {us
   abbrev programs : Programs
   programs = programsIn slots
 
-  -- the same by other names
+  -- `Going` holds for equal parts, states and lengths.
   pub going-same : {part₂ state₂ : List ℕ} {used₂ : ℕ} → part₂ ≡ part → state₂ ≡ state → used₂ ≡ used → Going n t slots room part₂ state₂ used₂ v
   going-same {part₂} {state₂} {used₂} d e h =
       subst (λ (l : List ℕ). Going n t slots room l state₂ used₂ v) (sym d)
       (subst (λ (l : List ℕ). Going n t slots room part l used₂ v) (sym e) (subst (λ (k : ℕ). Going n t slots room part state k v) (sym h) so))
 
-  -- it has led to the versions so far, whatever lies ahead
+  -- The way has led past the versions so far, whatever lies ahead.
   here : (ahead : Programs) →
       wayFrom n t room [] none emptyState (take v programs ++ ahead) ≡ wayFrom n t room (take v programs) (measuredIn part) (take used state) ahead
   here ahead = so .led .leads v (omega arith) (λ i from low. absurd (omega arith)) ahead
@@ -176,7 +176,7 @@ module _ {n : ℕ} {t slots : List ℕ} {room : ℕ} {part state : List ℕ} {us
         ap (λ (ps : Programs). ps ++ ahead) (take-suc programs v none (omega (arith, inside, programs-length slots))) ∙
         append-snoc (take v programs) (getD programs v none) ahead
 
-    -- a version is absent
+    -- The next version is absent.
     pub going-absent : lengthAt (drop (v * 4856) slots) ≡ 0 → Going n t slots room part state used (v + 1)
     going-absent e =
         let next : v + 1 ≡ suc v = omega arith in
@@ -208,7 +208,7 @@ module _ {n : ℕ} {t slots : List ℕ} {room : ℕ} {part state : List ℕ} {us
             subst (λ (i : ℕ). wayFrom n t room [] none emptyState (take i programs ++ ahead) ≡
             wayFrom n t room (take i programs) (measuredIn part) (take used state) ahead) all (last ahead)
 
-    -- a version exists
+    -- The next version exists.
     module _ (there : (lengthAt (drop (v * 4856) slots) ≡ 0 → ⊥)) {r : Reply} {new after : List ℕ}
         (steps : Steps n t (programsIn slots) v part state r new after) where
       is-some : getD programs v none ≡ some (recordAt slots v)
@@ -253,7 +253,7 @@ module _ {n : ℕ} {t slots : List ℕ} {room : ℕ} {part state : List ℕ} {us
           goes (drop (suc v) programs) ∙
           none-onward r refused (λ k. wayFrom n t room (take (suc v) programs) (measuredIn new) (take k after) (drop (suc v) programs)))
 
-  -- all versions are behind
+  -- All versions are behind.
   module _ (all : 16 ≤ v) where
     pub going-ends : taken (resulting (Length used) state) ≡ way n t room programs
     going-ends =

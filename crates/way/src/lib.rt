@@ -1,5 +1,6 @@
-// The way of a store's programs (document 02, Paper 11): an empty store into which they are put in version order; and opening a buffer, which
-// holds the programs whose way ends in its first bytes. It knows tables, records, the operations on them and the state of a store.
+// The way of a store's programs (document 02, Paper 11) is an empty store into which the programs are put in version order. A buffer holds
+// programs where their way ends in its first bytes. This crate goes the way and opens a buffer, and knows tables, records, the operations on them
+// and the state of a store.
 
 use replies::Reply;
 ghost use mathlib.Core.Path.{_≡_};
@@ -14,7 +15,7 @@ ghost use Rattle.versions.specs.State.{joined, startsWith, taken, way};
 ghost use Rattle.versions.specs.Slots.{Absent, Parted, Slotted, measuredIn, programsIn};
 ghost use Rattle.way.specs.Promise.{Joins, Led, Opens, Steps};
 
-// Opens a buffer: fills the slots with its programs, goes their way, and answers whether it ends in the first bytes of the buffer.
+// Opens a buffer: fills the slots with its programs and goes their way. Answers whether the way ends in the first bytes of the buffer.
 pub fn is_held<'a>(
     n: usize,
     table: &[u8],
@@ -41,7 +42,7 @@ pub fn is_held<'a>(
     is_start(&state[..used], buffer)
 }
 
-// Whether bytes begin with others.
+// Whether the bytes begin with those of `start`.
 fn is_start(start: &[u8], bytes: &[u8]) -> bool
     ensures { λ r. ⌜ r ≡ startsWith (now (start .entry)) (now (bytes .entry)) ⌝ }
 {
@@ -58,7 +59,8 @@ fn is_start(start: &[u8], bytes: &[u8]) -> bool
     true
 }
 
-// Goes the way of the programs in the room of the state. The answer tells how many bytes are used; 11, 13 or 21 where the way stops.
+// Goes the way of the programs, in a room of the state's length. The answer tells how many bytes are used, or is 11, 13 or 21 where the way
+// stops.
 pub fn go<'a>(
     n: usize,
     table: &[u8],
@@ -93,7 +95,7 @@ pub fn go<'a>(
     Reply::Length(used)
 }
 
-// One step of the way: the program of a version joins the common part, and the state is made anew.
+// One step of the way: joins the program of a version to the common part and makes the new state.
 pub fn step<'a>(
     n: usize,
     table: &[u8],
@@ -117,8 +119,8 @@ pub fn step<'a>(
     versions::packing::pack(n, table, slots, version + 1, &part[2..2 + size], state)
 }
 
-// Joins a program to the common part so far, which is the program itself where there is none. The answer tells the length of the common part;
-// 11 where it is too large.
+// Joins a program to the common part so far. Where there is none, the program becomes the common part. The answer tells the length of the common
+// part, or is 11 where it is too large.
 fn join<'a>(
     n: usize,
     table: &[u8],

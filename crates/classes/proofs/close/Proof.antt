@@ -1,4 +1,4 @@
--- `close` meets its contract: pairs of nodes wait to be joined, and what is joined is the same by the links.
+-- `close` meets its contract. The loop's invariant: pairs of nodes wait to be joined, and nodes that are joined are the same by the links.
 use mathlib.Core.Path.{_≡_, refl, _∙_}
 use Prim.Native.Nat.{ℕ, _+_, _*_}
 use lib.ListN.{length, length-set}

@@ -1,3 +1,4 @@
+-- `join` meets its contract, by that of `merge`.
 use mathlib.Core.Path.{refl}
 use Rattle.classes.proofs.Merging.{merged-short}
 use native.Mathlib.Omega.{arith}

@@ -1,5 +1,4 @@
--- 8 to 13 are answered only over an accepted table and accepted records: every other reply of a call that is made before its operation has
--- another number.
+-- 8 to 13 are answered only over an accepted table and accepted records: the refusals that a call makes before its operation have other numbers.
 use mathlib.Core.Path.{_≡_, refl}
 use mathlib.Core.Bool.{Bool, true, false, cond}
 use mathlib.Core.List.{List, _++_}
@@ -36,7 +35,7 @@ use Rattle.calls.specs.Calls.{checked, rewriting, generalizing, unifying, diffe
 use Rattle.calls.specs.Explained.{explaining, explainingBy}
 use Rattle.demands.specs.Demand.{RefusedAfterReading, BothAccepted}
 
--- The refusals before an operation have other numbers.
+-- The refusals before an operation are none of 8 to 13.
 
 table-early : (fault : TableFault) → RefusedAfterReading (Table fault) → ⊥
 table-early Size (k, low, high, e) = let q : 1 ≡ k = some-injective e in omega arith
@@ -51,7 +50,7 @@ graph-early Unreached side (k, low, high, e) = let q : 7 ≡ k = some-injective 
 graph-early Inappropriate side (k, low, high, e) = let q : 18 ≡ k = some-injective e in omega arith
 
 module _ (n : ℕ) (t out : List ℕ) where
-  -- what a table lets through
+  -- A reply from 8 to 13 says that the table is accepted and comes from what follows the table.
   past-table : (next : Result) → RefusedAfterReading (checked (λ r. refusing r out) (opened n t) next .reply) →
       (opened n t ≡ Accepted) × RefusedAfterReading (next .reply)
   past-table next = go (opened n t) refl
@@ -61,7 +60,7 @@ module _ (n : ℕ) (t out : List ℕ) where
       go (Refused fault) h late = absurd (table-early fault late)
       go Accepted h late = (h, late)
 
-  -- what one record lets through
+  -- A reply of rewriting from 8 to 13 says that the record is accepted.
   past-one : (a : List ℕ) → RefusedAfterReading (rewritten (reading n a) out .reply) → (rows : List (Row Label)) × (reading n a ≡ accepted rows)
   past-one a = go (reading n a) refl
     where
@@ -69,7 +68,7 @@ module _ (n : ℕ) (t out : List ℕ) where
       go (refused fault) h late = absurd (graph-early fault First late)
       go (accepted rows) h late = (rows, h)
 
-  -- what two records let through
+  -- A reply from 8 to 13 says that both records are accepted.
   past-both : (a b : List ℕ) (next : List (Row Label) → List (Row Label) → Result) →
       RefusedAfterReading (readBoth (λ r. refusing r out) (reading n a) (reading n b) next .reply) → opened n t ≡ Accepted → BothAccepted n t a b
   past-both a b next = go (reading n a) (reading n b) refl refl
@@ -105,7 +104,7 @@ module _ (n : ℕ) (t out : List ℕ) where
     unfolding differing
     differing-accepted = past-call a b (differedRows byNumber n t out)
 
-    -- with a list of features, the list too is accepted
+    -- A reply from 8 to 13 of a call with a list of features says that the list is accepted too.
     pub differing-by-accepted : (list : List ℕ) → RefusedAfterReading (differingBy n t list a b out .reply) →
         (isReadingOrder list ≡ true) × BothAccepted n t a b
     unfolding differingBy
@@ -119,7 +118,7 @@ module _ (n : ℕ) (t out : List ℕ) where
         go true h late opens = (h, past-both a b (differedRows (byReading list) n t out) late opens)
         go false h (k, low, high, e) opens = let q : 19 ≡ k = some-injective e in absurd (omega arith)
 
--- beside reasons
+-- A reply from 8 to 13 of a call with reasons is that of the plain call.
 past-reasons : (plain : Result) (reasons out old : List ℕ) → RefusedAfterReading (withReasons plain reasons out old .reply) →
     RefusedAfterReading (plain .reply)
 past-reasons plain reasons out old = go (lengthOf (plain .reply))

@@ -1,5 +1,5 @@
--- The calls with a list of types for features (document 02, Paper 9): where neither 17 nor 18 is given they are the plain calls, 17 is
--- given exactly where it is due, and the record beside a length obeys the list.
+-- The calls with a list of types for features (document 02, Paper 9): where neither 17 nor 18 is given they reply as the plain calls, 17 is given
+-- exactly where it is due, and the record beside a length obeys the list.
 use mathlib.Core.Path.{_≡_, refl, sym, _∙_, ap, ap₂, subst}
 use mathlib.Core.Bool.{Bool, true, false, cond}
 use mathlib.Core.List.{List}
@@ -51,7 +51,7 @@ use Rattle.demands.proofs.Demanded.Combination.{written-combination}
 use Rattle.demands.proofs.Demanded.Difference.{plain-parts}
 use Rattle.demands.proofs.Demanded.Difference as Differed
 
--- One graph: 18, or what reading without a list gives.
+-- Reading one graph with a list gives 18, or what reading without a list gives.
 reading-kept : (n : ℕ) (t list bytes : List ℕ) →
     (readingAppropriate n t list bytes ≡ reading n bytes) ⊎ (readingAppropriate n t list bytes ≡ refused Inappropriate)
 reading-kept n t list bytes = go (reading n bytes) refl
@@ -67,7 +67,7 @@ reading-kept n t list bytes = go (reading n bytes) refl
     go (refused fault) q = inl (refused-appropriate n t list bytes fault q)
     go (accepted rows) q = test rows q (appropriate t list rows) refl
 
--- What a call does next where it is not refused by 17 or 18: as the plain call.
+-- After the list, a call that gives neither 17 nor 18 goes on as the plain call.
 module _ (out : List ℕ) where
   passes-first : (r : Result) → r ≡ refusing (Graph Inappropriate First) out → Passes r → ⊥
   passes-first r e passes = passes .1 (ap (λ (q : Result). refusal (q .reply)) e)
@@ -115,11 +115,11 @@ module _ {n : ℕ} {t : List ℕ} {listed : Bool} {out : List ℕ} {call next : 
       go (opened.Refused fault) e = sym (table-before-list checks fault e)
       go opened.Accepted e = list-tested e listed refl
 
-  -- 17 where it is due, and nowhere else: what comes next never gives it
+  -- 17 is given exactly where it is due, since what comes after the list never gives it.
   call-list : (next .reply ≡ TypeList → ⊥) → (call .reply ≡ TypeList) ↔ ((table.opened n t ≡ opened.Accepted) × (listed ≡ false))
   call-list = list-exact checks (λ fault e. let z : _≡_ {A = ℕ} 0 1 = cc in omega arith)
 
-  -- beside a length, the table and the list are accepted
+  -- Beside a length, the table and the list are accepted.
   record Behind : Type 0 where
     pub opens : table.opened n t ≡ opened.Accepted
     pub passed : listed ≡ true
@@ -140,7 +140,7 @@ module _ {n : ℕ} {t : List ℕ} {listed : Bool} {out : List ℕ} {call next : 
           let z : _≡_ {A = ℕ} 0 1 = cc in absurd (omega arith)
       go opened.Accepted e = list-tested e listed refl
 
--- What is written is no 17.
+-- What follows the list never gives 17.
 
 written-other : (w : Written) → replyOf w ≡ TypeList → ⊥
 written-other (written.Length l) e = let z : _≡_ {A = ℕ} 0 1 = cc in omega arith
@@ -197,7 +197,7 @@ module _ (n : ℕ) (t list out : List ℕ) where
       call-kept (unifying-checked n t list out a b) (readBoth (λ r. refusing r out) (reading n a) (reading n b) (unifiedRows n t out))
       (both-kept out (unifiedRows n t out) (reading-kept n t list a) (reading-kept n t list b))
 
-  -- 17 exactly where the table is accepted and the list is not.
+  -- 17 is given exactly where the table is accepted and the list is not.
   abbrev pub ListFault : Type 0
   ListFault = (table.opened n t ≡ opened.Accepted) × (listAccepted n list ≡ false)
 
@@ -214,7 +214,7 @@ module _ (n : ℕ) (t list out : List ℕ) where
       call-list (unifying-checked n t list out a b)
       (both-other out (unifiedRows n t out) (unified-other out n t) (readingAppropriate n t list a) (readingAppropriate n t list b))
 
--- 18, wherever a graph with a link that the list forbids is accepted without it.
+-- 18 is given wherever a graph is accepted without the list and has a link that the list forbids.
 module _ (n : ℕ) (t list : List ℕ) (opens : table.opened n t ≡ opened.Accepted) (listed : listAccepted n list ≡ true) where
   judged-by : (bytes : List ℕ) (rows : List (Row Label)) → reading n bytes ≡ accepted rows → (b : Bool) → appropriate t list rows ≡ b →
       readingAppropriate n t list bytes ≡ cond b (accepted rows) (refused Inappropriate)
@@ -262,7 +262,7 @@ module _ (n : ℕ) (t list : List ℕ) (opens : table.opened n t ≡ opened.Acce
 
 -- The record beside a length.
 
--- beside a length nothing is refused
+-- A reply that is a length is neither 17 nor 18.
 length-passes : (r : Result) (l : ℕ) → r .reply ≡ Length l → Passes r
 length-passes r l e = (
   λ q. let z : _≡_ {A = ℕ} 0 1 = cc (ap refusal e, q) in omega arith,
@@ -318,7 +318,7 @@ both-obeying n t list a b out next l q = go (readingAppropriate n t list a) (rea
     go (accepted rows) (accepted others) e d = (obeying n t list a rows e, obeying n t list b others d)
 
 module _ (n : ℕ) (t list out : List ℕ) where
-  -- Rewriting: the record means the same.
+  -- What rewriting writes obeys the list, because it means the same as the record.
   pub rewriting-obeys : (bytes : List ℕ) (l : ℕ) → rewritingAppropriate n t list bytes out .reply ≡ Length l →
       Obeys n t list (take l (rewritingAppropriate n t list bytes out .output))
   rewriting-obeys bytes l q =
@@ -331,7 +331,7 @@ module _ (n : ℕ) (t list out : List ℕ) where
       (appropriate-same n t list (graphOfRows (one .rows)) (graphOfRows (wrote .is-record .is-written .form)) (wrote .is-record .means) (one .obeys)))
 
   module _ (a b : List ℕ) (l : ℕ) where
-    -- The common part: its paths are paths of both.
+    -- The common part obeys the list, because its paths are paths of both.
     pub generalizing-obeys : generalizingAppropriate n t list a b out .reply ≡ Length l →
         Obeys n t list (take l (generalizingAppropriate n t list a b out .output))
     generalizing-obeys q =
@@ -348,7 +348,7 @@ module _ (n : ℕ) (t list out : List ℕ) where
         (accepted-of-any-size n a (one .rows) (one .reads) t) (accepted-of-any-size n b (other .rows) (other .reads) t) (one .obeys) (other .obeys)
         (graphOfRows (common .form)) (common .paths)))
 
-    -- The combination: its classes have the features of their members.
+    -- The combination obeys the list, because its classes have the features of their members.
     pub unifying-obeys : unifyingAppropriate n t list a b out .reply ≡ Length l →
         Obeys n t list (take l (unifyingAppropriate n t list a b out .output))
     unifying-obeys q =
@@ -365,7 +365,8 @@ module _ (n : ℕ) (t list out : List ℕ) where
         (accepted-of-any-size n a (one .rows) (one .reads) t) (accepted-of-any-size n b (other .rows) (other .reads) t) (one .obeys) (other .obeys)
         (graphOfRows (whole .form)) (whole .classes)))
 
--- The difference of a and b: combined with a through the plain call it gives b, beside the list too where b obeys it.
+-- The difference of a and b, combined with a through the plain call, gives b; where b obeys the list, it gives what rewriting b with the list
+-- gives.
 module _ (n : ℕ) (t a b : List ℕ) (g s : List (Row Label)) (given : Given n t a b g s) (list out room : List ℕ) (l : ℕ)
     (e : differing n t a b out .reply ≡ Length l) (passes : Passes (rewritingAppropriate n t list b room)) where
   abbrev record-of : List ℕ

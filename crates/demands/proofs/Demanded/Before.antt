@@ -1,4 +1,4 @@
--- Over a table that admits differences every node has a wanted label, with the residual for its type, so that the difference is what it was by residuals.
+-- Over a table that admits differences every node has a wanted label, whose type is the residual. So the difference is that by residuals.
 use mathlib.Core.Path.{_≡_, refl, sym, _∙_, ap, fun-ext}
 use mathlib.Core.Bool.{Bool, true, false, cond}
 use mathlib.Core.List.{List}
@@ -47,7 +47,7 @@ module _ (n : ℕ) (t : List ℕ) (ok : table.accepted n t ≡ true) (differ : t
     abbrev meetAt : ℕ → Label
     meetAt v = meetOver (tableLabels n t) eqb (graphOfRows g) (from 0 (length g)) (over s g) v
 
-    -- the wanted label of each node has the residual for its type
+    -- The type of a node's wanted label is the residual.
     wanted-is : (v : ℕ) → wantedAt n t s g v ≡ residualLabel n t (graphOfRows s .label v) (meetAt v)
     unfolding wantedAlong wantedLabel
     wanted-is v =
@@ -109,12 +109,12 @@ module _ (n : ℕ) (t : List ℕ) (ok : table.accepted n t ≡ true) (differ : t
       differed-before out g form general (accepted-rules n (encoded form) form reads) ∙
       sym (ap (λ c. differedBefore n t out g (numbered c)) fits)
 
--- what comes after the table matters for accepted tables only
+-- Two calls that agree over an accepted table agree over every table, since a refusal of the table comes first.
 checked-same : {X : Type 0} (refuse : Reply → X) (o : Opened) (x y : X) → (o ≡ Accepted → x ≡ y) → checked refuse o x ≡ checked refuse o y
 checked-same refuse (Refused fault) x y same = refl
 checked-same refuse Accepted x y same = same refl
 
--- Whatever is handed in beside it, a table that admits differences gives what it gave.
+-- Over a table that admits differences, the call gives what it gives by document 01 without Paper 6, whatever else is handed in.
 pub differing-before : (n : ℕ) (t : List ℕ) → table.admits n t ≡ true → (a b out : List ℕ) →
     differing n t a b out ≡ differingBefore n t a b out
 unfolding differing differingBefore

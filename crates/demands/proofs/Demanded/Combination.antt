@@ -1,5 +1,5 @@
--- The combination is the greatest graph of any size below both, and 9 and 10 are replied exactly where there is none; what is written
--- of it is read again as that graph, and the order's own answers agree.
+-- The combination is the greatest graph of any size below both, and 9 or 10 is replied exactly where there is none. What is written is read again
+-- as that graph, and the order agrees.
 use mathlib.Core.Path.{_≡_, refl, sym, _∙_, ap, ap₂, subst}
 use mathlib.Core.Bool.{Bool, true}
 use mathlib.Core.List.{List}
@@ -58,7 +58,7 @@ written-refusal (outcome.Length l) k e = let z : _≡_ {A = ℕ} 0 1 = cc in abs
 written-refusal outcome.TooLarge k e = inr cc
 written-refusal outcome.NoRoom k e = inl cc
 
--- so by no other number
+-- Writing a graph refuses by no number other than 8 and 11.
 pub other-refusal : (w : Written) (k : ℕ) → refusal (replyOf w) ≡ some k → (k ≡ 8 → ⊥) → (k ≡ 11 → ⊥) → ⊥
 other-refusal w k e not-room not-large = ⊎-elim not-room not-large (written-refusal w k e)
 
@@ -105,7 +105,7 @@ module _ (n : ℕ) (t a b : List ℕ) (g h : List (Row Label)) (given : Given n 
     reply-cycle =
         subst (λ (r : Result). (r .reply ≡ replies.Cycle) ↔ (joint ≡ cycle)) (sym unifying-is) (combined-cycle out joint)
 
-    -- 9 exactly where a class reaches itself
+    -- 9 is replied exactly where a class reaches itself.
     pub cycle-exact : (unifying n t a b out .reply ≡ replies.Cycle) ↔ Cycle (tableLabels n t) (graphOfRows g) (graphOfRows h)
     cycle-exact =
         Iff·trans reply-cycle
@@ -115,14 +115,14 @@ module _ (n : ℕ) (t a b : List ℕ) (g h : List (Row Label)) (given : Given n 
     reply-clash =
         subst (λ (r : Result). (r .reply ≡ replies.Clash) ↔ (joint ≡ clash)) (sym unifying-is) (combined-clash out joint)
 
-    -- 10 exactly where none does, and the meet of a class is type 0
+    -- 10 is replied exactly where no class reaches itself and the meet of some class is a contradiction: type 0, or an empty range.
     pub clash-exact : (unifying n t a b out .reply ≡ replies.Clash) ↔
         ((Cycle (tableLabels n t) (graphOfRows g) (graphOfRows h) → ⊥) × LabelClash n t (graphOfRows g) (graphOfRows h))
     clash-exact =
         Iff·trans reply-clash
         (unification-clash n t accepts eqb eqb tells-eqb tells-eqb (graphOfRows g) (graphOfRows h) first-size second-size)
 
-    -- 9 or 10 exactly where no graph of any size lies below both
+    -- 9 or 10 is replied exactly where no graph of any size lies below both.
     pub none-exact : ((unifying n t a b out .reply ≡ replies.Cycle) ⊎ (unifying n t a b out .reply ≡ replies.Clash)) ↔ NoneBelow n t g h
     none-exact =
         let (there, back) =
@@ -131,7 +131,7 @@ module _ (n : ℕ) (t a b : List ℕ) (g h : List (Row Label)) (given : Given n 
           λ none. ⊎-elim (λ e. inl (reply-cycle .1 e)) (λ e. inr (reply-clash .1 e)) (back none),
         )
 
-    -- the three results: 9, 10, or what is written of what the classes give, the greatest graph
+    -- The three results: 9, 10, or the graph that the classes give, which is the greatest below both, as the call writes it.
     pub data Told : Type 1 where
       refused-cycle : unifying n t a b out ≡ refusing replies.Cycle out → Told
       refused-clash : unifying n t a b out ≡ refusing replies.Clash out → Told
@@ -160,7 +160,7 @@ module _ (n : ℕ) (t a b : List ℕ) (g h : List (Row Label)) (given : Given n 
         go (refused-clash e) = absurd (other (inr (ap (λ (r : Result). r .reply) e)))
         go (written u is best e) = (u, is, best)
 
-    -- Whatever graph is the greatest of any size below both, it is what the call writes.
+    -- Every graph that is the greatest of any size below both is what the call writes.
     module _ {C : Type 0} (same : C → C → Bool) (tells : TellsApart same) (u : Graph Label C)
         (best : GreatestOfAnySize n t (graphOfRows g) (graphOfRows h) u) where
       pub greatest-result : unifying n t a b out ≡ resultFor same u out
@@ -179,7 +179,7 @@ module _ (n : ℕ) (t a b : List ℕ) (g h : List (Row Label)) (given : Given n 
       greatest-writes = subst (Writes n t same u out) (sym greatest-result)
           (result-writes n t same tells u (best .of-any-size) (seven-bits n t accepts u (best .of-any-size)) out)
 
-    -- a length is replied where there is a combination
+    -- A reply that is a length is neither 9 nor 10.
     length-other : (l : ℕ) → unifying n t a b out .reply ≡ replies.Length l →
         (unifying n t a b out .reply ≡ replies.Cycle) ⊎ (unifying n t a b out .reply ≡ replies.Clash) → ⊥
     length-other l q bad =

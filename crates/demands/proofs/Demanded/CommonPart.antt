@@ -1,5 +1,5 @@
--- The common part has the paths in both and is the least graph of any size above both, whatever its size; what is written of it is read
--- again as that graph, and the order's own answers agree.
+-- The common part has the paths in both and is the least graph of any size above both, whatever its size. What is written is read again as that
+-- graph, and the order agrees.
 use mathlib.Core.Path.{_≡_, refl, sym, subst}
 use mathlib.Core.Bool.{true}
 use mathlib.Core.List.{List}
@@ -29,23 +29,23 @@ module _ (n : ℕ) (t a b : List ℕ) (s g : List (Row Label)) (given : Given n 
   pub accepts : table.accepted n t ≡ true
   accepts = opened-accepted n t (opened n t) refl (given .opens)
 
-  -- The common part, also where it is too large to be written, has the paths in both,
+  -- The common part, also where it is too large to be written, has the paths in both.
   pub common-part-paths : IsGeneralization (tableLabels n t) (graphOfRows s) (graphOfRows g) (common n t s g)
   common-part-paths = product-is-generalization (tableLabels n t) (graphOfRows s) (graphOfRows g)
 
-  -- and is the least graph of any size above both: there always is one.
+  -- The common part is the least graph of any size above both, so there always is such a graph.
   pub common-part-exists : LeastOfAnySize n t (graphOfRows s) (graphOfRows g) (common n t s g)
   common-part-exists =
       generalization-least n t accepts (graphOfRows s) (graphOfRows g) (accepted-of-any-size n a s (given .first) t)
       (accepted-of-any-size n b g (given .second) t)
 
   module _ (out : List ℕ) where
-    -- The call writes the common part:
+    -- The call writes the common part.
     pub common-part-result : generalizing n t a b out ≡ resultFor samePair (common n t s g) out
     unfolding generalizing generalized
     common-part-result = rw (given .opens, given .first, given .second)
 
-    -- it refuses by 11 and 8 exactly where they are due.
+    -- The call refuses by 11 and 8 exactly where they are due.
     pub common-part-writes : Writes n t samePair (common n t s g) out (generalizing n t a b out)
     common-part-writes =
         subst (Writes n t samePair (common n t s g) out) (sym common-part-result)

@@ -1,5 +1,5 @@
--- The difference: 12 and 13 exactly where they are due, never 11; what is written of it restores the specific record byte for byte when it
--- is combined with the general one, and nothing more general does.
+-- The difference: 12 and 13 are given exactly where they are due, and 11 never. What is written, combined with the general record, restores the
+-- specific record byte for byte, and nothing more general does.
 use mathlib.Core.Path.{_≡_, refl, sym, _∙_, ap, ap₂, subst}
 use mathlib.Core.Bool.{Bool, true, false, cond}
 use mathlib.Core.List.{List}
@@ -43,7 +43,7 @@ use Rattle.demands.proofs.Demanded.Combination.{other-refusal, greatest
 use Rattle.demands.proofs.Demanded.Wanted.{unwanted-types, same-unwanted}
 use Rattle.demands.proofs.Demanded.Remainder.{rows-small, rows-restore}
 
--- 12, then 13, else what writing answers
+-- 12 where the first test fails, else 13 where the second fails, else the outcome of writing.
 abbrev chosen : Bool → Bool → Outcome → List ℕ → Result
 chosen lies all o out =
     cond lies (cond all (resultOf o) (refusing replies.NoWantedType out)) (refusing replies.NotBelow out)
@@ -65,11 +65,11 @@ module _ (o : Outcome) (out : List ℕ) where
     λ (_, q). true-false refl q,
   )
 
--- a call that comes to the difference by an order of links
+-- The call comes to the difference by an order of links.
 pub record Parts (earlier : Link ℕ → Link ℕ → Bool) (n : ℕ) (t out : List ℕ) (g s : List (Row Label)) (call : Result) : Type 0 where
   pub is : call ≡ differedRows earlier n t out g s
 
--- as the call without a list, and the call with a list that is accepted
+-- The call without a list and the call with an accepted list come to the difference by their orders of links.
 pub plain-parts : (n : ℕ) (t a b : List ℕ) {g s : List (Row Label)} → Given n t a b g s → (out : List ℕ) →
     Parts byNumber n t out g s (differing n t a b out)
 unfolding differing
@@ -169,7 +169,7 @@ module _ (n : ℕ) (t a b : List ℕ) (g s : List (Row Label)) (given : Given n 
             not-none = made .not-none;
           })
 
-  -- what means the same restores the same
+  -- A graph that means the same as one that restores s restores s too.
   restores-again : (d : Graph Label ℕ) (again : List (Row Label)) → SameMeaning (tableLabels n t) d (graphOfRows again) →
       Restores n t d (graphOfRows g) (graphOfRows s) → Restores n t (graphOfRows again) (graphOfRows g) (graphOfRows s)
   restores-again d again same made =
@@ -192,7 +192,7 @@ module _ (n : ℕ) (t a b : List ℕ) (g s : List (Row Label)) (given : Given n 
     unfolding differedRows differed
     call-is = parts .is
 
-    -- 12 exactly where s is not below g
+    -- 12 is replied exactly where s is not below g.
     pub not-below-exact : (call .reply ≡ replies.NotBelow) ↔
         (Below (tableLabels n t) (graphOfRows s) (graphOfRows g) → ⊥)
     not-below-exact =
@@ -203,7 +203,7 @@ module _ (n : ℕ) (t a b : List ℕ) (g s : List (Row Label)) (given : Given n 
           λ y. back (not-true lies (λ z. y (lies-exact .0 z))),
         )
 
-    -- 13 exactly where it is, and some node of s has no wanted type
+    -- 13 is replied exactly where s is below g and some node of s has no wanted type.
     pub unwanted-reply-exact : (call .reply ≡ replies.NoWantedType) ↔
         (Below (tableLabels n t) (graphOfRows s) (graphOfRows g) × SomeUnwanted n t (graphOfRows s) (graphOfRows g))
     unwanted-reply-exact =
@@ -235,7 +235,7 @@ module _ (n : ℕ) (t a b : List ℕ) (g s : List (Row Label)) (given : Given n 
         go true true p q = differs (lies-exact .0 p) q
 
     module _ (below : Below (tableLabels n t) (graphOfRows s) (graphOfRows g)) (wants : all ≡ true) where
-      -- then the difference is what the call writes
+      -- Where s is below g and every node of s has a wanted type, the call writes the difference.
       pub remainder-result : call ≡ resultFor eqb (remainder earlier n t g s) out
       remainder-result =
           call-is ∙
@@ -250,7 +250,7 @@ module _ (n : ℕ) (t a b : List ℕ) (g s : List (Row Label)) (given : Given n 
           (result-writes n t eqb tells-eqb (remainder earlier n t g s) (remainder-restores strict below wants .of-any-size)
           (seven-bits n t accepts (remainder earlier n t g s) (remainder-restores strict below wants .of-any-size)) out)
 
-    -- s below g gives 13 for a node without a wanted type, or a difference that restores and is most general.
+    -- Where s is below g, either 13 is replied because some node of s has no wanted type, or the difference restores and is most general.
     pub unwanted-or-restored : Below (tableLabels n t) (graphOfRows s) (graphOfRows g) →
         ((call .reply ≡ replies.NoWantedType) × SomeUnwanted n t (graphOfRows s) (graphOfRows g)) ⊎
         (Restores n t (remainder earlier n t g s) (graphOfRows g) (graphOfRows s) × (call ≡ writing (recordOf eqb (remainder earlier n t g s)) out))
@@ -262,7 +262,7 @@ module _ (n : ℕ) (t a b : List ℕ) (g s : List (Row Label)) (given : Given n 
         go false q = let some = all-exact below .0 q in inl (unwanted-reply-exact .1 (below, some), some)
         go true q = inr (remainder-restores strict below q, remainder-written below q)
 
-    -- What is written restores b with a, byte for byte, and nothing more general does.
+    -- What is written, combined with a, restores b byte for byte, and nothing more general does.
     pub written-difference : (l : ℕ) → call .reply ≡ replies.Length l →
         Difference n t a b g s (take l (call .output))
     written-difference l q = go difference-told

@@ -1,5 +1,5 @@
--- The calls with a list of types for features (document 02, Paper 9): what they leave in the output, whatever is handed in, and that 18 is
--- given exactly where it is due, and of which graph.
+-- The calls with a list of types for features (document 02, Paper 9): what they leave in the output, whatever is handed in. 18 is given exactly
+-- where it is due, and tells which graph.
 use mathlib.Core.Path.{_≡_, refl, sym, _∙_, ap, ap₂, subst}
 use mathlib.Core.Bool.{Bool, true, false, cond}
 use mathlib.Core.List.{List}
@@ -64,7 +64,7 @@ reading-other n bytes = judged-other (decoded bytes)
     judged-other none e = let q : _≡_ {A = ℕ} 0 1 = cc in omega arith
     judged-other (some rows) e = tested rows (inRange n rows) (cyclic rows) (reachesAll rows) e
 
--- One graph beside a list: refused as without it, refused by 18, or accepted.
+-- A graph beside a list is refused as without the list, refused by 18, or accepted.
 data Reads (n : ℕ) (t list bytes : List ℕ) : Reading → Type 0 where
   other : (fault : GraphFault) → (fault ≡ Inappropriate → ⊥) → reading n bytes ≡ refused fault → Reads n t list bytes (refused fault)
   broken : Breaks n t list bytes → Reads n t list bytes (refused Inappropriate)
@@ -90,7 +90,7 @@ reads-beside n t list bytes = go (reading n bytes) refl
         (other fault (λ e. reading-other n bytes (q ∙ ap refused e)) q)
     go (accepted rows) q = test rows q (appropriate t list rows) refl
 
--- What comes after the list: a refusal of a graph, or what the plain call comes to.
+-- What comes after the list is a refusal of a graph, or what the plain call comes to.
 data Comes (out : List ℕ) (plain : Result) : Result → Type 0 where
   refuses : (fault : GraphFault) (side : Side) → Comes out plain (refusing (Graph fault side) out)
   plainly : Comes out plain plain
@@ -137,7 +137,7 @@ module _ {n : ℕ} {t : List ℕ} {listed : Bool} {out : List ℕ} {call next : 
           subst (Leaves n out) (table-before-list checks fault e) (refusing-leaves n out (Table fault) (table.tableNumber fault) refl)
       go opened.Accepted e = list-tested e listed refl
 
-  -- 18 comes from what is next, over an accepted table and an accepted list
+  -- 18 comes from what follows the list, over an accepted table and an accepted list.
   call-forbids : (side : Side) → call .reply ≡ Graph Inappropriate side →
       (table.opened n t ≡ opened.Accepted) × (listed ≡ true) × (next .reply ≡ Graph Inappropriate side)
   call-forbids side q = go (table.opened n t) refl
@@ -156,7 +156,7 @@ module _ {n : ℕ} {t : List ℕ} {listed : Bool} {out : List ℕ} {call next : 
           let z : _≡_ {A = ℕ} 0 1 = cc in absurd (omega arith)
       go opened.Accepted e = list-tested e listed refl
 
--- What an operation answers is no 18.
+-- The operations themselves never answer 18.
 module _ (out : List ℕ) where
   abbrev NoGraph : Result → Type 0
   NoGraph r = (side : Side) → r .reply ≡ Graph Inappropriate side → ⊥
@@ -247,7 +247,7 @@ module _ (n : ℕ) (t list out : List ℕ) where
         (table-accepted (λ r. refusing r out) (readBoth (λ r. refusing r out) (reading n a) (reading n b) (unifiedRows n t out)) opens)
         (unifying-leaves n t out a b))
 
-  -- 18 exactly where it is due.
+  -- 18 is given exactly where it is due.
   pub rewriting-forbids : (a : List ℕ) → (rewritingAppropriate n t list a out .reply ≡ Graph Inappropriate First) ↔
       ((table.opened n t ≡ opened.Accepted) × (listAccepted n list ≡ true) × Breaks n t list a)
   rewriting-forbids a = (

@@ -1,4 +1,5 @@
--- What import writes is what rewriting writes of a record with the rows of the table's graph, so what is demanded of rewriting holds of it.
+-- Import writes what rewriting writes for a record with the rows of the planning table's graph, so what is demanded of rewriting holds for import
+-- (document 02, Paper 2).
 use mathlib.Core.Path.{_≡_, refl, sym, _∙_, ap, subst}
 use mathlib.Core.List.{List}
 use mathlib.Core.Logic.{_↔_, ⊎-elim}
@@ -32,7 +33,7 @@ use Rattle.demands.proofs.Results.{rewriting-is, result-record, record-
 use Rattle.demands.proofs.Demanded.Output as Output
 use Rattle.demands.proofs.Demanded.Meaning as Meaning
 
--- a record with the rows of its graph
+-- A record that has the rows of the planning table's graph.
 abbrev tableRecord : List ℕ → List lent.Row → List ℕ
 tableRecord nodes rows = encoded (tableRows nodes rows)
 
@@ -44,11 +45,11 @@ module _ (n : ℕ) (t nodes : List ℕ) (rows : List lent.Row) (lends : Lent n t
   as-rewriting out =
       due.import-is n t rows nodes out (lends .opens) (lends .importable) ∙ sym (rewriting-is n t (tableRecord nodes rows) (tableRows nodes rows) (lends .opens) reads out)
 
-  -- import writes the table's graph
+  -- Import writes the planning table's graph.
   pub import-written : (out : List ℕ) → importingRows n t rows nodes out ≡ writing (recordOf eqb (tableGraph nodes rows)) out
   import-written out = due.import-is n t rows nodes out (lends .opens) (lends .importable) ∙ result-record eqb (tableGraph nodes rows) out
 
--- A graph's record, if it has one, and its written form: what is asked of the length of the one is asked of that of the other.
+-- What holds for the length of a graph's record holds for the length of its written form's bytes, and the other way round.
 module _ (k : Graph Label ℕ) (P : ℕ → Type 0) where
   form-record : (form : List (Row Label)) × (canonical eqb k ≡ written form) × P (length (encoded form)) →
       (bytes : List ℕ) × (recordOf eqb k ≡ some bytes) × P (length bytes)
@@ -60,7 +61,7 @@ module _ (k : Graph Label ℕ) (P : ℕ → Type 0) where
       let (form, q, is) = record-form eqb k bytes e in
       (form, q, subst (λ (b : List ℕ). P (length b)) (sym is) holds)
 
--- 8 and a length, each exactly where it is due
+-- 8 and a length are each answered exactly where they are due.
 module _ (n : ℕ) (t nodes : List ℕ) (rows : List lent.Row) (out : List ℕ) where
   pub room-exact : (importingRows n t rows nodes out .reply ≡ NoRoom) ↔
       ((opened n t ≡ Accepted) × Importable n nodes rows × ((bytes : List ℕ) × (recordOf eqb (tableGraph nodes rows) ≡ some bytes) × (length out < length bytes)))
@@ -81,12 +82,12 @@ module _ (n : ℕ) (t nodes : List ℕ) (rows : List lent.Row) (out : List ℕ) 
         λ (opens, importable, found). back (opens, importable, record-length (tableGraph nodes rows) (λ m. (m ≡ l) × (m ≤ length out)) found),
       )
 
--- a length is answered of such a table alone
+-- A length is answered only for a planning table to which no refusal before 8 applies.
 pub length-lent : (n : ℕ) (t nodes : List ℕ) (rows : List lent.Row) (out : List ℕ) (l : ℕ) → importingRows n t rows nodes out .reply ≡ Length l → Lent n t nodes rows
 length-lent n t nodes rows out l q =
     let (opens, importable, _) = due.length-exact n t rows nodes out l .0 q in record { opens = opens; importable = importable }
 
--- what stands in the output, whatever is lent
+-- What import leaves in the output, whatever is lent.
 pub import-leaves : (n : ℕ) (t nodes : List ℕ) (rows : List lent.Row) (out : List ℕ) → Leaves n out (importingRows n t rows nodes out)
 import-leaves n t nodes rows out =
     ⊎-elim (λ (r, k, e, is). subst (Leaves n out) (sym is) (Output.refusing-leaves n out r k e))
@@ -115,7 +116,7 @@ module _ (n : ℕ) (t nodes : List ℕ) (rows : List lent.Row) (out : List ℕ) 
     λ room. rewritten .again room ∙ sym (as-rewriting n t nodes rows lends room),
   )
 
--- A table and an accepted record.
+-- Equal meaning of a planning table and an accepted record.
 module _ (n : ℕ) (t nodes : List ℕ) (rows : List lent.Row) (lends : Lent n t nodes rows) (a : List ℕ) (g : List (Row Label)) (reads-a : reading n a ≡ accepted g) where
   given : Given n t (tableRecord nodes rows) a (tableRows nodes rows) g
   given = record { opens = lends .opens; first = reads n t nodes rows lends; second = reads-a }
@@ -138,7 +139,7 @@ module _ (n : ℕ) (t nodes : List ℕ) (rows : List lent.Row) (lends : Lent n t
         λ all. back (λ out. sym (as-rewriting n t nodes rows lends out) ∙ all out),
       )
 
--- Two tables.
+-- Equal meaning of two planning tables.
 module _ (n : ℕ) (t nodes nodes′ : List ℕ) (rows rows′ : List lent.Row) (lends : Lent n t nodes rows) (lends′ : Lent n t nodes′ rows′) where
   pub table-bytes : (out : List ℕ) (l m : ℕ) → importingRows n t rows nodes out .reply ≡ Length l → importingRows n t rows′ nodes′ out .reply ≡ Length m →
       SameMeaning (tableLabels n t) (tableGraph nodes rows) (tableGraph nodes′ rows′) ↔

@@ -1,5 +1,5 @@
--- A graph's difference from itself is a lone top. Every node has the wanted label top; the difference lies below a lone top, and were it
--- strictly below, the lone top would be more general and restore too.
+-- A graph's difference from itself is a lone top. Every node has the wanted label top, and the difference lies below a lone top. If it lay
+-- strictly below, the lone top would be more general and would restore too.
 use mathlib.Core.Path.{_≡_, refl, sym, _∙_, ap, subst}
 use mathlib.Core.Bool.{true}
 use mathlib.Core.List.{List, [], _∷_, List·Memᴰ, List·Memᴰ·head, List·Memᴰ·not-nil, List·Memᴰ·cases-cons}
@@ -50,13 +50,13 @@ use Rattle.demands.proofs.Demanded.Difference.{plain-parts, all-wanted,
 abbrev lone : Label → Graph Label ℕ
 lone c = record { root = 0; label = λ _. c; link = λ _ _. none }
 
--- its only path is the empty one
+-- The only path of a graph of one node is the empty one.
 lone-path : (c : Label) (p : List ℕ) (v : ℕ) → walk (lone c) p ≡ some v → p ≡ []
 unfolding follow
 lone-path c [] v e = refl
 lone-path c (f ∷ p) v e = none-some (sym (follow-none (lone c .link) p) ∙ e)
 
--- its record, and its bytes
+-- The written form of a graph of one node, and its bytes.
 lone-form : (c : Label) → canonical eqb (lone c) ≡ written ((c, []) ∷ [])
 unfolding canonical visit each member indexOf outDegree linkCount rowOf linksOf target from bind
 lone-form c = refl
@@ -72,7 +72,7 @@ module _ (n : ℕ) (t : List ℕ) (ok : table.accepted n t ≡ true) where
   top-known : Known n (plain (n - 1))
   top-known = plain-known n (n - 1) (top-type n t ok)
 
-  -- every label of the table is below the greatest
+  -- Every label of the table is below top.
   under-top : (x : Label) → Known n x → tableLabels n t .le x (plain (n - 1)) ≡ true
   under-top x k =
       inside-le n t x (plain (n - 1)) (record { type = top-greatest n t ok (x .type) (k .type); lowest = omega arith; highest = k .highest })
@@ -101,7 +101,7 @@ module _ (n : ℕ) (t : List ℕ) (ok : table.accepted n t ≡ true) where
         typed = λ v r. top-known;
       }
 
-  -- every graph of labels of the table lies below it
+  -- Every graph of labels of the table lies below a lone top.
   below-top : {A : Type 0} (g : Graph Label A) → OfAnySize n t g → Below (tableLabels n t) g top
   unfolding follow
   below-top {A} g size =
@@ -120,7 +120,7 @@ module _ (n : ℕ) (t : List ℕ) (ok : table.accepted n t ≡ true) where
   below-self g size =
       record { paths = λ p v e. (v, e, le-reflexive n t ok (g .label v) (size .typed v (p, e))); corefers = λ p q c. c }
 
-  -- what a lone top lies below means a lone top
+  -- A graph that a lone top lies below means the same as a lone top.
   same-top : {A : Type 0} (d : Graph Label A) → OfAnySize n t d → Below (tableLabels n t) top d → SameMeaning (tableLabels n t) top d
   same-top d size below =
       record {
@@ -137,7 +137,7 @@ module _ (n : ℕ) (t : List ℕ) (ok : table.accepted n t ≡ true) where
       label w r l =
           le-antisymmetric n t ok (plain (n - 1)) (d .label w) top-known (size .typed w r) l (under-top (d .label w) (size .typed w r))
 
-  -- over a graph itself every node has a wanted type, the greatest
+  -- Over a graph itself every node has a wanted type, the greatest type.
   none-unwanted : {A : Type 0} (s : Graph Label A) → OfAnySize n t s → SomeUnwanted n t s s → ⊥
   none-unwanted s size (v, (p, d), nothing) =
       let type : ℕ = s .label v .type in
@@ -175,7 +175,7 @@ module _ (n : ℕ) (t a : List ℕ) (s : List (Row Label)) (opens : opened n t �
   restores : Restores n t d (graphOfRows s) (graphOfRows s)
   restores = remainder-restores n t a a s s given by-number-order below (all-wanted n t a a s s given below (none-unwanted n t ok (graphOfRows s) size))
 
-  -- that it is not above a lone top is refuted
+  -- It is contradictory that a lone top is not below the difference.
   not-strict : (Below (tableLabels n t) (top n t ok) d → ⊥) → ⊥
   not-strict strict =
       restores .most-general (top n t ok) (top-size n t ok) (below-top n t ok d (restores .of-any-size), strict) (graphOfRows s)
@@ -186,7 +186,7 @@ module _ (n : ℕ) (t a : List ℕ) (s : List (Row Label)) (opens : opened n t �
         greatest = λ m _ _ y. y;
       }) .1 below
 
-  -- so, the order being decided, it means a lone top
+  -- The order is decided, so the difference means the same as a lone top.
   means-top : SameMeaning (tableLabels n t) (top n t ok) d
   means-top =
       let small = remainder-small n t a a s s given by-number-order below (all-wanted n t a a s s given below (none-unwanted n t ok (graphOfRows s) size)) in

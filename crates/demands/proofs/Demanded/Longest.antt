@@ -1,5 +1,5 @@
--- A record of 4,854 bytes is written: 255 nodes, each with a range that is written, and 2,048 links. Node v is linked to v + 1, v + 2 and so
--- on, by features 0, 1 and so on, so that the visit goes straight down and numbers the nodes as they are.
+-- A record of 4,854 bytes is written (document 02, Paper 7): 255 nodes, each with a range that is written, and 2,048 links. Node v is linked to v
+-- + 1, v + 2 and so on, by features 0, 1 and so on, so the visit goes straight down and the nodes keep their numbers.
 use mathlib.Core.Path.{_≡_, refl, sym, _∙_, ap, subst}
 use mathlib.Core.Bool.{Bool, true, false, cond}
 use mathlib.Core.List.{List, [], _∷_, _++_, map, List·Memᴰ, Memᴰ·of-map}
@@ -55,7 +55,7 @@ opens : opened 2 table ≡ Accepted
 unfolding table opened sized ordered confined reflexive antisymmetric transitive least greatest bounded meet isMeet join isJoin every last below
 opens = refl
 
--- Computed: the rows are their own written form, and how long their record is.
+-- These facts are computed: the rows are their own written form, and their record has 4,854 bytes.
 
 own : canonical eqb (graphOfRows rows) ≡ written rows
 unfolding rows rowAt linksFrom many canonical visit each member target from rowOf linksOf indexOf linkCount outDegree bind
@@ -73,7 +73,7 @@ record-length : length (encoded rows) ≡ 4854
 unfolding rows rowAt linksFrom many from encoded encodedRows encodedRow encodedLabel isFull
 record-length = refl
 
--- The rules of an accepted record.
+-- The rows keep the rules of an accepted record.
 
 many-cases : (v : ℕ) → (many v ≤ 52) × (v < 255 → v + many v < 255) × (v < 254 → 0 < many v)
 unfolding many
@@ -100,7 +100,7 @@ ascends v k (suc n) = (
   ascends v (suc k) n,
 )
 
--- a row is that of a node
+-- What holds for the row of each node holds for each row.
 row-says : (P : Row Label → Type 0) → ((v : ℕ) → v < 255 → P (rowAt v)) → (r : Row Label) → List·Memᴰ r rows → P r
 unfolding rows
 row-says P all r m = let (v, i, e) = Memᴰ·of-map rowAt (from 0 255) m in subst P e (all v (from-range 0 255 v i .1))
@@ -125,7 +125,7 @@ row-end : (v : ℕ) → 255 ≤ v → getD rows v (noLabel, []) ≡ (noLabel, []
 unfolding rows
 row-end v h = made-end (noLabel, []) 0 255 v h
 
--- links lead to higher numbers,
+-- Links lead to higher numbers.
 link-up : (v f w : ℕ) → graphOfRows rows .link v f ≡ some w → v < w
 unfolding rowAt target
 link-up v f w e = go (decLe 255 v)
@@ -152,7 +152,7 @@ no-cycle v f p e =
     let later : u ≤ v = follow-up p u v (ap (λ (o : Option ℕ). follow (graphOfRows rows .link) o p) (sym to) ∙ e) in
     omega (arith, link-up v f u to)
 
--- and feature 0 to the next.
+-- Feature 0 leads to the next node.
 first-link : (v k : ℕ) → 0 < k → target (map (λ f. (f, v + 1 + f)) (from 0 k)) 0 ≡ some (suc v)
 unfolding from target
 first-link v zero l = absurd (omega arith)
@@ -196,7 +196,7 @@ fits : (bytes out : List ℕ) → length bytes ≤ length out → resultOf (fitt
 unfolding fitted
 fits bytes out h = rw (le-leb (length bytes) (length out) h)
 
--- So it is written into every output that is as long.
+-- The record is written into every output of at least 4,854 bytes.
 pub longest-rewritten : (n : ℕ) × (t : List ℕ) × (a : List ℕ) × ((out : List ℕ) → 4854 ≤ length out → rewriting n t a out .reply ≡ Length 4854)
 longest-rewritten = (
   2,

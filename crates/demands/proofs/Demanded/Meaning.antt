@@ -1,6 +1,6 @@
--- Meaning and bytes: accepted records mean the same exactly when rewriting gives equal bytes, and exactly when the order answers same;
--- what rewriting writes means the same and is its own written form; a record in written form is rewritten as itself, and two such mean the
--- same exactly when they are equal.
+-- Meaning and bytes. Accepted records mean the same exactly when rewriting gives equal bytes, and exactly when the order answers same. What
+-- rewriting writes means the same as the record and is its own written form. A record in written form is rewritten as itself, and two of them
+-- mean the same exactly when they are equal.
 use mathlib.Core.Path.{_≡_, refl, sym, _∙_, ap, subst}
 use mathlib.Core.List.{List}
 use mathlib.Core.Logic.{_↔_}
@@ -34,14 +34,14 @@ use Rattle.demands.proofs.Demanded.Order.{same-exact}
 use Rattle.demands.proofs.Demanded.Output.{rewriting-small}
 
 module _ (n : ℕ) (t a : List ℕ) (rows : List (Row Label)) (opens : opened n t ≡ Accepted) (reads : reading n a ≡ accepted rows) (out : List ℕ) where
-  -- rewriting refuses an accepted record by 8 alone, exactly where it is due
+  -- Rewriting refuses an accepted record by 8 alone, exactly where 8 is due.
   pub rewriting-writes : Writes n t eqb (graphOfRows rows) out (rewriting n t a out)
   rewriting-writes =
       subst (Writes n t eqb (graphOfRows rows) out) (sym (rewriting-is n t a rows opens reads out))
       (result-writes n t eqb tells-eqb (graphOfRows rows) (accepted-of-any-size n a rows reads t) (accepted-types n a rows reads) out)
 
 module _ (n : ℕ) (t a b : List ℕ) (s g : List (Row Label)) (given : Given n t a b s g) where
-  -- equal meaning is the same reply and output
+  -- Records of equal meaning give the same reply and output.
   same-rewriting : SameMeaning (tableLabels n t) (graphOfRows s) (graphOfRows g) → (out : List ℕ) → rewriting n t a out ≡ rewriting n t b out
   same-rewriting m out =
       rewriting-is n t a s (given .opens) (given .first) out ∙
@@ -49,7 +49,7 @@ module _ (n : ℕ) (t a b : List ℕ) (s g : List (Row Label)) (given : Given n 
       (same-canonical (tableLabels n t) eqb eqb tells-eqb tells-eqb (graphOfRows s) (graphOfRows g) m) ∙
       sym (rewriting-is n t b g (given .opens) (given .second) out)
 
-  -- equal bytes, whatever the output
+  -- Two records mean the same exactly when rewriting gives equal bytes, whatever the output.
   pub bytes-exact : (out : List ℕ) (l m : ℕ) → rewriting n t a out .reply ≡ Length l → rewriting n t b out .reply ≡ Length m →
       SameMeaning (tableLabels n t) (graphOfRows s) (graphOfRows g) ↔
       (take l (rewriting n t a out .output) ≡ take m (rewriting n t b out .output))
@@ -62,7 +62,7 @@ module _ (n : ℕ) (t a b : List ℕ) (s g : List (Row Label)) (given : Given n 
         λ e. back (sym (first .bytes) ∙ e ∙ second .bytes),
       )
 
-  -- and so for all outputs at once
+  -- Two records mean the same exactly when rewriting gives the same reply and output for all outputs.
   pub meaning-exact : SameMeaning (tableLabels n t) (graphOfRows s) (graphOfRows g) ↔
       ((out : List ℕ) → rewriting n t a out ≡ rewriting n t b out)
   meaning-exact = (same-rewriting, λ all. go all (accepted-fits n a s (given .first)))
@@ -107,7 +107,7 @@ module _ (n : ℕ) (t a : List ℕ) (rows : List (Row Label)) (opens : opened n 
 
 -- Records in written form, whichever call wrote them.
 module _ (n : ℕ) (t a : List ℕ) (one : WrittenRecord n a) where
-  -- rewriting gives the record's own bytes, or 8
+  -- Rewriting gives the record's own bytes, or 8 where the output is shorter.
   pub own-bytes : opened n t ≡ Accepted → (out : List ℕ) → rewriting n t a out ≡ resultOf (fitted a out)
   unfolding writtenOut
   own-bytes opens out =
@@ -115,7 +115,7 @@ module _ (n : ℕ) (t a : List ℕ) (one : WrittenRecord n a) where
       ap (λ (c : Canonical Label). resultOf (writtenOut c out)) (one .own) ∙
       ap (λ (bytes : List ℕ). resultOf (fitted bytes out)) (sym (one .bytes-are))
 
-  -- one meaning has one such record
+  -- Two records in written form mean the same exactly when they are equal.
   pub one-form : (b : List ℕ) (other : WrittenRecord n b) →
       SameMeaning (tableLabels n t) (graphOfRows (one .form)) (graphOfRows (other .form)) ↔ (a ≡ b)
   one-form b other =

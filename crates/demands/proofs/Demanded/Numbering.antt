@@ -1,4 +1,4 @@
--- Written records number their nodes by least paths.
+-- Written records number their nodes by least paths (document 01, "Graph record").
 use mathlib.Core.List.{List, []}
 use mathlib.Core.Logic.{_↔_}
 use Prim.Native.Nat.{ℕ, _<_}

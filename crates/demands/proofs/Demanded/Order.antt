@@ -1,4 +1,4 @@
--- What the order's four answers mean: each is given exactly where it is true over paths, and turning the two graphs round turns the answer.
+-- What the order's four answers mean: each is given exactly where it is true over paths, and swapping the two graphs swaps the answer.
 use mathlib.Core.Path.{_≡_, refl, sym, _∙_, ap, ap₂}
 use mathlib.Core.Bool.{Bool, true, false}
 use mathlib.Core.List.{List}
@@ -53,14 +53,14 @@ compared-told true false = refl
 compared-told false true = refl
 compared-told false false = refl
 
--- other tests, another of the four
+-- Different test results give different answers.
 compared-injective : (x y z w : Bool) → compared x y ≡ compared z w → (x ≡ z) × (y ≡ w)
 compared-injective x y z w e =
     let q : _≡_ {A = Option (Bool × Bool)} (some (x, y)) (some (z, w)) = sym (compared-told x y) ∙ ap told e ∙ compared-told z w in
     let p : _≡_ {A = Bool × Bool} (x, y) (z, w) = cc in
     (ap (λ (v : Bool × Bool). v .0) p, ap (λ (v : Bool × Bool). v .1) p)
 
--- no refusal is one of the four
+-- A refusal is none of the four answers.
 refusal-told : (r : Reply) (x y : Bool) → told r ≡ none → r ≡ compared x y → ⊥
 refusal-told r x y q e = none-some (sym q ∙ ap told e ∙ compared-told x y)
 
@@ -69,7 +69,7 @@ module _ (n : ℕ) (t a b : List ℕ) (s g : List (Row Label)) (given : Given n 
   unfolding ordering ordered
   ordering-is = rw (given .opens, given .first, given .second)
 
-  -- each test is of the order over paths
+  -- Each test decides the order over paths.
   lower : (rowsBelow n t s g ≡ true) ↔ Below (tableLabels n t) (graphOfRows s) (graphOfRows g)
   lower = order-test n t s g (accepted-rules n b g (given .second))
 
@@ -89,7 +89,7 @@ module _ (n : ℕ) (t a b : List ℕ) (s g : List (Row Label)) (given : Given n 
     λ (p, q). ordering-is ∙ ap₂ compared p q,
   )
 
-  -- Each of the four exactly where it is true over paths:
+  -- Each of the four answers is given exactly where it is true over paths.
   pub same-exact : (ordering n t a b ≡ Same) ↔
       (Below (tableLabels n t) (graphOfRows s) (graphOfRows g) × Below (tableLabels n t) (graphOfRows g) (graphOfRows s))
   same-exact = (
@@ -140,7 +140,7 @@ module _ (n : ℕ) (t a b : List ℕ) (s g : List (Row Label)) (given : Given n 
       not-below true q p = inl (answer-exact false true .1 (p, q))
       not-below false q p = inr (answer-exact false false .1 (p, q))
 
--- One of the four says that the table and both records are accepted.
+-- Each of the four answers says that the table and both records are accepted.
 answer-given : (n : ℕ) (t a b : List ℕ) (x y : Bool) → ordering n t a b ≡ compared x y →
     (s : List (Row Label)) × (g : List (Row Label)) × Given n t a b s g
 unfolding ordering toldIn
@@ -159,14 +159,14 @@ module _ (n : ℕ) (t a b : List ℕ) where
   below-given (inl e) = answer-given n t a b true true e
   below-given (inr e) = answer-given n t a b true false e
 
-  -- turning the two round turns the answer
+  -- Swapping the two records swaps the two tests in the answer.
   pub answer-turned : (x y : Bool) → ordering n t a b ≡ compared x y → ordering n t b a ≡ compared y x
   answer-turned x y e =
       let (s, g, given) = answer-given n t a b x y e in
       let (p, q) = answer-exact n t a b s g given x y .0 e in
       answer-exact n t b a g s (record { opens = given .opens; first = given .second; second = given .first }) y x .1 (q, p)
 
-  -- and the side of a refusal, where only one is refused
+  -- Where only one of the two records is refused, swapping them swaps the side that the refusal tells.
   pub refusal-turned : (s : List (Row Label)) → reading n a ≡ accepted s → (fault : GraphFault) →
       (ordering n t a b ≡ Graph fault Second) ↔ (ordering n t b a ≡ Graph fault First)
   unfolding ordering ordered toldIn

@@ -1,5 +1,5 @@
--- What the calls leave in the output, whatever is handed in: a refusal leaves it as it was, and beside a length stands a record that is
--- accepted when it is read. And 11 is no reply of the difference or of rewriting.
+-- What the calls leave in the output, whatever is handed in: a refusal leaves the output as it was, and beside a length the first bytes are a
+-- record that is accepted when it is read. 11 is no reply of the difference or of rewriting.
 use mathlib.Core.Path.{_≡_, refl, sym, _∙_, ap, subst}
 use mathlib.Core.Bool.{Bool, true, false}
 use mathlib.Core.List.{List}
@@ -62,7 +62,7 @@ use Rattle.demands.proofs.Demanded.Difference.{
 use Rattle.demands.proofs.Demanded.Difference as Differed
 
 module _ (n : ℕ) (out : List ℕ) where
-  -- the record beside a length is accepted, so it is no longer than the longest
+  -- The record beside a length is accepted, so it is no longer than the longest record.
   pub length-bounded : (r : Result) → Leaves n out r → (l : ℕ) → r .reply ≡ replies.Length l → l ≤ 4854
   length-bounded r leaves l q =
       let record-is = leaves .holds l q in
@@ -107,7 +107,8 @@ module _ (n : ℕ) (out : List ℕ) where
         others = λ l q. writes .wrote l q .others;
       }
 
-  -- What holds of a call: what holds of every refusal of what is handed in, and of accepted records over an accepted table.
+  -- A property holds for a call's result if it holds for every refusal of what is handed in and for the results of accepted records over an
+  -- accepted table.
   module _ (t : List ℕ) (P : Result → Type 0) (table-refused : (fault : TableFault) → P (refusing (replies.Table fault) out))
       (graph-refused : (fault : GraphFault) (side : Side) → P (refusing (replies.Graph fault side) out)) where
     pub of-one : (bytes : List ℕ) →
@@ -139,7 +140,7 @@ module _ (n : ℕ) (out : List ℕ) where
         go (opened.Refused fault) e = table-refused fault
         go opened.Accepted e = read e (reading n a) (reading n b) refl refl
 
-    -- and what holds of the refusal of a list
+    -- For a call with a list, the property must also hold for the refusal of the list.
     pub of-two-listed : (listed : Bool) (wrong : Reply) → P (refusing wrong out) → (a b : List ℕ)
         (next : List (Row Label) → List (Row Label) → Result) → ((g h : List (Row Label)) → Given n t a b g h → P (next g h)) →
         P (checkedList n t listed wrong out (readBoth (λ r. refusing r out) (reading n a) (reading n b) next))
@@ -150,7 +151,7 @@ module _ (n : ℕ) (out : List ℕ) where
         go (opened.Refused fault) = table-refused fault
         go opened.Accepted = refuses
 
--- what follows for accepted records over an accepted table
+-- What a call goes on with, for accepted records over an accepted table.
 module _ (n : ℕ) (t a b : List ℕ) {g h : List (Row Label)} (given : Given n t a b g h) (out : List ℕ) where
   unifying-next : unifying n t a b out ≡ unifiedRows n t out g h
   unfolding unifying
@@ -160,7 +161,7 @@ module _ (n : ℕ) (t a b : List ℕ) {g h : List (Row Label)} (given : Given n 
 accepts : {n : ℕ} {t a b : List ℕ} {g h : List (Row Label)} → Given n t a b g h → types.accepted n t ≡ true
 accepts {n} {t} given = opened-accepted n t (table.opened n t) refl (given .opens)
 
--- Every refusal leaves the output as it was, and beside a length stands a record.
+-- Every refusal leaves the output as it was, and beside a length the first bytes are a record.
 module _ (n : ℕ) (t : List ℕ) (out : List ℕ) where
   table-leaves : (fault : TableFault) → Leaves n out (refusing (replies.Table fault) out)
   table-leaves fault = refusing-leaves n out (replies.Table fault) (table.tableNumber fault) refl
@@ -194,7 +195,7 @@ module _ (n : ℕ) (t : List ℕ) (out : List ℕ) where
         leaves g h given (written u is best e) =
             subst (Leaves n out) (sym e) (graph-leaves n out t sameEither tells-either u (best .of-any-size) (seven-bits n t (accepts given) u (best .of-any-size)))
 
-    -- of the difference of accepted records, by an order of links
+    -- The difference of accepted records, by an order of links, leaves the output so.
     differed-leaves : {earlier : Link ℕ → Link ℕ → Bool} → StrictOrder earlier → (g s : List (Row Label)) → Given n t a b g s →
         Leaves n out (differedRows earlier n t out g s)
     differed-leaves {earlier} strict g s given = go (difference-told n t a b g s given strict parts)

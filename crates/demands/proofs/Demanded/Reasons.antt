@@ -1,4 +1,5 @@
--- What the reasons for the links of a difference tell of the two graphs, and the call with reasons beside the plain one.
+-- What the reasons for the links of a difference tell of the two graphs, and how the call with reasons replies beside the plain one (document 02,
+-- Paper 13).
 use mathlib.Core.Path.{_≡_, refl, sym, _∙_, ap, subst}
 use mathlib.Core.Bool.{Bool, true, false, cond}
 use mathlib.Core.List.{List, [], _∷_, _++_}
@@ -66,7 +67,7 @@ use Rattle.demands.proofs.Demanded.Difference.{
 use Rattle.demands.proofs.Demanded.Relations.{specific-size, operands, rows-kept, rows-walk, written-exact, written-rules, written-below}
 use Rattle.demands.proofs.Demanded.Wanted.{same-wanted}
 
--- Of the rows of two graphs.
+-- The reasons for the rows of two graphs.
 module _ (n : ℕ) (t : List ℕ) (g s : List (Row Label)) (general : Rules n g) (specific : Rules n s)
     (below : Below (tableLabels n t) (graphOfRows s) (graphOfRows g)) (ok : types.accepted n t ≡ true) (all : allWanted n t s g ≡ true)
     {earlier : Link ℕ → Link ℕ → Bool} (strict : StrictOrder earlier) where
@@ -101,7 +102,7 @@ module _ (n : ℕ) (t : List ℕ) (g s : List (Row Label)) (general : Rules n g)
           let (least, _) = rows-kept n t g s general specific below ok all strict v f w (p, su) .0 l in
           specific-size n t g s general specific below .features v w f (p, su) (least .0 .1)
 
--- Of two accepted records.
+-- The reasons for two accepted records.
 module _ (n : ℕ) (t a b : List ℕ) (g s : List (Row Label)) (given : Given n t a b g s) where
   pub reasons-are : (earlier : Link ℕ → Link ℕ → Bool) → reasonsOf earlier n t a b ≡
       alongLinks (remainder earlier n t g s) (reasonFor earlier n t g (asWritten s)) (writtenOrder eqb (remainder earlier n t g s))
@@ -128,7 +129,7 @@ module _ (n : ℕ) (t a b : List ℕ) (g s : List (Row Label)) (given : Given n 
         (rows-tell n t g (asWritten s) (general-rules n t a b g s given) (written-rules n t a b g s given below)
         (written-below n t a b g s given below) (accepts n t a b g s given) all strict rows e)
 
-  -- What the reasons tell of s numbered as written, they tell of s.
+  -- What the reasons tell of s numbered as written, they tell of s as it was handed in.
   own-tell : (earlier : Link ℕ → Link ℕ → Bool) (rows : List (Row Label)) (reasons : List ℕ) →
       ReasonsTell earlier n t g (asWritten s) rows reasons → ReasonsTell (byWritten earlier s) n t g s rows reasons
   own-tell earlier rows reasons told i k f h at p leads =
@@ -157,7 +158,7 @@ module _ (n : ℕ) (t a b : List ℕ) (g s : List (Row Label)) (given : Given n 
         high,
       )
 
--- Beside the plain call, whatever is handed in.
+-- The call with reasons beside the plain call, whatever is handed in.
 module _ (plain : Result) (reasons out old : List ℕ) where
   lengths : (l : ℕ) → plain .reply ≡ replies.Length l → withReasons plain reasons out old ≡
       cond (leb (length reasons) (length old)) (explainedResult (plain .reply) (plain .output) (reasons ++ drop (length reasons) old))
@@ -184,7 +185,7 @@ module _ (plain : Result) (reasons out old : List ℕ) where
   pub beside-refused : lengthOf (plain .reply) ≡ none → withReasons plain reasons out old ≡ explainedResult (plain .reply) out old
   beside-refused e = ap (λ (o : Option ℕ). lengthWithReasons o plain reasons out old) e
 
--- What follows the table gives no number above 18.
+-- What follows the table's check gives no number above 18.
 
 module _ (earlier : Link ℕ → Link ℕ → Bool) (n : ℕ) (t out : List ℕ) {k : ℕ} (high : 18 < k) where
   low : {m : ℕ} → m ≤ 18 → some m ≡ some k → ⊥
@@ -214,7 +215,7 @@ module _ (earlier : Link ℕ → Link ℕ → Bool) (n : ℕ) (t out : List ℕ)
   pub parting-low : (a b : List ℕ) → refusal (parting earlier n t a b out .reply) ≡ some k → ⊥
   parting-low a b = read-low (reading n a) (reading n b)
 
--- the reply that tells a length
+-- A reply whose `lengthOf` is l is `Length l`.
 length-told : (r : Reply) (l : ℕ) → lengthOf r ≡ some l → r ≡ replies.Length l
 length-told r l e = answer-injective r (replies.Length l) (go (answerOf r) e)
   where
@@ -229,7 +230,7 @@ length-told r l e = answer-injective r (replies.Length l) (go (answerOf r) e)
     go (answer.Refused number) q = none-some q
     go (answer.RefusedGraph number side) q = none-some q
 
--- 22 exactly where the reasons do not fit beside a plain call that never gives it
+-- Beside a plain call that never gives 22, 22 is given exactly where that call gives a length and the reasons do not fit.
 pub no-room-exact : (plain : Result) (reasons out old : List ℕ) → (plain .reply ≡ replies.NoReasonRoom → ⊥) →
     (withReasons plain reasons out old .reply ≡ replies.NoReasonRoom) ↔
     ((l : ℕ) × (plain .reply ≡ replies.Length l) × (length old < length reasons))
@@ -254,7 +255,7 @@ no-room-exact plain reasons out old never = (
         let told = length-told (plain .reply) l q in
         (l, told, fits l told (leb (length reasons) (length old)) refl e)
 
--- where the call with reasons tells a length, the plain call tells it, and the reasons fit
+-- Where the call with reasons tells a length, the plain call tells the same length, and the reasons fit.
 beside-length : (plain : Result) (reasons out old : List ℕ) (l : ℕ) → withReasons plain reasons out old .reply ≡ replies.Length l →
     (plain .reply ≡ replies.Length l) × (length reasons ≤ length old)
 beside-length plain reasons out old l e = there (lengthOf (plain .reply)) refl
@@ -275,7 +276,7 @@ beside-length plain reasons out old l e = there (lengthOf (plain .reply)) refl
         (sym q ∙ ap (λ (r : Reply). lengthOf r) (sym (ap (λ (x : Explained). x .reply) (beside-refused plain reasons out old q)) ∙ e))
     there (some m) q = fits m (length-told (plain .reply) m q) (leb (length reasons) (length old)) refl
 
--- Beside a record that a call with reasons has written, the bytes tell of its links.
+-- The bytes beside a record that a call with reasons has written tell of the links of that record.
 module _ (n : ℕ) (t a b : List ℕ) (g s : List (Row Label)) (given : Given n t a b g s) {earlier : Link ℕ → Link ℕ → Bool}
     (strict : StrictOrder earlier) {out : List ℕ} {call : Result} (parts : Parts earlier n t out g s call) (old : List ℕ) where
   abbrev reasons : List ℕ

@@ -1,5 +1,5 @@
--- The record of a graph of any size over an accepted table: there is none exactly where the graph is too large, it means the same as the
--- graph, and graphs have one record exactly where they mean the same.
+-- The record of a graph of any size over an accepted table. There is none exactly where the graph is too large; a record means the same as its
+-- graph; and two graphs have one record exactly where they mean the same.
 use mathlib.Core.Path.{_≡_, refl, sym, _∙_, ap, subst}
 use mathlib.Core.Bool.{Bool}
 use mathlib.Core.List.{List}

@@ -1,5 +1,5 @@
--- The difference of two accepted records is the one that the relations over paths and links state, s numbered as written: what lies over
--- what, which links are in one group, which links are kept, and which labels their nodes carry.
+-- The difference of two accepted records is the one that the relations over paths and links state, with s numbered as written. The relations say
+-- which nodes lie over which, which links are in one group, which links are kept, and which labels their nodes carry.
 use mathlib.Core.Path.{_≡_, refl, sym, _∙_, ap, subst}
 use mathlib.Core.Bool.{Bool, true, false}
 use mathlib.Core.List.{List, List·Memᴰ}
@@ -32,7 +32,7 @@ use Rattle.demands.specs.Explained.{writtenNumber}
 use Rattle.demands.proofs.Demanded.Wanted.{wanted-exact, wanted-found}
 use Rattle.demands.proofs.Demanded.Difference.{accepts, general-rules, form, form-is, form-below, form-rules}
 
--- a graph on nodes of s whose links from nodes of s are links of s has no walk that s has not
+-- If d has the root of s, and its links from nodes of s are links of s, then every walk of d is a walk of s.
 pub walk-within : {L A : Type 0} (d s : Graph L A) → d .root ≡ s .root →
     ((u v : A) (f : ℕ) → Reached s u → d .link u f ≡ some v → s .link u f ≡ some v) →
     (p : List ℕ) (v : A) → walk d p ≡ some v → walk s p ≡ some v
@@ -45,7 +45,7 @@ walk-within {A = A} d s same links =
     let here = before u at in
     walk-snoc s p f here ∙ links u v f (p, here) l)
 
--- Of the rows of two graphs.
+-- The relations for the rows of two graphs.
 module _ (n : ℕ) (t : List ℕ) (g s : List (Row Label)) (general : Rules n g) (specific : Rules n s)
     (below : Below (tableLabels n t) (graphOfRows s) (graphOfRows g)) where
   pub specific-size : AnySize (tableLabels n t) (graphOfRows s)
@@ -117,7 +117,7 @@ module _ (n : ℕ) (t : List ℕ) (g s : List (Row Label)) (general : Rules n g)
       rows-walk =
           walk-within (differenceRows earlier n t g s) (graphOfRows s) refl (λ u v f r e. rows-kept u f v r .0 e .0 .0 .1)
 
--- Of two accepted records.
+-- The relations for two accepted records.
 module _ (n : ℕ) (t a b : List ℕ) (g s : List (Row Label)) (given : Given n t a b g s) where
   written-is : form n t a b g s given ≡ asWritten s
   written-is = sym (ap numbered (form-is n t a b g s given))

@@ -1,5 +1,5 @@
--- The difference of rows that keep the rules of accepted records, s below g, where every node of s has a wanted label: it is the difference
--- that the theory of graphs speaks of, over the table's lattice of labels.
+-- The difference of rows that keep the rules of accepted records, with s below g, where every node of s has a wanted label: it is the difference
+-- of the theory of graphs, over the table's lattice of labels.
 use mathlib.Core.Path.{_≡_, refl, sym, _∙_, ap, ap₂, subst}
 use mathlib.Core.Bool.{Bool, true}
 use mathlib.Core.List.{List}
@@ -42,7 +42,7 @@ use Rattle.demands.specs.Demand.{Large, Restores}
 use Rattle.difference.proofs.Over.{over-map}
 use Rattle.demands.proofs.Demanded.Wanted.{general-size, specific-size, operands, labelOver, meet-label, s-label, label-below, wanted-exact, wanted-found}
 
--- a graph whose links are links of another from the same root reaches no more of it
+-- A graph that has the root of another graph, and only links of it, reaches only nodes that the other graph reaches.
 fewer-reached : {L A : Type 0} (d s : Graph L A) → d .root ≡ s .root →
     ((u v : A) (f : ℕ) → Reached d u → d .link u f ≡ some v → Reached s u × (s .link u f ≡ some v)) →
     (v : A) → Reached d v → Reached s v
@@ -55,7 +55,7 @@ fewer-reached {A = A} d s same links v (p, e) =
     reached-link s f r m)
     p v e
 
--- so it is not larger
+-- A graph that has the root of another graph, and only links of it, is too large only where the other graph is.
 fewer-large : {A : Type 0} (d s : Graph Label A) → d .root ≡ s .root →
     ((u v : A) (f : ℕ) → Reached d u → d .link u f ≡ some v → Reached s u × (s .link u f ≡ some v)) → Large d → Large s
 fewer-large d s same links (inl (xs, distinct, all, many)) =
@@ -129,7 +129,7 @@ module _ (n : ℕ) (t : List ℕ) (ok : table.accepted n t ≡ true) (g s : List
             wants = λ v _. wanted-is v;
           }
 
-      -- It is no larger than s, so that it always can be written.
+      -- The difference is no larger than s, so it always can be written.
       pub rows-small : Large (differenceRows earlier n t g s) → ⊥
       unfolding difference
       rows-small large =
@@ -139,7 +139,7 @@ module _ (n : ℕ) (t : List ℕ) (ok : table.accepted n t ≡ true) (g s : List
           s-size g-size setting)
           (subst (λ (k : Graph Label ℕ). Large k) rows-difference large))
 
-      -- It restores s with g, and nothing more general does.
+      -- The difference restores s with g, and nothing more general does.
       pub rows-restore : Restores n t (differenceRows earlier n t g s) (graphOfRows g) (graphOfRows s)
       rows-restore =
           subst (λ (k : Graph Label ℕ). Restores n t k (graphOfRows g) (graphOfRows s)) (sym rows-difference)

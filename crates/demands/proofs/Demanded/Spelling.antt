@@ -1,4 +1,4 @@
--- Ranges in written records, and in the meet of two labels.
+-- Ranges in written records, and in the meet of two labels (document 02, Paper 7).
 use mathlib.Core.Path.{_≡_, sym, _∙_, ap, subst}
 use mathlib.Core.Bool.{Bool, true, not}
 use mathlib.Core.List.{List}
@@ -39,7 +39,7 @@ module _ (n : ℕ) (bytes : List ℕ) (one : WrittenRecord n bytes) where
       records.spelled-once bytes rows (one .form) writes (λ v. not (isFull (graphOfRows (one .form) .label v))) spells written-spells in
       ranges v h ∙ ap (λ (l : List (Row Label)). not (isFull (graphOfRows l .label v))) (sym same)
 
--- The meet of two labels is a contradiction where its type is 0 or no level is inside both ranges.
+-- The meet of two labels is a contradiction exactly where its type is 0 or no level is inside both ranges.
 pub range-clash : (n : ℕ) (t : List ℕ) (x y : Label) → (tableLabels n t .contradiction (tableLabels n t .meet x y) ≡ true) ↔
     ((tableLabels n t .meet x y .type ≡ 0) ⊎ ((l : ℕ) → LevelIn x l → LevelIn y l → ⊥))
 range-clash n t x y =

@@ -1,5 +1,5 @@
--- The wanted labels of the nodes of s, for rows that keep the rules of accepted records, s below g: what is computed over the lists of
--- nodes is what the graphs say over their paths.
+-- The wanted labels of the nodes of s, for rows that keep the rules of accepted records, with s below g: the labels that are computed over the
+-- lists of nodes are the wanted labels over the graphs' paths.
 use mathlib.Core.Path.{_≡_, refl, sym, _∙_, ap, ap₂, subst}
 use mathlib.Core.Bool.{Bool, true, false, cond, _&&_}
 use mathlib.Core.List.{List, [], _∷_, List·Memᴰ, List·Memᴰ·head, List·Memᴰ·tail}
@@ -37,7 +37,7 @@ use Rattle.engine.proofs.Tables.{label-known}
 use Rattle.difference.proofs.Over.{over-map}
 use Rattle.demands.specs.Wanted.{TypeBelowOver, TypeOver, WantedType, SomeUnwanted, WantedRange}
 
--- no label that a test picks
+-- Where the test picks no label, the meet is top.
 meetWhere-none : (𝓛 : Labels) {B : Type 0} (test : B → Bool) (label : B → 𝓛 .L) (ys : List B) → ((y : B) → List·Memᴰ y ys → test y ≡ false) →
     meetWhere 𝓛 test label ys ≡ 𝓛 .top
 unfolding meetWhere
@@ -46,7 +46,7 @@ meetWhere-none 𝓛 test label (y ∷ ys) h =
     ap (λ (b : Bool). cond b (𝓛 .meet (label y) (meetWhere 𝓛 test label ys)) (meetWhere 𝓛 test label ys)) (h y (List·Memᴰ·head refl)) ∙
     meetWhere-none 𝓛 test label ys (λ z m. h z (List·Memᴰ·tail m))
 
--- a test that some number below n fails
+-- A test that does not hold for every number below n fails at some number.
 every-missed : (p : ℕ → Bool) (n : ℕ) → table.every n p ≡ false → (k : ℕ) × (k < n) × (p k ≡ false)
 unfolding table.every
 every-missed p zero e = true-false refl e
@@ -63,7 +63,7 @@ every-missed p (suc n) e = go (p n) refl (every-missed p n)
 
 -- Graphs of one meaning have the same wanted labels and types, whatever lies over them.
 module _ (n : ℕ) (t : List ℕ) {A C B : Type 0} {s : Graph Label A} {r : Graph Label C} (g : Graph Label B) (same : SameMeaning (tableLabels n t) s r) where
-  -- a path that leads to w in r leads to the node v of s that a path leads to together with w
+  -- If a path p leads to v in s and to w in r, then every path that leads to w in r leads to v in s.
   same-path : {v : A} {w : C} (p q : List ℕ) → walk s p ≡ some v → walk r p ≡ some w → walk r q ≡ some w → walk s q ≡ some v
   same-path {v} {w} p q d e f =
       let (x, i, j) = same .corefers p q .1 (w, e, f) in
@@ -167,7 +167,7 @@ module _ (n : ℕ) (t : List ℕ) (ok : table.accepted n t ≡ true) (g s : List
   pub s-label : (v : ℕ) → lift n t ok (graphOfRows s) .label v .0 ≡ graphOfRows s .label v
   s-label v = known-label n t ok (graphOfRows s .label v) (label-known (zero-type n t ok) specific v)
 
-  -- It is the meet of all labels of g over v.
+  -- `meetAt v` is the meet of all labels of g over v.
   meet-over : (v : ℕ) → MeetOver n t (graphOfRows s) (graphOfRows g) v (meetAt v)
   meet-over v =
       record {
@@ -185,7 +185,7 @@ module _ (n : ℕ) (t : List ℕ) (ok : table.accepted n t ≡ true) (g s : List
             under p y (walk-map (over-map n t g s general below) p y e ∙ ap some o) e);
       }
 
-  -- the label in s is below the meet over it
+  -- The label of a node in s is below the meet of the labels of g over it.
   pub label-below : (v : ℕ) → tableLabels n t .le (graphOfRows s .label v) (meetAt v) ≡ true
   label-below v =
       ap₂ (tableLabels n t .le) (sym (s-label v)) (meet-label v) ∙
@@ -199,7 +199,7 @@ module _ (n : ℕ) (t : List ℕ) (ok : table.accepted n t ≡ true) (g s : List
   wanted-exact v c =
       wanted-at n t ok (graphOfRows s) (graphOfRows g) v (meetAt v) (meet-over v) (label-known (zero-type n t ok) specific v) (label-below v) c
 
-  -- The same of types alone.
+  -- The same facts for types alone.
 
   type-over : (v : ℕ) → TypeOver n t (graphOfRows s) (graphOfRows g) v (meetAt v .type)
   type-over v =
@@ -237,7 +237,7 @@ module _ (n : ℕ) (t : List ℕ) (ok : table.accepted n t ≡ true) (g s : List
         (λ d l e. w .greatest d l (subst (λ (q : ℕ). table.meet n t d q ≡ some (graphOfRows s .label v .type)) (sym same) e)),
   )
 
-  -- a node has a wanted label where it has a wanted type
+  -- A node has a wanted label exactly where it has a wanted type.
   label-found : (v : ℕ) → table.found (wantedAt n t s g v) ≡ table.found (typeWanted v)
   unfolding wantedAlong wantedLabel
   label-found v = go (typeWanted v)
@@ -246,7 +246,7 @@ module _ (n : ℕ) (t : List ℕ) (ok : table.accepted n t ≡ true) (g s : List
       go none = refl
       go (some c) = refl
 
-  -- Some node has none exactly where the test of all nodes fails.
+  -- Some node has no wanted type exactly where the test of all nodes fails.
   pub unwanted-types : (allWanted n t s g ≡ false) ↔ SomeUnwanted n t (graphOfRows s) (graphOfRows g)
   unfolding allWantedAlong
   unwanted-types = (
@@ -284,7 +284,7 @@ module _ (n : ℕ) (t : List ℕ) (ok : table.accepted n t ≡ true) (g s : List
       let i = inside n t (meetAt v) (graphOfRows g .label y) (meet-over v .under p y d e) in
       inside-le n t a (graphOfRows g .label y) (record { type = i .type; lowest = i .lowest; highest = within p y d e }))) .highest
 
-  -- A wanted range it always has.
+  -- Every node has a wanted range.
   pub range-wanted : (v : ℕ) → Reached (graphOfRows s) v → (lowest highest : ℕ) × WantedRange (graphOfRows s) (graphOfRows g) v lowest highest
   range-wanted v r =
       let is : MeetOver n t (graphOfRows s) (graphOfRows g) v (meetAt v) = meet-over v in
@@ -320,7 +320,7 @@ module _ (n : ℕ) (t : List ℕ) (ok : table.accepted n t ≡ true) (g s : List
           go (yes e) = (max q 255, omega arith, λ h small f. omega arith)
           go (no e) = (p, omega arith, λ h small f. omega arith)
 
-  -- past the nodes of s there is no label, nothing of g lies over, and that of no node is found
+  -- Past the nodes of s there is no label and nothing of g lies over, so the wanted label there is `noLabel`.
   wanted-past : (v : ℕ) → length s ≤ v → wantedAt n t s g v ≡ some noLabel
   unfolding wantedAlong meetOver
   wanted-past v past =
@@ -332,7 +332,7 @@ module _ (n : ℕ) (t : List ℕ) (ok : table.accepted n t ≡ true) (g s : List
       omega arith)) in
       ap₂ (wantedLabel n t) label top ∙ wanted-label-by-top n t ok noLabel (plain-known n 0 (zero-type n t ok))
 
-  -- where every node has a wanted label
+  -- Where the test of all nodes passes, every number has a wanted label.
   pub wanted-found : allWanted n t s g ≡ true → (v : ℕ) → (c : Label) × (wantedAt n t s g v ≡ some c)
   unfolding allWantedAlong
   wanted-found all v = go (decLt v (length s))

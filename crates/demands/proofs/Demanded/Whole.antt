@@ -1,4 +1,4 @@
--- The difference as demand 3 asks for it, whole: over a table that admits differences, for a record that is below the other.
+-- The difference as demand 3 asks for it, in one theorem: over a table that admits differences, for a record that is below the other.
 use mathlib.Core.Path.{_≡_, refl, sym, _∙_, ap, subst}
 use mathlib.Core.Bool.{Bool, true, cond}
 use mathlib.Core.List.{List, _++_}
@@ -31,7 +31,7 @@ use Rattle.demands.proofs.Demanded.Recorded.{record-none, record-means}
 use Rattle.demands.proofs.Demanded.Difference as Differed
 use Rattle.demands.proofs.Demanded.Before.{never-unwanted}
 
--- bytes that are written over themselves
+-- Bytes that are written over themselves fit.
 fitted-own : (bytes : List ℕ) → fitted bytes bytes ≡ yielding (written.Length (length bytes)) (bytes ++ drop (length bytes) bytes)
 unfolding fitted
 fitted-own bytes =

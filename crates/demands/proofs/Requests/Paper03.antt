@@ -1,4 +1,4 @@
--- Paper 3: which of two is the broader.
+-- Paper 3: which of two is the broader. The order tells one of four, and the difference goes on by that answer.
 use mathlib.Core.Path.{_≡_}
 use mathlib.Core.Bool.{true, false}
 use mathlib.Core.List.{List}
@@ -20,7 +20,7 @@ use Rattle.demands.specs.Demand.{Given, AnswersNotBelow, WrittenRecord}
 use Rattle.demands.proofs.Demands.{meaning-bytes, meaning-order, written-one-form, order-exact, difference-not-below}
 use Rattle.demands.proofs.Demanded.Order as Order
 
--- "Order shall tell one of four: same, under, above, neither, seen from the first graph": each exactly where it is true over paths.
+-- "Order shall tell one of four: same, under, above, neither, seen from the first graph": each is told exactly where it is true over paths.
 module _ (n : ℕ) (t a b : List ℕ) (s g : List (Row Label)) (given : Given n t a b s g) where
   pub order-same : (ordering n t a b ≡ Same) ↔
       (Below (tableLabels n t) (graphOfRows s) (graphOfRows g) × Below (tableLabels n t) (graphOfRows g) (graphOfRows s))
@@ -38,11 +38,11 @@ module _ (n : ℕ) (t a b : List ℕ) (s g : List (Row Label)) (given : Given n 
       ((Below (tableLabels n t) (graphOfRows s) (graphOfRows g) → ⊥) × (Below (tableLabels n t) (graphOfRows g) (graphOfRows s) → ⊥))
   order-neither = Order.neither-exact n t a b s g given
 
-  -- Same exactly where the meanings are equal,
+  -- Same is answered exactly where the records mean the same.
   pub same-meaning : (ordering n t a b ≡ Same) ↔ SameMeaning (tableLabels n t) (graphOfRows s) (graphOfRows g)
   same-meaning = meaning-order n t a b s g given
 
-  -- so exactly where the written records are equal bytes.
+  -- Same is answered exactly where the written records are equal bytes.
   pub same-bytes : (out : List ℕ) (l m : ℕ) → rewriting n t a out .reply ≡ Length l → rewriting n t b out .reply ≡ Length m →
       (ordering n t a b ≡ Same) ↔ (take l (rewriting n t a out .output) ≡ take m (rewriting n t b out .output))
   same-bytes out l m p q =
@@ -50,14 +50,14 @@ module _ (n : ℕ) (t a b : List ℕ) (s g : List (Row Label)) (given : Given n 
       let (there, back) = meaning-bytes n t a b s g given out l m p q in
       (λ e. there (means e), λ e. answers (back e))
 
-  -- "The difference goes on when s is same or under": 12 exactly where it is above or neither.
+  -- "The difference goes on when s is same or under": 12 is given exactly where s is above or neither.
   pub difference-goes-on : (out : List ℕ) → (differing n t a b out .reply ≡ NotBelow) ↔ AnswersNotBelow n t b a
   difference-goes-on out =
       let (there, back) = difference-not-below n t a b s g given out in
       let (answers, means) = order-exact n t b a g s (record { opens = given .opens; first = given .second; second = given .first }) .1 in
       (λ e. means (there e), λ e. back (answers e))
 
--- Of records in written form, same is answered exactly for equal bytes.
+-- For two records in written form, same is answered exactly where their bytes are equal.
 pub same-written : (n : ℕ) (t a b : List ℕ) → opened n t ≡ Accepted → (one : WrittenRecord n a) (other : WrittenRecord n b) →
     (ordering n t a b ≡ Same) ↔ (a ≡ b)
 same-written n t a b opens one other =
@@ -66,7 +66,7 @@ same-written n t a b opens one other =
     let (there, back) = written-one-form n t a one b other in
     (λ e. there (means e), λ e. answers (back e))
 
--- Turning the two round turns under and above round and leaves the others; whatever is handed in.
+-- Swapping the two records swaps under and above and leaves same and neither, whatever is handed in.
 module _ (n : ℕ) (t a b : List ℕ) where
   pub turned-same : (ordering n t a b ≡ Same) ↔ (ordering n t b a ≡ Same)
   turned-same = (Order.answer-turned n t a b true true, Order.answer-turned n t b a true true)
@@ -77,7 +77,7 @@ module _ (n : ℕ) (t a b : List ℕ) where
   pub turned-neither : (ordering n t a b ≡ Neither) ↔ (ordering n t b a ≡ Neither)
   turned-neither = (Order.answer-turned n t a b false false, Order.answer-turned n t b a false false)
 
-  -- Where one of the two is accepted, a refusal of the other turns its side.
+  -- Where one of the two is accepted, swapping them swaps the side that a refusal of the other tells.
   pub turned-refusal : (s : List (Row Label)) → reading n a ≡ accepted s → (fault : GraphFault) →
       (ordering n t a b ≡ Refusal fault Second) ↔ (ordering n t b a ≡ Refusal fault First)
   turned-refusal = Order.refusal-turned n t a b

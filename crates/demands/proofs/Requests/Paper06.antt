@@ -1,4 +1,5 @@
--- Paper 6: tables with three rival types. a is the general record, b the specific one.
+-- Paper 6: tables with three rival types. Over every accepted table, where s is below g, the difference restores and is most general, or 13 is
+-- given because some node of s has no wanted type. a is the general record, b the specific one.
 use mathlib.Core.Path.{_≡_, refl}
 use mathlib.Core.Bool.{true}
 use mathlib.Core.List.{List}
@@ -31,44 +32,45 @@ use Rattle.demands.proofs.Demanded.Before.{differing-before, never-unwa
 use Rattle.demands.proofs.Demanded.Itself.{itself}
 
 module _ (n : ℕ) (t a b : List ℕ) (g s : List (Row Label)) (given : Given n t a b g s) (out : List ℕ) where
-  -- 13 is given exactly where s is below g and some node of s has no wanted type;
+  -- 13 is given exactly where s is below g and some node of s has no wanted type.
   pub unwanted-exact : (differing n t a b out .reply ≡ NoWantedType) ↔
       (Below (tableLabels n t) (graphOfRows s) (graphOfRows g) × SomeUnwanted n t (graphOfRows s) (graphOfRows g))
   unwanted-exact = Differed.unwanted-reply-exact n t a b g s given by-number-order (Differed.plain-parts n t a b given out)
 
-  -- a wanted range every node of s has;
+  -- Every node of s has a wanted range, where s is below g.
   pub range-wanted : Below (tableLabels n t) (graphOfRows s) (graphOfRows g) → (v : ℕ) → Reached (graphOfRows s) v →
       (lowest highest : ℕ) × WantedRange (graphOfRows s) (graphOfRows g) v lowest highest
   range-wanted =
       Wanted.range-wanted n t (opened-accepted n t (opened n t) refl (given .opens)) g s (accepted-rules n a g (given .first))
       (accepted-rules n b s (given .second))
 
-  -- 12 is checked before it: it is given wherever s is not below g.
+  -- 12 is checked before 13: it is given wherever s is not below g.
   pub unwanted-after-below : (differing n t a b out .reply ≡ NotBelow) ↔ (Below (tableLabels n t) (graphOfRows s) (graphOfRows g) → ⊥)
   unwanted-after-below = Differed.not-below-exact n t a b g s given by-number-order (Differed.plain-parts n t a b given out)
 
-  -- Over every accepted table, where s is below g: 13 for that reason, or the difference restores s and nothing more general of any size
-  -- does, and it is what the call writes;
+  -- Over every accepted table, where s is below g: either 13 is given because some node of s has no wanted type, or the call writes the
+  -- difference, which restores s and is most general among graphs of any size.
   pub restored-or-unwanted : Below (tableLabels n t) (graphOfRows s) (graphOfRows g) →
       ((differing n t a b out .reply ≡ NoWantedType) × SomeUnwanted n t (graphOfRows s) (graphOfRows g)) ⊎
       (Restores n t (remainder byNumber n t g s) (graphOfRows g) (graphOfRows s) × (differing n t a b out ≡ writing (recordOf eqb (remainder byNumber n t g s)) out))
   restored-or-unwanted = Differed.unwanted-or-restored n t a b g s given by-number-order (Differed.plain-parts n t a b given out)
 
-  -- the record that is written restores b byte for byte when it is combined with a, and of records too nothing more general does.
+  -- The record that is written, combined with a, restores b byte for byte, and no more general record does.
   pub restored-bytes : (l : ℕ) → differing n t a b out .reply ≡ Length l → Difference n t a b g s (take l (differing n t a b out .output))
   restored-bytes = Differed.written-difference n t a b g s given by-number-order (Differed.plain-parts n t a b given out)
 
--- Where the table admits differences, every call for a difference gives what it gave before, reply and output, whatever is handed in
--- beside the table;
+-- Where the table admits differences, every call for a difference gives the reply and output of document 01 without Paper 6, whatever is handed
+-- in beside the table.
 pub admitted-as-before : (n : ℕ) (t : List ℕ) → types.admits n t ≡ true → (a b out : List ℕ) →
     differing n t a b out ≡ differingBefore n t a b out
 admitted-as-before = differing-before
 
--- and 13 never comes.
+-- Over a table that admits differences, 13 is never given.
 pub admitted-wanted : (n : ℕ) (t : List ℕ) → types.admits n t ≡ true → (a b out : List ℕ) → differing n t a b out .reply ≡ NoWantedType → ⊥
 admitted-wanted n t differ a b out = never-unwanted n t differ out a b
 
--- A graph's difference from itself is a lone top, over every accepted table: its record where it fits, else 8.
+-- Over every accepted table, a graph's difference from itself is a lone top: the call writes its record, or answers 8 where the output is
+-- shorter.
 pub itself-lone-top : (n : ℕ) (t a : List ℕ) (s : List (Row Label)) → opened n t ≡ Accepted → reading n a ≡ accepted s → (out : List ℕ) →
     differing n t a a out ≡ resultOf (fitted (loneTop n) out)
 itself-lone-top = itself

@@ -52,28 +52,28 @@ use Rattle.demands.proofs.Demanded.Reasons.{
   beside-refused,
 }
 
--- "A list of all 64 features, each once": the test of a list is that.
+-- "a list of all 64 features, each once": the test of a list passes exactly these.
 pub reading-order-each-once : (list : List ℕ) → (isReadingOrder list ≡ true) ↔ EachOnce list
 reading-order-each-once = Reading.reading-order
 
--- "Order links by the feature's place in the list, then by parent number":
+-- "order links by the feature's place in the list, then by parent number".
 pub links-by-list : (list : List ℕ) (l m : Link ℕ) →
     (byReading list l m ≡ true) ↔ ((placeIn list (l .1) < placeIn list (m .1)) ⊎ ((l .1 ≡ m .1) × (l .0 < m .0)))
 links-by-list = by-reading
 
--- the feature at place i of an accepted list has place i.
+-- The feature at place i of an accepted list has place i.
 pub place-in-list : (list : List ℕ) → isReadingOrder list ≡ true → (i : ℕ) → i < 64 → placeIn list (getD list i 0) ≡ i
 place-in-list list listed i h =
     let order = Reading.reading list listed in
     Reading.place-in list i (getD list i 0) (omega (arith, order .long)) refl (λ j l e. order .apart j i l h e)
 
--- "01's order remains for the call without a list": after the table, the difference by parent number, then feature.
+-- "01's order remains for the call without a list": after the table is checked, the difference orders links by parent number, then feature.
 pub difference-without-list : (n : ℕ) (t a b out : List ℕ) →
     differing n t a b out ≡ checked (λ r. refusing r out) (opened n t) (parting byNumber n t a b out)
 unfolding differing
 difference-without-list n t a b out = refl
 
--- "Whichever list is given, the difference must restore and be most general": demand 3, with no premise on the list but that it is accepted.
+-- "Whichever list is given, the difference must restore and be most general": demand 3 holds for every accepted list.
 module _ (n : ℕ) (t list a b : List ℕ) (g s : List (Row Label)) (given : Given n t a b g s) (listed : isReadingOrder list ≡ true) where
   -- Where s is below g and no node of s is without a wanted type, the difference restores s with g and nothing more general of any size does.
   pub difference-by-restores : Below (tableLabels n t) (graphOfRows s) (graphOfRows g) →
@@ -85,39 +85,39 @@ module _ (n : ℕ) (t list a b : List ℕ) (g s : List (Row Label)) (given : Giv
     parts : Differed.Parts (byReading list) n t out g s (differingBy n t list a b out)
     parts = Differed.listed-parts n t list a b given listed out
 
-    -- 12 exactly where s is not below g,
+    -- 12 is given exactly where s is not below g.
     pub difference-by-not-below : (differingBy n t list a b out .reply ≡ NotBelow) ↔ (Below (tableLabels n t) (graphOfRows s) (graphOfRows g) → ⊥)
     difference-by-not-below = Differed.not-below-exact n t a b g s given (by-reading-order list) parts
 
-    -- 13 exactly where it is and some node of s has no wanted type,
+    -- 13 is given exactly where s is below g and some node of s has no wanted type.
     pub difference-by-not-wanted : (differingBy n t list a b out .reply ≡ NoWantedType) ↔
         (Below (tableLabels n t) (graphOfRows s) (graphOfRows g) × SomeUnwanted n t (graphOfRows s) (graphOfRows g))
     difference-by-not-wanted = Differed.unwanted-reply-exact n t a b g s given (by-reading-order list) parts
 
-    -- and else the call writes the difference.
+    -- Where s is below g and no node of s is without a wanted type, the call writes the difference.
     pub difference-by-written : Below (tableLabels n t) (graphOfRows s) (graphOfRows g) →
         (SomeUnwanted n t (graphOfRows s) (graphOfRows g) → ⊥) →
         differingBy n t list a b out ≡ writing (recordOf eqb (remainder (byReading list) n t g s)) out
     difference-by-written below all =
         Differed.remainder-written n t a b g s given (by-reading-order list) parts below (Differed.all-wanted n t a b g s given below all)
 
-    -- What is written restores b byte for byte when it is combined with a, nothing more general does, and the order agrees.
+    -- What is written, combined with a, restores b byte for byte; nothing more general does; and the order agrees.
     pub difference-by-restored : (l : ℕ) → differingBy n t list a b out .reply ≡ Length l →
         Difference n t a b g s (take l (differingBy n t list a b out .output))
     difference-by-restored = Differed.written-difference n t a b g s given (by-reading-order list) parts
 
 module _ (n : ℕ) (t list a b out : List ℕ) where
-  -- "A list that is anything else is 19, after the table": 19 exactly where the table is accepted and the list is not.
+  -- "A list that is anything else is 19, after the table": 19 is given exactly where the table is accepted and the list is not.
   pub difference-by-list : (differingBy n t list a b out .reply ≡ ReadingOrder) ↔ ((opened n t ≡ Accepted) × (isReadingOrder list ≡ false))
   difference-by-list =
       list-exact (differing-checked n t list a b out) (λ fault e. let z : _≡_ {A = ℕ} 0 1 = cc in omega arith)
       (λ e. parting-low (byReading list) n t out {k = 19} (omega arith) a b (ap (λ (r : Reply). refusal r) e))
 
-  -- Refusals of the table come first, whatever the list;
+  -- The table's refusals come before the list's, whatever the list.
   pub difference-by-table : (fault : TableFault) → opened n t ≡ Refused fault → differingBy n t list a b out ≡ refusing (Table fault) out
   difference-by-table fault e = sym (table-before-list (differing-checked n t list a b out) fault e)
 
-  -- those of the graphs after the list, the first graph's before the second's.
+  -- The graphs' refusals come after the list's, and the first graph's come before the second's.
   module _ (opens : opened n t ≡ Accepted) (listed : isReadingOrder list ≡ true) where
     pub difference-by-first : (fault : GraphFault) → reading n a ≡ refused fault → differingBy n t list a b out ≡ refusing (Refusal fault First) out
     unfolding differingBy
@@ -128,8 +128,8 @@ module _ (n : ℕ) (t list a b out : List ℕ) where
     unfolding differingBy
     difference-by-second g fault first second = rw (opens, listed, first, second)
 
-  -- Whatever is handed in, a refusal leaves the output as it was, and beside a length the first bytes are a record in written form:
-  -- "Written numbering does not follow the list". And 11 is no reply.
+  -- Whatever is handed in, a refusal leaves the output as it was. Beside a length, the first bytes are a record in written form: "Written
+  -- numbering does not follow the list". 11 is no reply.
   pub difference-by-leaves : Leaves n out (differingBy n t list a b out)
   difference-by-leaves = Output.differing-by-leaves n t out a b list
 
@@ -140,7 +140,8 @@ module _ (n : ℕ) (t list a b out : List ℕ) where
   pub difference-by-accepted : RefusedAfterReading (differingBy n t list a b out .reply) → (isReadingOrder list ≡ true) × BothAccepted n t a b
   difference-by-accepted = After.differing-by-accepted n t out a b list
 
-  -- The explained call's record and reply are those of the call by the list, where that gives a length and the reasons fit;
+  -- Where the call by the list gives a length and the reasons fit, the explained call gives the same record and reply, with the reasons beside
+  -- them.
   module _ (old : List ℕ) where
     pub explained-by-record : (l : ℕ) → differingBy n t list a b out .reply ≡ Length l →
         length (reasonsOf (byReading list) n t a b) ≤ length old →
@@ -150,7 +151,7 @@ module _ (n : ℕ) (t list a b out : List ℕ) where
     unfolding explainingBy
     explained-by-record = beside-room (differingBy n t list a b out) (reasonsOf (byReading list) n t a b) out old
 
-    -- 22 exactly where they do not, with both outputs unchanged;
+    -- Where the call by the list gives a length, 22 is given exactly where the reasons do not fit, with both outputs unchanged.
     pub explained-by-short : (l : ℕ) → differingBy n t list a b out .reply ≡ Length l →
         length old < length (reasonsOf (byReading list) n t a b) → explainingBy n t list a b out old ≡ explainedResult NoReasonRoom out old
     unfolding explainingBy
@@ -162,7 +163,7 @@ module _ (n : ℕ) (t list a b out : List ℕ) where
     explained-by-no-room =
         no-room-exact (differingBy n t list a b out) (reasonsOf (byReading list) n t a b) out old (differing-by-other n t list a b out)
 
-    -- and every other refusal is that of the call by the list, 19 among them, with both outputs unchanged.
+    -- Every other refusal of the explained call, also 19, is that of the call by the list, with both outputs unchanged.
     pub explained-by-refused : lengthOf (differingBy n t list a b out .reply) ≡ none →
         explainingBy n t list a b out old ≡ explainedResult (differingBy n t list a b out .reply) out old
     unfolding explainingBy
@@ -171,7 +172,8 @@ module _ (n : ℕ) (t list a b out : List ℕ) where
     pub explained-by-accepted : RefusedAfterReading (explainingBy n t list a b out old .reply) → (isReadingOrder list ≡ true) × BothAccepted n t a b
     explained-by-accepted = After.explaining-by-accepted n t a b out old list
 
--- Its reasons are those of the links of that difference, in record order, as many as its record has links, and true of the two graphs.
+-- The reasons beside a difference by the list belong to its links in record order, are as many as its record has links, and are true of the two
+-- graphs.
 module _ (n : ℕ) (t list a b : List ℕ) (g s : List (Row Label)) (given : Given n t a b g s) where
   pub reasons-by-in-order : reasonsOf (byReading list) n t a b ≡
       alongLinks (remainder (byReading list) n t g s) (reasonFor (byReading list) n t g (asWritten s))

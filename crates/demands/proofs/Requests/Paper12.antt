@@ -1,4 +1,4 @@
--- Paper 12: types as sets.
+-- Paper 12: types as sets. n and t are an accepted table.
 use mathlib.Core.Path.{_≡_, _∙_, ap}
 use mathlib.Core.Bool.{Bool, true, false}
 use mathlib.Core.List.{List}
@@ -21,8 +21,8 @@ module _ (n : ℕ) (t : List ℕ) (ok : types.accepted n t ≡ true) where
   pub sets-decided : (ws : List ℕ) → Words n t false ws → types.every n (wordPrime n ws) ≡ distributive n t
   sets-decided = Sets.primes-distributive n t ok
 
-  -- "Opening such a table then fills neither; other tables use the old form": the lent cells are as they were, and the sets are those
-  -- of the types; else they are filled with the meets or the joins.
+  -- "Opening such a table then fills neither; other tables use the old form". Where the meet spreads over the join, the lent cells stay as they
+  -- were, and the sets are those of the types; else the cells are filled with the meets or the joins.
   module _ (up : Bool) (bound : ℕ → ℕ → Option ℕ) (answer : Opened) (sets : List ℕ) (lent left : List (List ℕ))
       (opening : Opening up n t bound answer sets lent left) where
     pub sets-unfilled : distributive n t ≡ true → left ≡ lent
@@ -34,8 +34,8 @@ module _ (n : ℕ) (t : List ℕ) (ok : types.accepted n t ≡ true) where
     pub sets-not-held : distributive n t ≡ false → left ≡ types.filled n t bound lent
     sets-not-held = opening .holds ok .filled-cells
 
-  -- "Meet is then the overlap of sets and join their union. Show that both are those the 64 by 64 tables would hold at every pair": x and y
-  -- are two types, `rows` any lent table. A set is of one type.
+  -- "Meet is then the overlap of sets and join their union. Show that both are those the 64 by 64 tables would hold at every pair": x and y are
+  -- two types, `rows` is any lent table. Two types have different sets.
   module _ (x y : ℕ) (x-type : x < n) (y-type : y < n) where
     pub sets-one-type : setOf n t x ≡ setOf n t y → x ≡ y
     sets-one-type = Sets.sets-apart n t ok x y x-type y-type
@@ -52,7 +52,7 @@ module _ (n : ℕ) (t : List ℕ) (ok : types.accepted n t ≡ true) where
           Sets.sets-join n t ok spread x y x-type y-type ∙
           ap (λ o. setOf n t (types.cell o)) (types-laws.joins-cell n t ok rows long x y x-type y-type .is)
 
-      -- "so that all results keep their bytes": in either form a call goes by the types that it went by
+      -- "so that all results keep their bytes": in either form a call gets the meets and joins of the table.
       pub sets-meet-kept : (sets : List ℕ) (cells : List (List ℕ)) → Holding false n t (types.meet n t) sets rows cells →
           meetIn n sets cells x y ≡ types.cell (types.meet n t x y)
       sets-meet-kept sets cells held = meets-known n t ok sets rows cells long x y x-type y-type held .0

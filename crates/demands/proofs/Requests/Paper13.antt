@@ -40,26 +40,27 @@ use Rattle.demands.proofs.Demanded.Reasons.{
 }
 
 module _ (n : ℕ) (t a b out old : List ℕ) where
-  -- The record and its reply are those of the plain call, where that gives a length and the reasons fit, "further bytes unchanged";
+  -- Where the plain call gives a length and the reasons fit, the call with reasons gives the same record and reply, with the reasons in the
+  -- second output, "further bytes unchanged".
   pub explained-record : (l : ℕ) → differing n t a b out .reply ≡ Length l → length (reasonsOf byNumber n t a b) ≤ length old →
       explaining n t a b out old ≡
       explainedResult (Length l) (differing n t a b out .output) (reasonsOf byNumber n t a b ++ drop (length (reasonsOf byNumber n t a b)) old)
   unfolding explaining
   explained-record = beside-room (differing n t a b out) (reasonsOf byNumber n t a b) out old
 
-  -- "too few bytes lent for the reasons gives 22, after 8, with both buffers unchanged";
+  -- "Too few bytes lent for the reasons gives 22, after 8, with both buffers unchanged."
   pub explained-short : (l : ℕ) → differing n t a b out .reply ≡ Length l → length old < length (reasonsOf byNumber n t a b) →
       explaining n t a b out old ≡ explainedResult NoReasonRoom out old
   unfolding explaining
   explained-short = beside-short (differing n t a b out) (reasonsOf byNumber n t a b) out old
 
-  -- 22 exactly there;
+  -- 22 is given exactly where the plain call gives a length and the reasons do not fit.
   pub explained-no-room : (explaining n t a b out old .reply ≡ NoReasonRoom) ↔
       ((l : ℕ) × (differing n t a b out .reply ≡ Length l) × (length old < length (reasonsOf byNumber n t a b)))
   unfolding explaining
   explained-no-room = no-room-exact (differing n t a b out) (reasonsOf byNumber n t a b) out old (differing-other n t a b out)
 
-  -- and every other refusal is that of the plain call, with both outputs unchanged.
+  -- Every other refusal is that of the plain call, with both outputs unchanged.
   pub explained-refused : lengthOf (differing n t a b out .reply) ≡ none →
       explaining n t a b out old ≡ explainedResult (differing n t a b out .reply) out old
   unfolding explaining
@@ -70,23 +71,23 @@ module _ (n : ℕ) (t a b out old : List ℕ) where
   explained-accepted = After.explaining-accepted n t a b out old
 
 module _ (n : ℕ) (t a b : List ℕ) (g s : List (Row Label)) (given : Given n t a b g s) where
-  -- "One byte for each of its links, in record order": the reasons are those of the links of the difference, node after node as its
-  -- record numbers them, and each node's links by feature;
+  -- "one byte for each of its links, in record order": the reasons belong to the links of the difference, node after node as its record numbers
+  -- them, and each node's links by feature.
   pub reasons-in-order : reasonsOf byNumber n t a b ≡
       alongLinks (remainder byNumber n t g s) (reasonFor byNumber n t g (asWritten s)) (writtenOrder eqb (remainder byNumber n t g s))
   reasons-in-order = reasons-are n t a b g s given byNumber
 
-  -- as many as the record has links.
+  -- There are as many reasons as the record has links.
   pub reasons-counted : (rows : List (Row Label)) → canonical eqb (remainder byNumber n t g s) ≡ written rows → length (reasonsOf byNumber n t a b) ≡ linksIn rows
   reasons-counted = reasons-count n t a b g s given byNumber
 
-  -- "Each byte's fact is to be shown true of the two graphs", s being numbered as written: of each link of the difference,
+  -- "Each byte's fact is to be shown true of the two graphs": the reason of each link of the difference is true, with s numbered as written.
   pub reasons-true : Below (tableLabels n t) (graphOfRows s) (graphOfRows g) → (SomeUnwanted n t (graphOfRows s) (graphOfRows g) → ⊥) →
       (u f v : ℕ) → Reached (graphOfRows (asWritten s)) u → remainder byNumber n t g s .link u f ≡ some v →
       LinkReason byNumber n t g (asWritten s) u f v (reasonFor byNumber n t g (asWritten s) (u, f) v)
   reasons-true below all = link-reasons n t a b g s given by-number-order below (all-wanted n t a b g s given below all)
 
-  -- and of each byte beside a record that the call has written: byte i tells of link i of that record, and of the graphs as they were handed in.
+  -- Each byte beside a record that the call has written is true of the graphs as they were handed in: byte i belongs to link i of that record.
   pub reason-of-link : (out old : List ℕ) (l : ℕ) → explaining n t a b out old .reply ≡ Length l → (form : List (Row Label)) →
       reading n (take l (explaining n t a b out old .output)) ≡ accepted form →
       ReasonsTell (byWritten byNumber s) n t g s form (explaining n t a b out old .reasons)

@@ -1,4 +1,4 @@
--- The table is tested, then the room; then n, the table and a length of 0 are stored.
+-- `begin` meets its contract: the table is tested, then the room; then n, the table and a length of 0 are stored.
 use mathlib.Core.Path.{_∙_}
 use native.Mathlib.Omega.{arith}
 use lib.ListN.{length-set}

@@ -1,4 +1,4 @@
--- The table of the state is tested; then what is gathered is written.
+-- `finish` meets its contract: the table in the state is tested; then what is gathered is written.
 use mathlib.Core.Path.{_∙_}
 use Rattle.gathering.proofs.Answers.{finish-refused, finish-none, finish-some}
 use borrow.Author.Needs.{needs}

@@ -1,4 +1,4 @@
--- A program is read where nothing is gathered.
+-- `nothing_after` meets its contract: the program is read, and nothing is gathered.
 use Rattle.gathering.proofs.Answers.{nothing-refused, nothing-accepted}
 use borrow.Author.Needs.{needs}
 use Rattle.gathering.proofs.nothing_after.Statement.{statement}

@@ -1,4 +1,4 @@
--- The table of the state is tested; then the program is compared with what is gathered.
+-- `order` meets its contract: the table in the state is tested; then the program is compared with what is gathered.
 use mathlib.Core.Path.{_∙_}
 use Rattle.engine.proofs.Tables.{few-types}
 use Rattle.gathering.proofs.Answers.{order-refused, order-none, order-some}

@@ -1,4 +1,4 @@
--- What is gathered is read, then written.
+-- `write` meets its contract: what is gathered is read, then written.
 use mathlib.Core.Path.{_∙_}
 use Rattle.gathering.proofs.Answers.{reads-loaded, write-refused, write-accepted}
 use borrow.Author.Needs.{needs}

@@ -1,4 +1,4 @@
--- `enlist` meets its contract: a marked pair has its number, another gets the next one.
+-- `enlist` meets its contract: a marked pair has a number, and any other pair gets the next one.
 use Rattle.generalize.proofs.Marking.{enlist-old, enlist-new}
 use native.Mathlib.Omega.{arith}
 use borrow.Author.Needs.{needs}

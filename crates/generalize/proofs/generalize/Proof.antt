@@ -1,4 +1,4 @@
--- `generalize` meets its contract, in few words or in enough.
+-- `generalize` meets its contract, in few words or in enough words.
 use mathlib.Core.Path.{_∙_, ap}
 use mathlib.Core.List.{List}
 use Prim.Native.Nat.{ℕ}

@@ -1,4 +1,4 @@
--- `generalize` meets its contract: the pairs before `head` have their rows.
+-- `generalize_in` meets its contract: the pairs before `head` have their rows.
 use mathlib.Core.Path.{_≡_, _∙_, sym, ap, ap₂, refl}
 use mathlib.Core.Logic.{inl, inr}
 use Prim.Native.Nat.{ℕ, _+_, _-_, _*_, _≤_}

@@ -1,4 +1,4 @@
--- `generalize_large` meets its contract: it is never told that the words are too few.
+-- `generalize_large` meets its contract: its words are never too few.
 use Prim.Native.Nat.{ℕ}
 use native.Mathlib.Omega.{arith}
 use lib.ListN.{length-replicate}

@@ -1,4 +1,4 @@
--- `join` meets its contract: component by component.
+-- `join` meets its contract, component by component.
 use Rattle.lattice.proofs.Lawful.{label-parts}
 use borrow.Author.Needs.{needs}
 use Rattle.generalize.proofs.join.Statement.{statement}

@@ -1,4 +1,4 @@
--- `pair_links` meets its contract: the links by features below a bound are added, the rows' rests have the others.
+-- `pair_links` meets its contract: the links by features below a bound are added, and the rests of both rows have the other features.
 use mathlib.Core.Path.{_≡_, refl}
 use mathlib.Core.Logic.{inl, inr}
 use Prim.Native.Nat.{_+_, _-_}

@@ -1,4 +1,4 @@
--- Which of the two stands behind an entry goes by its place in the row.
+-- `after` meets its contract: the byte behind an entry goes by the entry's place in its row.
 use borrow.Author.Tests.{eq-eqb, ne-eqb}
 use Rattle.house_types.proofs.after.Statement.{statement}
 use Rattle.house_types.proofs.after.Tie as tie

@@ -1,4 +1,4 @@
--- `main` keeps every bound: the text is a part of the bytes that it lends.
+-- `main` keeps every bound: the text is a part of the bytes that are lent.
 use mathlib.Core.Path.{sym}
 use native.Mathlib.Omega.{arith}
 use lib.Seq.{length-take-le}

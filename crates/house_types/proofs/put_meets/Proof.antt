@@ -1,4 +1,4 @@
--- Each turn puts one entry and what stands behind it.
+-- `put_meets` meets its contract: each turn puts one entry and the byte behind it.
 use Prim.Native.Nat.{ℕ, _-_}
 use native.Mathlib.Omega.{arith}
 use borrow.Author.Needs.{needs}

@@ -1,4 +1,4 @@
--- `first` meets its contract: the least numbers of all state the first record.
+-- `first` meets its contract: the least numbers state the first record.
 use mathlib.Core.Path.{_∙_}
 use native.Mathlib.Omega.{arith}
 use borrow.Author.Needs.{needs}

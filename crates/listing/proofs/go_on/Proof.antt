@@ -1,4 +1,4 @@
--- `go_on` meets its contract: 23, 24, the end, or the record of the raised numbers.
+-- `go_on` meets its contract: it gives 23, 24, the end, or the record of the raised numbers.
 use mathlib.Core.Path.{sym, _∙_}
 use borrow.Author.Tests.{not-false}
 use borrow.Author.Needs.{needs}

@@ -1,4 +1,4 @@
--- `main` keeps every bound: the line is among the bytes that it is answered.
+-- `main` keeps every bound: the line is a part of the bytes that `request::line` answers.
 use mathlib.Core.Path.{sym}
 use native.Mathlib.Omega.{arith}
 use lib.Seq.{length-take-le}

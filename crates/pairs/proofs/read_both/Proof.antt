@@ -1,4 +1,4 @@
--- The first record is read, and the second where the first is accepted.
+-- `read_both` meets its contract: the first record is read, and the second where the first is accepted.
 use mathlib.Core.Path.{sym, _∙_}
 use Rattle.pairs.proofs.Readings.{reads-first-refused, reads-second-refused, reads-accepted}
 use borrow.Author.Needs.{needs}

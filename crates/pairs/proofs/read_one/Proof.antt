@@ -1,4 +1,4 @@
--- A record is read as without a list where the list is empty, else beside it.
+-- `read_one` meets its contract: a record is read without a list where the list is empty, else with it.
 use borrow.Author.Tests.{ne-eqb}
 use Rattle.pairs.proofs.Readings.{tells-plain, tells-listed}
 use borrow.Author.Needs.{needs}

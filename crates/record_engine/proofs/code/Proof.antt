@@ -1,4 +1,4 @@
--- The number of a reply is its code: by what the reply tells.
+-- `code` meets its contract: the number of a reply is its code, by what the reply tells.
 use mathlib.Core.Path.{sym, _∙_, ap}
 use Rattle.replies.proofs.Numbers.{number-small}
 use Rattle.record_engine.specs.Code.{codeFor, refusalCode}

@@ -66,7 +66,7 @@ R = T.the-row
 abbrev Arr : RattleType
 Arr = Array R 2048
 
--- In a field an array's rows are tuples. They own what the rows own.
+-- In a field an array's rows are tuples, which own what the rows own.
 each-is : (xs : List Row) (us : List Val) → shadow (each (T.the-field .row .Denot) (T.the-field .row .own) (map (T.the-field .into) xs) us) → shadow (each Row (R .own) xs us)
 each-is [] [] s = s
 each-is [] (u ∷ us) s = s

@@ -1,3 +1,4 @@
+-- `reply_of` meets its contract.
 use mathlib.Core.Path.{ap, sym}
 use Rattle.replies.specs.Reply.{replyOf}
 use borrow.Author.Needs.{needs}

@@ -1,4 +1,4 @@
--- `answer` meets its contract: by the operation.
+-- `answer` meets its contract, by the operation.
 use mathlib.Core.Path.{ap}
 use Rattle.replies.specs.declared.Reply.{Reply}
 use Rattle.replies.specs.Reply.{resulting}

@@ -1,4 +1,4 @@
--- `line` meets its contract: the words and the line end.
+-- `line` meets its contract: the words and the line end are put.
 use native.Mathlib.Omega.{arith}
 use Rattle.request.specs.Request.{requested}
 use Rattle.request.proofs.Bounds.{words-short}

@@ -1,4 +1,4 @@
--- `put_decimal` meets its contract: the last digit behind those of the tenth part.
+-- `put_decimal` meets its contract: it puts the last digit behind the digits of a tenth of the number.
 use mathlib.Core.Path.{ap}
 use Prim.Native.Nat.{ℕ, _<_}
 use native.Mathlib.Omega.{arith}

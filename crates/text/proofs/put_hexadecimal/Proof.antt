@@ -1,4 +1,4 @@
--- `put_hexadecimal` meets its contract: in a turn the two digits of the next byte are put.
+-- `put_hexadecimal` meets its contract: each turn puts the two digits of the next byte.
 use mathlib.Core.Path.{refl}
 use Prim.Native.Nat.{_-_, _≤_}
 use native.Mathlib.Omega.{arith}

@@ -1,4 +1,4 @@
--- `put_word` meets its contract: in a turn the next byte is put.
+-- `put_word` meets its contract: each turn puts the next byte.
 use Prim.Native.Nat.{_-_, _≤_}
 use native.Mathlib.Omega.{arith}
 use borrow.Author.Needs.{needs}

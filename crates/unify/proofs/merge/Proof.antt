@@ -1,4 +1,4 @@
--- `merge` meets its contract: of the sizes, the least that the graphs fit in.
+-- `merge` meets its contract: it takes the least size that the graphs fit in.
 use native.Mathlib.Omega.{arith}
 use Rattle.layout.proofs.Order.{directory}
 use borrow.Author.Needs.{needs}

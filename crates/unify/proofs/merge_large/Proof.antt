@@ -1,4 +1,4 @@
--- `merge_large` meets its contract: the arrays have room.
+-- `merge_large` meets its contract: the arrays have room for any two graphs.
 use mathlib.Core.Logic.{inl, inr}
 use Prim.Native.Nat.{ℕ}
 use native.Mathlib.Omega.{arith}

@@ -1,4 +1,4 @@
--- `merge_middle` meets its contract: the arrays have room.
+-- `merge_middle` meets its contract: the arrays have room for two graphs of middle size.
 use mathlib.Core.Logic.{inl, inr}
 use Prim.Native.Nat.{ℕ}
 use native.Mathlib.Omega.{arith}

@@ -1,4 +1,4 @@
--- `merge_small` meets its contract: the arrays have room.
+-- `merge_small` meets its contract: the arrays have room for two small graphs.
 use mathlib.Core.Logic.{inl, inr}
 use Prim.Native.Nat.{ℕ}
 use native.Mathlib.Omega.{arith}

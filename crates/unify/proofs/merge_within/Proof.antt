@@ -1,4 +1,4 @@
--- `merge_within` meets its contract, by those of its parts.
+-- `merge_within` meets its contract, by the contracts of its parts.
 use mathlib.Core.Path.{_∙_}
 use Prim.Native.Nat.{ℕ}
 use borrow.Author.Needs.{needs}

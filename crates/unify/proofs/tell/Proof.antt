@@ -1,4 +1,4 @@
--- `tell` meets its contract: what is told of the graph of the classes is told of the unification.
+-- `tell` meets its contract: a cycle or a clash in the graph of the classes is one of the combination.
 use mathlib.Core.Path.{sym, _∙_}
 use Prim.Native.Nat.{ℕ}
 use lib.ListN.{length-replicate}

@@ -1,4 +1,4 @@
--- `unify_middle` meets its contract: the words hold the graph of the classes.
+-- `unify_middle` meets its contract: the words have room for the graph of the classes.
 use Prim.Native.Nat.{ℕ}
 use native.Mathlib.Omega.{arith}
 use lib.ListN.{length-replicate}

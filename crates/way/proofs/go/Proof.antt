@@ -1,4 +1,4 @@
--- The way of the programs: one version after the other.
+-- `go` meets its contract: the way of the programs goes one version after the other.
 use mathlib.Core.Path.{_≡_, _∙_, sym, ap, subst}
 use mathlib.Core.Logic.{⊎-elim}
 use Prim.Native.Nat.{ℕ, _-_}

@@ -1,4 +1,5 @@
--- The buffer is unpacked, the way of its programs is gone, and its end compared with the first bytes of the buffer.
+-- `is_held` meets its contract: the buffer is unpacked, the way of its programs is gone, and its end is compared with the first bytes of the
+-- buffer.
 use mathlib.Core.Path.{sym, _∙_}
 use native.Mathlib.Omega.{arith}
 use borrow.Author.Tests.{not-true, not-false}

@@ -1,4 +1,4 @@
--- The bytes are compared one by one.
+-- `is_start` meets its contract: the bytes are compared one by one.
 use Prim.Native.Nat.{_-_}
 use mathlib.Core.Path.{sym}
 use lib.ListN.{length}

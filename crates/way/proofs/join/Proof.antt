@@ -1,4 +1,4 @@
--- The program is the first, their common part is too large, or their common part is put.
+-- `join` meets its contract: the program is the first, the new common part is too large, or the new common part is put.
 use mathlib.Core.Path.{refl, sym}
 use native.Mathlib.Omega.{arith}
 use Rattle.pairs.proofs.Readings.{optional-none}

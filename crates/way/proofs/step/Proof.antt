@@ -1,4 +1,4 @@
--- The program joins the common part; then the state is packed anew.
+-- `step` meets its contract: the program joins the common part, and then the new state is packed.
 use native.Mathlib.Omega.{arith}
 use Rattle.gathering.proofs.Told.{no-length}
 use Rattle.way.proofs.Ways.{Entered, entered, steps-large, size-short, part-short, steps-on}

@@ -1,3 +1,4 @@
+-- `rows::feature_at` meets its contract.
 use mathlib.Core.Path.{sym}
 use borrow.Author.Needs.{needs}
 use Rattle.classes.proofs.Merging.{feature-in, feature-out}

@@ -1,4 +1,4 @@
--- `merge` meets its contract: the links before i and j are merged.
+-- `merge` meets its contract. The loop's invariant: the links before i and j are merged.
 use Prim.Native.Nat.{_+_, _-_}
 use native.Mathlib.Omega.{arith}
 use Rattle.classes.proofs.Merging.{

@@ -1,4 +1,4 @@
--- The program is read; it is written where nothing is gathered, else joined with what is.
+-- `joining::join` meets its contract: the program is read; it is written where nothing is gathered, else joined with what is gathered.
 use mathlib.Core.Path.{_∙_}
 use Rattle.gathering.proofs.Answers.{reads-loaded}
 use Rattle.gathering.proofs.Joins.{joined-refused, joined-none, joined-some}

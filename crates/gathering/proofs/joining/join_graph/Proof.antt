@@ -1,4 +1,4 @@
--- What is gathered is read, then joined with the program.
+-- `joining::join_graph` meets its contract: what is gathered is read, then joined with the program.
 use mathlib.Core.Path.{sym, _∙_}
 use lib.Seq.{length-take-le}
 use Rattle.gathering.proofs.Answers.{reads-loaded, join-refused, join-accepted}

@@ -1,4 +1,4 @@
--- The length that a reply tells is put.
+-- `joining::settle` meets its contract: the length that a reply tells is put.
 use Rattle.gathering.proofs.Told.{no-length, settled-none, settled-some}
 use borrow.Author.Needs.{needs}
 use Rattle.gathering.proofs.joining.settle.Statement.{statement}

@@ -1,5 +1,5 @@
--- `keep_entered` meets its contract. The loops' invariants: what the links before row v, and those before place k, give cause to keep
--- is kept.
+-- `keep_entered` meets its contract. The loops' invariants: the nodes that the links before row v, and before place k, give a cause to keep are
+-- kept.
 use Prim.Native.Nat.{ℕ, _+_, _-_, _≤_}
 use native.Mathlib.Omega.{arith}
 use lib.ListN.{length-replicate, getD-replicate}

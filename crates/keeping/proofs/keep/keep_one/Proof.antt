@@ -1,4 +1,4 @@
--- `keep_one` meets its contract: what the link at place k gives cause to keep is kept.
+-- `keep_one` meets its contract: the node that the link at place k gives a cause to keep is kept.
 use borrow.Author.Needs.{needs}
 use native.Mathlib.Omega.{arith}
 use Rattle.keeping.proofs.Keeping.{entering-follows, entering-bare, entering-again, entering-first}

@@ -1,4 +1,4 @@
--- `kept_nodes` meets its contract: just the nodes with a reason are kept.
+-- `kept_nodes` meets its contract: exactly the nodes with a reason are kept.
 use borrow.Author.Needs.{needs}
 use native.Mathlib.Omega.{arith}
 use Rattle.keeping.proofs.Keeping.{markable-with, sorted-from, keeps-all}

@@ -1,4 +1,4 @@
--- `row_byte` meets its contract: the bytes that were laid out begin with those of the row.
+-- `row_byte` meets its contract: the array in the code begins with the bytes of the row.
 use mathlib.Core.Path.{ap, _∙_}
 use mathlib.Core.List.{[], _∷_}
 use Prim.Native.Nat.{ℕ}

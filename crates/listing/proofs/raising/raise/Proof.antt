@@ -1,4 +1,4 @@
--- `raise` meets its contract: from the last place to the links of node 1.
+-- `raise` meets its contract: it tries the places from the last back to the links of node 1.
 use mathlib.Core.Path.{ap, sym, _∙_}
 use mathlib.Core.List.{List}
 use mathlib.Core.Option.{Option, some}

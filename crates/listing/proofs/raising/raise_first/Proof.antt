@@ -1,4 +1,4 @@
--- `raise_first` meets its contract: from the type of node 1 to the count of nodes.
+-- `raise_first` meets its contract: it tries the places from the type of node 1 back to the count of nodes.
 use mathlib.Core.Path.{ap, sym, _∙_}
 use mathlib.Core.List.{List}
 use mathlib.Core.Option.{Option, some}

@@ -1,4 +1,4 @@
--- A record is read; then its graph is exported.
+-- `exporting::export_accepted` meets its contract: the record is read; then its graph is exported.
 use borrow.Author.Needs.{needs}
 use Rattle.pairs.proofs.Readings.{told-accepted}
 use Rattle.planning.proofs.Exports.{makes-none, makes-as, read-refused, read-accepted}

@@ -1,4 +1,4 @@
--- The table is opened; then the record is exported.
+-- `exporting::export_made` meets its contract: the table is opened; then the record is exported.
 use mathlib.Core.Path.{sym, _∙_}
 use borrow.Author.Needs.{needs}
 use Rattle.planning.proofs.Exports.{makes-none, makes-as, exporting-refused, exporting-accepted}

@@ -1,4 +1,4 @@
--- The counts and the rows are tested, and the rows placed; then their graph is written.
+-- `importing::import_accepted` meets its contract: the counts and the rows are tested, and the rows placed; then their graph is written.
 use mathlib.Core.Path.{_≡_, refl, sym, _∙_, ap}
 use mathlib.Core.List.{List}
 use mathlib.Core.Option.{some}

@@ -1,4 +1,4 @@
--- The table is opened; then the rows are imported.
+-- `importing::import_loaded` meets its contract: the table is opened; then the rows are imported.
 use mathlib.Core.Path.{sym, _∙_}
 use borrow.Author.Needs.{needs}
 use lib.ListN.{take}

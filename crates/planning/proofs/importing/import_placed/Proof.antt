@@ -1,4 +1,4 @@
--- The labels are tested, the words filled and judged; then the graph is written.
+-- `importing::import_placed` meets its contract: the labels are tested, and the words filled and judged; then the graph is written.
 use mathlib.Core.Path.{_≡_, _∙_, sym, subst}
 use mathlib.Core.Bool.{Bool}
 use Prim.Native.Nat.{ℕ}

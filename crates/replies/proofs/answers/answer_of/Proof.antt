@@ -1,4 +1,4 @@
--- `answers::answer_of` meets its contract: by the reply, the numbers of its parts by their contracts.
+-- `answers::answer_of` meets its contract: each reply has its answer, with the number that the contracts of its parts give.
 use mathlib.Core.Path.{sym, _∙_, ap}
 use Rattle.replies.specs.declared.answers.Answer.the-variants.{Refused, RefusedGraph}
 use Rattle.replies.specs.Reply.{answerOf}

@@ -1,4 +1,4 @@
--- `parse::parse` meets its contract: by the operation byte.
+-- `parse::parse` meets its contract, by the operation byte.
 use Rattle.request.proofs.Parsing.{parses-none, parses-asked, parses-other, input-short, operation-byte, operation-none}
 use borrow.Author.Needs.{needs}
 use Rattle.request.proofs.parse.parse.Statement.{statement}

@@ -1,4 +1,4 @@
--- `parse::parse_after` meets its contract: part by part.
+-- `parse::parse_after` meets its contract, part by part.
 use native.Mathlib.Omega.{arith}
 use Rattle.request.proofs.Parsing.{parses-none, table-short, first-bad, second-bad, bytes-left, asked-whole}
 use borrow.Author.Needs.{needs}

@@ -1,4 +1,4 @@
--- `reply::put_reply` meets its contract: by what the reply tells.
+-- `reply::put_reply` meets its contract, by what the reply tells.
 use mathlib.Core.Path.{sym, _∙_}
 use native.Mathlib.Omega.{arith}
 use lib.Seq.{length-take-le}

@@ -1,4 +1,4 @@
--- `class_labels` meets its contract: all labels are top, then the second graph's nodes lower them, then the first's.
+-- `class_labels` meets its contract: all labels are top; the second graph's nodes lower them, then the first graph's do.
 use mathlib.Core.Path.{_∙_, ap}
 use Prim.Native.Nat.{ℕ, _+_, _-_, _<_}
 use native.Mathlib.Omega.{arith}

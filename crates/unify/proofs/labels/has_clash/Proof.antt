@@ -1,5 +1,5 @@
 use borrow.Author.Needs.{needs}
--- `has_clash` meets its contract: no node before x has the contradiction.
+-- `has_clash` meets its contract. The loop's invariant: no node before x has a contradiction as its label.
 use mathlib.Core.Path.{_≡_, sym, _∙_, ap}
 use Prim.Native.Nat.{_-_, _≤_}
 use native.Mathlib.Omega.{arith}

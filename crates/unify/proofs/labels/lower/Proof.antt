@@ -1,4 +1,4 @@
--- `lower` meets its contract: the nodes from v on have lowered the labels of their classes.
+-- `lower` meets its contract. The loop's invariant: the nodes from v on have lowered the labels of their classes.
 use mathlib.Core.Path.{_∙_, ap, ap₂}
 use Prim.Native.Nat.{_+_, _-_, _*_}
 use native.Mathlib.Omega.{arith}

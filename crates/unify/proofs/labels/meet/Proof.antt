@@ -1,4 +1,4 @@
--- `meet` meets its contract: component by component.
+-- `meet` meets its contract, component by component.
 use Rattle.lattice.proofs.Lawful.{label-parts}
 use borrow.Author.Needs.{needs}
 use Rattle.unify.proofs.labels.meet.Statement.{statement}

@@ -1,5 +1,5 @@
 use borrow.Author.Needs.{needs}
--- `copy_spans` meets its contract: the nodes before v have their spans.
+-- `copy_spans` meets its contract. The loop's invariant: the nodes before v have their spans.
 use Prim.Native.Nat.{_+_, _-_, _≤_}
 use native.Mathlib.Omega.{arith}
 use Rattle.unify.specs.Rows.{SpansCopied}

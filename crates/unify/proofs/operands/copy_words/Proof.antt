@@ -1,5 +1,5 @@
 use borrow.Author.Needs.{needs}
--- `copy_words` meets its contract: the words before k are copied.
+-- `copy_words` meets its contract. The loop's invariant: the words before k are copied.
 use mathlib.Core.Path.{subst, sym}
 use Prim.Native.Nat.{ℕ, _+_, _-_, _≤_, _<_}
 use native.Mathlib.Omega.{arith}

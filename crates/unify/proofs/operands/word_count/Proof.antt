@@ -1,3 +1,4 @@
+-- `operands::word_count` meets its contract.
 use Prim.Native.Nat.{_+_}
 use native.Mathlib.Omega.{arith}
 use Rattle.layout.specs.Layout.{size}

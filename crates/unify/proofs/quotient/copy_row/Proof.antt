@@ -1,5 +1,5 @@
 use borrow.Author.Needs.{needs}
--- `copy_row` meets its contract: the links before k are copied.
+-- `copy_row` meets its contract. The loop's invariant: the links before k are copied.
 use Prim.Native.Nat.{_-_, _≤_}
 use native.Mathlib.Omega.{arith}
 use Rattle.unify.specs.Rows.{RowCopied}

@@ -1,4 +1,4 @@
--- The map and the common part are put, then each version in turn.
+-- `packing::pack` meets its contract: the map and the common part are put, then each version in turn.
 use mathlib.Core.Path.{_≡_, _∙_, ap}
 use Prim.Native.Nat.{ℕ, _-_}
 use native.Mathlib.Omega.{arith}

@@ -1,4 +1,5 @@
--- A version is absent, its difference is refused, or it is put behind the bytes that stand.
+-- `packing::pack_version` meets its contract: the version is absent, its difference is refused, or the difference is put behind the bytes that
+-- stand.
 use mathlib.Core.Path.{refl}
 use native.Mathlib.Omega.{arith}
 use Rattle.versions.specs.Promise.{standing}

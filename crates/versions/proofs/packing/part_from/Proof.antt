@@ -1,4 +1,4 @@
--- The difference of two records by number, without reasons.
+-- `packing::part_from` meets its contract: it is the difference of two records by number, without reasons.
 use mathlib.Core.Bool.{false}
 use mathlib.Core.List.{[]}
 use Rattle.lattice.proofs.Acceptance.{accepted-opened}
