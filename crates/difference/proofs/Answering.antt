@@ -6,7 +6,8 @@ use mathlib.Core.Option.{Option, none}
 use Prim.Native.Nat.{ℕ, _≤_, _<_}
 use native.Mathlib.Omega.{arith}
 use lib.Dec.{eqb, leb}
-use lib.ListN.{length, getD, drop}
+use lib.ListN.{length, getD, take, drop, replicate, length-replicate}
+use lib.Seq.{length-take-le}
 use Rattle.graphs.specs.Graph.{Reached}
 use Rattle.graphs.specs.Rows.{Row}
 use Rattle.graphs.specs.Number.{Canonical, canonical, manyNodes, manyLinks, written as canonicalRows}
@@ -251,3 +252,7 @@ module _ (options : Options) (n : ℕ) (t g s out old : List ℕ) (given : Compa
               ap₂ (λ (p : Result) (rs : List ℕ). withReasons p rs out old) plain-same
               (sym (made-reasons prepared made (writes .explains e))
               ∙ reasons-along n t (rowsOf s) (rowsOf g) map (loaded-rules (given .general)) (orders .yes-stands below) earlier)
+
+-- the first bytes of fresh marks are as many as the words of s
+pub marks-fresh : (m : ℕ) (s : List ℕ) → length s ≤ m → length {A = ℕ} (take (length s) (replicate m 0)) ≡ length s
+marks-fresh m s short = length-take-le (length s) (replicate m 0) (omega (arith, short, length-replicate {A = ℕ} m 0))

@@ -12,7 +12,6 @@ ghost use mathlib.Core.Path.{_≡_};
 ghost use mathlib.Core.List.{List};
 ghost use Prim.Native.Nat.{ℕ};
 ghost use lib.ListN.{length};
-ghost use Rattle.groups.specs.Cover.{Unowned};
 ghost use Rattle.groups.specs.LinkOrders.{Fitting};
 ghost use Rattle.keeping.specs.Keeping.{Markable};
 ghost use Rattle.keeping.specs.Explaining.{Copied, Made};
@@ -27,22 +26,43 @@ pub struct Options {
     pub explained: bool,
 }
 
-// The difference of g and s, where s is below g and each of its nodes has a wanted type. Its links are marked in `owner` and `marks`, and its
-// rows are made in `words`. Unless the options ask for the reasons, these are left as they were.
+// The difference of g and s, where s is below g and each of its nodes has a wanted type. Its rows are made in the words of g. Unless the
+// options ask for the reasons, these are left as they were.
 pub fn difference<'a>(
     n: usize,
     table: &'a [u8],
     options: Options,
-    g: &'a [u16],
+    g: &mut [u16],
     s: &'a [u16],
-    owner: &mut [u16],
+    out: &mut [u8],
+    reasons: &mut [u8],
+) -> Reply
+    requires { ⌜ Comparable n (now table) (now g) (now s) × Fitting (options .order) × (length (now g) ≡ length (now s)) ⌝ }
+    ensures { λ r. ⌜ explainedResult r (now (out .exit)) (now (reasons .exit)) ≡
+        differedWords options n (now (table .entry)) (now (g .entry)) (now (s .entry)) (now (out .entry)) (now (reasons .entry)) ⌝ }
+{
+    let words = s.len();
+    if words <= layout::SHORT {
+        let mut marks = [0u8; layout::SHORT];
+        return difference_in(n, table, options, g, s, &mut marks[..words], out, reasons);
+    }
+    let mut marks = [0u8; layout::LONGEST];
+    difference_in(n, table, options, g, s, &mut marks[..words], out, reasons)
+}
+
+// The same with bytes that are lent for the marks of the links of s.
+fn difference_in<'a>(
+    n: usize,
+    table: &'a [u8],
+    options: Options,
+    g: &mut [u16],
+    s: &'a [u16],
     marks: &mut [u8],
-    words: &mut [u16],
     out: &mut [u8],
     reasons: &mut [u8],
 ) -> Reply
     requires { ⌜ Comparable n (now table) (now g) (now s) × Fitting (options .order) ⌝ }
-    requires { ⌜ Unowned (now s) (now owner) × (length (now marks) ≡ length (now s)) × (length (now words) ≡ length (now s)) ⌝ }
+    requires { ⌜ (length (now g) ≡ length (now s)) × (length (now marks) ≡ length (now s)) ⌝ }
     ensures { λ r. ⌜ explainedResult r (now (out .exit)) (now (reasons .exit)) ≡
         differedWords options n (now (table .entry)) (now (g .entry)) (now (s .entry)) (now (out .entry)) (now (reasons .entry)) ⌝ }
 {
@@ -56,9 +76,9 @@ pub fn difference<'a>(
     if !wanted::wanted_labels(n, table, g, s, &map, &mut labels) {
         return Reply::NoWantedType;
     }
-    groups::mark_links(s, g, &map, options.order, owner, marks);
-    make(n, table, s, marks, &labels, words);
-    write_rows(options.explained, s, marks, words, out, reasons)
+    groups::mark_links(s, g, &map, options.order, marks);
+    make(n, table, s, marks, &labels, g);
+    write_rows(options.explained, s, marks, g, out, reasons)
 }
 
 // Fills words with the rows of the difference: `marks` has the marks of the links of s, and `labels` the wanted label of each node of s.

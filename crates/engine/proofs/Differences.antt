@@ -5,13 +5,12 @@ use mathlib.Core.List.{List, [], List·Memᴰ}
 use Prim.Native.Nat.{ℕ, _≤_, _<_}
 use native.Mathlib.Omega.{arith}
 use lib.Dec.{eqb}
-use lib.ListN.{length, replicate, length-replicate, getD-replicate}
 use Rattle.graphs.specs.Rows.{Row}
 use Rattle.graphs.specs.Number.{canonical}
 use Rattle.graphs.proofs.Lists.{tells-eqb}
 use Rattle.lattice.specs.Label.{Label}
 use Rattle.lattice.specs.Labels.{Known}
-use Rattle.layout.specs.Layout.{longest, size, labelAt, linksAt, graphOfRows, rowsOf, graphIn}
+use Rattle.layout.specs.Layout.{size, labelAt, linksAt, graphOfRows, rowsOf, graphIn}
 use Rattle.layout.proofs.Rows.{rows-member}
 use Rattle.encode.specs.Encode.{encoded}
 use Rattle.encode.specs.Copies.{Renumbers}
@@ -33,23 +32,7 @@ use Rattle.pairs.specs.declared.PairVerdict.{PairVerdict}
 use Rattle.pairs.specs.declared.PairVerdict.the-variants as pair
 use Rattle.pairs.specs.Pair.{ReadsBoth}
 use Rattle.pairs.proofs.Readings.{both-next, both-refused}
-use Rattle.engine.specs.Differing.{Beside, parting, partingWith, reasonsOf}
-
--- words as they are when they are lent
-pub beside-cleared : (n : ℕ) → n ≤ longest → Beside (replicate n 0) (replicate n 0) (replicate n 65535) (replicate n 0)
-beside-cleared n h =
-    record {
-      short = omega (arith, cleared);
-      given-long = refl;
-      unowned = record { long = owners ∙ sym cleared; none = λ j l. getD-replicate {A = ℕ} n j 65535 0 (omega (arith, owners)) };
-      marks-long = refl;
-    }
-  where
-    cleared : length {A = ℕ} (replicate n 0) ≡ n
-    cleared = length-replicate {A = ℕ} n 0
-
-    owners : length {A = ℕ} (replicate n 65535) ≡ n
-    owners = length-replicate {A = ℕ} n 65535
+use Rattle.engine.specs.Differing.{ReadsNumbered, parting, partingWith, reasonsOf}
 
 -- the words hold the rows of the written form, whose record is accepted
 pub record Renumbered (n : ℕ) (rows : List (Row Label)) (ws : List ℕ) : Type 0 where
@@ -83,6 +66,27 @@ renumbered n g given {ws = ws} holds =
       rows-are = same ∙ sym (ap numbered fits);
     }
 
+-- What reading two records, and numbering the second as written, comes to.
+module _ {n : ℕ} {a b : List ℕ} {v : PairVerdict} {g given : List ℕ} (reads : ReadsBoth n (reading n a) (reading n b) v g given) where
+  pub numbered-refused : {fault : GraphFault} {side : Side} → v ≡ pair.Refused fault side → {s : List ℕ} →
+      ReadsNumbered n a b (pair.Refused fault side) g s
+  numbered-refused e =
+      record {
+        given = given;
+        reads = subst (λ (w : PairVerdict). ReadsBoth n (reading n a) (reading n b) w g given) e reads;
+        loaded = λ q. let z : _≡_ {A = ℕ} 0 1 = cc q in absurd (omega arith);
+        rows-are = λ q. let z : _≡_ {A = ℕ} 0 1 = cc q in absurd (omega arith);
+      }
+
+  pub numbered-both : v ≡ pair.Both → Loaded n g → {s : List ℕ} → Renumbered n (rowsOf given) s → ReadsNumbered n a b pair.Both g s
+  numbered-both e one numbers =
+      record {
+        given = given;
+        reads = subst (λ (w : PairVerdict). ReadsBoth n (reading n a) (reading n b) w g given) e reads;
+        loaded = λ q. (one, numbers .loaded);
+        rows-are = λ q. numbers .rows-are;
+      }
+
 module _ (options : Options) (n : ℕ) (t a b out old : List ℕ) {v : PairVerdict} {g s : List ℕ}
     (reads : ReadsBoth n (reading n a) (reading n b) v g s) where
   -- 4 to 7
@@ -93,12 +97,12 @@ module _ (options : Options) (n : ℕ) (t a b out old : List ℕ) {v : PairVerdi
       (sym (both-refused reads (λ r. refusing r out) (differedRows (earlierBy (options .order)) n t out) fault side e))
 
   -- the difference of the graphs that the words hold
-  pub parting-both : v ≡ pair.Both → {h : List ℕ} → Renumbered n (rowsOf s) h → {x : Explained} →
+  pub parting-both : v ≡ pair.Both → (h : List ℕ) → rowsOf h ≡ numbered (canonical eqb (graphOfRows (rowsOf s))) → {x : Explained} →
       x ≡ differedWords options n t g h out old → x ≡ partingWith options n t a b out old
   unfolding reasonsOf differedRows
-  parting-both both numbers e =
+  parting-both both h rows-are e =
       let earlier = earlierBy (options .order) in
       e ∙ ap₂ (λ (p : Result) (rs : List ℕ). withReasonsIf (options .explained) p rs out old)
-      (ap (differed earlier n t out (rowsOf g)) (numbers .rows-are) ∙ sym (both-next reads (λ r. refusing r out) (differedRows earlier n t out) both))
-      (ap (reasonsRows earlier n t (rowsOf g)) (numbers .rows-are) ∙
+      (ap (differed earlier n t out (rowsOf g)) rows-are ∙ sym (both-next reads (λ r. refusing r out) (differedRows earlier n t out) both))
+      (ap (reasonsRows earlier n t (rowsOf g)) rows-are ∙
       sym (both-next reads (λ r. []) (λ g s. reasonsRows earlier n t g (numbered (canonical eqb (graphOfRows s)))) both))

@@ -2,27 +2,28 @@
 use mathlib.Core.Path.{_≡_}
 use mathlib.Core.Bool.{Bool}
 use mathlib.Core.List.{List, []}
-use Prim.Native.Nat.{ℕ, _≤_}
+use Prim.Native.Nat.{ℕ}
 use lib.Dec.{eqb}
-use lib.ListN.{length}
 use Rattle.graphs.specs.Number.{canonical}
 use Rattle.graphs.specs.Difference.{Link}
-use Rattle.layout.specs.Layout.{longest}
+use Rattle.layout.specs.Layout.{rowsOf}
 use Rattle.record.specs.Read.{graphOfRows, reading}
-use Rattle.groups.specs.Cover.{Unowned}
+use Rattle.record.specs.Reads.{Loaded}
 use Rattle.groups.specs.LinkOrders.{earlierBy}
 use Rattle.difference.specs.declared.Options.{Options}
 use Rattle.difference.specs.Difference.{differedRows, numbered}
 use Rattle.difference.specs.Explained.{Explained, reasonsRows, withReasonsIf}
-use Rattle.pairs.specs.Pair.{readBoth}
+use Rattle.pairs.specs.declared.PairVerdict.{PairVerdict}
+use Rattle.pairs.specs.declared.PairVerdict.the-variants.{Both}
+use Rattle.pairs.specs.Pair.{ReadsBoth, readBoth}
 use Rattle.replies.specs.Reply.{Result, refusing}
 
--- Words that are lent for a difference beside those that s is read into: as many of each, and no link has an owner yet.
-pub record Beside (given s owner marks : List ℕ) : Type 0 where
-  pub short : length s ≤ longest
-  pub given-long : length given ≡ length s
-  pub unowned : Unowned s owner
-  pub marks-long : length marks ≡ length s
+-- The verdict on the records a and b. Where both are accepted, g is held as it was read, and s numbered as written.
+pub record ReadsNumbered (n : ℕ) (a b : List ℕ) (v : PairVerdict) (g s : List ℕ) : Type 0 where
+  pub given : List ℕ
+  pub reads : ReadsBoth n (reading n a) (reading n b) v g given
+  pub loaded : v ≡ Both → Loaded n g × Loaded n s
+  pub rows-are : v ≡ Both → rowsOf s ≡ numbered (canonical eqb (graphOfRows (rowsOf given)))
 
 -- both graphs' 4 to 7, then their difference by an order of links
 abbrev pub parting : (Link ℕ → Link ℕ → Bool) → ℕ → List ℕ → List ℕ → List ℕ → List ℕ → Result

@@ -6,11 +6,17 @@ use pairs::PairVerdict;
 use replies::Reply;
 ghost use mathlib.Core.Path.{_≡_};
 ghost use mathlib.Core.Bool.{true};
+ghost use mathlib.Core.List.{List};
+ghost use Prim.Native.Nat.{ℕ, _≤_};
+ghost use lib.ListN.{length};
 ghost use Rattle.lattice.specs.Table.{accepted};
+ghost use Rattle.layout.specs.Layout.{longest};
 ghost use Rattle.decode.specs.Answers.{Roomy};
+ghost use Rattle.record.specs.Reads.{Loaded};
 ghost use Rattle.groups.specs.LinkOrders.{Fitting};
 ghost use Rattle.difference.specs.Explained.{explainedResult};
-ghost use Rattle.engine.specs.Differing.{Beside, partingWith};
+ghost use Rattle.pairs.specs.declared.PairVerdict.the-variants.{Both};
+ghost use Rattle.engine.specs.Differing.{ReadsNumbered, partingWith};
 
 // Writes the difference of two records over an accepted table with n types and, where the options ask for them, its reasons.
 pub fn of_records<'a>(
@@ -30,73 +36,59 @@ pub fn of_records<'a>(
         let mut g = [0u16; layout::SHORT];
         let mut given = [0u16; layout::SHORT];
         let mut s = [0u16; layout::SHORT];
-        let mut owner = [groups::cover::NONE; layout::SHORT];
-        let mut marks = [0u8; layout::SHORT];
-        return difference_in(
-            n,
-            table,
-            options,
-            first,
-            second,
-            &mut g,
-            &mut given,
-            &mut s,
-            &mut owner,
-            &mut marks,
-            out,
-            reasons,
-        );
+        let verdict = read_numbered(n, table, first, second, &mut g, &mut given, &mut s);
+        return of_read(verdict, n, table, options, &mut g, &s, out, reasons);
     }
     let mut g = [0u16; layout::LONGEST];
     let mut given = [0u16; layout::LONGEST];
     let mut s = [0u16; layout::LONGEST];
-    let mut owner = [groups::cover::NONE; layout::LONGEST];
-    let mut marks = [0u8; layout::LONGEST];
-    difference_in(
-        n,
-        table,
-        options,
-        first,
-        second,
-        &mut g,
-        &mut given,
-        &mut s,
-        &mut owner,
-        &mut marks,
-        out,
-        reasons,
-    )
+    let verdict = read_numbered(n, table, first, second, &mut g, &mut given, &mut s);
+    of_read(verdict, n, table, options, &mut g, &s, out, reasons)
 }
 
-// The same in words that are lent: for g, for s as given, whose words are then those of the difference, for s numbered as written, and for
-// the owners and the marks of its links.
-fn difference_in<'a>(
+// Reads g and s, and numbers s as written where both are accepted.
+fn read_numbered(
     n: usize,
-    table: &'a [u8],
-    options: Options,
+    table: &[u8],
     first: &[u8],
     second: &[u8],
     g: &mut [u16],
     given: &mut [u16],
     s: &mut [u16],
-    owner: &mut [u16],
-    marks: &mut [u8],
-    out: &mut [u8],
-    reasons: &mut [u8],
-) -> Reply
-    requires { ⌜ (accepted n (now table) ≡ true) × Fitting (options .order) ⌝ }
-    requires { ⌜ Roomy (now first) (now g) × Roomy (now second) (now given) ⌝ }
-    requires { ⌜ Beside (now given) (now s) (now owner) (now marks) ⌝ }
-    ensures { λ r. ⌜ explainedResult r (now (out .exit)) (now (reasons .exit)) ≡
-        partingWith options n (now (table .entry)) (now (first .entry)) (now (second .entry)) (now (out .entry)) (now (reasons .entry)) ⌝ }
+) -> PairVerdict
+    requires { ⌜ (n ≤ 64) × Roomy (now first) (now g) × Roomy (now second) (now given) × (length (now s) ≡ length (now given)) ⌝ }
+    ensures { λ r. ⌜ ReadsNumbered n (now (first .entry)) (now (second .entry)) r (now (g .exit)) (now (s .exit)) ⌝ }
 {
     let verdict = pairs::read_both(n, table, &table[..0], first, second, g, given);
     match verdict {
-        PairVerdict::Refused(fault, side) => Reply::Graph(fault, side),
+        PairVerdict::Refused(fault, side) => PairVerdict::Refused(fault, side),
         PairVerdict::Both => {
             // an accepted graph can be written: the words alone are wanted
             encode::numbered::renumber(given, s);
-            difference::difference(n, table, options, g, s, owner, marks, given, out, reasons)
+            PairVerdict::Both
         }
+    }
+}
+
+// Goes on by the verdict on two records, with their graphs in words where both are accepted.
+fn of_read<'a>(
+    verdict: PairVerdict,
+    n: usize,
+    table: &'a [u8],
+    options: Options,
+    g: &mut [u16],
+    s: &'a [u16],
+    out: &mut [u8],
+    reasons: &mut [u8],
+) -> Reply
+    requires { ⌜ (accepted n (now table) ≡ true) × Fitting (options .order) × (length (now s) ≤ longest) × (length (now g) ≡ length (now s)) ⌝ }
+    requires { ⌜ (verdict ≡ Both → Loaded n (now g) × Loaded n (now s)) ⌝ }
+    ensures { λ r. ⌜ ((a b : List ℕ) → ReadsNumbered n a b verdict (now (g .entry)) (now (s .entry)) →
+        explainedResult r (now (out .exit)) (now (reasons .exit)) ≡
+        partingWith options n (now (table .entry)) a b (now (out .entry)) (now (reasons .entry))) ⌝ }
+{
+    match verdict {
+        PairVerdict::Refused(fault, side) => Reply::Graph(fault, side),
+        PairVerdict::Both => difference::difference(n, table, options, g, s, out, reasons),
     }
 }

@@ -8,9 +8,9 @@ ghost use mathlib.Core.List.{List};
 ghost use Prim.Native.Nat.{ℕ};
 ghost use Rattle.bounds.specs.Opening.{OpenedFor};
 ghost use Rattle.layout.specs.Layout.{rowsOf};
-ghost use Rattle.decode.specs.Answers.{Roomy};
 ghost use Rattle.record.specs.Reads.{Loaded};
-ghost use Rattle.pairs.specs.Pair.{Optional};
+ghost use Rattle.pairs.specs.declared.PairVerdict.the-variants.{Both};
+ghost use Rattle.pairs.specs.Pair.{Optional, ReadsBeside};
 ghost use Rattle.replies.specs.Reply.{resulting};
 ghost use Rattle.engine.specs.Generalizing.{generalized, generalizedBeside};
 
@@ -31,53 +31,30 @@ pub fn of_records<'a>(
     if pairs::are_short(first, second) {
         let mut a = [0u16; layout::SHORT];
         let mut b = [0u16; layout::SHORT];
-        return generalize_in(
-            n,
-            table,
-            list,
-            sets,
-            cells,
-            first,
-            second,
-            &mut a,
-            &mut b,
-            out,
-        );
+        let verdict = pairs::read_both(n, table, list, first, second, &mut a, &mut b);
+        return of_read(verdict, n, sets, cells, &a, &b, out);
     }
     let mut a = [0u16; layout::LONGEST];
     let mut b = [0u16; layout::LONGEST];
-    generalize_in(
-        n,
-        table,
-        list,
-        sets,
-        cells,
-        first,
-        second,
-        &mut a,
-        &mut b,
-        out,
-    )
+    let verdict = pairs::read_both(n, table, list, first, second, &mut a, &mut b);
+    of_read(verdict, n, sets, cells, &a, &b, out)
 }
 
-// The same in words that are lent for the graphs.
-fn generalize_in<'a>(
+// Goes on by the verdict on two records, with their graphs in words where both are accepted.
+fn of_read<'a>(
+    verdict: PairVerdict,
     n: usize,
-    table: &[u8],
-    list: &[u8],
     sets: &'a [u64; bounds::sets::WORDS],
     cells: &'a [[u8; 64]; 64],
-    first: &[u8],
-    second: &[u8],
-    a: &mut [u16],
-    b: &mut [u16],
+    a: &'a [u16],
+    b: &'a [u16],
     out: &mut [u8],
 ) -> Reply
-    requires { ⌜ OpenedFor true n (now table) (now sets) (now cells) × Optional n (now list) ⌝ }
-    requires { ⌜ Roomy (now first) (now a) × Roomy (now second) (now b) ⌝ }
-    ensures { λ r. ⌜ resulting r (now (out .exit)) ≡ generalizedBeside n (now (table .entry)) (now (list .entry)) (now (first .entry)) (now (second .entry)) (now (out .entry)) ⌝ }
+    requires { ⌜ ((t : List ℕ) × OpenedFor true n t (now sets) (now cells)) × (verdict ≡ Both → Loaded n (now a) × Loaded n (now b)) ⌝ }
+    ensures { λ r. ⌜ ((t list x y : List ℕ) → OpenedFor true n t (now (sets .entry)) (now (cells .entry)) →
+        ReadsBeside n t list x y verdict (now (a .entry)) (now (b .entry)) →
+        resulting r (now (out .exit)) ≡ generalizedBeside n t list x y (now (out .entry))) ⌝ }
 {
-    let verdict = pairs::read_both(n, table, list, first, second, a, b);
     match verdict {
         PairVerdict::Refused(fault, side) => Reply::Graph(fault, side),
         PairVerdict::Both => of_graphs(n, sets, cells, a, b, out),

@@ -7,8 +7,8 @@ use Prim.Native.Nat.{ℕ, _+_, _-_, _≤_, _<_}
 use native.Mathlib.Decide.{ℕ-discrete, decLt}
 use native.Mathlib.Nat.{lt-trans}
 use native.Mathlib.Omega.{arith}
-use lib.ListN.{length, getD, set, length-set}
-use lib.Seq.{getD-set-same, getD-set-other}
+use lib.ListN.{length, getD, set, take, replicate, length-set, length-replicate, getD-replicate}
+use lib.Seq.{getD-set-same, getD-set-other, getD-take, length-take-le}
 use Rattle.layout.specs.Layout.{size, rowFrom, linksFrom, rowEnd, featureAt, targetAt, Node, Place, rowsEnd}
 use Rattle.layout.proofs.Order.{next-row, place-from, place-before, one-row, no-header, place-rises, one-feature}
 use Rattle.subsume.specs.Following.{Sought}
@@ -328,3 +328,14 @@ pub grouping-end : {s g map : List ℕ} (y : ℕ) {owner parent : List ℕ} → 
     size g ≤ y → Grouping s g map (rowsEnd g) owner parent
 grouping-end {s} {g} {map} y {owner} {parent} c low high =
     subst (λ (i : ℕ). Grouping s g map (rowFrom g i) owner parent) (omega arith) c
+
+-- The first words of fresh owners: none of the places of s has an owner.
+pub unowned-fresh : (m : ℕ) (s : List ℕ) → length s ≤ m → Unowned s (take (length s) (replicate m 65535))
+unowned-fresh m s short =
+    record {
+      long = long;
+      none = λ j l. getD-take (length s) (replicate m 65535) j 0 (omega (arith, l, long)) ∙ getD-replicate {A = ℕ} m j 65535 0 (omega (arith, l, long, short));
+    }
+  where
+    long : length {A = ℕ} (take (length s) (replicate m 65535)) ≡ length s
+    long = length-take-le (length s) (replicate m 65535) (omega (arith, length-replicate {A = ℕ} m 65535))

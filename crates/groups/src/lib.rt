@@ -84,8 +84,28 @@ pub fn mark<'a>(
     }
 }
 
-// Marks the links of s, by an order of links. The owners' words hold `cover::NONE` each when they are lent.
+// Marks the links of s, by an order of links.
 pub fn mark_links<'a>(
+    s: &'a [u16],
+    g: &'a [u16],
+    map: &'a [u16; 255],
+    order: LinkOrder,
+    marks: &mut [u8],
+)
+    requires { ⌜ Lying (now s) (now g) (now map) × Fitting order × (length (now marks) ≡ length (now s)) ⌝ }
+    ensures { λ _. ⌜ Marked (earlierBy order) (now (s .entry)) (now (g .entry)) (now (map .entry)) (now (marks .exit)) ⌝ }
+{
+    let words = s.len();
+    if words <= layout::SHORT {
+        let mut owner = [cover::NONE; layout::SHORT];
+        return mark_owned(s, g, map, order, &mut owner[..words], marks);
+    }
+    let mut owner = [cover::NONE; layout::LONGEST];
+    mark_owned(s, g, map, order, &mut owner[..words], marks)
+}
+
+// The same with words that are lent for the owners, each `cover::NONE`.
+fn mark_owned<'a>(
     s: &'a [u16],
     g: &'a [u16],
     map: &'a [u16; 255],
