@@ -9,7 +9,8 @@ use Rattle.replies.specs.declared.Reply.{Reply}
 use Rattle.replies.specs.declared.Reply.the-variants.{Length}
 use Rattle.replies.specs.Reply.{Result, resulting, lengthOf}
 use Rattle.versions.specs.State.{Made, made, stopped, Programs}
-use Rattle.store.specs.Calls.{writtenRecord, putting, dropping, fetching}
+use Rattle.contents.specs.Contents.{writtenRecord}
+use Rattle.store.specs.Calls.{putting, dropping, fetching}
 
 -- put, drop and read, each with its version; put has a program, and to read an output is lent
 pub data Call : Type 0 where

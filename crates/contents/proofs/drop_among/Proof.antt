@@ -4,10 +4,10 @@ use Prim.Native.Nat.{_<_}
 use native.Mathlib.Omega.{arith}
 use borrow.Author.Tests.{not-true, not-false}
 use Rattle.versions.proofs.SlotLaws.{absent-replicate, part-blank, clear-slot}
-use Rattle.store.proofs.Among.{wide, not-held, drop-above, drop-absent, drop-goes}
+use Rattle.contents.proofs.Among.{wide, not-held, drop-above, drop-absent, drop-goes}
 use borrow.Author.Needs.{needs}
-use Rattle.store.proofs.drop_among.Statement.{statement}
-use Rattle.store.proofs.drop_among.Tie as tie
+use Rattle.contents.proofs.drop_among.Statement.{statement}
+use Rattle.contents.proofs.drop_among.Tie as tie
 
 slice-aggregate-is-held : tie.Need-slice-aggregate-is-held
 slice-aggregate-is-held c = search needs

@@ -7,11 +7,11 @@ use borrow.Author.Tests.{not-true, not-false}
 use Rattle.lattice.proofs.Laws.{accepted-size}
 use Rattle.gathering.proofs.Told.{no-length}
 use Rattle.versions.proofs.SlotLaws.{absent-replicate, part-blank, put-slot}
-use Rattle.store.proofs.Programs.{told-inside, told-length, told-short, told-some}
-use Rattle.store.proofs.Among.{put-there, wide, not-held, put-refused, put-above, put-present, put-goes, put-steps}
+use Rattle.contents.proofs.Programs.{told-inside, told-length, told-short, told-some}
+use Rattle.contents.proofs.Among.{put-there, wide, not-held, put-refused, put-above, put-present, put-goes, put-steps}
 use borrow.Author.Needs.{needs}
-use Rattle.store.proofs.put_among.Statement.{statement}
-use Rattle.store.proofs.put_among.Tie as tie
+use Rattle.contents.proofs.put_among.Statement.{statement}
+use Rattle.contents.proofs.put_among.Tie as tie
 
 slice-aggregate-is-held : tie.Need-slice-aggregate-is-held
 slice-aggregate-is-held c = search needs

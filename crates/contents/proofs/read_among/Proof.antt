@@ -6,11 +6,11 @@ use lib.ListN.{replicate, length-replicate}
 use lib.Seq.{length-take-le}
 use borrow.Author.Tests.{not-true, not-false}
 use Rattle.versions.proofs.SlotLaws.{absent-replicate, part-blank}
-use Rattle.store.proofs.Settling.{blank-room}
-use Rattle.store.proofs.Among.{read-not-held, read-above, read-absent, read-short, read-copied}
+use Rattle.contents.proofs.Room.{blank-room}
+use Rattle.contents.proofs.Among.{read-not-held, read-above, read-absent, read-short, read-copied}
 use borrow.Author.Needs.{needs}
-use Rattle.store.proofs.read_among.Statement.{statement}
-use Rattle.store.proofs.read_among.Tie as tie
+use Rattle.contents.proofs.read_among.Statement.{statement}
+use Rattle.contents.proofs.read_among.Tie as tie
 
 slice-aggregate-is-held : tie.Need-slice-aggregate-is-held
 slice-aggregate-is-held c = search needs
