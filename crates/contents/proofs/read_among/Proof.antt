@@ -1,9 +1,8 @@
 -- The buffer is opened, and the record of its version written.
 use mathlib.Core.Path.{refl, sym, _∙_}
-use Prim.Native.Nat.{ℕ, _<_}
+use Prim.Native.Nat.{ℕ}
 use native.Mathlib.Omega.{arith}
-use lib.ListN.{replicate, length-replicate}
-use lib.Seq.{length-take-le}
+use lib.ListN.{length-replicate}
 use borrow.Author.Tests.{not-true, not-false}
 use Rattle.versions.proofs.SlotLaws.{absent-replicate, part-blank}
 use Rattle.contents.proofs.Room.{blank-room}
