@@ -17,7 +17,8 @@ use Rattle.replies.specs.declared.Reply.the-variants.{Table, Graph}
 use Rattle.replies.specs.Reply.{Result}
 use Rattle.calls.specs.Calls.{checked}
 use Rattle.versions.specs.State.{Made, made, stopped, Programs, unpacked, begins, way, held}
-use Rattle.store.specs.Calls.{onHeld, onPresent, settled, given, putAmong, dropAmong, inTable, putting, dropping, fetching}
+use Rattle.contents.specs.Contents.{onHeld, onPresent, given, putAmong, dropAmong}
+use Rattle.store.specs.Calls.{settled, inTable, putting, dropping, fetching}
 
 -- a buffer above 16,384 bytes holds nothing
 long-none : (n : ℕ) (t buffer : List ℕ) → 16384 < length buffer → held n t buffer ≡ none

@@ -5,14 +5,15 @@ use mathlib.Core.Option.{Option, none}
 use Prim.Native.Nat.{ℕ, _+_, _≤_}
 use native.Mathlib.Nat.{zero-add}
 use native.Mathlib.Omega.{arith}
-use lib.ListN.{length, take, drop, replicate, length-append, length-replicate}
+use lib.ListN.{length, take, drop, replicate, length-append}
 use lib.Seq.{paste, take-at, take-length, length-take-le}
 use Rattle.replies.specs.declared.Reply.{Reply}
 use Rattle.replies.specs.declared.Reply.the-variants.{Length}
 use Rattle.replies.specs.Reply.{resulting, lengthOf, Bounded}
 use Rattle.versions.specs.State.{Made, takenBy, taken}
+use Rattle.contents.specs.Promise.{Among}
+use Rattle.contents.proofs.Room.{blank-room}
 use Rattle.store.specs.Calls.{settled}
-use Rattle.store.specs.Promise.{Among}
 
 pub settle-none : (reply : Reply) (state store : List ℕ) → lengthOf reply ≡ none → resulting reply store ≡ settled store (taken (resulting reply state))
 settle-none reply state store e = sym (ap (λ (o : Option ℕ). settled store (takenBy o (resulting reply state))) e)
@@ -23,10 +24,6 @@ settle-some l state store e h is =
     ap₂ (λ (k : ℕ) (bytes : List ℕ). resulting (Length k) bytes) (sym (length-take-le l state h))
     (is ∙ ap₂ (λ (s : List ℕ) (k : ℕ). s ++ drop k store) (take-length (take l state)) (zero-add (length (take l state))))
     ∙ sym (ap (λ (r : Reply). settled store (taken (resulting r state))) e)
-
--- the room of the state, for a buffer that is not too long
-pub blank-room : (room : ℕ) → room ≤ 16384 → length {A = ℕ} (take room (replicate 16384 0)) ≡ room
-blank-room room h = length-take-le room (replicate 16384 0) (omega (arith, h, length-replicate {A = ℕ} 16384 0))
 
 -- a state that was lent as the first bytes of that room
 module _ {m : Made} {r : Reply} {new : List ℕ} (room : ℕ) (h : room ≤ 16384) (among : Among m (take room (replicate 16384 0)) r new) where

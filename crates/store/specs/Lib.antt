@@ -1,4 +1,3 @@
 -- What the calls of a store reply and leave.
 pub mod Calls
-pub mod Promise
 pub mod Examples

@@ -4,22 +4,13 @@
 
 use lattice::Opened;
 use record::GraphFault;
-use record::reading::Verdict;
 use replies::Reply;
 use replies::Side;
 ghost use mathlib.Core.Path.{_≡_};
-ghost use mathlib.Core.Bool.{true};
-ghost use mathlib.Core.Option.{none};
-ghost use Prim.Native.Nat.{_≤_};
-ghost use lib.ListN.{getD, length};
-ghost use Rattle.bounds.specs.Opening.{OpenedFor};
+ghost use lib.ListN.{length};
 ghost use Rattle.replies.specs.Reply.{Bounded, resulting};
-ghost use Rattle.versions.specs.State.{taken, held, made};
-ghost use Rattle.store.specs.Calls.{dropAmong, dropping, fetching, given, onHeld, onPresent, putAmong, putting, settled};
-ghost use Rattle.store.specs.Promise.{Among, Programmed};
-
-// The most bytes of a store.
-const MOST: usize = 16384;
+ghost use Rattle.versions.specs.State.{taken};
+ghost use Rattle.store.specs.Calls.{dropping, fetching, putting, settled};
 
 // Puts a program into a store as a version that is absent. The answer tells how many bytes are used.
 pub fn put(n: usize, table: &[u8], store: &mut [u8], version: usize, bytes: &[u8]) -> Reply
@@ -32,11 +23,11 @@ pub fn put(n: usize, table: &[u8], store: &mut [u8], version: usize, bytes: &[u8
         Opened::Refused(fault) => Reply::Table(fault),
         Opened::Accepted => {
             let room = store.len();
-            if room > MOST {
+            if room > contents::MOST {
                 return Reply::Graph(GraphFault::Malformed, Side::First);
             }
-            let mut state = [0u8; MOST];
-            let reply = put_among(
+            let mut state = [0u8; contents::MOST];
+            let reply = contents::put_among(
                 n,
                 table,
                 &sets,
@@ -62,11 +53,19 @@ pub fn drop(n: usize, table: &[u8], store: &mut [u8], version: usize) -> Reply
         Opened::Refused(fault) => Reply::Table(fault),
         Opened::Accepted => {
             let room = store.len();
-            if room > MOST {
+            if room > contents::MOST {
                 return Reply::Graph(GraphFault::Malformed, Side::First);
             }
-            let mut state = [0u8; MOST];
-            let reply = drop_among(n, table, &sets, &cells, store, version, &mut state[..room]);
+            let mut state = [0u8; contents::MOST];
+            let reply = contents::drop_among(
+                n,
+                table,
+                &sets,
+                &cells,
+                store,
+                version,
+                &mut state[..room],
+            );
             settle(reply, &state[..room], store)
         }
     }
@@ -82,140 +81,11 @@ pub fn read(n: usize, table: &[u8], store: &[u8], version: usize, out: &mut [u8]
     match opened {
         Opened::Refused(fault) => Reply::Table(fault),
         Opened::Accepted => {
-            if store.len() > MOST {
+            if store.len() > contents::MOST {
                 return Reply::Graph(GraphFault::Malformed, Side::First);
             }
-            read_among(n, table, &sets, &cells, store, version, out)
+            contents::read_among(n, table, &sets, &cells, store, version, out)
         }
-    }
-}
-
-// Makes the state of a store with one version more.
-fn put_among<'a>(
-    n: usize,
-    table: &[u8],
-    sets: &'a [u64; bounds::sets::WORDS],
-    cells: &'a [[u8; 64]; 64],
-    store: &[u8],
-    version: usize,
-    bytes: &[u8],
-    state: &mut [u8],
-) -> Reply
-    requires { ⌜ OpenedFor true n (now table) (now sets) (now cells) × (length (now state) ≡ length (now store)) × (length (now store) ≤ 16384) ⌝ }
-    ensures { λ r. ⌜ Among (onHeld (held n (now (table .entry)) (now (store .entry)))
-        (putAmong n (now (table .entry)) (length (now (store .entry))) version (now (bytes .entry)))) (now (state .entry)) r (now (state .exit)) ⌝ }
-{
-    let mut slots = [0u8; versions::slots::SLOTS];
-    let mut part = [0u8; versions::slots::SLOT];
-    if !way::is_held(n, table, sets, cells, store, &mut slots, &mut part, state) {
-        return Reply::Graph(GraphFault::Malformed, Side::First);
-    }
-    let mut record = [0u8; gathering::LONGEST];
-    let reply = write_program(n, bytes, &mut record);
-    let Reply::Length(length) = reply else {
-        return reply;
-    };
-    if version >= versions::slots::VERSIONS {
-        return Reply::WrongVersion;
-    }
-    if versions::slots::length_in(&slots, version) != 0 {
-        return Reply::WrongVersion;
-    }
-    let last = versions::slots::is_none_from(&slots, version);
-    versions::slots::put_measured(
-        &record[..length],
-        version * versions::slots::SLOT,
-        &mut slots,
-    );
-    if last {
-        return way::step(n, table, sets, cells, &slots, version, &mut part, state);
-    }
-    way::go(n, table, sets, cells, &slots, &mut part, state)
-}
-
-// Makes the state of a store with one version less.
-fn drop_among<'a>(
-    n: usize,
-    table: &[u8],
-    sets: &'a [u64; bounds::sets::WORDS],
-    cells: &'a [[u8; 64]; 64],
-    store: &[u8],
-    version: usize,
-    state: &mut [u8],
-) -> Reply
-    requires { ⌜ OpenedFor true n (now table) (now sets) (now cells) × (length (now state) ≡ length (now store)) × (length (now store) ≤ 16384) ⌝ }
-    ensures { λ r. ⌜ Among (onHeld (held n (now (table .entry)) (now (store .entry)))
-        (dropAmong n (now (table .entry)) (length (now (store .entry))) version)) (now (state .entry)) r (now (state .exit)) ⌝ }
-{
-    let mut slots = [0u8; versions::slots::SLOTS];
-    let mut part = [0u8; versions::slots::SLOT];
-    if !way::is_held(n, table, sets, cells, store, &mut slots, &mut part, state) {
-        return Reply::Graph(GraphFault::Malformed, Side::First);
-    }
-    if version >= versions::slots::VERSIONS {
-        return Reply::WrongVersion;
-    }
-    if versions::slots::length_in(&slots, version) == 0 {
-        return Reply::WrongVersion;
-    }
-    gathering::parts::put_length(version * versions::slots::SLOT, 0, &mut slots);
-    way::go(n, table, sets, cells, &slots, &mut part, state)
-}
-
-// Writes the record of a version among the programs of a store.
-fn read_among<'a>(
-    n: usize,
-    table: &[u8],
-    sets: &'a [u64; bounds::sets::WORDS],
-    cells: &'a [[u8; 64]; 64],
-    store: &[u8],
-    version: usize,
-    out: &mut [u8],
-) -> Reply
-    requires { ⌜ OpenedFor true n (now table) (now sets) (now cells) × (length (now store) ≤ 16384) ⌝ }
-    ensures { λ r. ⌜ resulting r (now (out .exit)) ≡ given (now (out .entry)) (onHeld (held n (now (table .entry)) (now (store .entry))) (λ ps. onPresent (getD ps version none) made)) ⌝ }
-{
-    let mut slots = [0u8; versions::slots::SLOTS];
-    let mut part = [0u8; versions::slots::SLOT];
-    let mut state = [0u8; MOST];
-    let room = store.len();
-    if !way::is_held(
-        n,
-        table,
-        sets,
-        cells,
-        store,
-        &mut slots,
-        &mut part,
-        &mut state[..room],
-    ) {
-        return Reply::Graph(GraphFault::Malformed, Side::First);
-    }
-    if version >= versions::slots::VERSIONS {
-        return Reply::WrongVersion;
-    }
-    let length = versions::slots::length_in(&slots, version);
-    if length == 0 {
-        return Reply::WrongVersion;
-    }
-    if out.len() < length {
-        return Reply::NoRoom;
-    }
-    let start = version * versions::slots::SLOT + 2;
-    gathering::parts::copy(&slots[start..start + length], 0, out);
-    Reply::Length(length)
-}
-
-// Writes the record of a program, the second graph.
-fn write_program(n: usize, bytes: &[u8], output: &mut [u8]) -> Reply
-    requires { ⌜ (n ≤ 64) × (length (now output) ≡ 4854) ⌝ }
-    ensures { λ r. ⌜ Programmed n (now (bytes .entry)) r (now (output .exit)) ⌝ }
-{
-    let mut graph = [0u16; layout::LONGEST];
-    let verdict = record::reading::read(n, bytes, &mut graph);
-    match verdict {
-        Verdict::Refused(fault) => Reply::Graph(fault, Side::Second),
-        Verdict::Accepted => engine::rewriting::of_graph(&graph, output),
     }
 }
 

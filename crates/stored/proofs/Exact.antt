@@ -26,7 +26,8 @@ use Rattle.calls.specs.Calls.{checked}
 use Rattle.demands.specs.Demand.{WrittenRecord}
 use Rattle.gathering.proofs.Told.{none-some}
 use Rattle.versions.specs.State.{Made, made, stopped, Programs, way, held}
-use Rattle.store.specs.Calls.{onHeld, onProgram, onAbsent, onPresent, isNone, writtenRecord, settled, given, putAmong, dropAmong, inTable, putting, dropping, fetching}
+use Rattle.contents.specs.Contents.{onHeld, onProgram, onAbsent, onPresent, isNone, writtenRecord, given, putAmong, dropAmong}
+use Rattle.store.specs.Calls.{settled, inTable, putting, dropping, fetching}
 use Rattle.stored.specs.Theorem.{Versions, Holds, HoldsNone, PutChecked, VersionChecked, PutDue, DropDue, ReadDue}
 use Rattle.stored.specs.Theorem as due
 use Rattle.stored.proofs.Records.{program-written}

@@ -17,7 +17,8 @@ use Rattle.replies.specs.declared.Reply.the-variants.{Length}
 use Rattle.replies.specs.Reply.{lengthOf}
 use Rattle.gathering.proofs.Told.{none-some, length-told}
 use Rattle.versions.specs.State.{Programs}
-use Rattle.store.specs.Calls.{writtenRecord, putting, dropping}
+use Rattle.contents.specs.Contents.{writtenRecord}
+use Rattle.store.specs.Calls.{putting, dropping}
 use Rattle.stored.specs.Turns.{Call, put, remove, fetch, called, writtenIn, done, whereGiven, programsAfter, Drops, Keeps}
 use Rattle.stored.specs.Turns as turns
 use Rattle.stored.specs.Theorem.{Holds}

@@ -22,7 +22,8 @@ use Rattle.replies.specs.Reply.{refusal}
 use Rattle.gathering.proofs.Told.{none-some}
 use Rattle.gathered.proofs.Theorems.{reading-number}
 use Rattle.versions.specs.State.{Programs}
-use Rattle.store.specs.Calls.{writtenRecord, putting, dropping, fetching}
+use Rattle.contents.specs.Contents.{writtenRecord}
+use Rattle.store.specs.Calls.{putting, dropping, fetching}
 use Rattle.stored.specs.Theorem.{Holds, HoldsNone, Met, too-large, unwanted, short, PutChecked, VersionChecked, PutDue, DropDue, ReadDue}
 use Rattle.stored.specs.Theorem as due
 use Rattle.stored.proofs.Held.{some-injective}

@@ -27,7 +27,8 @@ use Rattle.replies.specs.declared.Reply.the-variants.{Length, Table, Graph, NoR
 use Rattle.replies.specs.Reply.{refusing, resultOf, refusal}
 use Rattle.calls.specs.Calls.{rewriting}
 use Rattle.versions.specs.State.{made, stopped, Programs, noPrograms, emptyState, stateOf, differences, way, held}
-use Rattle.store.specs.Calls.{writtenRecord, putting, dropping, fetching}
+use Rattle.contents.specs.Contents.{writtenRecord}
+use Rattle.store.specs.Calls.{putting, dropping, fetching}
 use Rattle.stored.specs.Turns.{Call, fetch, called, bufferAfter, replies, programsAfter, putsFrom, Keeps}
 use Rattle.stored.specs.Theorem.{
   Versions,

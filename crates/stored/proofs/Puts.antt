@@ -22,7 +22,8 @@ use Rattle.replies.specs.Reply.{Result, refusing, lengthOf}
 use Rattle.demands.specs.Demand.{WrittenRecord}
 use Rattle.versions.specs.State.{Made, made, stopped, andThen, Programs, emptyState, stored, joined, wayFrom, way}
 use Rattle.versions.proofs.Loops.{way-large, way-halts}
-use Rattle.store.specs.Calls.{onProgram, onAbsent, isNone, settled, putting, writtenRecord}
+use Rattle.contents.specs.Contents.{onProgram, onAbsent, isNone, writtenRecord}
+use Rattle.store.specs.Calls.{settled, putting}
 use Rattle.stored.specs.Turns.{onLength, putsFrom}
 use Rattle.stored.specs.Theorem.{Versions, Holds, Passed, start, absent, steps}
 use Rattle.stored.proofs.Way.{passed-on}

@@ -31,7 +31,8 @@ use Rattle.demands.proofs.Results.{rewriting-is}
 use Rattle.demands.proofs.Demands.{meaning-bytes, meaning-rewriting}
 use Rattle.gathering.proofs.Told.{none-some}
 use Rattle.versions.specs.State.{Made, made, stopped, Programs, noPrograms, emptyState, way, held}
-use Rattle.store.specs.Calls.{onProgram, onAbsent, onPresent, isNone, writtenRecord, settled, given, putAmong, dropAmong, inTable, putting, dropping, fetching}
+use Rattle.contents.specs.Contents.{onProgram, onAbsent, onPresent, isNone, writtenRecord, given, putAmong, dropAmong}
+use Rattle.store.specs.Calls.{settled, inTable, putting, dropping, fetching}
 use Rattle.stored.specs.Turns.{Call, put, remove, fetch, called, bufferAfter, replies, writtenIn, programsAfter, putsFrom, Keeps}
 use Rattle.stored.specs.Theorem.{Versions, Holds, HoldsNone, Changed, Alike, PutChecked, VersionChecked, PutDue, DropDue, ReadDue}
 use Rattle.stored.specs.Theorem as due

@@ -20,7 +20,7 @@ use Rattle.replies.specs.declared.Reply.{Reply}
 use Rattle.replies.specs.declared.Reply.the-variants.{Length, Table, Graph, NoRoom, TooLarge, NoWantedType, WrongVersion, NoStoreRoom}
 use Rattle.demands.specs.Demand.{WrittenRecord, Large, common}
 use Rattle.versions.specs.State.{made, Programs, emptyState, stateOf, differences, stored, joined, way}
-use Rattle.store.specs.Calls.{writtenRecord}
+use Rattle.contents.specs.Contents.{writtenRecord}
 
 -- "up to 16 versions": each that exists is the written record of a program.
 pub record Versions (n : ℕ) (ps : Programs) : Type 0 where

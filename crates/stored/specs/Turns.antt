@@ -10,7 +10,8 @@ use Rattle.replies.specs.declared.Reply.{Reply}
 use Rattle.replies.specs.declared.Reply.the-variants.{Length}
 use Rattle.replies.specs.Reply.{Result, resulting, lengthOf}
 use Rattle.versions.specs.State.{Made, made, stopped, Programs}
-use Rattle.store.specs.Calls.{writtenRecord, putting, dropping, fetching}
+use Rattle.contents.specs.Contents.{writtenRecord}
+use Rattle.store.specs.Calls.{putting, dropping, fetching}
 
 -- A put has a version and a program, a drop has a version, and a read has a version and the output that is lent.
 pub data Call : Type 0 where

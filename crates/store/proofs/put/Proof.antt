@@ -3,7 +3,8 @@ use mathlib.Core.Path.{refl, sym, _∙_}
 use native.Mathlib.Omega.{arith}
 use lib.ListN.{length}
 use Rattle.lattice.proofs.Acceptance.{opened-accepted}
-use Rattle.store.proofs.Settling.{blank-room, front-inside, front-length, front-bounded, front-made}
+use Rattle.contents.proofs.Room.{blank-room}
+use Rattle.store.proofs.Settling.{front-inside, front-length, front-bounded, front-made}
 use Rattle.store.proofs.Opening.{put-table, put-long, put-made}
 use borrow.Author.Needs.{needs}
 use Rattle.store.proofs.put.Statement.{statement}

@@ -4,12 +4,12 @@ use Rattle.graphs.specs.Rows.{Row}
 use Rattle.lattice.specs.Label.{Label}
 use Rattle.pairs.proofs.Readings.{told-accepted}
 use Rattle.gathering.proofs.Answers.{reads-loaded}
-use Rattle.store.proofs.Programs.{program-refused, program-written}
+use Rattle.contents.proofs.Programs.{program-refused, program-written}
 use borrow.Author.Needs.{needs}
-use Rattle.store.proofs.write_program.Statement.{statement}
-use Rattle.store.proofs.write_program.Tie as tie
-use Rattle.store.proofs.write_program.Reads as reads
-use Rattle.store.proofs.write_program.Lts as lts
+use Rattle.contents.proofs.write_program.Statement.{statement}
+use Rattle.contents.proofs.write_program.Tie as tie
+use Rattle.contents.proofs.write_program.Reads as reads
+use Rattle.contents.proofs.write_program.Lts as lts
 use Rattle.engine.proofs.rewriting.of_graph.Reads as of-graph-reads
 use Rattle.record.proofs.reading.read.Reads as read-reads
 

@@ -30,8 +30,8 @@ use Rattle.replies.specs.Reply.{Result, resulting, resultOf}
 use Rattle.pairs.proofs.Readings.{told-refused}
 use Rattle.engine.specs.Rewriting.{rewrittenRows}
 use Rattle.versions.specs.State.{Made, made, taken}
-use Rattle.store.specs.Calls.{onProgram}
-use Rattle.store.specs.Promise.{Programmed}
+use Rattle.contents.specs.Contents.{onProgram}
+use Rattle.contents.specs.Promise.{Programmed}
 
 -- its 4 to 7
 pub program-refused : {n : ℕ} {bytes ws : List ℕ} {v : Verdict} → Reads n bytes v ws → (fault : GraphFault) → v ≡ Refused fault → (out : List ℕ) → length out ≡ 4854 →

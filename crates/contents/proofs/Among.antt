@@ -25,9 +25,9 @@ use Rattle.versions.specs.Slots.{measuredIn, programsIn, slotAt, Slotted}
 use Rattle.versions.specs.Promise.{onwardBy, onward, NoneFrom, Puts}
 use Rattle.versions.proofs.Lengths.{none-bounded, none-taken}
 use Rattle.versions.proofs.SlotLaws.{programs-length, program-at, slot-none, slot-some, recordAt, record-length, put-slot}
-use Rattle.store.specs.Calls.{onHeld, onProgram, isNone, onAbsent, onPresent, given, putAmong, dropAmong}
+use Rattle.contents.specs.Contents.{onHeld, onProgram, isNone, onAbsent, onPresent, given, putAmong, dropAmong}
 use Rattle.way.specs.Promise.{Led, Steps, Opens}
-use Rattle.store.specs.Promise.{Among, Programmed}
+use Rattle.contents.specs.Promise.{Among, Programmed}
 
 -- a program goes on as its record does
 on-program : (o : Reading) (next : List ℕ → Made) → onProgram o next ≡ andThen (onProgram o made) next

@@ -8,7 +8,7 @@ use Rattle.replies.specs.declared.Reply.{Reply}
 use Rattle.replies.specs.declared.Reply.the-variants.{Length}
 use Rattle.replies.specs.Reply.{resulting, Bounded}
 use Rattle.versions.specs.State.{Made, made, taken}
-use Rattle.store.specs.Calls.{onProgram}
+use Rattle.contents.specs.Contents.{onProgram}
 
 -- The bytes that a call makes beside the store, or the reply that refuses it.
 pub record Among (m : Made) (old : List ℕ) (r : Reply) (new : List ℕ) : Type 0 where
