@@ -15,7 +15,7 @@ both (some v) none = none
 both (some v) (some w) = some (v, w)
 
 module _ (𝓛 : Labels) {A B : Type 0} where
-  -- "The paths in both, each with the join of its two types, two sharing exactly when they share in both."
+  -- "the paths in both, each with the join of its two types, two sharing exactly when they share in both."
   pub record IsGeneralization (g : Graph (𝓛 .L) A) (h : Graph (𝓛 .L) B) {C : Type 0} (k : Graph (𝓛 .L) C) : Type 0 where
     pub there : (p : List ℕ) (x : C) → walk k p ≡ some x →
         (v : A) × (w : B) × (walk g p ≡ some v) × (walk h p ≡ some w) × (k .label x ≡ 𝓛 .join (g .label v) (h .label w))

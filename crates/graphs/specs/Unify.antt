@@ -13,7 +13,7 @@ use Rattle.graphs.specs.Generalize.{both}
 use Rattle.graphs.specs.Rows.{features}
 
 module _ {L A B : Type 0} (g : Graph L A) (h : Graph L B) where
-  -- "Sharing is the smallest equivalence that holds both graphs' sharing and passes down equal features." A path of the
+  -- "sharing is the smallest equivalence that holds both graphs' sharing and passes down equal features." A path of the
   -- unification is one that is joined to itself.
   pub data Joined : List ℕ → List ℕ → Type 0 where
     left : {p q : List ℕ} → Corefer g p q → Joined p q
@@ -28,7 +28,7 @@ module _ (𝓛 : Labels) {A B : Type 0} (g : Graph (𝓛 .L) A) (h : Graph (𝓛
     pub first : (q : List ℕ) (v : A) → Joined g h p q → walk g q ≡ some v → 𝓛 .le a (g .label v) ≡ true
     pub second : (q : List ℕ) (w : B) → Joined g h p q → walk h q ≡ some w → 𝓛 .le a (h .label w) ≡ true
 
-  -- "A class has the meet of all types in it."
+  -- "a class has the meet of all types in it"
   pub record ClassMeet (p : List ℕ) (a : 𝓛 .L) : Type 0 where
     pub under : UnderClass p a
     pub greatest : (b : 𝓛 .L) → UnderClass p b → 𝓛 .le b a ≡ true

@@ -113,7 +113,7 @@ pub record GreatestOfAnySize (n : ℕ) (t : List ℕ) {A B C : Type 0} (g : Grap
       Below (tableLabels n t) m k
 
 module _ (n : ℕ) (t : List ℕ) {A B : Type 0} (g : Graph Label A) (h : Graph Label B) where
-  -- "A class has the meet of all types in it", and the overlap of all ranges: the greatest of the table's labels below each.
+  -- "a class has the meet of all types in it", and the overlap of all ranges: a is the greatest of the table's labels below each.
   pub record LabelsMeet (p : List ℕ) (a : Label) : Type 0 where
     pub known : Known n a
     pub under : UnderClass (tableLabels n t) g h p a
