@@ -1,6 +1,6 @@
 // This crate opens a table for meets or for joins (document 01, "Type table"; document 02, Paper 12): the table is accepted, or refused
-// by 1, 2 or 3. After acceptance the sets or cells that the caller lends hold the bounds of one side. It knows tables, and nothing of
-// records.
+// by 1, 2 or 3. After acceptance the sets or cells that the caller lends hold the bounds of one side. The crate knows tables, and
+// nothing of records.
 ghost use mathlib.Core.Path.{_≡_};
 ghost use lib.ListN.{length};
 ghost use Rattle.lattice.specs.Table.{sideBound};

@@ -40,7 +40,7 @@ pub fn hold(n: usize, down: &[u64; 64], up: bool, sets: &mut [u64; WORDS]) -> bo
     true
 }
 
-// The type whose set is `set`, or 64 where there is none. It is sought among the types of `part`, from both ends in turn, beginning
+// The type whose set is `set`, or 64 where there is none. The type is sought among the types of `part`, from both ends in turn, beginning
 // with the lowest for `low`.
 fn find_set(sets: &[u64; WORDS], set: u64, part: u64, low: bool) -> u8
     ensures { λ r. ⌜ ((n : ℕ) → n ≤ 64 → Among n (now (sets .entry)) set part → r ≡ cell (holder n (now (sets .entry)) set)) ⌝ }

@@ -21,7 +21,7 @@ pub record RowsFit (bytes : List ℕ) (start at limit : ℕ) (ws : List ℕ) : T
   pub few : limit ≤ longest
   pub words : min limit (at + (length bytes - start)) ≤ length ws
 
--- `value` is what is read up to the byte `next`. It ends before place `end`, and from there links have room up to place `limit`.
+-- `value` is what is read up to the byte `next`. The value ends before place `end`, and from there links have room up to place `limit`.
 pub record Stored {X : Type 0} (value : X) (read : Option (Taken X)) (bytes : List ℕ) (limit next end : ℕ) : Type 0 where
   pub read-is : read ≡ some (record { value = value; room = limit - end; rest = drop next bytes })
   pub room : end ≤ limit
@@ -31,8 +31,8 @@ pub record Stored {X : Type 0} (value : X) (read : Option (Taken X)) (bytes : Li
 abbrev pub rowBetween : List ℕ → ℕ → ℕ → Row Label
 rowBetween ws at end = (labelFrom ws at, linksBetween ws (at + header) end)
 
--- Something is read from the byte `start` on and stands in the words from place `at` on, or it cannot be read. It takes at least `least`
--- words, and no more words than bytes. The words before `at` stay as they are.
+-- Something is read from the byte `start` on and stands in the words from place `at` on, or it cannot be read. What is read takes at
+-- least `least` words, and no more words than bytes. The words before `at` stay as they are.
 pub record Took {X : Type 0} (found : List ℕ → ℕ → ℕ → X) (least : ℕ) (read : Option (Taken X)) (bytes : List ℕ) (start at limit : ℕ)
     (ws : List ℕ) (answer : RowEnd) (ws′ : List ℕ) : Type 0 where
   pub short-stands : answer ≡ Short → read ≡ none

@@ -1,4 +1,4 @@
-// The reader of a record keeps the record's bytes and the position of the next byte together. It takes a byte or a feature map and
+// The reader of a record keeps the record's bytes and the position of the next byte together. The reader takes a byte or a feature map and
 // tells the position behind it. Parsing calls the last two functions, whose parameters are plain: each makes the reader at a
 // position and leaves the work to it.
 

@@ -1,5 +1,5 @@
--- The feature map as a number is the sum of the powers of two at its features. Its eight bytes, lowest first, are the feature map of the
--- row's links.
+-- The feature map as a number is the sum of the powers of two at its features. The eight bytes of this number, lowest first, are the
+-- feature map of the row's links.
 use mathlib.Core.Path.{_≡_, refl, sym, _∙_, ap, ap₂}
 use mathlib.Core.Bool.{Bool, true, false, cond}
 use mathlib.Core.List.{List, [], _∷_, _++_, map, List·Memᴰ, List·Memᴰ·head, List·Memᴰ·tail, List·Memᴰ·not-nil, List·Memᴰ·cases-cons}

@@ -1,5 +1,5 @@
--- This file shows what writing answers and leaves, for each form of a graph and each output. It also has two laws of lists that the rows
--- of a form go by.
+-- This file shows what writing answers and leaves, for each form of a graph and each output. The file also has two laws of lists that the
+-- rows of a form go by.
 use mathlib.Core.Path.{_≡_, refl, sym, _∙_, ap, ap₂}
 use mathlib.Core.Bool.{Bool, cond}
 use mathlib.Core.Logic.{_⊎_, ⊎-elim}

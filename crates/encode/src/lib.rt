@@ -1,5 +1,5 @@
 // This crate writes a graph in words as its written record, or renumbers its nodes as the written record does. There is one encoder for
-// every result. It knows graphs in words and a record's bytes; it knows no table.
+// every result. The crate knows graphs in words and a record's bytes; it knows no table.
 
 pub mod canonical;
 pub mod encoder;

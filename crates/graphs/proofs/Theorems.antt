@@ -95,7 +95,8 @@ module _ (𝓛 : Labels) (lattice : Lattice 𝓛) where
       ((ManyNodes g → ⊥) × (ManyLinks g → ⊥)) ↔ ((form : List (Row (𝓛 .L))) × (canonical same g ≡ written form))
   fits same tells g narrow = Large.canonical-fits same tells g narrow
 
-  -- 3. Generalization has the paths of both graphs with their joins. It is the least graph above both, and of any size if both are.
+  -- 3. Generalization has the paths of both graphs with their joins. The generalization is the least graph above both, and of any size if
+  -- both are.
 
   pub generalization-is : {A B : Type 0} (g : Graph (𝓛 .L) A) (h : Graph (𝓛 .L) B) → IsGeneralization 𝓛 g h (generalization 𝓛 g h)
   generalization-is g h = Product.product-is-generalization 𝓛 g h
@@ -107,8 +108,8 @@ module _ (𝓛 : Labels) (lattice : Lattice 𝓛) where
       AnySize 𝓛 (generalization 𝓛 g h)
   generalization-any-size g h a b = Product.generalization-any-size lattice (Product.product-is-generalization 𝓛 g h) a
 
-  -- 4. Unification as it is computed on nodes is the closure over paths. It is the greatest graph below both, and of any size. There is a
-  -- cycle or a clash exactly when no graph of any size lies below both, and a cycle is told before a clash.
+  -- 4. Unification as it is computed on nodes is the closure over paths. The unification is the greatest graph below both, and of any
+  -- size. There is a cycle or a clash exactly when no graph of any size lies below both, and a cycle is told before a clash.
 
   module _ {A B : Type 0} (sameA : A → A → Bool) (sameB : B → B → Bool) (tellsA : TellsApart sameA) (tellsB : TellsApart sameB)
       (g : Graph (𝓛 .L) A) (h : Graph (𝓛 .L) B) (a : AnySize 𝓛 g) (b : AnySize 𝓛 h) where

@@ -9,7 +9,7 @@ use lib.ListN.{length}
 use Rattle.graphs.specs.Graph.{Graph}
 use Rattle.graphs.specs.Rows.{Row, features, linksOf}
 
--- The first value where the test holds, else the second. The second is computed only then.
+-- The first value where the test holds, else the second. The second is computed only where the test fails.
 abbrev pub otherwise : {X : Type 0} → Bool → X → (Unit {0} → X) → X
 otherwise true x y = x
 otherwise false x y = y tt

@@ -1,5 +1,5 @@
--- This file computes whether one graph is below another (document 01, "Order and results"). It tests the pairs of nodes that one path
--- leads to in both graphs. Theorem `subsumes-exact` shows that the answer is `Below` of `Graph.antt`.
+-- This file computes whether one graph is below another (document 01, "Order and results"). The computation tests the pairs of nodes that
+-- one path leads to in both graphs. Theorem `subsumes-exact` shows that the answer is `Below` of `Graph.antt`.
 use mathlib.Core.Bool.{Bool, true, false, not, _&&_, _||_}
 use mathlib.Core.List.{List, [], _∷_, flatMap}
 use mathlib.Core.Option.{Option, none, some}

@@ -1,5 +1,5 @@
--- This file defines the reason beside each kept link (document 02, Paper 13). It computes the number of a link's reason, lists the links of
--- a graph "in record order", and says what a reason tells of the two graphs.
+-- This file defines the reason beside each kept link (document 02, Paper 13). The file computes the number of a link's reason, lists the
+-- links of a graph "in record order", and says what a reason tells of the two graphs.
 use mathlib.Core.Path.{_≡_}
 use mathlib.Core.Bool.{Bool, cond}
 use mathlib.Core.List.{List, [], _∷_, _++_, map, reverse}

@@ -31,7 +31,7 @@ abbrev pub graphOf : {L : Type 0} → L → List (Row L) → Graph L ℕ
 graphOf d rows =
     record { root = 0; label = λ v. getD rows v (d, []) .0; link = λ v f. target (getD rows v (d, []) .1) f }
 
--- the links with one by the feature f before them, if it has a target
+-- the links, and before them the link by feature f if f has a target
 abbrev pub addLink : ℕ → Option ℕ → List (ℕ × ℕ) → List (ℕ × ℕ)
 addLink f none ls = ls
 addLink f (some w) ls = (f, w) ∷ ls

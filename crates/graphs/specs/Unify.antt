@@ -1,5 +1,5 @@
--- This file defines unification, document 01's combination (001, the closure). The first part says over paths what it is, and what a
--- loop and a clash are. The second part computes it on the nodes of both graphs.
+-- This file defines unification, document 01's combination (001, the closure). The first part says over paths what
+-- unification is, and what a loop and a clash are. The second part computes unification on the nodes of both graphs.
 use mathlib.Core.Path.{_≡_}
 use mathlib.Core.Bool.{Bool, true, false, cond, _||_}
 use mathlib.Core.List.{List, [], _∷_, _++_, map, foldr}
@@ -87,19 +87,19 @@ deep link (suc k) v = anyOf features λ f. holds (deep link k) (link v f)
 
 -- A class of nodes is named by one of its nodes: `name x` names the class of x. `same` tells nodes apart, and `nodes` lists all nodes.
 module _ {N : Type 0} (same : N → N → Bool) where
-  -- the names where the class of x is joined to that of y
+  -- the names of the classes once the class of x is joined to that of y
   unfoldable pub merge : (N → N) → N → N → N → N
   merge name x y =
       let a = name x in
       let b = name y in
       λ z. let c = name z in cond (same c a) b c
 
-  -- a pair of nodes, where it is there and its nodes lie in different classes
+  -- the pair of nodes, if there is one and its nodes lie in different classes
   unfoldable pub apart : (N → N) → Option (N × N) → Option (N × N)
   apart name none = none
   apart name (some xy) = cond (same (name (xy .0)) (name (xy .1))) none (some xy)
 
-  -- the names where the classes of a pair are joined, if there is a pair
+  -- the names of the classes once the classes of a pair are joined, if there is a pair
   abbrev pub settle : (N → N) → Option (N × N) → N → N
   settle name none = name
   settle name (some xy) = merge name (xy .0) (xy .1)

@@ -1,7 +1,7 @@
 // This crate has the house types (document 02, Paper 8): 64 types of three grades, each 0 to 3, where 3 tells nothing. The number of a
 // type is 16 times its first grade plus 4 times its second plus its third. A type is below another when each of its grades is at most the
-// other's. `meets` has the meets of all pairs as a constant, and `fill_table` writes the type table that states the order. It knows what a
-// type table is, and nothing of records.
+// other's. `meets` has the meets of all pairs as a constant, and `fill_table` writes the type table that states the order. The crate knows
+// what a type table is, and nothing of records.
 ghost use mathlib.Core.Path.{_≡_};
 ghost use Prim.Native.Nat.{_<_};
 ghost use Rattle.house.specs.House.{under, byteOf, answerWith, filling};

@@ -151,6 +151,6 @@ overwrite zero row rows = rows
 overwrite (suc k) row rows = set (overwrite k row rows) k (row k)
 
 -- "Meets and joins stand in two tables of 64 rows by 64 entries once a table is accepted": what a lent table holds
--- after opening. It is filled once 1 and 2 do not apply, and unchanged otherwise.
+-- after opening. The table is filled once 1 and 2 do not apply, and unchanged otherwise.
 unfoldable pub filled : ℕ → List ℕ → (ℕ → ℕ → Option ℕ) → List (List ℕ) → List (List ℕ)
 filled n t bound rows = cond (sized n t && ordered n t) (overwrite n (boundRow n bound) rows) rows

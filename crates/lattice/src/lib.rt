@@ -1,4 +1,4 @@
-// This crate tests a type table (document 01, "Type table"): the table is accepted, or refused by 1, 2 or 3. It also finds the wanted
+// This crate tests a type table (document 01, "Type table"): the table is accepted, or refused by 1, 2 or 3. The crate also finds the wanted
 // type of a node. The order is kept as words: bit j of word i is set where type j is on one side of type i, below it or above it. Crate
 // `bounds` opens a table for meets or joins. This crate knows a table's bytes, and nothing of records.
 ghost use mathlib.Core.Path.{_≡_};

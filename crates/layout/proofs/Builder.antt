@@ -1,5 +1,5 @@
 -- This file has the laws of building a graph in words: how to begin, to open a row with its label, to put a link behind others, and to close
--- a row that has its header and its links. It shows which graph the words hold once the number of nodes is stored, and what a store
+-- a row that has its header and its links. The file shows which graph the words hold once the number of nodes is stored, and what a store
 -- elsewhere keeps.
 use mathlib.Core.Path.{_≡_, sym, _∙_, ap, ap₂, subst}
 use mathlib.Core.List.{List, [], _∷_, _++_, map, List·Memᴰ}

@@ -1,5 +1,5 @@
--- This file is about the links between two places of words: which they are, and how many. Their features ascend along the places exactly
--- where they ascend along the list.
+-- This file is about the links between two places of words: which they are, and how many. The features of the links ascend along the
+-- places exactly where they ascend along the list.
 use mathlib.Core.Path.{_≡_, refl, sym, _∙_, ap, ap₂, subst}
 use mathlib.Core.List.{List, [], _∷_, _++_, map, List·Memᴰ, List·Memᴰ·head, List·Memᴰ·tail, List·Memᴰ·not-nil, List·Memᴰ·cases-cons}
 use mathlib.Core.Logic.{⊎-elim}

@@ -1,5 +1,6 @@
 // This crate lays out a decoded graph in one slice of words: the number of nodes, where each row begins, and the rows, each a header and
-// one word for each link. All crates that compute on graphs share this layout. It knows labels and words, and nothing of a record's bytes.
+// one word for each link. All crates that compute on graphs share this layout. The crate knows labels and words, and nothing of a
+// record's bytes.
 
 ghost use mathlib.Core.Path.{_≡_};
 ghost use Prim.Native.Nat.{_+_, _/_, _%_, _≤_, _<_, max, min};

@@ -1,6 +1,6 @@
 -- This file shows what a reading says: for an acceptance and for each refusal, which tests pass and which fail, in the order 4, 5, 6, 7
--- (document 01, "Returned by a call"). It is one statement over all readings, so that both directions are proved once. The file also shows
--- what the range test says about each label and each row.
+-- (document 01, "Returned by a call"). The claim is one statement over all readings, so that both directions are proved once. The file
+-- also shows what the range test says about each label and each row.
 use mathlib.Core.Path.{_≡_, refl, sym, subst, ap}
 use mathlib.Core.Bool.{Bool, true, false, cond, not, _&&_}
 use mathlib.Core.List.{List, List·Memᴰ}

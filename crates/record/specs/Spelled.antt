@@ -1,6 +1,6 @@
 -- This file defines the bytes of a record in which each node's range is written or left out (document 02, Paper 7: "bit 7 says that two
 -- bytes follow it, lowest and highest level .. without the bit the range is 0 to 255. .. A written record never writes the full range, and
--- a read one may"). It serves to say which bytes reading accepts.
+-- a read one may"). The definitions serve to say which bytes reading accepts.
 use mathlib.Core.Path.{_≡_}
 use mathlib.Core.Bool.{Bool, true, false, cond}
 use mathlib.Core.List.{List, [], _∷_, _++_, map, List·Memᴰ}

@@ -1,5 +1,6 @@
--- This file defines how records without ranges are read over types alone, as document 01 has them. It serves to show that records without
--- ranges are read the same with ranges and without (document 02, Paper 7: "Records without ranges must give the bytes they gave before").
+-- This file defines how records without ranges are read over types alone, as document 01 has them. The definitions serve to show that
+-- records without ranges are read the same with ranges and without (document 02, Paper 7: "Records without ranges must give the bytes
+-- they gave before").
 use mathlib.Core.Bool.{Bool, true, cond, not, _&&_}
 use mathlib.Core.List.{List, [], _∷_, map}
 use mathlib.Core.Option.{Option, none, some, Option·map, bind}

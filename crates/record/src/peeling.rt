@@ -19,7 +19,8 @@ pub enum Shape {
     Rooted,
 }
 
-// Whether the targets of the links of node v are nodes. If so, the links of v are added to the counts, which have those of the nodes before v.
+// Whether the targets of the links of node v are nodes. If so, the links of v are added to the counts, which have those of the nodes
+// before v.
 fn count_row<'a>(graph: &'a [u16], v: usize, incoming: &mut [u16; 255]) -> bool
     requires { ⌜ v < size (now graph) ⌝ }
     requires { ⌜ Counted (now graph) v (now incoming) ⌝ }
@@ -56,7 +57,7 @@ fn is_label_in_range(n: usize, label: Label, ranged: bool) -> bool
 }
 
 // Whether the labels of all nodes are in range and the targets of all links are nodes; if not, refusal 5 applies. If so, `incoming` has
-// the number of links that enter each node. It must be clear at the start. Levels are compared only if there are ranges.
+// the number of links that enter each node. `incoming` must be clear at the start. Levels are compared only if there are ranges.
 pub fn count_incoming(n: usize, graph: &[u16], ranged: bool, incoming: &mut [u16; 255]) -> bool
     requires { ⌜ (ranged ≡ false → LevelsOrdered (now graph)) ⌝ }
     requires { ⌜ Counted (now graph) 0 (now incoming) ⌝ }
@@ -76,7 +77,7 @@ pub fn count_incoming(n: usize, graph: &[u16], ranged: bool, incoming: &mut [u16
     true
 }
 
-// Lists the nodes that no link enters, and answers how many there are.
+// Lists the nodes that no link enters, and answers how many they are.
 fn find_sources<'a>(nodes: usize, incoming: &'a [u16; 255], queue: &mut [u16; 255]) -> usize
     requires { ⌜ nodes ≤ 255 ⌝ }
     requires { ⌜ (length (now incoming) ≡ 255) × (length (now queue) ≡ 255) ⌝ }

@@ -1,5 +1,5 @@
 -- This file is about filling words with a graph: the links of a row are stored one after another by feature, and the rows one after
--- another by the builder. It shows which rows the words then hold.
+-- another by the builder. The file shows which rows the words then hold.
 use mathlib.Core.Path.{_≡_, refl, sym, _∙_, ap, ap₂, subst}
 use mathlib.Core.Bool.{Bool, true, false}
 use mathlib.Core.List.{List, [], _∷_, _++_, map, append-nil, List·Memᴰ, Memᴰ·of-map}

@@ -1,5 +1,5 @@
 -- This file says what refusals 4, 14 and 15 state about a lent planning table (document 02, Papers 2 and 7). The tests in `Rows.antt`
--- decide these facts. It also defines the order in which rows are sorted.
+-- decide these facts. The file also defines the order in which rows are sorted.
 use mathlib.Core.Path.{_≡_}
 use mathlib.Core.List.{List, List·Memᴰ}
 use mathlib.Core.Logic.{_⊎_}

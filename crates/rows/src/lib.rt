@@ -1,6 +1,6 @@
 // This crate turns a planning table into a graph in words, and a graph in words into a planning table: rows, each a parent, a feature and
 // a target, beside three bytes for each node (document 02, Papers 2 and 7). The two functions of this file are the only loops over lent
-// rows; all other work is on an array of rows by value. It knows rows and words; it judges no graph and knows no table of types.
+// rows; all other work is on an array of rows by value. The crate knows rows and words; it judges no graph and knows no table of types.
 ghost use mathlib.Core.Path.{_≡_};
 ghost use Prim.Native.Nat.{_≤_};
 ghost use lib.ListN.{length, take, drop};

@@ -1,5 +1,5 @@
 -- This file has the laws of the depth-first walk's colours: what holds where the walk comes to a node, at each of the node's links, and
--- where it leaves the node. It also says what holds in the sweep over all nodes.
+-- where it leaves the node. The file also says what holds in the sweep over all nodes.
 use mathlib.Core.Path.{_≡_, refl, ap, sym, _∙_}
 use mathlib.Core.Bool.{true, false}
 use mathlib.Core.List.{List, [], _∷_}

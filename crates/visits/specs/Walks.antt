@@ -1,5 +1,5 @@
 -- This file defines what walks over a graph in words go by: which node leads to which, an order of the nodes with targets first, and the
--- visit of crate `graphs`, here over the targets of each node in their order. It also says what sorting and numbering answer.
+-- visit of crate `graphs`, here over the targets of each node in their order. The file also says what sorting and numbering answer.
 use mathlib.Core.Path.{_≡_}
 use mathlib.Core.Bool.{Bool, true, false}
 use mathlib.Core.List.{List, [], _∷_, map, reverse}

@@ -104,7 +104,7 @@ module _ (𝓛 : Labels) {A B : Type 0} (sameA : A → A → Bool) (sameB : B �
     difference-nothing-more-general e u =
         laws-nothing-more-general difference-laws (set .lattice) (set .sound) (set .map) sameA (set .operands .tells-left) e u
 
-    -- The difference is a graph of any size. Its nodes are the kept nodes of s.
+    -- The difference is a graph of any size, and its nodes are the kept nodes of s.
     pub difference-any-size : AnySize 𝓛 (difference 𝓛 sameA sameB earlier s ss g gs over wanted)
     unfolding difference
     difference-any-size = laws-any-size difference-laws (set .lattice) listed-size (set .map)

@@ -1,4 +1,4 @@
--- The computed lead of a link is the least link of its group. It keeps the laws: links of g that enter one node lie over links
+-- The computed lead of a link is the least link of its group. The lead keeps the laws: links of g that enter one node lie over links
 -- with one lead, a link and its lead are grouped, and a lead is a link of s that leads itself. The lead is the one link of its
 -- group that no other comes before, however it is found (`lead-unique`).
 use mathlib.Core.Path.{_≡_, refl, sym, subst}

@@ -1,5 +1,5 @@
--- This file has the laws of a written form, all that a reader of records asks of it. It has 1 to 255 rows, one for each reached node, the
--- root's first, and at most 2,048 links. In each row features are below 64 and ascend, and targets are rows.
+-- This file has the laws of a written form, all that a reader of records asks of it. The form has 1 to 255 rows, one for each reached
+-- node, the root's first, and at most 2,048 links. In each row features are below 64 and ascend, and targets are rows.
 use mathlib.Core.Path.{_≡_, refl, sym, _∙_, ap, subst}
 use mathlib.Core.Bool.{Bool}
 use mathlib.Core.List.{List, [], _∷_, _++_, map, reverse, reverse-cons, List·Memᴰ, Memᴰ·of-map}

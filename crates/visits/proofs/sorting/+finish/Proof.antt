@@ -1,5 +1,5 @@
 -- `sorting::finish` meets its contract. Each call turns a white node to the way down, so the number of white nodes is the measure of the
--- recursion. The loop's invariant: the targets of the links before k are finished. Its measure is the number of links left.
+-- recursion. The loop's invariant: the targets of the links before k are finished. The loop's measure is the number of links left.
 use mathlib.Core.Logic.{⊎-elim}
 use borrow.Author.Needs.{needs}
 use Prim.Native.Nat.{ℕ, _+_, _-_, _<_}

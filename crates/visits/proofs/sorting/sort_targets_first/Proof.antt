@@ -1,5 +1,5 @@
--- `sorting::sort_targets_first` meets its contract. The loop's invariant: the nodes before v are finished, and none is on the way down. Its
--- measure is the number of nodes left.
+-- `sorting::sort_targets_first` meets its contract. The loop's invariant: the nodes before v are finished, and none is on the way down. The
+-- loop's measure is the number of nodes left.
 use mathlib.Core.Path.{refl}
 use mathlib.Core.Logic.{⊎-elim}
 use Prim.Native.Nat.{_-_}
