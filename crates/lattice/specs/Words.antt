@@ -1,6 +1,6 @@
 -- This file says in terms of words what the functions answer that open a table and search for a wanted type. A word has 64 bits, one
--- for each type. The contracts of `accept` and `wanted` can be read without these definitions: the proofs show that the tests on words
--- decide what `Table.antt` defines.
+-- for each type. The contract of `accept` can be read without these definitions: the proofs show that the tests on words decide what
+-- `Table.antt` defines.
 use Prim.Native.Nat.{ℕ, zero, suc, _+_, _*_, _-_, _/_, _%_, _^_, _<_, _≤_}
 use mathlib.Core.Path.{_≡_}
 use mathlib.Core.Bool.{Bool, true, false, _&&_}
@@ -102,8 +102,8 @@ module _ (n : ℕ) (ws : List ℕ) where
 unfoldable pub allFound : ℕ → (ℕ → ℕ → Option ℕ) → Bool
 allFound n bound = every n λ a. every n λ b. found (bound a b)
 
--- What is left in a search for the type with the word `word`: `left` has only bits of `word`, and it has the bit of every type whose
--- word it is.
+-- What is left in a search for the type with the word `word`: `left` has only bits of `word`, and has the bit of every type whose word
+-- is `word`.
 pub record Seeking (ws : List ℕ) (word left : ℕ) : Type 0 where
   pub part : (j : ℕ) → j < 64 → bit left j ≡ true → bit word j ≡ true
   pub kept : (n : ℕ) → n ≤ 64 → Sided n ws → Inside n word → (k : ℕ) → k < n → getD ws k 0 ≡ word → bit left k ≡ true

@@ -21,8 +21,8 @@ pub fn find_word(words: &[u64; 64], word: u64, low: bool) -> u8
     find_among(words, word, left, !low)
 }
 
-// The type whose word is `word`, or 64 where there is none, sought among the bits of a part from both ends in turn. Only tables that
-// are not numbered along the order need it. A type with another word is put aside with all types on its side.
+// The type whose word is `word`, or 64 where there is none, sought among the bits of a part from both ends in turn. This search serves
+// tables that are not numbered along the order. A type with another word is put aside with all types on its side.
 fn find_among(words: &[u64; 64], word: u64, part: u64, low: bool) -> u8
     requires { ⌜ Seeking (now words) word part ⌝ }
     ensures { λ r. ⌜ ((n : ℕ) → n ≤ 64 → Sided n (now (words .entry)) → Inside n word → r ≡ cell (holder n (now (words .entry)) word)) ⌝ }

@@ -24,8 +24,8 @@ fn unite_restoring(n: usize, down: &[u64; 64], lower: u64, over: u64) -> u64
 }
 
 // The wanted type for the type p in s and the meet q whose word is `over`, in an accepted table with these words; 64 where there is
-// none. If q is p, it is the greatest type. If q is the greatest type, it is p. Else it is the type whose word is the union: every type
-// that restores p is below that type, and that type is below one of them.
+// none. If q is p, the wanted type is the greatest type. If q is the greatest type, the wanted type is p. Else the wanted type is the one
+// whose word is the union: every type that restores p is below that type, and that type is below one of them.
 pub fn wanted(n: usize, down: &[u64; 64], p: usize, over: u64) -> u8
     requires { ⌜ (n ≤ 64) × (p < n) ⌝ }
     ensures { λ r. ⌜ ((t : List ℕ) → accepted n t ≡ true → Words n t false (now (down .entry)) → WantedOver n t (now (down .entry)) p over r) ⌝ }
