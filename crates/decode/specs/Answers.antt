@@ -10,7 +10,7 @@ use Rattle.lattice.specs.Label.{Label}
 use Rattle.layout.specs.Layout.{Shaped, longest, size, rowsOf}
 use Rattle.decode.specs.Decode.{decoded}
 
--- The words have room for the graph of a record of these bytes: they have room for the longest, or are 258 more than the bytes.
+-- The words have room for the graph of a record of these bytes: for that of the longest record, or for 258 words more than bytes.
 abbrev pub Roomy : List ℕ → List ℕ → Type 0
 Roomy bytes ws = min longest (length bytes + 258) ≤ length ws
 

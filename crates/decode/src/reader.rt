@@ -57,7 +57,7 @@ pub fn byte_at(bytes: &[u8], at: usize) -> Step
     Step::Byte(bytes[at], at + 1)
 }
 
-// The feature map at a place, or that the record ends before its eight bytes.
+// The feature map at a place, or `Cut` where fewer than eight bytes are left.
 pub fn whole_map_at(bytes: &[u8], at: usize) -> MapStep
     ensures { λ r. ⌜ r ≡ mapStep (now (bytes .entry)) at ⌝ }
 {

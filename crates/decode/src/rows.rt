@@ -24,7 +24,7 @@ pub enum RowEnd {
     Short,
 }
 
-// A label and the position behind it; or the record ends before it does.
+// A label and the position behind it; or the record ends before the label does.
 pub enum LabelStep {
     Found(Label, usize),
     Cut,
