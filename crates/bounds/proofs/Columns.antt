@@ -1,5 +1,5 @@
--- A table of bounds that is filled by rows and columns at once: what one bound, written to both its cells, leaves true, and what
--- stands in a row and in a column that are done.
+-- This file is about a table of bounds that is filled by rows and columns at once: what stays true when one bound is written to both its
+-- cells, and what stands in a row and a column that are done.
 use Prim.Native.Nat.{ℕ, _+_, _<_, _≤_}
 use mathlib.Core.Path.{_≡_, refl, sym, ap, _∙_}
 use mathlib.Core.Bool.{Bool, true, false}
@@ -25,7 +25,7 @@ write rows i j v = set rows i (set (getD rows i []) j v)
 abbrev zeroRow : List ℕ
 zeroRow = replicate 64 0
 
--- on the way from column a to column a + 1: row a holds the bounds with the types before b, column a those with a to b - 1
+-- Row a and column a are being filled: row a holds the bounds with the types before b, column a those with the types from a to b - 1.
 pub record Filling (n : ℕ) (ws : List ℕ) (rows : List (List ℕ)) (a b : ℕ) : Type 0 where
   pub columns : Columns n ws rows a
   pub row : (j : ℕ) → j < b → getD (getD rows a []) j 0 ≡ cell (wordBound n ws a j)
@@ -148,7 +148,7 @@ module _ (n : ℕ) (ws : List ℕ) where
     zeros : (i : ℕ) → i < 64 → getD (replicate 64 zeroRow) i [] ≡ zeroRow
     zeros i l = getD-replicate {A = List ℕ} 64 i zeroRow [] l
 
--- of the types before a none is tested, those from a on are
+-- no type before a is tested with a; those from a on are
 pub none-tested : (a : ℕ) (p : ℕ → Bool) → true ≡ every a (λ k. implies (leb a k) (p k))
 none-tested a p = sym (every-all _ a λ k l. rw (lt-leb a k l))
 

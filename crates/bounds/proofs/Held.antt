@@ -1,4 +1,5 @@
--- Types held as sets: the search for the type with a set, the words above the members of a set, and the sets of the types one by one.
+-- This file is about types held as sets: the search for the type with a set, the types above all members of a set, and the sets of the
+-- types one by one.
 use Prim.Native.Nat.{ℕ, zero, suc, _+_, _-_, _^_, _<_, _≤_}
 use mathlib.Core.Path.{_≡_, refl, sym, ap, subst, _∙_}
 use mathlib.Core.Bool.{Bool, true, false, not, _&&_}
@@ -49,7 +50,7 @@ module _ {n : ℕ} {sets : List ℕ} {set left : ℕ} (a : Among n sets set left
       (last-nothing (λ k. eqb (getD sets k 0) set) n λ k l.
       ne-eqb (getD sets k 0) set λ h. true-not-false (bit left k) (a .kept k l h) (ap (λ (w : ℕ). bit w k) e ∙ no-bit k)))
 
--- `part` is above the members of a set that are not left
+-- `part` has the types above the members of a set that are not left
 pub record Gathering (sets : List ℕ) (set part left : ℕ) : Type 0 where
   pub above : Above sets set part
   pub members : (j : ℕ) → bit left j ≡ true → bit set j ≡ true

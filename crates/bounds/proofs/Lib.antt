@@ -1,4 +1,4 @@
--- Lemmas that several proofs share.
+-- These files have the lemmas that several proofs share.
 pub mod Columns
 pub mod PrimeLaws
 pub mod Distributive

@@ -1,4 +1,4 @@
--- From what acceptance answers, and what is held, to what opening ensures.
+-- This file goes from what acceptance answers, and what is held, to what opening ensures.
 use Prim.Native.Nat.{ℕ}
 use mathlib.Core.Path.{_≡_, _∙_}
 use mathlib.Core.Bool.{Bool, true, cond}
@@ -29,7 +29,7 @@ module _ (n : ℕ) (t : List ℕ) (up : Bool) (bound : ℕ → ℕ → Option �
             let q : Refused fault ≡ Accepted = e ∙ accepted-opened n t ok in let z : _≡_ {A = ℕ} 0 1 = cc in absurd (omega arith);
       }
 
--- an order: its words, and the answer by whether all bounds of one side were found
+-- The rows are an order. The answer depends on whether all bounds of one side are found.
 module _ (n : ℕ) (t down : List ℕ) (passed : OrderWords n t down) (up : Bool) (ws : List ℕ) (made : Words n t up ws) where
   -- what is held of the table stands beside the answer
   pub opening-found : (b held : Bool) {bound : ℕ → ℕ → Option ℕ} {answer : Opened} {sets : List ℕ} {cells₀ cells : List (List ℕ)}
@@ -37,7 +37,7 @@ module _ (n : ℕ) (t down : List ℕ) (passed : OrderWords n t down) (up : Bool
       → (accepted n t ≡ true → Holding held n t bound sets cells₀ cells) → Opening held n t bound answer sets cells₀ cells
   opening-found b held q e h = record { answers = q ∙ answer-found n t down passed up ws made b e; holds = h }
 
-  -- the cells that are filled by the bounds of the words
+  -- the cells are filled with the bounds of the words, which are those of the table
   pub cells-filled : (side : Bool) → side ≡ up → (cells₀ cells : List (List ℕ)) → cells ≡ overwrite n (boundRow n (wordBound n ws)) cells₀
       → cells ≡ filled n t (sideBound n t side) cells₀
   unfolding filled

@@ -83,7 +83,7 @@ module _ (n : ℕ) (t : List ℕ) (ok : accepted n t ≡ true) where
       (word-bits 64 (related t false d) (related t false j) q j (omega arith) ∙ below-reflexive n t ok j s)) in
       omega arith
 
-  -- where m is not below p, a least type below m and not below p: the types strictly below it are those below its meet with p
+  -- Where m is not below p, there is a least type below m and not below p: the types strictly below it are those below its meet with p.
   pub least-outside : (m p : ℕ) → m < n → p < n → below t m p ≡ false →
       (j : ℕ) × (j < n) × (below t j m ≡ true) × (below t j p ≡ false) × (k : ℕ) × (k < n) × Covers n t j k
   least-outside m p lm lp f =

@@ -1,5 +1,5 @@
--- What opening an accepted table leaves: sets that are those of its types, or filled cells. Either way the meet and the join of two types,
--- as they are held, are those of the table.
+-- Opening an accepted table leaves the sets of its types, or filled cells. Either way the meet and the join of two types, as they are held,
+-- are those of the table.
 use Prim.Native.Nat.{ℕ, _-_, _<_}
 use mathlib.Core.Path.{_≡_, refl, sym, ap, ap₂, subst, _∙_}
 use mathlib.Core.Bool.{Bool, true, false, not, _&&_}

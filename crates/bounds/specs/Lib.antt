@@ -1,4 +1,4 @@
--- Definitions of types as sets, of tables of bounds, and of opening a table for one of them.
+-- These files define types as sets, tables of bounds, and what opening a table for meets or for joins leaves.
 pub mod Primes
 pub mod Sets
 pub mod Cells

@@ -1,4 +1,4 @@
--- What opening a table for meets or for joins ensures.
+-- This file says what opening a table for meets or for joins ensures, and what meets and joins may rely on afterwards.
 use Prim.Native.Nat.{ℕ}
 use mathlib.Core.Path.{_≡_}
 use mathlib.Core.Bool.{Bool, true}
@@ -16,7 +16,7 @@ pub record Opening (up : Bool) (n : ℕ) (t : List ℕ) (bound : ℕ → ℕ →
   pub answers : answer ≡ opened n t
   pub holds : accepted n t ≡ true → Holding up n t bound sets cells₀ cells
 
--- words and cells as opening an accepted table for one side leaves them; `lent` are the cells before
+-- The words and cells are as opening an accepted table for one side leaves them; `lent` are the cells before.
 pub record OpenedFor (up : Bool) (n : ℕ) (t sets : List ℕ) (cells : List (List ℕ)) : Type 0 where
   pub ok : accepted n t ≡ true
   pub lent : List (List ℕ)

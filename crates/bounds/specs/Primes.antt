@@ -1,5 +1,5 @@
--- The irreducible types of an order and whether they are prime, in words. The proofs show that these tests on words decide
--- what `Sets` defines.
+-- This file says in terms of words which types of an order are irreducible, and whether they are prime. The proofs show that these
+-- tests on words decide what `Sets.antt` defines.
 use Prim.Native.Nat.{ℕ, _-_, _^_, _<_}
 use mathlib.Core.Path.{_≡_}
 use mathlib.Core.Bool.{Bool, true}
@@ -14,15 +14,15 @@ module _ (n : ℕ) (ws : List ℕ) where
   unfoldable pub wordIrreducible : ℕ → Bool
   wordIrreducible j = found (holder n ws (without (getD ws j 0) (2 ^ j)))
 
-  -- the types not in a word, among all, are those below one type
+  -- the types that are not in a word are those below one type
   unfoldable pub wordSplits : ℕ → Bool
   wordSplits above = found (holder n ws (without (getD ws (n - 1) 0) above))
 
-  -- where the types strictly below j are those below one type, the types not above j are those below one type
+  -- if the types strictly below j are those below one type, so are the types not above j
   unfoldable pub wordPrime : ℕ → Bool
   wordPrime j = implies (wordIrreducible j) (wordSplits (turned n ws j))
 
--- what the search for irreducible types answers: whether they are prime, and where they are, they and the types above each
+-- What the search for irreducible types answers: whether all of them are prime, and if so the irreducible types and the types above each.
 pub record Finds (n : ℕ) (ws : List ℕ) (r : Irreducibles) : Type 0 where
   pub primes : r .primes ≡ every n (wordPrime n ws)
   pub types : r .primes ≡ true → r .types ≡ word n (wordIrreducible n ws)

@@ -1,5 +1,5 @@
--- Types as sets (document 02, Paper 12): when a table is distributive, which types are irreducible and the set of a type; then how
--- a call holds them, and the meet and the join of two types as it is held. Everything down to `joinIn` computes.
+-- This file defines types as sets (document 02, Paper 12): when a table is distributive, which types are irreducible, and the set of a
+-- type. Then it says how a call holds types, and what the meet and the join of two types are as they are held.
 use Prim.Native.Nat.{ℕ, _+_, _-_, _<_}
 use mathlib.Core.Path.{_≡_}
 use mathlib.Core.Bool.{Bool, true, false, cond, not, _&&_}
@@ -39,46 +39,49 @@ module _ (n : ℕ) (t : List ℕ) where
 abbrev pub setIn : List ℕ → ℕ → ℕ
 setIn sets a = getD sets a 0
 
+-- the candidate types that stand with type a
 abbrev pub wordIn : List ℕ → ℕ → ℕ
 wordIn sets a = getD sets (64 + a) 0
 
+-- whether the types are held as sets
 abbrev pub asSets : ℕ → List ℕ → Bool
 asSets n sets = not (eqb (setIn sets (n - 1)) 0)
 
+-- the cell of types a and b
 abbrev pub cellIn : List (List ℕ) → ℕ → ℕ → ℕ
 cellIn cells a b = getD (getD cells a []) b 0
 
--- "Meet is then the overlap of sets"; in the other form the cell of the table
+-- "Meet is then the overlap of sets"; in the other form it is the cell of the table.
 unfoldable pub meetIn : ℕ → List ℕ → List (List ℕ) → ℕ → ℕ → ℕ
 meetIn n sets cells a b = cond (asSets n sets) (cell (holder n sets (bitAnd (setIn sets a) (setIn sets b)))) (cellIn cells a b)
 
--- "and join their union"
+-- "Meet is then the overlap of sets and join their union"; in the other form the join is the cell of the table.
 unfoldable pub joinIn : ℕ → List ℕ → List (List ℕ) → ℕ → ℕ → ℕ
 joinIn n sets cells a b = cond (asSets n sets) (cell (holder n sets (bitOr (setIn sets a) (setIn sets b)))) (cellIn cells a b)
 
--- types below n with one set are one
+-- Two of the n types with the same set are one type.
 abbrev pub Apart : ℕ → List ℕ → Type 0
 Apart n sets = (i j : ℕ) → i < n → j < n → setIn sets i ≡ setIn sets j → i ≡ j
 
--- `part` has only types below n, and every one whose set is `set`
+-- `part` has only types below n, and it has every type whose set is `set`.
 pub record Among (n : ℕ) (sets : List ℕ) (set part : ℕ) : Type 0 where
   pub apart : Apart n sets
   pub inside : Inside n part
   pub kept : (k : ℕ) → k < n → setIn sets k ≡ set → bit part k ≡ true
 
--- what a meet of sets asks: the word of a type has every type whose set is part of its own
+-- What a meet of sets asks: the word of a type has every type whose set is part of the type's own.
 pub record MeetsHeld (n : ℕ) (sets : List ℕ) : Type 0 where
   pub apart : Apart n sets
   pub inside : (a : ℕ) → a < n → Inside n (wordIn sets a)
   pub lower : (k a : ℕ) → k < n → a < n → partOf (setIn sets k) (setIn sets a) ≡ true → bit (wordIn sets a) k ≡ true
 
--- what a join of sets asks: the word of an irreducible type has every type whose set it is in
+-- What a join of sets asks: the word of an irreducible type has every type whose set has that irreducible type.
 pub record JoinsHeld (n : ℕ) (sets : List ℕ) : Type 0 where
   pub apart : Apart n sets
   pub inside : (a j : ℕ) → a < n → j < 64 → bit (setIn sets a) j ≡ true → Inside n (wordIn sets j)
   pub upper : (k j : ℕ) → k < n → j < 64 → bit (setIn sets k) j ≡ true → bit (wordIn sets j) k ≡ true
 
--- what the form for one side asks: joins for true, meets for false
+-- what bounds of one side ask of the sets: joins for true, meets for false
 abbrev pub Held : Bool → ℕ → List ℕ → Type 0
 Held true = JoinsHeld
 Held false = MeetsHeld
@@ -92,12 +95,12 @@ pub record Above (sets : List ℕ) (set part : ℕ) : Type 0 where
   pub one : (j : ℕ) × (j < 64) × (bit set j ≡ true) × ((k : ℕ) → bit part k ≡ true → bit (wordIn sets j) k ≡ true)
   pub kept : (k : ℕ) → ((j : ℕ) → j < 64 → bit set j ≡ true → bit (wordIn sets j) k ≡ true) → bit part k ≡ true
 
--- the word by which a type is sought: that of the types below it, or for an irreducible type of those above it
+-- w is the candidate word of type a: for meets the types below a, for joins the types above a if a is irreducible.
 abbrev pub SoughtBy : Bool → ℕ → List ℕ → ℕ → ℕ → Type 0
 SoughtBy false n ws a w = w ≡ getD ws a 0
 SoughtBy true n ws a w = wordIrreducible n ws a ≡ true → w ≡ turned n ws a
 
--- the sets of the first k types, from the words of the types below each
+-- The sets and candidate words of the first k types are made of the words of the types below each.
 pub record Sets (up : Bool) (n : ℕ) (ws sets : List ℕ) (k : ℕ) : Type 0 where
   pub set : (a : ℕ) → a < k → setIn sets a ≡ bitAnd (getD ws a 0) (word n (wordIrreducible n ws))
   pub sought : (a : ℕ) → a < k → SoughtBy up n ws a (wordIn sets a)

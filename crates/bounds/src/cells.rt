@@ -1,5 +1,5 @@
-// The table of meets or of joins, from the words of one side: the bound of a and b is the type whose word is the common part
-// of their words.
+// Fills the table of meets or of joins from the words of one side of an order: the bound of a and b is the type whose word has the bits
+// that their words share.
 ghost use mathlib.Core.Path.{_≡_};
 ghost use Prim.Native.Nat.{ℕ, _+_, _<_, _≤_};
 ghost use mathlib.Core.List.{[]};
@@ -52,7 +52,7 @@ fn bound_row(n: usize, words: &[u64; 64], low: bool, a: usize, rows: &mut [[u8; 
     found
 }
 
-// Fills the first n rows of the table, and answers whether every two types have a bound. Of each pair it is sought once.
+// Fills the first n rows of the table, and answers whether every two types have a bound. The bound of each pair is sought once.
 pub fn fill(n: usize, words: &[u64; 64], low: bool, table: &mut [[u8; 64]; 64]) -> bool
     requires { ⌜ (n ≤ 64) × Sided n (now words) ⌝ }
     ensures all { λ r. ⌜ r ≡ allFound n (wordBound n (now (words .entry))) ⌝ }

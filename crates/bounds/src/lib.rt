@@ -1,5 +1,6 @@
-// Opening a table for meets or for joins (document 01, "Type table"; document 02, Paper 12): it is accepted, or refused by 1, 2 or 3, and
-// sets or cells that the caller lends hold the bounds of one side. It knows tables, and nothing of records.
+// This crate opens a table for meets or for joins (document 01, "Type table"; document 02, Paper 12): the table is accepted, or refused
+// by 1, 2 or 3. After acceptance the sets or cells that the caller lends hold the bounds of one side. The crate knows tables, and
+// nothing of records.
 ghost use mathlib.Core.Path.{_≡_};
 ghost use lib.ListN.{length};
 ghost use Rattle.lattice.specs.Table.{sideBound};
@@ -11,8 +12,8 @@ mod cells;
 mod primes;
 pub mod sets;
 
-// Opens a table for joins for `up`, else for meets. If every irreducible type is prime, the sets are held; else the cells are filled.
-// If every two types have a bound on one side, every two have one on the other.
+// Opens a table for joins for `up`, else for meets. If every irreducible type is prime, the types are held as sets; else the cells are
+// filled. The bounds of one side are enough for refusal 3: if every two types have one on one side, every two have one on the other.
 pub fn open(
     n: usize,
     table: &[u8],

@@ -1,4 +1,4 @@
-// The irreducible types of an order, and whether all of them are prime. If they are, an accepted table is distributive and
+// Finds the irreducible types of an order, and whether all of them are prime. If they are, an accepted table is distributive and
 // admits differences.
 ghost use mathlib.Core.Path.{_≡_};
 ghost use Prim.Native.Nat.{_+_, _<_, _≤_};
@@ -23,14 +23,15 @@ fn is_prime(n: usize, down: &[u64; 64], above: u64) -> bool
     lattice::search::find_word(down, others, false) < 64
 }
 
-// Whether every irreducible type is prime; where it is so, the word of the irreducible types, and for each that of the types above it.
+// Whether every irreducible type is prime. If so, `types` is the word of the irreducible types, and `above[j]` is the word of the types
+// above the irreducible type j.
 pub struct Irreducibles {
     pub primes: bool,
     pub types: u64,
     pub above: [u64; 64],
 }
 
-// The irreducible types below n, up to the first that is not prime.
+// Finds the irreducible ones of the n types, and stops at the first that is not prime.
 pub fn find_irreducibles(n: usize, down: &[u64; 64]) -> Irreducibles
     requires { ⌜ (n ≤ 64) × Sided n (now down) ⌝ }
     ensures { λ r. ⌜ Finds n (now (down .entry)) r ⌝ }

@@ -1,6 +1,6 @@
-// Types as sets (document 02, Paper 12). Where every irreducible type is prime, a type is held as the word of the irreducible types
-// below it; the meet of two types is the type with the overlap of their sets, the join that with the union. In other tables the
-// greatest type is held with the empty set, and the bounds stand in cells.
+// Holds types as sets (document 02, Paper 12), and answers meets and joins. Where every irreducible type is prime, a type is held as the
+// word of the irreducible types below it: the meet of two types is the type with the overlap of their sets, the join the type with the
+// union. In other tables the greatest type is held with the empty set, which tells that the bounds stand in cells.
 ghost use mathlib.Core.Path.{_≡_};
 ghost use mathlib.Core.Bool.{true, false};
 ghost use Prim.Native.Nat.{ℕ, _+_, _-_, _<_, _≤_};
@@ -40,7 +40,8 @@ pub fn hold(n: usize, down: &[u64; 64], up: bool, sets: &mut [u64; WORDS]) -> bo
     true
 }
 
-// The type with a set, or 64 where there is none, among the types of a word: from both ends in turn, at first the lowest for `low`.
+// The type whose set is `set`, or 64 where there is none. The type is sought among the types of `part`, from both ends in turn, beginning
+// with the lowest for `low`.
 fn find_set(sets: &[u64; WORDS], set: u64, part: u64, low: bool) -> u8
     ensures { λ r. ⌜ ((n : ℕ) → n ≤ 64 → Among n (now (sets .entry)) set part → r ≡ cell (holder n (now (sets .entry)) set)) ⌝ }
 {

@@ -1,7 +1,7 @@
--- What bytes that decode to rows give: as many rows as byte 0 says and at least one, at most 2,048 links, in each row features
--- below 64, ascending; where the bytes are below 256, labels that a record can state and targets below 256; and labels without
--- ranges where there are no more bytes than those take. By induction along the bytes, each step saying what it took and that what
--- it left was there before.
+-- This file shows what rows have that bytes decode to. There are as many rows as byte 0 says, and at least one; there are at most 2,048
+-- links; in each row features are below 64 and ascend. Where the bytes are below 256, labels are such as a record can state and targets
+-- are below 256. Where there are no more bytes than rows without ranges take, labels have no range. The proof is by induction along the
+-- bytes.
 use mathlib.Core.Path.{_≡_, refl, sym, ap, subst}
 use mathlib.Core.Bool.{Bool, true, false, cond}
 use mathlib.Core.List.{List, [], _∷_, List·Memᴰ, List·Memᴰ·head, List·Memᴰ·tail, List·Memᴰ·not-nil, List·Memᴰ·cases-cons}
@@ -271,7 +271,7 @@ module _ (bytes : List ℕ) (rows : List (Row Label)) (says : Decoded bytes rows
   pub decoded-target : (r : Row Label) → List·Memᴰ r rows → (l : ℕ × ℕ) → List·Memᴰ l (r .1) → l .1 < 256
   decoded-target r m = says .bounded r m small .1
 
-  -- so they are rows of a graph
+  -- the rows are such as a graph has
   pub decoded-orderly : Orderly rows
   decoded-orderly =
       record { labels = decoded-label; ascends = λ r m. says .ordered r m .0; features = λ r m. says .ordered r m .1 }

@@ -1,4 +1,5 @@
--- The label that bytes state at a place: its length and its parts by the bytes there, and what a step answers that takes it.
+-- This file is about the label that bytes state at a place: its length and its parts by the bytes there, and the answer of the step that
+-- takes it.
 use mathlib.Core.Path.{_≡_, refl, sym, ap, ap₂, _∙_}
 use mathlib.Core.Bool.{Bool, true, false, cond}
 use mathlib.Core.List.{List}
@@ -38,7 +39,7 @@ label-long rest = go (isRanged (getD rest 0 0))
     go true = omega arith
     go false = omega arith
 
--- one without levels is a type alone
+-- a label of one byte is a type alone
 pub label-alone : (rest : List ℕ) → labelLength rest ≡ 1 → labelOf rest ≡ plain (labelOf rest .type)
 unfolding labelLength labelOf
 label-alone rest = go (isRanged (getD rest 0 0))

@@ -1,4 +1,4 @@
--- Laws of decoding.
+-- These files have the laws of decoding.
 pub mod Steps
 pub mod Labels
 pub mod Thin

@@ -1,4 +1,4 @@
--- Links, rows and records read from bytes, step by step.
+-- This file shows how links, rows and records are read from bytes, step by step.
 use mathlib.Core.Path.{_≡_, refl, sym, ap, ap₂, _∙_}
 use mathlib.Core.Bool.{Bool, false, cond}
 use mathlib.Core.List.{List, [], _∷_, _++_, map, append-assoc}
@@ -99,7 +99,7 @@ row-is bytes at room {l} {behind} {word} {first} small t m =
 
 -- A record.
 
--- the node count was taken
+-- The node count is taken.
 pub record Counted (bytes : List ℕ) (nodes start : ℕ) : Type 0 where
   pub taken : ByteTaken bytes 0 nodes start
   pub some-nodes : nodes ≡ 0 → ⊥

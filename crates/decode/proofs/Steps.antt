@@ -1,4 +1,4 @@
--- What a step of the reader tells of the bytes.
+-- This file shows what a step of the reader tells about the bytes.
 use mathlib.Core.Path.{_≡_, refl, sym, ap, _∙_}
 use mathlib.Core.Bool.{Bool, true, false, cond}
 use mathlib.Core.List.{List}
@@ -20,19 +20,19 @@ use Rattle.decode.specs.Decode.{labelLength, labelOf}
 use Rattle.decode.specs.Word.{wordOf}
 use Rattle.decode.specs.Reader.{byteStep, mapStep, labelStep}
 
--- a byte was taken
+-- The byte b is taken at position `at`.
 pub record ByteTaken (bytes : List ℕ) (at b next : ℕ) : Type 0 where
   pub inside : at < length bytes
   pub byte-is : b ≡ getD bytes at 0
   pub next-is : next ≡ at + 1
 
--- a feature map was taken
+-- A feature map is taken at position `at`.
 pub record MapTaken (bytes : List ℕ) (at word next : ℕ) : Type 0 where
   pub inside : 8 ≤ length bytes - at
   pub word-is : word ≡ wordOf 8 (drop at bytes)
   pub next-is : next ≡ at + 8
 
--- a label was taken
+-- The label l is taken at position `at`.
 pub record LabelTaken (bytes : List ℕ) (at : ℕ) (l : Label) (next : ℕ) : Type 0 where
   pub inside : labelLength (drop at bytes) ≤ length bytes - at
   pub label-is : l ≡ labelOf (drop at bytes)

@@ -1,4 +1,4 @@
--- The words that parsing fills: a row's links, a row, the rows of a record.
+-- This file is about the words that parsing fills: a row's links, a row, and the rows of a record.
 use mathlib.Core.Path.{_≡_, refl, sym, ap, ap₂, _∙_, subst, subst₂}
 use mathlib.Core.Bool.{Bool, true, false, cond}
 use mathlib.Core.List.{List, [], _∷_, _++_, append-nil}
@@ -230,7 +230,7 @@ row-read bytes start at limit ws {opened} {answer} {ws′} {l} {behind} {word} {
 
 -- A record.
 
--- What is to be read is the rows that stand and those still to be read.
+-- The rows of the record are those that are stored and those still to be read.
 pub record Filling (bytes : List ℕ) (nodes room : ℕ) (ws : List ℕ) (at limit next v : ℕ) : Type 0 where
   pub todo : ℕ
   pub up-to : v + todo ≡ nodes

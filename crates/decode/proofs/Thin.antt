@@ -1,8 +1,8 @@
--- The two kinds of thin functions over the reader, each walked by hand once, for any result type.
+-- There are two kinds of thin functions over the reader. Each is walked by hand once here, for any result type.
 --     takes      the struct is taken apart, and a covered function is called on the slice and the position
 --     makes      the struct is made of a slice and a position, and a function of the first kind is called on it
--- A function of either kind promises what its callee does: that the result is `found` of the bytes and the position. Of the
--- callee a walk knows its contract and nothing else.
+-- A function of either kind promises what its callee promises: the result is `found` of the bytes and the position. Of the callee a walk
+-- knows the contract and nothing else.
 use mathlib.Core.Path.{_≡_, refl}
 use Prim.Native.Nat.{ℕ, _<_, _^_}
 use mathlib.Core.List.{List, [], _∷_}

@@ -1,4 +1,4 @@
--- Digits of a word: those of a feature map's eight bytes, and the links that they state.
+-- This file is about the binary digits of a word: those of a feature map's eight bytes, and the links that they state.
 use mathlib.Core.Path.{_≡_, refl, sym, ap, ap₂, _∙_, subst}
 use mathlib.Core.Bool.{Bool, cond}
 use mathlib.Core.List.{List, [], map}
@@ -36,7 +36,7 @@ low-digit (suc f) (suc m) a r h =
     ∙ low-digit f m a (r / 2) (omega arith)
     ∙ ap (λ (x : ℕ). x % 2) (sym (half-shift r f))
 
--- a digit past them
+-- a digit past the m low ones
 high-digit : (g m a r : ℕ) → r < 2 ^ m → (a * 2 ^ m + r) / 2 ^ (m + g) % 2 ≡ a / 2 ^ g % 2
 high-digit g m a r h =
     ap (λ (x : ℕ). x % 2) (sym (shr-shr (a * 2 ^ m + r) m g) ∙ ap (λ (x : ℕ). x / 2 ^ g) (high a m h))

@@ -1,5 +1,5 @@
--- A record's bytes as rows (document 01, "Graph record"; ranges of levels by document 02, Paper 7): what they state, or nothing
--- where refusal 4 is due.
+-- This file defines the rows that a record's bytes state (document 01, "Graph record"; ranges of levels by document 02, Paper 7). Bytes
+-- that refusal 4 applies to state none.
 use mathlib.Core.Bool.{Bool, cond}
 use mathlib.Core.List.{List, [], _∷_, List·Memᴰ}
 use mathlib.Core.Option.{Option, none, some, Option·map, bind}
@@ -9,7 +9,7 @@ use lib.ListN.{length, getD, drop}
 use Rattle.graphs.specs.Rows.{Row, features}
 use Rattle.lattice.specs.Label.{Label, plain}
 
--- numbers that are bytes
+-- All numbers of a list are bytes.
 abbrev pub AreBytes : List ℕ → Type 0
 AreBytes bytes = (b : ℕ) → List·Memᴰ b bytes → b < 256
 
@@ -17,16 +17,17 @@ AreBytes bytes = (b : ℕ) → List·Memᴰ b bytes → b < 256
 unfoldable pub bitOf : List ℕ → ℕ → Bool
 bitOf bytes f = eqb ((getD bytes (f / 8) 0 / 2 ^ (f % 8)) % 2) 1
 
--- What was read, the bytes behind it, and how many links there may still be.
+-- What is read, how many links there may still be, and the bytes behind it.
 pub record Taken (X : Type 0) : Type 0 where
   pub value : X
   pub room : ℕ
   pub rest : List ℕ
 
+-- the same with another value made of what is read
 abbrev pub changed : {X Y : Type 0} → (X → Y) → Taken X → Taken Y
 changed make t = record { value = make (t .value); room = t .room; rest = t .rest }
 
--- one target byte, and what follows it
+-- the link by feature f, whose target is the next byte, before the links that `next` reads
 abbrev pub takeTarget : ℕ → (ℕ → List ℕ → Option (Taken (List (ℕ × ℕ)))) → ℕ → List ℕ → Option (Taken (List (ℕ × ℕ)))
 takeTarget f next zero rest = none
 takeTarget f next (suc room) [] = none
@@ -52,8 +53,8 @@ labelOf rest =
     (record { type = getD rest 0 0 % 128; lowest = getD rest 1 0; highest = getD rest 2 0 })
     (plain (getD rest 0 0 % 128))
 
--- "for each node in turn: one type byte, 8 bytes of feature map .., then one target byte for each standing bit", the two levels
--- "before the feature map"
+-- The next row: "one type byte, 8 bytes of feature map .., then one target byte for each standing bit". The two levels stand "before the
+-- feature map".
 unfoldable pub takeRow : ℕ → List ℕ → Option (Taken (Row Label))
 takeRow room rest =
     cond (leb (labelLength rest + 8) (length rest))
@@ -61,16 +62,17 @@ takeRow room rest =
     (takeLinks (bitOf (drop (labelLength rest) rest)) features room (drop (labelLength rest + 8) rest)))
     none
 
+-- the next k rows: "for each node in turn"
 unfoldable pub takeRows : ℕ → ℕ → List ℕ → Option (Taken (List (Row Label)))
 takeRows zero room rest = some (record { value = []; room = room; rest = rest })
 takeRows (suc k) room rest = bind (takeRow room rest) λ r. Option·map (changed λ rs. r .value ∷ rs) (takeRows k (r .room) (r .rest))
 
--- "The record ends there."
+-- "The record ends there": no byte is left behind the rows.
 abbrev pub whole : Option (Taken (List (Row Label))) → Option (List (Row Label))
 whole none = none
 whole (some t) = cond (eqb (length (t .rest)) 0) (some (t .value)) none
 
--- "Byte 0 is the node count N, 1 to 255 .. At most 2,048 links in all."
+-- the rows that a record states: "Byte 0 is the node count N, 1 to 255 .. At most 2,048 links in all."
 unfoldable pub decoded : List ℕ → Option (List (Row Label))
 decoded [] = none
 decoded (n ∷ rest) = cond (eqb n 0) none (whole (takeRows n 2048 rest))

@@ -1,5 +1,5 @@
--- What the reader gives at its position (document 01, "Graph record": "The record is walked inside the host's bytes by a reader
--- that keeps the record and its next byte together"): what it takes, with the position moved past it.
+-- This file says what the reader takes at its position, and at which position it then is (document 01, "Graph record": "The record is
+-- walked inside the host's bytes by a reader that keeps the record and its next byte together").
 use mathlib.Core.Bool.{cond}
 use mathlib.Core.List.{List}
 use Prim.Native.Nat.{ℕ, _+_, _-_}

@@ -1,4 +1,4 @@
--- The eight bytes of a feature map as one word, and the links that its digits state.
+-- This file defines the eight bytes of a feature map as one word, and the links that the word's binary digits state.
 use mathlib.Core.Bool.{cond}
 use mathlib.Core.List.{List, []}
 use mathlib.Core.Option.{Option, some}
@@ -12,7 +12,7 @@ unfoldable pub wordOf : ℕ → List ℕ → ℕ
 wordOf zero bytes = 0
 wordOf (suc k) bytes = wordOf k (drop 1 bytes) * 256 + getD bytes 0 0
 
--- `takeLinks` by the k lowest digits of a word, the lowest of which stands for feature f
+-- the links that `takeLinks` reads, by the k lowest digits of a word, the lowest of which stands for feature f
 unfoldable pub takeWord : ℕ → ℕ → ℕ → ℕ → List ℕ → Option (Taken (List (ℕ × ℕ)))
 takeWord zero f word room rest = some (record { value = []; room = room; rest = rest })
 takeWord (suc k) f word room rest =

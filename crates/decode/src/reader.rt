@@ -1,4 +1,4 @@
-// The reader of a record: the record's bytes and the position of the next one, kept together. It takes a byte or a feature map and
+// The reader of a record keeps the record's bytes and the position of the next byte together. The reader takes a byte or a feature map and
 // tells the position behind it. Parsing calls the last two functions, whose parameters are plain: each makes the reader at a
 // position and leaves the work to it.
 
@@ -8,6 +8,7 @@ ghost use mathlib.Core.Path.{_≡_};
 ghost use Rattle.decode.specs.Word.{wordOf};
 ghost use Rattle.decode.specs.Reader.{byteStep, mapStep};
 
+// A record's bytes and the position of the next byte.
 pub struct Reader<'a> {
     pub bytes: &'a [u8],
     pub next: usize,
@@ -25,6 +26,7 @@ pub enum MapStep {
     Cut,
 }
 
+// The byte as a number of 64 bits.
 fn wide(x: u8) -> u64
     ensures { λ r. ⌜ r ≡ x ⌝ }
 {
@@ -45,7 +47,7 @@ pub fn map_at(bytes: &[u8], at: usize) -> u64
     map
 }
 
-// The byte at a place.
+// The byte at a place, or the end.
 pub fn byte_at(bytes: &[u8], at: usize) -> Step
     ensures { λ r. ⌜ r ≡ byteStep (now (bytes .entry)) at ⌝ }
 {
@@ -55,7 +57,7 @@ pub fn byte_at(bytes: &[u8], at: usize) -> Step
     Step::Byte(bytes[at], at + 1)
 }
 
-// The feature map at a place, where its eight bytes stand.
+// The feature map at a place, or `Cut` where fewer than eight bytes are left.
 pub fn whole_map_at(bytes: &[u8], at: usize) -> MapStep
     ensures { λ r. ⌜ r ≡ mapStep (now (bytes .entry)) at ⌝ }
 {

@@ -1,4 +1,4 @@
-// Parsing: a record's bytes into the words of a graph, or not where they are no record (refusal 4).
+// Parses a record's bytes into the words of a graph, or tells that they are no record (refusal 4). Reading a record begins so.
 
 use crate::reader::MapStep;
 use crate::reader::Step;
@@ -18,13 +18,13 @@ pub const LINKS: usize = 2048;
 // The most bytes of a short record, whose graph has room in `layout::SHORT` words.
 pub const SHORT: usize = 510;
 
-// Where a row ends: the next byte and the next word's place; or the bytes or the room for links ran out.
+// Where a row ends: the position of the next byte and the place of the next word; or the bytes or the room for links run out.
 pub enum RowEnd {
     At(usize, usize),
     Short,
 }
 
-// A label and the position behind it; or the record ends.
+// A label and the position behind it; or the record ends before the label does.
 pub enum LabelStep {
     Found(Label, usize),
     Cut,
@@ -62,7 +62,7 @@ pub fn take_label(bytes: &[u8], start: usize) -> LabelStep
     LabelStep::Found(label, next)
 }
 
-// Takes a target byte for each set bit of the map, lowest first, and stores the links from a place on, below a limit.
+// Takes a target byte for each set bit of the map, lowest first, and stores the links from place `at` on, all below place `limit`.
 pub fn take_links(
     bytes: &[u8],
     map: u64,
@@ -93,7 +93,7 @@ pub fn take_links(
     RowEnd::At(next, end)
 }
 
-// Takes the row at a byte, and stores it from a place on, its links below a limit.
+// Takes the row that begins at byte `start`, and stores it from place `at` on, its links below place `limit`.
 pub fn take_row(bytes: &[u8], start: usize, graph: &mut [u16], at: usize, limit: usize) -> RowEnd
     requires { ⌜ RowsFit (now bytes) start (at + header) limit (now graph) ⌝ }
     ensures { λ r. ⌜ TookRow (now (bytes .entry)) start at limit (now (graph .entry)) r (now (graph .exit)) ⌝ }
@@ -110,8 +110,8 @@ pub fn take_row(bytes: &[u8], start: usize, graph: &mut [u16], at: usize, limit:
     take_links(bytes, map, first, graph, at + layout::HEADER, limit)
 }
 
-// Whether the bytes are a record; if so the words hold its graph. The first row stands behind the places where rows begin. The
-// limit of links lies as many places further, and moves by a header with each row.
+// Whether the bytes are a record; if so, the words hold its graph. The first row stands behind the words that say where rows begin.
+// `limit` caps the links at 2,048; each row adds a header.
 pub fn parse(bytes: &[u8], graph: &mut [u16]) -> bool
     requires { ⌜ Roomy (now bytes) (now graph) ⌝ }
     ensures { λ r. ⌜ Parses (now (bytes .entry)) r (now (graph .exit)) ⌝ }

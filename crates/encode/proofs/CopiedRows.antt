@@ -1,5 +1,5 @@
--- Renumbering: the links of a row stored one after another, one row after another by the builder, and the words that come of it: they
--- hold the rows that are written, and are sound.
+-- This file is about renumbering: the links of a row are stored one after another, and the rows one after another by the builder. The words
+-- then hold the rows of the written form, and are sound.
 use mathlib.Core.Path.{_≡_, refl, sym, _∙_, ap, ap₂, subst}
 use mathlib.Core.Bool.{true, false}
 use mathlib.Core.List.{List, [], _∷_, _++_, map}
@@ -275,9 +275,9 @@ module _ {ws : List ℕ} (sound : Sound ws) {rows : List (Row Label)} (form : ca
       ap₂-aimed {m} {n} {xs} {ys} p q a =
           subst (λ (k : ℕ). Aimed k ys) p (subst (λ (zs : List (Row Label)). Aimed m zs) q a)
 
--- What is promised, of each form.
+-- What renumbering promises for each form.
 
--- no form with two shapes
+-- a form is not of two kinds
 nodes-written : (rows : List (Row Label)) → _≡_ {A = Canonical Label} manyNodes (written rows) → ⊥
 nodes-written rows e = let z : _≡_ {A = ℕ} 0 1 = cc in omega arith
 
@@ -331,7 +331,7 @@ module _ {ws : List ℕ} (sound : Sound ws) {count : ℕ} {numbers visited : Lis
         links = omega arith;
       }
 
-  -- the rows of the nodes visited, copied
+  -- once the rows of the nodes visited are copied, the graph is renumbered
   pub renumbered : {new : List ℕ} → RowsCopied ws numbers visited count new → Renumbers (canonical eqb (graphIn ws)) true new
   renumbered {new} r =
       let form : canonical eqb (graphIn ws) ≡ written (rowsOf new) =

@@ -1,5 +1,5 @@
--- The feature map as a number: the sum of the powers of two at its features. Its eight bytes, lowest first, are those of the row's
--- links.
+-- The feature map as a number is the sum of the powers of two at its features. The eight bytes of this number, lowest first, are the
+-- feature map of the row's links.
 use mathlib.Core.Path.{_≡_, refl, sym, _∙_, ap, ap₂}
 use mathlib.Core.Bool.{Bool, true, false, cond}
 use mathlib.Core.List.{List, [], _∷_, _++_, map, List·Memᴰ, List·Memᴰ·head, List·Memᴰ·tail, List·Memᴰ·not-nil, List·Memᴰ·cases-cons}
@@ -61,7 +61,7 @@ module _ (f : ℕ) where
   unfolding target
   target-later l ls d = ap (λ (t : Bool). cond t (some (l .1)) (target ls f)) (ne-eqb (l .0) f d)
 
-  -- other names of the targets
+  -- which features stand does not depend on how targets are named
   pub target-renamed : (name : ℕ → ℕ) (links : List (ℕ × ℕ)) →
       target (map {B = ℕ × ℕ} (λ l. (l .0, name (l .1))) links) f ≡ Option·map name (target links f)
   unfolding target

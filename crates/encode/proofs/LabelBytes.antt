@@ -1,4 +1,4 @@
--- The bytes of a label: the type byte alone where the range is full, else three.
+-- A label has one byte, its type, where the range is full, and else three bytes.
 use mathlib.Core.Path.{_≡_, sym, _∙_, ap, ap₂}
 use mathlib.Core.Bool.{Bool, true, false, cond}
 use mathlib.Core.List.{List, [], _∷_}

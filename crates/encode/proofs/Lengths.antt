@@ -1,4 +1,5 @@
--- How long a record is ("The shortest record has 10 bytes, the longest 4,854").
+-- This file shows how long a written record is (document 01, "Graph record": "The shortest record has 10 bytes"; document 02, Paper 7: "The
+-- longest record becomes 4,854 bytes").
 use mathlib.Core.Path.{_≡_}
 use mathlib.Core.List.{List, [], _∷_, _++_, map}
 use Prim.Native.Nat.{ℕ, _+_, _*_, _≤_}
@@ -10,7 +11,7 @@ use Rattle.lattice.specs.Label.{Label}
 use Rattle.encode.specs.Encode.{bitsFrom, encodedLabel, encodedRow, encodedRows, encoded}
 use Rattle.encode.proofs.LabelBytes.{label-length}
 
--- the bytes of the label, eight for the map, one for each link
+-- a row has the bytes of its label, eight for the map and one for each link
 pub row-length : (r : Row Label) → length (encodedRow r) ≡ length (encodedLabel (r .0)) + 8 + length (r .1)
 unfolding encodedRow from
 row-length r =
@@ -23,7 +24,7 @@ row-length r =
       length-map (r .1) (λ (l : ℕ × ℕ). l .1),
     )
 
--- from nine to eleven for each row, and one for each link
+-- rows have nine to eleven bytes for each row, and one for each link
 rows-length : (rows : List (Row Label)) →
     (9 * length rows + linksIn rows ≤ length (encodedRows rows)) × (length (encodedRows rows) ≤ 11 * length rows + linksIn rows)
 unfolding encodedRows linksIn
@@ -32,12 +33,12 @@ rows-length (r ∷ rs) =
     let both = length-append (encodedRow r) (encodedRows rs) in
     (omega (arith, both, row-length r, label-length (r .0), rows-length rs), omega (arith, both, row-length r, label-length (r .0), rows-length rs))
 
--- a byte for the count, from nine to eleven for each node, one for each link
+-- a record has a byte for the count, nine to eleven for each node, and one for each link
 pub encoded-length : (rows : List (Row Label)) →
     (1 + 9 * length rows + linksIn rows ≤ length (encoded rows)) × (length (encoded rows) ≤ 1 + 11 * length rows + linksIn rows)
 unfolding encoded
 encoded-length rows = (omega (arith, rows-length rows), omega (arith, rows-length rows))
 
--- "the longest 4,854"
+-- "The longest record becomes 4,854 bytes."
 pub longest : (rows : List (Row Label)) → length rows ≤ 255 → linksIn rows ≤ 2048 → length (encoded rows) ≤ 4854
 longest rows nodes links = omega (arith, encoded-length rows)

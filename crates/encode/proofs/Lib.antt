@@ -1,4 +1,4 @@
--- Laws of encoding.
+-- These files have the laws of encoding.
 pub mod FeatureMap
 pub mod Links
 pub mod LabelBytes

@@ -1,4 +1,4 @@
--- Marks of links in the order of the record: one row's marks behind another's, and how many there are.
+-- This file is about marks of links in record order: one row's marks are stored behind another's, and there are as many as links.
 use mathlib.Core.Path.{_≡_, refl, sym, _∙_, ap, ap₂}
 use mathlib.Core.List.{List, [], _∷_, _++_, append-nil, append-assoc}
 use Prim.Native.Nat.{ℕ, suc, _+_, _-_, _≤_, _<_}
@@ -13,7 +13,7 @@ use Rattle.encode.specs.Marks.{marksAlong}
 use Rattle.graphs.proofs.Stores.{sets-append, sets-more}
 use Rattle.encode.proofs.WrittenRows.{sum-more, sum-upto}
 
--- How far the marks of a row are written: those of the places before k.
+-- The marks of a row are written for the places before k.
 pub record MarkTurn (marks : List ℕ) (start end at : ℕ) (old out : List ℕ) (next k : ℕ) : Type 0 where
   pub low : start ≤ k
   pub high : k ≤ end
@@ -65,7 +65,7 @@ module _ {marks : List ℕ} {start end at : ℕ} {old : List ℕ} where
 
 -- All rows.
 module _ (ws marks : List ℕ) where
-  -- as many marks as links
+  -- there are as many marks as links
   pub marks-length : Sound ws → length ws ≤ longest → length marks ≡ longest → (vs : List ℕ) →
       ((i : ℕ) → i < length vs → getD vs i 0 < size ws) → length (marksAlong ws marks vs) ≡ degrees ws vs
   unfolding marksAlong sumAlong
@@ -85,7 +85,7 @@ module _ (ws marks : List ℕ) where
       ap (λ (l : List ℕ). slice (linksFrom ws u) (rowEnd ws u) marks ++ l) (marks-snoc us v)
       ∙ sym (append-assoc (slice (linksFrom ws u) (rowEnd ws u) marks) (marksAlong ws marks us) (slice (linksFrom ws v) (rowEnd ws v) marks))
 
-  -- How far the marks are written: those of the first i nodes along a list.
+  -- The marks are written for the first i nodes of a list.
   pub record MarkProgress (vs : List ℕ) (count : ℕ) (old out : List ℕ) (at i : ℕ) : Type 0 where
     pub visited : Visited ws vs count
     pub short : length ws ≤ longest

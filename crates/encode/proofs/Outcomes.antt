@@ -1,4 +1,5 @@
--- What writing answers and leaves, for each form of a graph and each output; and laws of lists that the form's rows go by.
+-- This file shows what writing answers and leaves, for each form of a graph and each output. The file also has two laws of lists that the
+-- rows of a form go by.
 use mathlib.Core.Path.{_≡_, refl, sym, _∙_, ap, ap₂}
 use mathlib.Core.Bool.{Bool, cond}
 use mathlib.Core.Logic.{_⊎_, ⊎-elim}
@@ -28,7 +29,7 @@ getD-member [] i h = absurd (omega arith)
 getD-member (v ∷ vs) zero h = List·Memᴰ·head refl
 getD-member (v ∷ vs) (suc i) h = List·Memᴰ·tail (getD-member vs i (omega arith))
 
--- of an output that is equal to the one that is yielded
+-- the same for an output that is equal to the one that is yielded
 pub yields-by : {A : Type 0} {y : Yield A} {a : A} {l last : List ℕ} → last ≡ l → y ≡ yielding a l → yielding a last ≡ y
 yields-by {a = a} q e = ap (yielding a) q ∙ sym e
 
@@ -61,7 +62,7 @@ fitted-short bytes old h =
     (yielding outcome.NoRoom old))
     (lt-leb (length bytes) (length old) h)
 
--- what is behind a run of stores stays
+-- a run of stores at the start keeps what is behind it
 stored : (xs old : List ℕ) → length xs ≤ length old → xs ++ drop (length xs) old ≡ sets old 0 xs
 stored xs old h = ap (λ (n : ℕ). xs ++ drop n old) (sym (zero-add (length xs))) ∙ sym (sets-eq xs old 0 (omega arith))
 

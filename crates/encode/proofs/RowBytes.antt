@@ -1,4 +1,4 @@
--- The bytes of a row and of rows, as they are stored.
+-- This file is about the bytes of a row and of rows, as they are stored.
 use mathlib.Core.Path.{_≡_, refl, sym, _∙_, ap, ap₂}
 use mathlib.Core.List.{List, [], _∷_, _++_, map, append-nil, append-assoc}
 use Prim.Native.Nat.{ℕ, zero, suc, _+_, _-_, _/_, _%_, _≤_, _<_}
@@ -49,7 +49,7 @@ map-alike {Y = Y} e (x ∷ xs) = ap₂ (λ (y : Y) (ys : List Y). y ∷ ys) (e x
 
 -- A row, and rows.
 
--- the label, the targets behind the eight bytes of the map, and then the map between
+-- a row is stored in three runs: the label, then the targets behind the place of the map, then the eight bytes of the map
 pub row-stored : (out : List ℕ) (at : ℕ) (label bytes numbers : List ℕ) → length bytes ≡ 8 →
     sets (sets (sets out at label) (at + length label + 8) numbers) (at + length label) bytes ≡ sets out at (label ++ bytes ++ numbers)
 row-stored out at label bytes numbers e =

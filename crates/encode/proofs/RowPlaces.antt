@@ -1,4 +1,4 @@
--- The rows of nodes of which none is listed twice take no more words than all rows do.
+-- The rows of different nodes take no more words than all rows of the graph do.
 use mathlib.Core.Path.{_≡_, refl}
 use mathlib.Core.List.{List, [], _∷_, _++_, List·Memᴰ, List·Memᴰ·head, List·Memᴰ·tail, List·Memᴰ·not-nil, List·Memᴰ·append-cases, Memᴰ·cast}
 use mathlib.Core.Logic.{⊎-elim}
@@ -13,7 +13,7 @@ use Rattle.layout.specs.Layout.{Shaped, header, size, rowFrom, rowEnd, rowsEnd}
 use Rattle.layout.proofs.Order.{earlier-row, row-last, row-low, rows-inside}
 use Rattle.encode.specs.NumberedRows.{degrees, sumAlong}
 
--- the places of the rows of the nodes along a list
+-- the places of the rows of the nodes of a list
 rowPlaces : List ℕ → List ℕ → List ℕ
 rowPlaces ws [] = []
 rowPlaces ws (v ∷ vs) = from (rowFrom ws v) (rowEnd ws v - rowFrom ws v) ++ rowPlaces ws vs
@@ -61,7 +61,7 @@ module _ {ws : List ℕ} (shaped : Shaped ws) where
         places-length vs (λ w m. inside w (List·Memᴰ·tail m)),
       )
 
-  -- so they have room where the graph has
+  -- the rows of different nodes have room where the graph has
   pub rows-fit : (vs : List ℕ) → Distinct vs → ((v : ℕ) → List·Memᴰ v vs → v < size ws) →
       length vs + 2 + header * length vs + degrees ws vs ≤ length ws
   rows-fit vs d inside =

@@ -1,5 +1,6 @@
--- The written form of a graph in words, from the numbering of its nodes: the visit over the rows that the words hold finds the nodes
--- that are numbered, their rows are those that are written, and their links are those that are counted. From it, what `write` answers.
+-- This file gets the written form of a graph in words from the numbering of its nodes: the visit over the rows that the words hold finds
+-- the nodes that are numbered, their rows are those that are written, and their links are those that are counted. What `write` answers
+-- follows.
 use mathlib.Core.Path.{_≡_, refl, sym, _∙_, ap, ap₂, subst}
 use mathlib.Core.Bool.{Bool, cond}
 use mathlib.Core.List.{List, [], _∷_, _++_, map, reverse, List·Memᴰ, List·Memᴰ·head, List·Memᴰ·tail, List·Memᴰ·not-nil, List·Memᴰ·append-cases}
@@ -58,7 +59,7 @@ module _ {ws : List ℕ} (sound : Sound ws) where
       ap (λ (r : Row Label). linksOf (λ f. Option·map name (target (r .1) f)) (from 0 64)) (row-at ws (size ws) 0 v v (noLabel, []) (omega arith) h)
       ∙ linksOf-links name (linksAt ws v) 0 64 (row-ascending sound v h) (row-within sound v h)
 
-  -- as many links as places
+  -- nodes have as many links as their rows have places for links
   links-counted : (vs : List ℕ) → ((v : ℕ) → List·Memᴰ v vs → Inside v) → linkCount (g .link) vs ≡ degrees ws vs
   unfolding linkCount sumAlong
   links-counted [] inside = refl
@@ -72,7 +73,7 @@ module _ {ws : List ℕ} (sound : Sound ws) where
           ∙ length-map (linksAt ws v) (λ l. (l .0, l .1))
           ∙ row-degree sound v h
 
-  -- marks that tell a value of each link
+  -- The marks tell a value of each link.
   module _ (value : Link ℕ → ℕ → ℕ) (marks : List ℕ) (enough : length ws ≤ length marks)
       (tell : (v k : ℕ) → Place ws v k → getD marks k 0 ≡ value (v, featureAt ws k) (targetAt ws k)) where
     row-values : (v : ℕ) → Inside v → (n a : ℕ) → linksFrom ws v ≤ a → a + n ≡ rowEnd ws v →
@@ -91,7 +92,7 @@ module _ {ws : List ℕ} (sound : Sound ws) where
         (row-values v h n (suc a) (omega arith) (omega arith))
         ∙ sym (slice-cons a (rowEnd ws v) marks 0 (omega arith) (omega (arith, ended)))
 
-    -- stand along the nodes as the values do
+    -- the marks of the nodes of a list are the values along their links
     pub marks-tell : (vs : List ℕ) → ((v : ℕ) → List·Memᴰ v vs → Inside v) → alongLinks g value vs ≡ marksAlong ws marks vs
     unfolding alongLinks marksAlong
     marks-tell [] inside = refl
@@ -245,7 +246,7 @@ module _ {ws : List ℕ} (sound : Sound ws) where
                 (omega (arith, sound .shaped .node v inside .begun)) k low high)),
           )
 
-      -- their rows have room where the graph has
+      -- the rows of the nodes visited have room where the graph has
       pub visited-room : count + 2 + header * count + degrees ws (take count visited) ≤ length ws
       visited-room =
           let (seen, e) = found in

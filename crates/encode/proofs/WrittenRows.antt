@@ -1,4 +1,4 @@
--- Steps of the loops of the encoder: sums along the nodes visited, the links of a row, the rows.
+-- This file is about the loops of the encoder: the sums along the nodes visited, the links of a row, and the rows.
 use mathlib.Core.Path.{_≡_, refl, sym, _∙_, ap, ap₂, subst}
 use mathlib.Core.List.{List, [], _∷_, _++_, map, map-map, reverse, reverse-cons}
 use Prim.Native.Nat.{ℕ, suc, _+_, _-_, _*_, _%_, _^_, _≤_, _<_}
@@ -67,7 +67,7 @@ module _ (number : ℕ → ℕ) where
         sum-reverse vs,
       )
 
-  -- fewer nodes, a smaller sum
+  -- the sum of fewer nodes is no larger
   pub sum-upto : (vs : List ℕ) (i n : ℕ) → i ≤ n → sumAlong number (take i vs) ≤ sumAlong number (take n vs)
   sum-upto vs i n h =
       let us : List ℕ = take n vs in
@@ -90,7 +90,7 @@ ranges-short ws (v ∷ vs) = omega (arith, label-length (labelAt ws v), ranges-s
 pub ranges-upto : (ws vs : List ℕ) (i : ℕ) → i ≤ length vs → ranges ws (take i vs) ≤ i
 ranges-upto ws vs i h = omega (arith, ranges-short ws (take i vs), length-take-le i vs h)
 
--- How far the links and the ranges are summed: those of the first i nodes visited.
+-- The links and the ranges of the first i nodes visited are summed.
 pub record Summed (ws vs : List ℕ) (count links ranged i : ℕ) : Type 0 where
   pub visited : Visited ws vs count
   pub high : i ≤ count
@@ -170,7 +170,7 @@ links-step numbers out ws at start k next low high e =
 abbrev pub features : List (ℕ × ℕ) → List ℕ
 features links = map (λ l. l .0) links
 
--- How far the links of a row are written whose map is at a place: those up to k.
+-- The links of a row are written up to place k. The map of the row is to stand at place `at`.
 pub record Turn (ws numbers : List ℕ) (at start end : ℕ) (old out : List ℕ) (word next k : ℕ) : Type 0 where
   pub placed : Placed ws start end
   pub room : at + 8 + (end - start) ≤ length old
@@ -324,7 +324,7 @@ module _ (ws numbers : List ℕ) where
   abbrev bytesAlong : List ℕ → List ℕ
   bytesAlong vs = encodedRows (numberedRows ws numbers vs)
 
-  -- nine bytes for each node, two for each range and one for each link
+  -- rows take nine bytes for each node, two for each range and one for each link
   pub rows-length : Sound ws → (vs : List ℕ) → ((i : ℕ) → i < length vs → getD vs i 0 < size ws) →
       length (bytesAlong vs) ≡ 9 * length vs + 2 * ranges ws vs + degrees ws vs
   unfolding encodedRows sumAlong
@@ -338,7 +338,7 @@ module _ (ws numbers : List ℕ) where
         rows-length sound vs (λ i l. h (suc i) (omega arith)),
       )
 
-  -- How far the rows are written: the first i nodes along a list.
+  -- The rows of the first i nodes of a list are written.
   pub record Progress (vs old out : List ℕ) (at i : ℕ) : Type 0 where
     pub at-is : at ≡ 1 + length (bytesAlong (take i vs))
     pub length-is : length out ≡ length old

@@ -1,5 +1,5 @@
--- What the module `numbered` asks and promises: a graph numbered as written (document 01, "Difference": "number s as written"), in
--- words.
+-- This file says what the module `numbered` asks and promises, which renumbers a graph in words as its written record does (document 01,
+-- "Difference": "Number s as written").
 use mathlib.Core.Path.{_≡_}
 use mathlib.Core.Bool.{Bool, true, false}
 use mathlib.Core.List.{List}
@@ -12,7 +12,7 @@ use Rattle.layout.specs.Layout.{Sound, header, size, linksFrom, rowEnd, labelFr
 use Rattle.layout.specs.Builder.{Built, Same}
 use Rattle.encode.specs.NumberedRows.{Visited, degree, degrees, numberedRow, numberedRows}
 
--- Words that hold the rows of a written form, where there is one.
+-- The answer tells whether the form has rows; if so, the words hold them.
 pub record Renumbers (form : Canonical Label) (answer : Bool) (ws : List ℕ) : Type 0 where
   pub answers : (rows : List (Row Label)) → form ≡ written rows → answer ≡ true
   pub rows-are : (rows : List (Row Label)) → form ≡ written rows → rowsOf ws ≡ rows
@@ -27,21 +27,21 @@ pub record Numbered (ws numbers : List ℕ) (v : ℕ) : Type 0 where
   pub inside : v < size ws
   pub low : (k : ℕ) → linksFrom ws v ≤ k → k < rowEnd ws v → getD numbers (targetAt ws k) 0 < 256
 
--- The first `count` visited are nodes whose targets have numbers, with at most 2,048 links.
+-- The first `count` visited are nodes whose targets have numbers below `count`, and they have at most 2,048 links.
 pub record Closed (ws numbers visited : List ℕ) (count : ℕ) : Type 0 where
   pub nodes : Visited ws visited count
   pub low : (i k : ℕ) → i < count → linksFrom ws (getD visited i 0) ≤ k → k < rowEnd ws (getD visited i 0) →
       getD numbers (targetAt ws k) 0 < count
   pub links : degrees ws (take count visited) ≤ 2048
 
--- One row: that of node v stands from `at` to `next`, its targets by number; the words before stay.
+-- The row of node v is copied: it stands from place `at` up to place `next`, its targets by number. The words before it stay.
 pub record RowCopied (ws numbers : List ℕ) (v : ℕ) (old : List ℕ) (at : ℕ) (new : List ℕ) (next : ℕ) : Type 0 where
   pub long : length new ≡ length old
   pub next-is : next ≡ at + header + degree ws v
   pub kept : Same old new 0 at
   pub row : _≡_ {A = Row Label} (labelFrom new at, linksBetween new (at + header) next) (numberedRow ws numbers v)
 
--- The rows of the first `count` nodes visited, one after another.
+-- The rows of the first `count` nodes visited are copied, one after another.
 pub record RowsCopied (ws numbers visited : List ℕ) (count : ℕ) (new : List ℕ) : Type 0 where
   pub end : ℕ
   pub built : Built new (count + 2) count end

@@ -1,4 +1,5 @@
--- The bytes of a record with given rows (document 01, "Graph record"), and what writing them leaves in a lent output.
+-- This file defines the bytes of the written record of given rows (document 01, "Graph record"), and what writing them leaves in a lent
+-- output.
 use mathlib.Core.Bool.{cond}
 use mathlib.Core.List.{List, [], _∷_, _++_, map}
 use Prim.Native.Nat.{ℕ, zero, suc, _+_, _*_}
@@ -16,20 +17,22 @@ unfoldable pub bitsFrom : List (ℕ × ℕ) → ℕ → ℕ → ℕ
 bitsFrom links f zero = 0
 bitsFrom links f (suc k) = countSome (target links f) + 2 * bitsFrom links (suc f) k
 
--- the type byte; with another range than the full one, which "a written record never writes" (document 02, Paper 7), "bit 7 says that two bytes follow it, lowest and highest level"
+-- A label is one type byte where the range is full; else "bit 7 says that two bytes follow it, lowest and highest level". "A written
+-- record never writes the full range" (document 02, Paper 7).
 unfoldable pub encodedLabel : Label → List ℕ
 encodedLabel l = cond (isFull l) (l .type ∷ []) ((128 + l .type) ∷ l .lowest ∷ l .highest ∷ [])
 
 -- "one type byte, 8 bytes of feature map .., then one target byte for each standing bit, lowest feature first"; the levels stand
--- "before the feature map"
+-- "before the feature map".
 unfoldable pub encodedRow : Row Label → List ℕ
 encodedRow r = encodedLabel (r .0) ++ map (λ k. bitsFrom (r .1) (8 * k) 8) (from 0 8) ++ map (λ l. l .1) (r .1)
 
+-- the bytes of rows, "for each node in turn"
 unfoldable pub encodedRows : List (Row Label) → List ℕ
 encodedRows [] = []
 encodedRows (r ∷ rs) = encodedRow r ++ encodedRows rs
 
--- "Byte 0 is the node count"
+-- the bytes of the written record of rows: "Byte 0 is the node count"
 unfoldable pub encoded : List (Row Label) → List ℕ
 encoded rows = length rows ∷ encodedRows rows
 
@@ -38,21 +41,22 @@ pub record Yield (A : Type 0) : Type 0 where
   pub answer : A
   pub output : List ℕ
 
+-- an answer with the output beside it
 abbrev pub yielding : {A : Type 0} → A → List ℕ → Yield A
 yielding answer output = record { answer = answer; output = output }
 
--- What writing yields: "its first bytes are the record, the others unchanged"; on a refusal, unchanged.
+-- What writing yields. Of the output, "its first bytes are the record, the others unchanged"; on a refusal it is unchanged.
 abbrev pub Outcome : Type 0
 Outcome = Yield Written
 
--- the record where it fits, else 8
+-- The record is written where it fits; else 8 is answered.
 unfoldable pub fitted : List ℕ → List ℕ → Outcome
 fitted bytes old =
     cond (leb (length bytes) (length old))
     (yielding (outcome.Length (length bytes)) (bytes ++ drop (length bytes) old))
     (yielding outcome.NoRoom old)
 
--- "result over 255 nodes or 2,048 links" is 11, then 8
+-- "result over 255 nodes or 2,048 links" is 11, and 8 comes after it.
 unfoldable pub writtenOut : Canonical Label → List ℕ → Outcome
 writtenOut manyNodes old = yielding outcome.TooLarge old
 writtenOut manyLinks old = yielding outcome.TooLarge old

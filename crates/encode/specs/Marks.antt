@@ -1,5 +1,5 @@
--- Marks beside a record: one byte for each link "in record order, further bytes unchanged" (document 02, Paper 13). A mark stands at the
--- place of its link.
+-- This file defines marks beside a record: one byte for each link "in record order, further bytes unchanged" (document 02, Paper 13). In
+-- the list of marks, a mark stands at the place that its link has in the words of the graph.
 use mathlib.Core.Path.{_≡_}
 use mathlib.Core.Bool.{Bool, true, false, cond}
 use mathlib.Core.List.{List, [], _∷_, _++_}
@@ -18,7 +18,7 @@ use Rattle.encode.specs.declared.Marked.the-variants as marked
 use Rattle.encode.specs.Encode.{encoded}
 use Rattle.encode.specs.NumberedRows.{Visited, degrees, numberedRows}
 
--- the marks of the links of the nodes along a list
+-- the marks of the links of the nodes of a list, node after node
 unfoldable pub marksAlong : List ℕ → List ℕ → List ℕ → List ℕ
 marksAlong ws marks [] = []
 marksAlong ws marks (v ∷ vs) = slice (linksFrom ws v) (rowEnd ws v) marks ++ marksAlong ws marks vs
@@ -29,10 +29,11 @@ pub record Noted : Type 0 where
   pub output : List ℕ
   pub beside : List ℕ
 
+-- an answer with the two outputs beside it
 abbrev pub noting : Marked → List ℕ → List ℕ → Noted
 noting answer output beside = record { answer = answer; output = output; beside = beside }
 
--- the record where it fits, else 8; the marks where they fit too
+-- Record and marks are written where both fit. A record that does not fit is 8; marks that do not fit come after it.
 unfoldable pub fittedBoth : List ℕ → List ℕ → List ℕ → List ℕ → Noted
 fittedBoth bytes marks old beside =
     cond (leb (length bytes) (length old))
@@ -41,7 +42,7 @@ fittedBoth bytes marks old beside =
     (noting marked.NoMarkRoom old beside))
     (noting (marked.Written outcome.NoRoom) old beside)
 
--- 11, then 8, then the marks' room
+-- What writing with marks yields: the checks run in the order 11, 8, then the room for the marks.
 unfoldable pub markedOut : Canonical Label → List ℕ → List ℕ → List ℕ → Noted
 markedOut manyNodes marks old beside = noting (marked.Written outcome.TooLarge) old beside
 markedOut manyLinks marks old beside = noting (marked.Written outcome.TooLarge) old beside
@@ -55,7 +56,7 @@ pub record MarksFit (ws numbers visited : List ℕ) (count links len : ℕ) : Ty
   pub links-are : links ≡ degrees ws (take count visited)
   pub length-is : length (encoded (numberedRows ws numbers (take count visited))) ≡ len
 
--- whether a graph can be written, and where so, its numbering
+-- The answer tells whether a graph is too large to be written; if not, the arrays have its numbering.
 pub record Measured (ws numbers visited : List ℕ) (large : Bool) (count links len : ℕ) : Type 0 where
   pub refused : large ≡ true → (canonical eqb (graphIn ws) ≡ manyNodes) ⊎ (canonical eqb (graphIn ws) ≡ manyLinks)
   pub fits : large ≡ false → MarksFit ws numbers visited count links len

@@ -1,4 +1,4 @@
--- What the encoder asks and promises: the nodes visited, and the row that is written for one.
+-- This file says what the encoder asks and promises: which nodes are visited, and which row is written for a node.
 use mathlib.Core.Path.{_≡_}
 use mathlib.Core.Bool.{cond}
 use mathlib.Core.List.{List, [], _∷_, map}
@@ -28,11 +28,11 @@ unfoldable pub sumAlong : (ℕ → ℕ) → List ℕ → ℕ
 sumAlong number [] = 0
 sumAlong number (v ∷ vs) = number v + sumAlong number vs
 
--- the number of links of the nodes along a list
+-- the number of links of the nodes of a list
 abbrev pub degrees : List ℕ → List ℕ → ℕ
 degrees ws vs = sumAlong (degree ws) vs
 
--- how many of them have a range that is written
+-- how many nodes of a list have a range that is written
 abbrev pub ranges : List ℕ → List ℕ → ℕ
 ranges ws vs = sumAlong (λ v. rangeCount (labelAt ws v)) vs
 
@@ -44,7 +44,7 @@ numberByte numbers w = getD numbers w 0 % 256
 unfoldable pub numberedRow : List ℕ → List ℕ → ℕ → Row Label
 numberedRow ws numbers v = (labelAt ws v, map (λ l. (l .0, numberByte numbers (l .1))) (linksAt ws v))
 
--- the rows of the nodes along a list
+-- the rows of the nodes of a list, their targets by number
 abbrev pub numberedRows : List ℕ → List ℕ → List ℕ → List (Row Label)
 numberedRows ws numbers vs = map (numberedRow ws numbers) vs
 

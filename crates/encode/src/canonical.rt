@@ -1,4 +1,5 @@
-// Writing: a graph as its record in canonical form, numbered by first visit; and with it marks of its links, in record order.
+// Writes a graph as its record in the one written form, numbered by first visit. With a second output it also writes marks of the links,
+// in record order. The results of rewriting, common part, combination and difference are written here.
 
 use crate::Marked;
 use crate::Written;
@@ -14,7 +15,7 @@ ghost use Rattle.layout.specs.Layout.{Sound, graphIn, longest};
 ghost use Rattle.encode.specs.Encode.{yielding, writtenOut};
 ghost use Rattle.encode.specs.Marks.{Measured, marksAlong, markedOut, noting};
 
-// Whether a graph is too large for a record; else how many nodes and links are written, and the record's length.
+// Whether a graph is too large for a record; if not, how many nodes and links are written, and the record's length.
 pub struct Dimensions {
     pub large: bool,
     pub count: usize,
@@ -55,7 +56,7 @@ fn measure(graph: &[u16], numbers: &mut [u16; 510], visited: &mut [u16; 255]) ->
     }
 }
 
-// Writes a graph in canonical form.
+// Writes a graph as its written record.
 pub fn write(graph: &[u16], out: &mut [u8]) -> Written
     requires { ⌜ Sound (now graph) ⌝ }
     ensures { λ r. ⌜ yielding r (now (out .exit)) ≡ writtenOut (canonical eqb (graphIn (now (graph .entry)))) (now (out .entry)) ⌝ }
@@ -73,7 +74,8 @@ pub fn write(graph: &[u16], out: &mut [u8]) -> Written
     Written::Length(sizes.length)
 }
 
-// Writes a graph in canonical form, and beside it the marks of its links, in the order of the record. A mark stands at its link's place.
+// Writes a graph as its written record, and to `beside` the marks of its links, in record order. In `marks`, a mark stands at the place
+// that its link has in `graph`.
 pub fn write_marked<'a>(
     graph: &'a [u16],
     marks: &'a [u8; layout::LONGEST],

@@ -1,4 +1,4 @@
-// Encoding: the record of a graph whose nodes are numbered. There is one encoder for every result.
+// Encodes a graph whose nodes are numbered as a record's bytes. There is one encoder for every result.
 
 use layout::Label;
 ghost use lib.ListN.{length, take};
@@ -63,7 +63,7 @@ fn put_label(label: Label, at: usize, out: &mut [u8]) -> usize
     at + 3
 }
 
-// Writes one row from a place on: the label, the feature map, the targets' numbers. Answers the next place.
+// Writes the row of node v from a place on: the label, the feature map and the targets' numbers. Answers the next place.
 pub fn encode_row<'a>(
     graph: &'a [u16],
     numbers: &'a [u16; 510],
@@ -95,7 +95,7 @@ pub fn encode_row<'a>(
     next
 }
 
-// Writes the eight bytes of a feature map, lowest byte first.
+// Writes the eight bytes of a feature map from a place on, lowest byte first.
 pub fn put_map(map: u64, at: usize, out: &mut [u8])
     requires { ⌜ at + 8 ≤ length (now out) ⌝ }
     ensures { λ r. ⌜ now (out .exit) ≡ sets (now (out .entry)) at (lowBytes 8 map) ⌝ }
@@ -109,7 +109,7 @@ pub fn put_map(map: u64, at: usize, out: &mut [u8])
     }
 }
 
-// Writes the record: the node count, and the rows by number.
+// Writes the record: the node count, then the rows in the order of the numbers.
 pub fn encode<'a>(
     graph: &'a [u16],
     numbers: &'a [u16; 510],

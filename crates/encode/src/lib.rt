@@ -1,5 +1,5 @@
-// Writing: a graph in words as its record in canonical form, and a graph numbered so. There is one encoder for every result. It knows
-// graphs in words and a record's bytes; it knows no table.
+// This crate writes a graph in words as its written record, or renumbers its nodes as the written record does. There is one encoder for
+// every result. The crate knows graphs in words and a record's bytes; it knows no table.
 
 pub mod canonical;
 pub mod encoder;
@@ -13,7 +13,7 @@ pub enum Written {
     NoRoom,
 }
 
-// What writing a graph with marks beside it answers: what writing it does, or that there is no room for the marks.
+// What writing a graph with marks beside it answers: what writing the graph answers, or that there is no room for the marks.
 pub enum Marked {
     Written(Written),
     NoMarkRoom,

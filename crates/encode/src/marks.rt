@@ -1,4 +1,4 @@
-// Marks of links, written in the order of the record.
+// Writes marks of links in record order. The reasons of a difference are such marks.
 
 ghost use mathlib.Core.Path.{_≡_};
 ghost use Prim.Native.Nat.{_+_, _≤_, _<_};
@@ -33,7 +33,7 @@ fn put_row<'a>(
     next
 }
 
-// Writes the marks of the links of the first `count` nodes visited.
+// Writes the marks of the links of the first `count` nodes visited, node after node.
 pub fn put_marks<'a>(
     graph: &'a [u16],
     marks: &'a [u8; layout::LONGEST],

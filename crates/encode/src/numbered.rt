@@ -1,5 +1,5 @@
-// Renumbering: a graph numbered as written, as words again. The rows are those that the encoder writes, in the same order; it
-// serves where a graph is read next, and no record is asked for.
+// Renumbers the nodes of a graph in words as its written record numbers them. The rows are those that the encoder writes, in the same
+// order. This serves where the graph is computed on next and no record is asked for.
 
 use crate::encoder;
 ghost use mathlib.Core.Path.{_≡_};
@@ -64,7 +64,8 @@ fn copy_rows<'a>(
     new[0] = count as u16;
 }
 
-// Numbers a graph as written: its rows by number, with the targets' numbers. Answers whether it can be written.
+// Renumbers a graph as its written record does: the rows come in the order of the numbers, with the targets' numbers. Answers whether the
+// graph can be written.
 pub fn renumber(graph: &[u16], new: &mut [u16]) -> bool
     requires { ⌜ Sound (now graph) ⌝ }
     requires { ⌜ length (now graph) ≤ length (now new) ⌝ }

@@ -1,6 +1,6 @@
--- The order of graphs and equal meaning, over any lattice of labels. Below is an order up to equal meaning; a graph is below
--- another exactly where a node map says so, and two graphs mean the same exactly where an exact map renames one to the other;
--- the way back to a map asks whether a node is reached, which a list of the nodes decides.
+-- These lemmas are about the order of graphs and equal meaning, over any lattice of labels. Below is an order up to equal meaning. A
+-- graph is below another exactly where a node map says so, and two graphs mean the same exactly where an exact map renames one to the
+-- other. To make a map, it must be decided which nodes are reached; a list of the nodes decides it.
 use mathlib.Core.Path.{_≡_, refl, sym, _∙_, ap}
 use mathlib.Core.Bool.{Bool, true, false, true≢false}
 use mathlib.Core.List.{List, [], _∷_, _++_, List·Memᴰ, List·Memᴰ·head, List·Memᴰ·tail, List·Memᴰ·not-nil, List·Memᴰ·cases-cons}
@@ -177,7 +177,7 @@ same-meaning lattice g h =
 
 -- Exact maps.
 
--- An exact map takes each walk to the walk by the same path, and what is no path to what is none.
+-- An exact map takes each walk to the walk by the same path; what is no path of g is no path of h.
 pub exact-walk : {L A B : Type 0} {to : A → B} {g : Graph L A} {h : Graph L B} → Exact to g h → (p : List ℕ) →
     walk h p ≡ Option·map to (walk g p)
 unfolding follow

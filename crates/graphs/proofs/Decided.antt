@@ -1,6 +1,6 @@
--- Graphs on nodes without a test of equality. That the finitely many nodes of a graph of any size are told apart cannot be refuted;
--- and where they are, the graph means the same as one on numbers. So whatever is refuted for graphs on numbers is refuted for
--- graphs on any nodes.
+-- This file is about graphs whose nodes have no test of equality. It cannot be refuted that the finitely many nodes of a graph of any
+-- size are told apart; if they are, the graph means the same as one on numbers. So whatever is refuted for graphs on numbers is refuted
+-- for graphs on any nodes.
 use mathlib.Core.Path.{_≡_, refl, sym, _∙_, ap}
 use mathlib.Core.List.{List, [], _∷_, List·Memᴰ, List·Memᴰ·head, List·Memᴰ·tail, List·Memᴰ·not-nil, List·Memᴰ·cases-cons}
 use mathlib.Core.Logic.{⊎-elim}
@@ -20,7 +20,7 @@ apart-more : {A : Type 0} {v x : A} {l : List A} → Dec (v ≡ x) → Apart v l
 apart-more {A} {v} {x} {l} (yes e) d w m = ⊎-elim (λ (q : w ≡ x). yes (e ∙ sym q)) (d w) (List·Memᴰ·cases-cons m)
 apart-more {A} {v} {x} {l} (no e) d w m = ⊎-elim (λ (q : w ≡ x). no (λ p. e (p ∙ q))) (d w) (List·Memᴰ·cases-cons m)
 
--- neither can be refuted
+-- That v is told apart from all elements of a list cannot be refuted.
 one-apart : {A : Type 0} (v : A) (l : List A) → (Apart v l → ⊥) → ⊥
 one-apart v [] refuted = refuted (λ w m. absurd (List·Memᴰ·not-nil m))
 one-apart v (x ∷ l) refuted = one-apart v l (λ d. refuted (apart-more (no (λ e. refuted (apart-more (yes e) d))) d))
@@ -46,7 +46,7 @@ place : {A : Type 0} (v : A) (l : List A) → Apart v l → ℕ
 place v [] d = 0
 place v (x ∷ l) d = placed (d x (List·Memᴰ·head refl)) (place v l (λ w m. d w (List·Memᴰ·tail m)))
 
--- what stands at a place; past the end it is the element given
+-- the element at a place, or the element given past the end
 at : {A : Type 0} → List A → A → ℕ → A
 at [] r i = r
 at (x ∷ l) r zero = x

@@ -1,4 +1,4 @@
--- The difference: it restores, and nothing more general does.
+-- These files show that the difference restores, and that nothing more general does.
 pub mod Arrives
 pub mod Links
 pub mod Induct

@@ -1,6 +1,6 @@
--- Finite graphs. A walk in a graph without cycles is shorter than any list of its nodes; and where all walks are shorter than
--- some number, the walks by the features 0 to 63 list the nodes that are reached. So what lies above a graph of any size is
--- one too: its paths are among those of the graph below. No test of equality is asked for.
+-- This file is about finite graphs. A walk in a graph without cycles is shorter than any list of the graph's nodes. Where all walks are
+-- shorter than some number, the walks by the features 0 to 63 list the nodes that are reached. So every graph above a graph of any size
+-- is a graph of any size: its paths are among those of the graph below. No test of equality is asked for.
 use mathlib.Core.Path.{_≡_, refl, sym, _∙_, ap}
 use mathlib.Core.Bool.{Bool, true, false, true≢false}
 use mathlib.Core.List.{
@@ -30,8 +30,8 @@ use Rattle.graphs.proofs.Below.{same-below}
 
 -- Short paths.
 
--- A walk is shorter than a list of all that its start reaches, where nothing of that reaches itself: without the start, the list
--- still holds what comes after.
+-- A walk is shorter than a list of all nodes that its start reaches, if none of these reaches itself. Without the start, the list still
+-- holds all nodes that come after.
 short-follow : {A : Type 0} (link : A → ℕ → Option A) (p : List ℕ) (o : Option A) (x : A) (l : List A) →
     ((q : List ℕ) (y : A) → follow link o q ≡ some y → List·Memᴰ y l) →
     ((q : List ℕ) (y : A) (f : ℕ) (r : List ℕ) → follow link o q ≡ some y → follow link (some y) (f ∷ r) ≡ some y → ⊥) →
@@ -115,7 +115,7 @@ module _ {𝓛 : Labels} {A B : Type 0} {s : Graph (𝓛 .L) A} {g : Graph (𝓛
       let (w, d, c) = below .corefers (r .0) (r .0 ++ (f ∷ p)) (v, r .1, walk-append g (r .0) (f ∷ p) (r .1) ∙ e) in
       sound .acyclic w f p (r .0, d) (sym (walk-append s (r .0) (f ∷ p) d) ∙ c)
 
-  -- The paths of g are paths of s, so none is longer than those.
+  -- The paths of g are paths of s, so they are as short as the paths of s.
   pub short-up : (p : List ℕ) (v : B) → walk g p ≡ some v → length p < length (sound .nodes)
   short-up p v e =
       let (w, d, _) = below .paths p v e in
@@ -144,7 +144,7 @@ module _ {𝓛 : Labels} (lattice : Lattice 𝓛) {A B : Type 0} {s : Graph (�
         acyclic = acyclic-up below sound;
       }
 
--- What means the same as a graph of any size is one.
+-- A graph that means the same as a graph of any size is a graph of any size.
 pub same-any-size : {𝓛 : Labels} → Lattice 𝓛 → {A B : Type 0} {g : Graph (𝓛 .L) A} {h : Graph (𝓛 .L) B} →
     SameMeaning 𝓛 g h → AnySize 𝓛 g → AnySize 𝓛 h
 same-any-size lattice m = above-any-size lattice (same-below lattice m)

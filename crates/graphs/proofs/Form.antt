@@ -1,4 +1,4 @@
--- The written form of a graph.
+-- These files show what the written form of a graph has and tells.
 pub mod Bisimilar
 pub mod Invariant
 pub mod Visited

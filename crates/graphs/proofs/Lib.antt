@@ -1,4 +1,4 @@
--- Theorems about typed feature graphs.
+-- These files prove the theorems about typed feature graphs; `Theorems` states them in one place.
 pub mod Walk
 pub mod Lists
 pub mod Stores

@@ -1,5 +1,6 @@
--- Laws of lists that the theory of graphs needs: membership as a test, in `from`, `flatMap` and reversals, the place of an
--- element, lists without repetition, and the pigeonhole principle: such a list inside another is no longer than it.
+-- This file has the laws of lists that the theory of graphs needs: membership as a test, in `from`, `flatMap` and reversals; the place of
+-- an element; lists without repetition; and the pigeonhole principle, by which a list without repetition inside another is no longer than
+-- the other.
 use mathlib.Core.Path.{_≡_, refl, sym, _∙_, ap, subst}
 use mathlib.Core.Bool.{Bool, true, false, cond, _||_}
 use mathlib.Core.List.{
@@ -98,7 +99,7 @@ module _ {A : Type 0} where
 
 -- Lists without repetition.
 
--- A list without one place of v: all else is still there.
+-- A list without one place of v still has all other elements.
 pub remove : {A : Type 0} {v : A} {l : List A} → List·Memᴰ v l →
     (r : List A) × (length l ≡ suc (length r)) × ((y : A) → List·Memᴰ y l → (y ≡ v) ⊎ List·Memᴰ y r)
 remove (List·Memᴰ·head {xs = xs} e) =
@@ -210,7 +211,7 @@ module _ {A : Type 0} (same : A → A → Bool) (tells : TellsApart same) where
 
 -- Lists of numbers that leave none out.
 
--- A list without repetition of as many numbers as there are below its length holds each.
+-- A list of `count` different numbers below `count` holds each of them.
 pub full-list : (count : ℕ) (xs : List ℕ) → Distinct xs → ((x : ℕ) → List·Memᴰ x xs → x < count) → length xs ≡ count →
     (v : ℕ) → v < count → List·Memᴰ v xs
 full-list count xs d inside e v h = go (member eqb v xs) refl
@@ -226,7 +227,7 @@ full-list count xs d inside e v h = go (member eqb v xs) refl
         let over = distinct-bound (v ∷ xs) (from 0 count) (member-false eqb tells-eqb v xs q, d) listed in
         absurd (omega (arith, length-from 0 count))
 
--- the same by places
+-- an element of a list stands at some place of it
 pub place-listed : {v : ℕ} {xs : List ℕ} → List·Memᴰ v xs → (i : ℕ) × (i < length xs) × (getD xs i 0 ≡ v)
 place-listed (List·Memᴰ·head e) = (0, omega arith, sym e)
 place-listed (List·Memᴰ·tail m) = let (i, h, e) = place-listed m in (suc i, omega arith, e)

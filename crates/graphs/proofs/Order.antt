@@ -1,5 +1,6 @@
--- The computed order is the order over paths: the pairs of nodes that one path leads to are listed, each fits exactly where the
--- paths of g through it are paths of s with labels below, and one node of g meets one node of s exactly where coreference passes.
+-- This file shows that the computed order is the order over paths. The pairs of nodes that one path leads to are listed. All pairs fit
+-- exactly where the paths of g are paths of s with labels below, and no node of g meets two nodes of s exactly where paths that share
+-- in g share in s.
 use mathlib.Core.Path.{_≡_, refl, sym, _∙_, ap}
 use mathlib.Core.Bool.{Bool, true, false, not, _&&_, _||_}
 use mathlib.Core.List.{List, [], _∷_, _++_, List·Memᴰ, List·Memᴰ·head, List·Memᴰ·tail, List·Memᴰ·not-nil}
@@ -51,7 +52,7 @@ some-there (some x) (some y) h = refl
 module _ (𝓛 : Labels) {A B : Type 0} (sameA : A → A → Bool) (sameB : B → B → Bool) (tellsA : TellsApart sameA) (tellsB : TellsApart sameB)
     (s : Graph (𝓛 .L) A) (g : Graph (𝓛 .L) B) (narrow : (v w : B) (f : ℕ) → Reached g v → g .link v f ≡ some w → f < 64) (k : ℕ)
     (short : (p : List ℕ) (v : B) → walk g p ≡ some v → length p < k) where
-  -- both walks along one path
+  -- one path leads to both nodes of the pair
   abbrev pub Together : A × B → Type 0
   Together x = (p : List ℕ) × (walk s p ≡ some (x .0)) × (walk g p ≡ some (x .1))
 

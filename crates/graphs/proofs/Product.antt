@@ -1,6 +1,6 @@
--- Generalization. The product graph is one: its walks are the pairs of walks. A generalization is the least graph above both,
--- among graphs of any size and on nodes of any type, and least upper bounds mean the same; so the three conditions, the bound
--- and the computed product say one thing.
+-- This file is about generalization. The product graph is a generalization: its walks are the pairs of walks. A generalization is the
+-- least graph above both, among graphs of any size and on nodes of any type, and least upper bounds mean the same. So the three
+-- conditions, the bound and the computed product say one thing.
 use mathlib.Core.Path.{_≡_, refl, sym, _∙_, ap, ap₂}
 use mathlib.Core.Bool.{true}
 use mathlib.Core.List.{List, [], _∷_}
@@ -20,7 +20,7 @@ module _ {A B : Type 0} where
   both-none none = refl
   both-none (some v) = refl
 
-  -- what both lead to, each leads to
+  -- where both have a target, each has its part of the pair
   pub both-some : (o : Option A) (i : Option B) {x : A × B} → both o i ≡ some x → (o ≡ some (x .0)) × (i ≡ some (x .1))
   both-some none i e = none-some e
   both-some (some v) none e = none-some e
@@ -73,7 +73,7 @@ module _ (𝓛 : Labels) {A B : Type 0} (g : Graph (𝓛 .L) A) (h : Graph (𝓛
       pair p q c d =
           ((c .0, d .0), product-walks p (c .0) (d .0) .1 (c .1, d .1), product-walks q (c .0) (d .0) .1 (c .2, d .2))
 
--- What means the same as a generalization is one.
+-- A graph that means the same as a generalization is a generalization.
 pub same-generalization : {𝓛 : Labels} {A B C D : Type 0} {g : Graph (𝓛 .L) A} {h : Graph (𝓛 .L) B} {k : Graph (𝓛 .L) C}
     {m : Graph (𝓛 .L) D} → IsGeneralization 𝓛 g h k → SameMeaning 𝓛 k m → IsGeneralization 𝓛 g h m
 same-generalization i e =

@@ -1,5 +1,5 @@
--- Laws of values along links: they depend on the links of the nodes alone, there is one for each link, and each stands at the place of its
--- link in record order.
+-- This file has the laws of values along links (`alongLinks`): the values depend on the links of the nodes alone, there is one for each
+-- link, and each stands at the place of its link in record order.
 use mathlib.Core.Path.{_≡_, refl, sym, _∙_, ap, ap₂, subst}
 use mathlib.Core.Bool.{Bool, true, false, cond}
 use mathlib.Core.List.{List, [], _∷_, _++_, map, reverse}
@@ -18,7 +18,7 @@ use Rattle.graphs.proofs.Rows.{linksOf-length}
 use Rattle.graphs.proofs.Form.Invariant.{Pointwise, empty, more, pointwise-length, pointwise-append, pointwise-at, linksOf-cong}
 use Rattle.graphs.proofs.Form.Canonical.{canonical-written, form-walk}
 
--- graphs with the same links at the nodes that P tells have the same values along them
+-- graphs with the same links at nodes where P holds have the same values along these nodes
 pub along-same : {L M X : Type 0} (P : ℕ → Type 0) (d : Graph L ℕ) (e : Graph M ℕ) (value : Link ℕ → ℕ → X) →
     ((v f : ℕ) → P v → d .link v f ≡ e .link v f) → {vs ws : List ℕ} → Pointwise (λ x y. P x × (x ≡ y)) vs ws →
     alongLinks d value vs ≡ alongLinks e value ws

@@ -1,5 +1,5 @@
--- A row's links: `linksOf` lists the features given that have a target, each with it, and `target` finds it there again. The
--- features stay in order, so the row of a node is ascending.
+-- This file is about a row's links. `linksOf` lists those of the features given that have a target, each with its target, and `target`
+-- finds the target there again. The features stay in order, so the row of a node is ascending.
 use mathlib.Core.Path.{_≡_, refl, sym, _∙_, ap, subst}
 use mathlib.Core.Bool.{Bool, true, false, cond}
 use mathlib.Core.List.{
@@ -25,7 +25,7 @@ use Rattle.graphs.specs.Number.{countSome, outDegree}
 use Rattle.graphs.specs.Large.{Distinct, Ascending}
 use Rattle.graphs.proofs.Lists.{mem-features, features-small, from-range, distinct-from}
 
--- as many links as the node has
+-- a row has as many links as the node has by the features given
 pub linksOf-length : {A : Type 0} (link : A → ℕ → Option A) (name : A → ℕ) (v : A) (fs : List ℕ) →
     length (linksOf (λ f. Option·map name (link v f)) fs) ≡ outDegree link v fs
 unfolding linksOf outDegree

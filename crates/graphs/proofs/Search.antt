@@ -1,6 +1,6 @@
--- What a search along a list finds: the first value (`firstOf`), whether a test holds somewhere (`anyOf`), and where it
--- holds (`select`). The features are such a list. Each search is described by membership, so that no proof about
--- unification has to look at the order of a list.
+-- This file says what a search along a list finds: the first value (`firstOf`), whether a test holds somewhere (`anyOf`), and where it
+-- holds (`select`). The features are such a list. Each search is described by membership, so that no proof about unification has to look
+-- at the order of a list.
 use mathlib.Core.Path.{_≡_, refl, sym, _∙_, ap, subst}
 use mathlib.Core.Bool.{Bool, true, false, cond, _&&_, _||_, true≢false}
 use mathlib.Core.List.{List, [], _∷_, List·Memᴰ, List·Memᴰ·head, List·Memᴰ·tail, List·Memᴰ·not-nil, List·Memᴰ·cases-cons}
@@ -79,7 +79,7 @@ module _ {X Y : Type 0} (find : X → Option Y) where
       let (h, later) = orElse-eq-none (find z) (firstOf xs find) .0 e in
       ⊎-elim (λ q. ap find q ∙ h) (firstOf-none xs later x) (List·Memᴰ·cases-cons m)
 
-  -- where something is found at some element, something is found
+  -- if a search finds a value at some element of a list, it finds a value along the list
   pub firstOf-finds : (xs : List X) (x : X) (y : Y) → List·Memᴰ x xs → find x ≡ some y → (z : Y) × (firstOf xs find ≡ some z)
   firstOf-finds xs x y m e = go (firstOf xs find) refl
     where
@@ -144,7 +144,7 @@ module _ {X : Type 0} (test : X → Bool) where
       go true h = omega arith
       go false h = omega arith
 
--- a test that holds less often finds fewer
+-- a test that holds less often selects fewer elements
 module _ {X : Type 0} (less more : X → Bool) where
   select-fewer : (xs : List X) → ((x : X) → List·Memᴰ x xs → less x ≡ true → more x ≡ true) →
       length (select less xs) ≤ length (select more xs)
@@ -182,7 +182,7 @@ module _ {X : Type 0} (less more : X → Bool) where
       go false p false q w h s (inl e) = true-false yes-more (ap more e ∙ q)
       go false p false q w h s (inr m) = s m
 
--- what is decided of each element of a list is found in it, or nowhere
+-- if P is decided for each element of a list, P holds of some element or of none
 pub search-list : {X : Type 0} (P : X → Type 0) (xs : List X) → ((x : X) → List·Memᴰ x xs → P x ⊎ (P x → ⊥)) →
     ((x : X) × P x) ⊎ ((x : X) → List·Memᴰ x xs → P x → ⊥)
 search-list P [] decide = inr λ x m. absurd (List·Memᴰ·not-nil m)

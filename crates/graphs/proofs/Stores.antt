@@ -1,4 +1,5 @@
--- Laws of runs of stores, `sets`: one after another, and two that do not meet in either order.
+-- This file has the laws of runs of stores (`sets`): a run followed by the next is one run, and two runs that do not overlap may be made
+-- in either order.
 use mathlib.Core.Path.{_≡_, refl, sym, _∙_, ap}
 use mathlib.Core.List.{List, [], _∷_, _++_}
 use Prim.Native.Nat.{ℕ, suc, _+_, _≤_, _<_}

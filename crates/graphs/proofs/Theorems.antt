@@ -1,5 +1,5 @@
--- The theorems about graphs of any size, in one place, each with its statement and a line that cites its proof. `𝓛` is any
--- lattice of labels; graphs have any type of nodes, and nothing bounds their size but where "fits" is said.
+-- This file states the theorems about graphs of any size in one place, each with a line that cites its proof. `𝓛` is any lattice of
+-- labels, and graphs have any type of nodes. Only the theorems about the written form bound the size of a graph.
 use mathlib.Core.Path.{_≡_, refl}
 use mathlib.Core.Bool.{Bool, true, false}
 use mathlib.Core.List.{List, List·Memᴰ}
@@ -39,7 +39,8 @@ abbrev pub Narrow : {L A : Type 0} → Graph L A → Type 0
 Narrow {A = A} g = (v w : A) (f : ℕ) → Reached g v → g .link v f ≡ some w → f < 64
 
 module _ (𝓛 : Labels) (lattice : Lattice 𝓛) where
-  -- 1. The order: a preorder whose equivalence is equal meaning; where all nodes are reached it is the existence of a node map.
+  -- 1. The order is a preorder, and its equivalence is equal meaning. Where all nodes are reached, the order is the existence of a node map.
+  -- The computed order is the order over paths.
 
   pub order-reflexive : {A : Type 0} (g : Graph (𝓛 .L) A) → Below 𝓛 g g
   order-reflexive g = Below.below-refl lattice g
@@ -66,7 +67,7 @@ module _ (𝓛 : Labels) (lattice : Lattice 𝓛) where
       Order.subsumes-exact 𝓛 sameA sameB tellsA tellsB s g (b .features) (length (b .nodes))
       (Finite.short-paths g (b .nodes) (λ v r. b .listed v .0 r) (b .acyclic))
 
-  -- 2. The written form: it depends on meaning alone, has the graph's meaning, and is missing exactly for what is too large.
+  -- 2. The written form depends on meaning alone and has the graph's meaning. A graph has none exactly where it is too large.
 
   pub form-of-meaning : {A B : Type 0} (sameA : A → A → Bool) (sameB : B → B → Bool) → TellsApart sameA → TellsApart sameB →
       (g : Graph (𝓛 .L) A) (h : Graph (𝓛 .L) B) → SameMeaning 𝓛 g h → canonical sameA g ≡ canonical sameB h
@@ -94,7 +95,8 @@ module _ (𝓛 : Labels) (lattice : Lattice 𝓛) where
       ((ManyNodes g → ⊥) × (ManyLinks g → ⊥)) ↔ ((form : List (Row (𝓛 .L))) × (canonical same g ≡ written form))
   fits same tells g narrow = Large.canonical-fits same tells g narrow
 
-  -- 3. Generalization: the paths of both with their joins; the least graph above both, of any size if the operands are.
+  -- 3. Generalization has the paths of both graphs with their joins. The generalization is the least graph above both, and of any size if
+  -- both are.
 
   pub generalization-is : {A B : Type 0} (g : Graph (𝓛 .L) A) (h : Graph (𝓛 .L) B) → IsGeneralization 𝓛 g h (generalization 𝓛 g h)
   generalization-is g h = Product.product-is-generalization 𝓛 g h
@@ -106,8 +108,8 @@ module _ (𝓛 : Labels) (lattice : Lattice 𝓛) where
       AnySize 𝓛 (generalization 𝓛 g h)
   generalization-any-size g h a b = Product.generalization-any-size lattice (Product.product-is-generalization 𝓛 g h) a
 
-  -- 4. Unification: what is computed on nodes is the closure over paths; the greatest graph below both, of any size; there is a
-  -- cycle or a clash exactly when no graph of any size lies below both, and a cycle is told before a clash.
+  -- 4. Unification as it is computed on nodes is the closure over paths. The unification is the greatest graph below both, and of any
+  -- size. There is a cycle or a clash exactly when no graph of any size lies below both, and a cycle is told before a clash.
 
   module _ {A B : Type 0} (sameA : A → A → Bool) (sameB : B → B → Bool) (tellsA : TellsApart sameA) (tellsB : TellsApart sameB)
       (g : Graph (𝓛 .L) A) (h : Graph (𝓛 .L) B) (a : AnySize 𝓛 g) (b : AnySize 𝓛 h) where
@@ -149,7 +151,7 @@ module _ (𝓛 : Labels) (lattice : Lattice 𝓛) where
             let (is, size, best) = unification-is u e in
             absurd (none (A ⊎ B) u size (best .left) (best .right))
 
-  -- 5. Bounds of one pair have equal meaning.
+  -- 5. Two least graphs above one pair have equal meaning, and so have two greatest graphs below it.
 
   pub least-unique : {A B C D : Type 0} (g : Graph (𝓛 .L) A) (h : Graph (𝓛 .L) B) (k : Graph (𝓛 .L) C) (m : Graph (𝓛 .L) D) →
       LeastAbove 𝓛 g h k → LeastAbove 𝓛 g h m → SameMeaning 𝓛 k m
@@ -159,7 +161,7 @@ module _ (𝓛 : Labels) (lattice : Lattice 𝓛) where
       GreatestBelow 𝓛 g h k → GreatestBelow 𝓛 g h m → SameMeaning 𝓛 k m
   greatest-unique g h k m a b = Product.greatest-unique lattice a b
 
-  -- 6. Both operations keep the order.
+  -- 6. Generalization and unification keep the order.
 
   pub generalization-monotone : {A B C D : Type 0} (g : Graph (𝓛 .L) A) (h : Graph (𝓛 .L) B) (k : Graph (𝓛 .L) C) (m : Graph (𝓛 .L) D) →
       Below 𝓛 g k → Below 𝓛 h m → Below 𝓛 (generalization 𝓛 g h) (generalization 𝓛 k m)
@@ -180,7 +182,7 @@ module _ (𝓛 : Labels) (lattice : Lattice 𝓛) where
   wanted-exists admits sameA sameB tellsA tellsB s g a b over map v =
       Wanted.wanted-exists lattice (any-size-operands tellsA tellsB a b) over admits map v
 
-  -- 7. The difference of g and s, for s below g by a node map, any strict total order of links, and a wanted label at each node of s.
+  -- 7. The difference of g and s: s is below g by a node map, links are in any strict total order, and each node of s has a wanted label.
 
   module _ {A B : Type 0} (sameA : A → A → Bool) (sameB : B → B → Bool) (tellsA : TellsApart sameA) (tellsB : TellsApart sameB)
       (s : Graph (𝓛 .L) A) (g : Graph (𝓛 .L) B) (a : AnySize 𝓛 s) (b : AnySize 𝓛 g) (over : B → A) (map : NodeMap 𝓛 s g over)
@@ -200,21 +202,21 @@ module _ (𝓛 : Labels) (lattice : Lattice 𝓛) where
           wants = wants;
         }
 
-    -- It is the one that the relations over paths and links state: of what lies over what,
+    -- The nodes of g that lie over v, as the relations state it, are those that the map takes to v.
     pub over-exact : (y : B) (v : A) → LiesOver s g y v ↔ (Reached g y × (over y ≡ v))
     over-exact = Relations.over-exact map
 
-    -- of the links in one group,
+    -- The computed group of a link is the one that the relations state.
     pub group-exact : (v : A) (l m : Link A) → Into s v l →
         List·Memᴰ m (groupOf sameA sameB s (a .nodes) g (b .nodes) over v l) ↔ Grouped s g v l m
     group-exact = Relations.group-exact (set .operands) map
 
-    -- and of the kept links.
+    -- The links of the difference are the kept links that the relations state.
     pub keep-exact : (u : A) (f : ℕ) (v : A) → Reached s u →
         (d .link u f ≡ some v) ↔ KeptLink s g earlier (λ w. 𝓛 .le (𝓛 .top) (wanted w) ≡ false) u f v
     keep-exact = Relations.keep-exact (set .operands) map earlier order a wanted
 
-    -- It is a graph of any size, and no larger than s.
+    -- The difference is a graph of any size, and no larger than s.
     pub difference-any-size : AnySize 𝓛 d
     difference-any-size = Difference.difference-any-size 𝓛 sameA sameB earlier s (a .nodes) g (b .nodes) over wanted set
 
@@ -225,7 +227,7 @@ module _ (𝓛 : Labels) (lattice : Lattice 𝓛) where
     pub difference-links : (u v : A) (f : ℕ) → Reached d u → d .link u f ≡ some v → Reached s u × (s .link u f ≡ some v)
     difference-links = Difference.difference-links 𝓛 sameA sameB earlier s (a .nodes) g (b .nodes) over wanted set
 
-    -- It restores: s is the greatest below the difference and g, so their unification exists and means what s means.
+    -- The difference restores: s is the greatest graph below the difference and g, so their unification exists and means what s means.
     pub difference-restores : GreatestBelow 𝓛 d g s
     difference-restores =
         record {
@@ -243,7 +245,7 @@ module _ (𝓛 : Labels) (lattice : Lattice 𝓛) where
         let is = Outcome.graph-right lattice given u found .1 in
         (u, found, Difference.difference-restores 𝓛 sameA sameB earlier s (a .nodes) g (b .nodes) over wanted set is)
 
-    -- It is most general: what lies strictly above it has a unification with g, which lies strictly above s.
+    -- The difference is most general: a graph strictly above it has a unification with g, and this unification lies strictly above s.
     pub difference-most-general : {E : Type 0} (sameE : E → E → Bool) → TellsApart sameE → (e : Graph (𝓛 .L) E) (c : AnySize 𝓛 e) → Below 𝓛 d e →
         (Below 𝓛 e d → ⊥) → (u : Graph (𝓛 .L) (E ⊎ B)) × (unification 𝓛 sameE sameB e (c .nodes) g (b .nodes) ≡ unified u) × Below 𝓛 s u ×
         (Below 𝓛 u s → ⊥)

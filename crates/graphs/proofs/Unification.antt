@@ -1,4 +1,4 @@
--- Unification over paths and over nodes.
+-- These files show that unification over nodes is unification over paths.
 pub mod Deep
 pub mod Related
 pub mod Classes

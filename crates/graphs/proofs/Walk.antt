@@ -1,4 +1,4 @@
--- Laws of walks: along an append, one feature more at the end, and what is reached.
+-- This file has the laws of walks: along two paths in turn, with one feature more at the end, and to the nodes that are reached.
 use mathlib.Core.Path.{_≡_, refl, sym, _∙_, ap}
 use mathlib.Core.List.{List, [], _∷_, _++_, append-nil, append-assoc}
 use mathlib.Core.Option.{Option, none, some}
@@ -12,7 +12,7 @@ some-injective e = cc
 pub none-some : {A : Type 0} {v : A} {C : Type 0} → _≡_ {A = Option A} none (some v) → C
 none-some e = let z : _≡_ {A = ℕ} 0 1 = cc in absurd (omega arith)
 
--- what may be missing is one thing
+-- an option holds at most one value
 pub some-unique : {A : Type 0} {o : Option A} {v w : A} → o ≡ some v → o ≡ some w → v ≡ w
 some-unique d e = some-injective (sym d ∙ e)
 
@@ -49,7 +49,7 @@ module _ {A : Type 0} (link : A → ℕ → Option A) where
   unfolding follow
   follow-snoc o p f = follow-append o p (f ∷ [])
 
-  -- where a walk of one feature more stands, its last node stood before
+  -- a walk with one feature more passes a node before its end, and the link by that feature leads on
   pub follow-last : (o : Option A) (p : List ℕ) (f : ℕ) (w : A) → follow link o (p ++ (f ∷ [])) ≡ some w →
       (v : A) × (follow link o p ≡ some v) × (link v f ≡ some w)
   follow-last o p f w e = go (follow link o p) refl (sym (follow-snoc o p f) ∙ e)

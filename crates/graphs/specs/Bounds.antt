@@ -1,4 +1,5 @@
--- Bounds of two graphs in the order of graphs, over graphs on nodes of any type.
+-- This file defines the least upper bound and the greatest lower bound of two graphs in the order of graphs, among graphs on nodes of
+-- any type. The common part is the least upper bound of two graphs, and the combination is their greatest lower bound.
 use Rattle.graphs.specs.Label.{Labels}
 use Rattle.graphs.specs.Graph.{Graph, Below}
 

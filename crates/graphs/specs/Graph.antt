@@ -1,5 +1,6 @@
--- Typed feature graphs, their paths and their order (document 01, "Graph record" and "Order and results"; document 001,
--- definitions 1 to 10). A graph is given by functions on any type of nodes; its nodes are those that the root reaches.
+-- This file defines typed feature graphs, their paths, their meaning and their order (document 01, "Graph record" and "Order and
+-- results"; document 001, definitions 1 to 10). A graph is given by functions on any type of nodes; its nodes are those that the root
+-- reaches. All other statements about graphs are made of these definitions.
 use mathlib.Core.Path.{_≡_}
 use mathlib.Core.Bool.{Bool, true, false}
 use mathlib.Core.List.{List, [], _∷_, List·Memᴰ}
@@ -8,22 +9,22 @@ use mathlib.Core.Option.{Option, none, some}
 use Prim.Native.Nat.{ℕ, _<_}
 use Rattle.graphs.specs.Label.{Labels}
 
--- a test that tells the elements of a type apart
+-- The test tells the elements of a type apart: it answers true exactly for equal ones.
 abbrev pub TellsApart : {A : Type 0} → (A → A → Bool) → Type 0
 TellsApart {A} same = (v w : A) → (same v w ≡ true) ↔ (v ≡ w)
 
--- A root, a label for each node, and for each node and feature at most one target.
+-- A graph has a root, a label for each node, and for each node and feature at most one target.
 pub record Graph (L A : Type 0) : Type 0 where
   pub root : A
   pub label : A → L
   pub link : A → ℕ → Option A
 
--- One link further, from where a walk stands.
+-- The node that the link by feature f leads to; none where there is no such link, or no node to start from.
 abbrev pub step : {A : Type 0} → (A → ℕ → Option A) → Option A → ℕ → Option A
 step link none f = none
 step link (some v) f = link v f
 
--- "A path is a list of features": where it leads from a node, first feature first.
+-- "A path is a list of features": `follow` gives the node that a path leads to from a node, first feature first.
 unfoldable pub follow : {A : Type 0} → (A → ℕ → Option A) → Option A → List ℕ → Option A
 follow link o [] = o
 follow link o (f ∷ p) = follow link (step link o f) p
@@ -32,7 +33,7 @@ follow link o (f ∷ p) = follow link (step link o f) p
 abbrev pub walk : {L A : Type 0} → Graph L A → List ℕ → Option A
 walk g p = follow (g .link) (some (g .root)) p
 
--- The node is reached from the root.
+-- The node v is reached: some path leads to it from the root.
 abbrev pub Reached : {L A : Type 0} → Graph L A → A → Type 0
 Reached g v = (p : List ℕ) × (walk g p ≡ some v)
 
@@ -48,14 +49,15 @@ module _ (𝓛 : Labels) where
         (w : A) × (walk s p ≡ some w) × (𝓛 .le (s .label w) (g .label v) ≡ true)
     pub corefers : (p q : List ℕ) → Corefer g p q → Corefer s p q
 
-  -- Demand 2, what a record means: the same paths with the same labels, the same coreference.
+  -- "Graphs of equal meaning" (document 01, "Order and results"; demand 2) have the same paths with the same labels, and the same paths
+  -- share in both.
   pub record SameMeaning {A B : Type 0} (g : Graph (𝓛 .L) A) (h : Graph (𝓛 .L) B) : Type 0 where
     pub there : (p : List ℕ) (v : A) → walk g p ≡ some v → (w : B) × (walk h p ≡ some w) × (g .label v ≡ h .label w)
     pub back : (p : List ℕ) (w : B) → walk h p ≡ some w → (v : A) × (walk g p ≡ some v) × (g .label v ≡ h .label w)
     pub corefers : (p q : List ℕ) → Corefer g p q ↔ Corefer h p q
 
-  -- "A graph of any size keeps every rule of an accepted record but the counts of nodes and links": finitely many nodes, each
-  -- reached from the root, features 0 to 63, no label that is the contradiction, and no node that reaches itself.
+  -- "A graph of any size keeps every rule of an accepted record but the counts of nodes and links": finitely many nodes are reached from
+  -- the root, their features are 0 to 63, no label is the contradiction, and no node reaches itself.
   pub record AnySize {A : Type 0} (g : Graph (𝓛 .L) A) : Type 0 where
     pub nodes : List A
     pub listed : (v : A) → Reached g v ↔ List·Memᴰ v nodes

@@ -1,8 +1,10 @@
--- Labels: what a node carries. A graph's theory does not know the type table; it is stated over any carrier with an order,
--- meet, join, a greatest label and a test for the contradiction. The type table is one instance.
+-- A label is what a node carries. The theory of graphs does not know the type table: it is stated over any type of labels with an
+-- order, a meet, a join, a greatest label and a test for the contradiction. The labels of a type table are one instance (crate
+-- `lattice`).
 use mathlib.Core.Path.{_≡_}
 use mathlib.Core.Bool.{Bool, true}
 
+-- The labels L with their order, meet and join, their greatest label and the test for the contradiction; `Lattice` has the laws.
 pub record Labels : Type 1 where
   pub L : Type 0
   pub le : L → L → Bool
@@ -11,7 +13,7 @@ pub record Labels : Type 1 where
   pub top : L
   pub contradiction : L → Bool
 
--- The labels are a lattice with a greatest one, and what lies below a contradiction is one.
+-- The labels are a lattice with a greatest label, and every label below a contradiction is a contradiction.
 pub record Lattice (𝓛 : Labels) : Type 0 where
   pub le-refl : (a : 𝓛 .L) → 𝓛 .le a a ≡ true
   pub le-trans : (a b c : 𝓛 .L) → 𝓛 .le a b ≡ true → 𝓛 .le b c ≡ true → 𝓛 .le a c ≡ true

@@ -1,5 +1,6 @@
--- Graphs too large for a record (document 01, "Graph record": "Byte 0 is the node count N, 1 to 255", "At most 2,048 links in
--- all"), and the same counts of rows. Said of any list of nodes or links, without a numbering.
+-- This file says when a graph is too large for a record (document 01, "Graph record": "Byte 0 is the node count N, 1 to 255", "At most
+-- 2,048 links in all"). The definitions need no numbering: they speak of lists of different nodes and links. The file also counts the
+-- links of rows, and says that the links of a row ascend.
 use mathlib.Core.Path.{_≡_}
 use mathlib.Core.List.{List, [], _∷_, List·Memᴰ}
 use mathlib.Core.Option.{some}

@@ -1,5 +1,6 @@
--- The order of paths that the numbering of written records follows (document 01, "Graph record": "by first visit, from the root, lowest
--- feature first, following links downward .. All that hangs below a link is numbered before the node's next link is followed").
+-- This file defines the order of paths that the numbering of written records follows (document 01, "Graph record": "by first visit, from
+-- the root, lowest feature first, following links downward .. All that hangs below a link is numbered before the node's next link is
+-- followed").
 use mathlib.Core.Path.{_≡_}
 use mathlib.Core.List.{List, [], _∷_}
 use mathlib.Core.Logic.{_⊎_}

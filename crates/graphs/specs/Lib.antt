@@ -1,4 +1,4 @@
--- Definitions of typed feature graphs, over any lattice of labels.
+-- These files define typed feature graphs and the operations on them, over labels of any type.
 pub mod Label
 pub mod Graph
 pub mod Map

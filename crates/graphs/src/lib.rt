@@ -1,2 +1,3 @@
-// Mathematics only: typed feature graphs of any size, their order, generalization and unification, and the canonical numbering. The
-// definitions stand in specs/, the theorems in proofs/; there is no code here. It knows nothing of tables, bytes and records.
+// This crate is the mathematics of typed feature graphs of any size and has no code: their order, generalization (common part),
+// unification (combination), difference and written numbering. The definitions stand in specs/, the theorems in proofs/. The crate knows
+// nothing of tables, bytes and records; the crates that compute on graphs state their contracts by its definitions.

@@ -1,4 +1,4 @@
--- A list by its entries, and a test of all entries in one computation that is carried to each of them.
+-- This file is about a list by its entries: all entries are tested in one computation, and the result is carried to each entry.
 use Prim.Native.Nat.{ℕ, zero, suc, _+_, _*_, _/_, _%_, _<_}
 use mathlib.Core.Path.{_≡_, refl, sym, ap, subst, _∙_}
 use mathlib.Core.Bool.{Bool, true, _&&_}

@@ -1,4 +1,4 @@
--- Turns of the loops that make the type table: what is left of it goes into the output, and a byte of it is done.
+-- This file is about the loops that make the type table: each turn stores one byte of the table, and the rest is still to be stored.
 use Prim.Native.Nat.{ℕ, zero, suc, _+_, _-_, _^_, _<_, _≤_}
 use mathlib.Core.Path.{_≡_, refl, sym, ap, _∙_}
 use mathlib.Core.Bool.{Bool, true, _&&_}

@@ -1,4 +1,4 @@
--- Laws that the contracts are proved by, and the theorems.
+-- These files have the laws by which the contracts are proved, and the theorems about the house types.
 pub mod Entries
 pub mod Filling
 pub mod Grades

@@ -1,5 +1,5 @@
--- What holds of the house types (Paper 8). The contract of `meets::all` says that the constant is `meets`, that of `fill_table`
--- that the bytes it gives are `houseTable`; here is what these two are.
+-- This file has the theorems about the house types (document 02, Paper 8). The contract of `meets::all` says that the constant is `meets`,
+-- and that of `fill_table` that the bytes it writes are `houseTable`. The theorems say what these two are.
 use Prim.Native.Nat.{ℕ, _+_, _*_, _/_, _%_, _<_}
 use mathlib.Core.Path.{_≡_, sym, ap, subst, _∙_}
 use mathlib.Core.Bool.{true}
@@ -14,7 +14,7 @@ use Rattle.house.proofs.Entries.{getD-listed}
 use Rattle.house.proofs.Grades.{IsLesser, lesser-grades}
 use Rattle.house.proofs.Order.{table-below, table-accepted, table-meet, table-admits}
 
--- Paper 8: of the meets of all pairs, the one of a and b has in each grade the lesser of theirs.
+-- Paper 8: the meet of a and b in the table has in each grade the lesser of the two grades.
 
 pub meets-rule : (a b : ℕ) → a < 64 → b < 64 → getD meets (64 * a + b) 0 ≡ lesser a b
 unfolding meets

@@ -1,5 +1,5 @@
--- The house types (Paper 8): 64 types of three grades, their order, the meets of all pairs, and the bytes of the type table that
--- states the order. Everything here computes.
+-- This file defines the house types (document 02, Paper 8): 64 types of three grades, their order, the meets of all pairs, and the bytes
+-- of the type table that states the order.
 use Prim.Native.Nat.{ℕ, zero, suc, _+_, _*_, _/_, _%_}
 use mathlib.Core.Bool.{Bool, cond, _&&_}
 use mathlib.Core.List.{List, [], _∷_, _++_}
@@ -11,12 +11,15 @@ use Rattle.lattice.specs.Words.{word}
 abbrev pub typeOf : ℕ → ℕ → ℕ → ℕ
 typeOf x y z = 16 * x + 4 * y + z
 
+-- the first grade of a type
 abbrev pub first : ℕ → ℕ
 first a = a / 16
 
+-- the second grade of a type
 abbrev pub second : ℕ → ℕ
 second a = a / 4 % 4
 
+-- the third grade of a type
 abbrev pub third : ℕ → ℕ
 third a = a % 4
 
@@ -32,7 +35,7 @@ lesser a b = typeOf (less (first a) (first b)) (less (second a) (second b)) (les
 unfoldable pub under : ℕ → ℕ → Bool
 under a b = leb (first a) (first b) && leb (second a) (second b) && leb (third a) (third b)
 
--- f at k numbers, from i on
+-- the values of f at k numbers, from i on
 unfoldable pub listed : (ℕ → ℕ) → ℕ → ℕ → List ℕ
 listed f i zero = []
 listed f i (suc k) = f i ∷ listed f (suc i) k
@@ -54,11 +57,11 @@ byteOf k = word 8 λ j. under (8 * (k % 8) + j) (k / 8)
 unfoldable pub houseTable : List ℕ
 houseTable = listed byteOf 0 512
 
--- whether an output has room for them
+-- whether an output has room for the type table
 abbrev pub roomy : List ℕ → Bool
 roomy out = leb 512 (length out)
 
--- what an output holds that the table is asked into: the table's bytes and its own past them, or its own where they do not fit
+-- What the output holds at the end: the bytes of the type table and behind them its own, or all its own where the table does not fit.
 unfoldable pub tabled : List ℕ → List ℕ
 tabled out = cond (roomy out) (houseTable ++ drop 512 out) out
 

@@ -1,6 +1,7 @@
-// The house types: 64 types of three grades, each 0 to 3, where 3 tells nothing. A type is numbered 16 times its first grade, 4 times its
-// second and its third together, and is below another when each of its grades is at most the other's. `meets` has the meets of all pairs
-// as a constant; the type table that states the order is filled here. It knows what a type table is, and nothing of records.
+// This crate has the house types (document 02, Paper 8): 64 types of three grades, each 0 to 3, where 3 tells nothing. The number of a
+// type is 16 times its first grade plus 4 times its second plus its third. A type is below another when each of its grades is at most the
+// other's. `meets` has the meets of all pairs as a constant, and `fill_table` writes the type table that states the order. The crate knows
+// what a type table is, and nothing of records.
 ghost use mathlib.Core.Path.{_≡_};
 ghost use Prim.Native.Nat.{_<_};
 ghost use Rattle.house.specs.House.{under, byteOf, answerWith, filling};
@@ -20,7 +21,7 @@ fn is_below(a: usize, b: usize) -> bool
     a % 4 <= b % 4
 }
 
-// Byte k of the type table: of the row of type k / 8, the bits of the eight types from 8 times k % 8 on.
+// Byte k of the type table: it stands in the row of type k / 8, and has the bits of the eight types from 8 times k % 8 on.
 fn byte_at(k: usize) -> u8
     requires { ⌜ k < 512 ⌝ }
     ensures { λ r. ⌜ r ≡ byteOf k ⌝ }
@@ -35,8 +36,8 @@ fn byte_at(k: usize) -> u8
     word as u8
 }
 
-// Fills the output with the type table, for n = 64, and answers whether it has room for the 512 bytes. Its bytes past them are
-// as they were, and all of them where there is no room.
+// Writes the 512 bytes of the type table, for n = 64, and answers whether the output has room for them. The output's bytes past the
+// table stay as they were; where there is no room, all of them do.
 pub fn fill_table(out: &mut [u8]) -> bool
     ensures { λ r. ⌜ answerWith r (now (out .exit)) ≡ filling (now (out .entry)) ⌝ }
 {

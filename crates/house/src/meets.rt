@@ -1,8 +1,8 @@
-// The meets of all pairs of house types, as one constant.
+// This file has the meets of all pairs of house types as one constant (document 02, Paper 8). The program `house_types` prints it.
 ghost use mathlib.Core.Path.{_≡_};
 ghost use Rattle.house.specs.House.{meets};
 
-// Row by row: the meet of a and b is entry 64 a + b.
+// The meets row by row: entry 64 * a + b is the meet of a and b.
 pub const MEETS: [u8; 4096] = [
     0,
     0,
@@ -4102,7 +4102,7 @@ pub const MEETS: [u8; 4096] = [
     63,
 ];
 
-// The constant.
+// The meets of all pairs.
 pub fn all() -> [u8; 4096]
     ensures { λ r. ⌜ r ≡ meets ⌝ }
 {

@@ -1,4 +1,4 @@
--- From what the tests of size, order and bounds answer to whether the table is accepted.
+-- This file goes from what the tests of size, order and bounds answer to whether the table is accepted.
 use Prim.Native.Nat.{ℕ, _*_, _-_, _^_, _<_, _≤_}
 use mathlib.Core.Path.{_≡_, refl, sym, subst, _∙_}
 use mathlib.Core.Bool.{Bool, true, false, cond, _&&_}
@@ -28,12 +28,12 @@ pub size-high : (n : ℕ) (t : List ℕ) → 64 < n → sized n t ≡ false
 unfolding sized
 size-high n t h = rw (le-leb 2 n (omega arith), lt-leb n 64 h)
 
--- a number of types that is right leaves the length to decide
+-- if the number of types is right, the length decides whether the size is
 pub size-length : (n : ℕ) (t : List ℕ) → 2 ≤ n → n ≤ 64 → eqb (length t) (8 * n) ≡ sized n t
 unfolding sized
 size-length n t a b = rw (le-leb 2 n a, le-leb n 64 b)
 
--- what a size that is right says
+-- the facts that a right size states
 pub size-facts : (n : ℕ) (t : List ℕ) → sized n t ≡ true → (2 ≤ n) × (n ≤ 64) × (length t ≡ 8 * n)
 unfolding sized
 size-facts n t h =
@@ -43,7 +43,7 @@ size-facts n t h =
       eqb-true (length t) (8 * n) (and-right (leb 2 n && leb n 64) (eqb (length t) (8 * n)) h),
     )
 
--- refused by size or by order
+-- The table is refused by its size or by its order.
 module _ (n : ℕ) (t : List ℕ) where
   pub answer-size : sized n t ≡ false → Refused Size ≡ opened n t
   unfolding opened
@@ -57,11 +57,11 @@ module _ (n : ℕ) (t : List ℕ) where
   unfolding opened
   answer-order down s words h = rw (s, unordered down s words h)
 
--- both tests pass
+-- The tests of size and order pass.
 pub order-words : {n : ℕ} {t down : List ℕ} → sized n t ≡ true → Words n t false down → every n (rowOrdered n down) ≡ true → OrderWords n t down
 order-words size words order = record { size = size; words = words; order = order }
 
--- an order: its words, and the answer by whether all bounds of one side were found
+-- The rows are an order. The answer depends on whether all bounds of one side are found.
 module _ (n : ℕ) (t down : List ℕ) (passed : OrderWords n t down) where
   pub table-size : (2 ≤ n) × (n ≤ 64) × (length t ≡ 8 * n)
   table-size = size-facts n t (passed .size)

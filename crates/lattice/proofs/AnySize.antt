@@ -1,6 +1,6 @@
--- Bounds among the graphs of any size over an accepted table, whose labels are those of the table. The generalization is the least of
--- those above both graphs. The unification is the greatest of those below both, and where it answers a cycle or a clash there is
--- none. The difference restores, and nothing more general does. Each is the theorem over the table's lattice of labels, carried over.
+-- This file is about bounds among the graphs of any size over an accepted table. The generalization is the least of those above both
+-- graphs. The unification is the greatest of those below both; where it answers a cycle or a clash, none lies below both. The difference
+-- restores, and nothing more general does. Each theorem is carried over from the table's lattice of labels.
 use Prim.Native.Nat.{ℕ}
 use mathlib.Core.Path.{_≡_, refl, sym, ap, subst, _∙_}
 use mathlib.Core.Bool.{Bool, true}
@@ -105,7 +105,7 @@ module _ (n : ℕ) (t : List ℕ) (ok : accepted n t ≡ true) where
             (best .least (lift n t ok m) (below-lift n t ok g m (size .typed) (above .typed) .0 b) (below-lift n t ok h m (other .typed) (above .typed) .0 c))));
       }
 
-  -- what means the same as the least graph is it
+  -- a graph that means the same as the least graph is the least
   pub same-least : {A B C D : Type 0} (g : Graph Label A) (h : Graph Label B) (k : Graph Label C) (m : Graph Label D) → SameMeaning raw k m →
       LeastOfAnySize n t g h k → LeastOfAnySize n t g h m
   same-least g h k m same best =
@@ -116,7 +116,7 @@ module _ (n : ℕ) (t : List ℕ) (ok : accepted n t ≡ true) where
         least = λ u above b c. same-below-left same (best .least u above b c);
       }
 
-  -- what means the same as the greatest graph is it, and so for the graphs that it is below
+  -- a graph that means the same as the greatest graph is the greatest, also below a graph that means the same as one of the two
   pub same-greatest : {A B C D E : Type 0} (g : Graph Label A) (h : Graph Label B) (k : Graph Label C) (i : Graph Label D) (m : Graph Label E) →
       SameMeaning raw g i → SameMeaning raw k m → GreatestOfAnySize n t g h k → GreatestOfAnySize n t i h m
   same-greatest g h k i m same means best =
@@ -202,7 +202,7 @@ module _ (n : ℕ) (t : List ℕ) (ok : accepted n t ≡ true) where
                   (subst (LabelsMeet n t g h p) (sym (lifted-label n t ok u (size .typed) x (p, e))) (is .labels p x e));
             }
 
-    -- what means the same as what the classes give is given by them
+    -- a graph that means the same as a combination is a combination
     pub same-combination : {C D : Type 0} (u : Graph Label C) (w : Graph Label D) → SameMeaning raw u w → IsCombination n t g h u → IsCombination n t g h w
     same-combination u w same is =
         record {
@@ -245,7 +245,7 @@ module _ (n : ℕ) (t : List ℕ) (ok : accepted n t ≡ true) where
           },
         )
 
-    -- A graph that is answered is what the classes give,
+    -- A graph that is answered is the combination.
     pub unification-combination : (u : Graph Label (A ⊎ B)) → answer ≡ unified u → OfAnySize n t u × IsCombination n t g h u
     unification-combination u e = go answers refl (sym answer-lower ∙ e)
       where
@@ -256,7 +256,7 @@ module _ (n : ℕ) (t : List ℕ) (ok : accepted n t ≡ true) where
             let same : lower w ≡ u = cc in
             subst (λ (k : Graph Label (A ⊎ B)). OfAnySize n t k × IsCombination n t g h k) same (unified-combination w q)
 
-    -- so the greatest graph of any size below both.
+    -- A graph that is answered is the greatest graph of any size below both.
     pub unification-greatest : (u : Graph Label (A ⊎ B)) → answer ≡ unified u → GreatestOfAnySize n t g h u
     unification-greatest u e = let (size, is) = unification-combination u e in combination-greatest g h a b u size is
 
@@ -366,7 +366,7 @@ module _ (n : ℕ) (t : List ℕ) (ok : accepted n t ≡ true) where
         let (left, right) = below-broader u (best .of-any-size) (best .left) (best .right) in
         other .greatest u (best .of-any-size) left right
 
-    -- where g and h combine, so do k and m, if their nodes are told apart;
+    -- where g and h combine, so do k and m, if the nodes of k and m are told apart
     pub combines-broader : (sameB : B → B → Bool) (sameD : D → D → Bool) → TellsApart sameB → TellsApart sameD → {U : Type 0} (u : Graph Label U) →
         GreatestOfAnySize n t g h u → (w : Graph Label (B ⊎ D)) × IsCombination n t k m w × GreatestOfAnySize n t k m w × Below raw u w
     combines-broader sameB sameD tellsB tellsD u best =
@@ -376,7 +376,7 @@ module _ (n : ℕ) (t : List ℕ) (ok : accepted n t ≡ true) where
         let other = combination-greatest k m b d w size is in
         (w, is, other, greatest-monotone u w best other)
 
-    -- on any nodes, that they do not is refuted
+    -- for any node type, it is refuted that k and m do not combine
     pub combines-not-refuted : {U : Type 0} (u : Graph Label U) → GreatestOfAnySize n t g h u →
         ((W : Type 0) (w : Graph Label W) → GreatestOfAnySize n t k m w → ⊥) → ⊥
     combines-not-refuted u best refuted =
@@ -407,19 +407,19 @@ module _ (n : ℕ) (t : List ℕ) (ok : accepted n t ≡ true) where
     d-lower : d ≡ lower dᴸ
     d-lower = difference-lower n t ok sameA sameB earlier s ss g gs over wanted
 
-    -- It is a graph of any size,
+    -- The difference is a graph of any size.
     pub difference-of-any-size : OfAnySize n t d
     difference-of-any-size =
         subst (OfAnySize n t) (sym d-lower)
         (lower-of-any-size n t ok (Computed.difference-any-size law sameA sameB earlier (lift n t ok s) ss (lift n t ok g) gs over wanted set))
 
-    -- its links are links of s,
+    -- The links of the difference are links of s.
     pub difference-links : (u v : A) (f : ℕ) → Reached d u → d .link u f ≡ some v → Reached s u × (s .link u f ≡ some v)
     difference-links =
         subst (λ (k : Graph Label A). (u v : A) (f : ℕ) → Reached k u → k .link u f ≡ some v → Reached s u × (s .link u f ≡ some v)) (sym d-lower)
         (Computed.difference-links law sameA sameB earlier (lift n t ok s) ss (lift n t ok g) gs over wanted set)
 
-    -- and s is the greatest graph of any size below it and g.
+    -- s is the greatest graph of any size below the difference and g.
     pub difference-restores : GreatestOfAnySize n t d g s
     difference-restores =
         subst (λ (k : Graph Label A). GreatestOfAnySize n t k g s) (sym d-lower)
@@ -435,7 +435,7 @@ module _ (n : ℕ) (t : List ℕ) (ok : accepted n t ≡ true) where
               (below-lift n t ok m g (under .typed) (b .typed) .0 y));
         })
 
-    -- Of what lies strictly above it, on numbers, no greatest graph below it and g lies below s.
+    -- Let e, a graph on numbers, lie strictly above the difference. No greatest graph below e and g lies below s.
     numbers-most-general : (e : Graph Label ℕ) (c : OfAnySize n t e) → Below raw d e → (Below raw e d → ⊥) → {C : Type 0} (u : Graph Label C) →
         GreatestOfAnySize n t e g u → Below raw u s → ⊥
     numbers-most-general e c above strict u best below =
@@ -465,7 +465,7 @@ module _ (n : ℕ) (t : List ℕ) (ok : accepted n t ≡ true) where
         (same-below-right (lower-lift-same n t ok s (a .typed))
         (below-transitive (lower w) u s lower-size (best .of-any-size) a under below)))
 
-    -- It is most general: what lies strictly above it, on whatever nodes, gives with g what lies strictly above s.
+    -- The difference is most general: a graph strictly above it, on any nodes, gives with g a graph strictly above s.
     pub difference-most-general : {E C : Type 0} (e : Graph Label E) → OfAnySize n t e → Below raw d e → (Below raw e d → ⊥) →
         (u : Graph Label C) → GreatestOfAnySize n t e g u → Below raw s u × (Below raw u s → ⊥)
     difference-most-general e c above strict u best = (

@@ -1,5 +1,5 @@
--- Bits of numbers: a word has the bits that it is made of, numbers below 2 ^ 64 with the same bits are one, and what the bit
--- operations and the counts of zeros say of bits.
+-- This file is about the bits of numbers: a word has the bits that it is made of, and numbers below 2 ^ 64 with the same bits are one. It
+-- says what the bit operations and the counts of zeros tell about bits.
 use Prim.Native.Nat.{ℕ, zero, suc, _+_, _*_, _-_, _/_, _%_, _^_, _<_, _≤_}
 use mathlib.Core.Path.{_≡_, refl, sym, ap, ap₂, subst, _∙_}
 use mathlib.Core.Bool.{Bool, true, false, not, _&&_, _||_}
@@ -29,7 +29,7 @@ bit-digit w j = go (w / 2 ^ j % 2) (mod-lt (w / 2 ^ j) two) where
   go (suc zero) l = refl
   go (suc (suc d)) l = absurd (omega arith)
 
--- the k low bits of a number make the number's rest by 2 ^ k
+-- the k low bits of a number make its remainder by 2 ^ k
 word-bit : (k w : ℕ) → word k (bit w) ≡ w % 2 ^ k
 unfolding word
 word-bit zero w = omega arith
@@ -170,7 +170,7 @@ without-less a b j e f =
 pub cleared-less : (w j : ℕ) → bit w j ≡ true → without w (2 ^ j) < w
 cleared-less w j e = without-less w (2 ^ j) j e (one-bit j j ∙ eq-eqb j j refl)
 
--- a bit that still stands is another, and one that does not stood not before or is the one cleared
+-- bit k of a word with bit j cleared is set exactly where bit k of the word is set and k is not j
 pub cleared-bit : (w j k : ℕ) → bit (without w (2 ^ j)) k ≡ (bit w k && not (eqb k j))
 cleared-bit w j k = without-bit w (2 ^ j) k ∙ ap (λ (b : Bool). bit w k && not b) (one-bit j k)
 
@@ -192,7 +192,7 @@ lowest-bit (suc k) w l s = go (w % 2) refl (lowest-bit k (w / 2) (shr-lt k 1 (su
       let f : w / 1 % 2 ≡ 1 = omega (arith, mod-lt w two) in
       (omega arith, eq-eqb _ _ f)
 
--- a number and the one before it have all bits in common but those up to the lowest standing one
+-- the bits that a number shares with the number before it, and its lowest set bit, make the number
 lowest-and : (k w : ℕ) → w < 2 ^ k → 0 < w → bitAnd w (w - 1) + 2 ^ trailingZeros k w ≡ w
 unfolding trailingZeros
 lowest-and zero w l s = absurd (omega arith)
@@ -213,7 +213,7 @@ lowest-and (suc k) w l s = go (w % 2) refl (lowest-and k (w / 2) (shr-lt k 1 (su
       and-step w (w - 1) ∙ rw (half, even, own, and-self (w / 2)) (omega arith) in
       omega (arith, step, own)
 
--- so their common part is the number with that bit cleared
+-- the bits that a number shares with the number before it are the number with its lowest bit cleared
 pub lowest-cleared : (w : ℕ) → w < 2 ^ 64 → 0 < w → bitAnd w (w - 1) ≡ without w (2 ^ trailingZeros 64 w)
 lowest-cleared w l s =
     let j : ℕ = trailingZeros 64 w in
@@ -252,7 +252,7 @@ highest-bit w l s =
         let down : 1 ≤ w / 2 ^ j = le-div-iff-mul-le (pow-pos j) .1 (omega arith) in
         omega arith
 
--- a word of m bits below k others
+-- a word of m + k bits has the m low bits below the k others
 word-append : (m k : ℕ) (p : ℕ → Bool) → word (m + k) p ≡ word k (λ j. p (m + j)) * 2 ^ m + word m p
 unfolding word
 word-append m zero p = ap (λ (x : ℕ). word x p) (add-zero m) ∙ none (2 ^ m) (word m p) where

@@ -1,6 +1,6 @@
--- The type whose word is the common part of the words of a and b is their bound: in the words of the types below each type
--- the greatest lower bound, in those of the types above the least upper bound. And where every two types have a bound on one
--- side, every two have a bound on the other, since there are a least and a greatest type.
+-- The type whose word has the bits that the words of a and b share is their bound: in the words of the types below each type it is the
+-- greatest lower bound, in those of the types above the least upper bound. Where every two types have a bound on one side, every two have
+-- a bound on the other, since there are a least and a greatest type.
 use Prim.Native.Nat.{ℕ, zero, suc, _*_, _-_, _<_, _≤_}
 use mathlib.Core.Path.{_≡_, refl, sym, ap, subst, _∙_}
 use mathlib.Core.Bool.{Bool, true, false, _&&_}
@@ -84,7 +84,7 @@ module _ (n : ℕ) (ws : List ℕ) where
       every-all _ n λ b s.
       implies-from (leb a b) (test a b) λ e. every-at (test a) n b (every-at (λ i. every n (test i)) n a h l) s
 
--- Bounds on one side give those on the other: of a and b, the bound of all types that have both on their side.
+-- Bounds on one side give those on the other: a ∨ b is the meet of all upper bounds of both, and dually.
 module _ (n : ℕ) (rel : ℕ → ℕ → Bool) (laws : Side n rel) (end : ℕ) (type : end < n) (all : (i : ℕ) → i < n → rel end i ≡ true)
     (bounds : (a b : ℕ) → a < n → b < n → found (last n (isBound n rel a b)) ≡ true) where
   bound-of : (a b : ℕ) → a < n → b < n
@@ -102,7 +102,7 @@ module _ (n : ℕ) (rel : ℕ → ℕ → Bool) (laws : Side n rel) (end : ℕ) 
         λ d l e f. implies-at (rel a d && rel b d) (rel c d) (every-at _ n d most l) (and-both (rel a d) (rel b d) e f),
       )
 
-  -- a type that has a and b on its side, and is on the side of those before k that have
+  -- there is a type that has a and b on its side, and is itself on the side of every type before k that has both
   shared-bound : (a b : ℕ) → a < n → b < n → (k : ℕ) → k ≤ n
       → (c : ℕ) × (c < n) × (rel c a ≡ true) × (rel c b ≡ true) × ((d : ℕ) → d < k → rel d a ≡ true → rel d b ≡ true → rel d c ≡ true)
   shared-bound a b la lb zero l = (end, type, all a la, all b lb, λ d r. absurd (not-suc-le-zero r))

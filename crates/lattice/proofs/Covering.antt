@@ -1,6 +1,6 @@
--- Which pairs of an order with a greatest type need a meet: where every two types that one type covers have one, every two types
--- have. Take x and y below z. Where one of them is z, the other is their meet. Else x is below x′ and y below y′, which z covers; these
--- have a meet w, so x and w, both below x′, have one, u, and u and y, both below y′, have one, which is that of x and y.
+-- In an order with a greatest type, where every two types that one type covers have a meet, every two types have one. Take x and y below z.
+-- If one of them is z, the other is their meet. Else x is below x′ and y below y′, two types that z covers. These have a meet w; x and w,
+-- both below x′, have a meet u; and u and y, both below y′, have a meet, which is the meet of x and y.
 use Prim.Native.Nat.{ℕ, zero, suc, _+_, _-_, _^_, _<_, _≤_}
 use mathlib.Core.Path.{_≡_, refl, sym, ap, ap₂, subst, _∙_}
 use mathlib.Core.Bool.{Bool, true, false, not, _&&_, _||_}
@@ -35,7 +35,7 @@ pub under-strictly : (ws : List ℕ) (i j : ℕ) → Under ws i j → bit (stric
 under-strictly ws i j u = cleared-bit (getD ws i 0) i j ∙ rw (u .below, ne-eqb j i (u .apart))
 
 module _ (n : ℕ) (ws : List ℕ) (few : n ≤ 64) (low : Lower n ws) where
-  -- the common part of the words of a and b is the word of a type
+  -- the bits that the words of a and b share are the word of a type
   abbrev Meets : ℕ → ℕ → Type 0
   Meets a b = (c : ℕ) × (c < n) × (getD ws c 0 ≡ bitAnd (getD ws a 0) (getD ws b 0))
 
@@ -60,7 +60,7 @@ module _ (n : ℕ) (ws : List ℕ) (few : n ≤ 64) (low : Lower n ws) where
       go k l true f = rw (f, low .chain z x k lz lx (low .sided .inside x k lx l f) e f)
       go k l false f = rw f
 
-  -- strictly below is less
+  -- the word of a type strictly below z is less than the word of z
   below-less : (z x : ℕ) → z < n → x < n → bit (getD ws z 0) x ≡ true → (x ≡ z → ⊥) → getD ws x 0 < getD ws z 0
   below-less z x lz lx e apart =
       let common : bitAnd (getD ws x 0) (strictly ws z) ≡ getD ws x 0 =
@@ -85,7 +85,7 @@ module _ (n : ℕ) (ws : List ℕ) (few : n ≤ 64) (low : Lower n ws) where
   abbrev MeetsUnder : ℕ → Type 0
   MeetsUnder k = (z x y : ℕ) → z < n → x < n → y < n → bit (getD ws z 0) x ≡ true → bit (getD ws z 0) y ≡ true → getD ws z 0 < k → Meets x y
 
-  -- a type's bit in the common part of two words that is its own
+  -- where the bits that two words share are the word of c, both words have the bit of c
   common-own : (c a b : ℕ) → c < n → getD ws c 0 ≡ bitAnd (getD ws a 0) (getD ws b 0) → (bit (getD ws a 0) c && bit (getD ws b 0) c) ≡ true
   common-own c a b l e = sym (and-bit (getD ws a 0) (getD ws b 0) c) ∙ ap (λ (v : ℕ). bit v c) (sym e) ∙ low .sided .own c l
 
@@ -115,7 +115,7 @@ module _ (n : ℕ) (ws : List ℕ) (few : n ≤ 64) (low : Lower n ws) where
       (λ e. low .chain b y i lb ly (low .sided .inside y i ly l e) b-y e) ∙
       sym (and-bit (getD ws x 0) (getD ws y 0) i)
 
-  -- by the meet w of a and b, that of x and w, and that of this and y
+  -- x and y have a meet: it comes from the meet w of a and b, the meet of x and w, and the meet of this and y
   meets-through : (k x y a b : ℕ) → x < n → y < n → a < n → b < n → bit (getD ws a 0) x ≡ true → bit (getD ws b 0) y ≡ true
       → getD ws a 0 < k → getD ws b 0 < k → MeetsUnder k → Meets a b → Meets x y
   meets-through k x y a b lx ly la lb a-x b-y ha hb next (w, lw, is-w) =
@@ -142,7 +142,7 @@ module _ (n : ℕ) (ws : List ℕ) (few : n ≤ 64) (low : Lower n ws) where
           meets-through k x y a b lx ly la lb a-x b-y (omega arith) (omega arith) next
           (found-meets a b (pairs z a b lz (omega arith) (omega arith) ca cb))
 
-      -- so it is of every two types below z
+      -- every two types below z have a meet
       meets-below : (k z x y : ℕ) → z < n → x < n → y < n → bit (getD ws z 0) x ≡ true → bit (getD ws z 0) y ≡ true → getD ws z 0 < k → Meets x y
       meets-below zero z x y lz lx ly ex ey h = absurd (not-suc-le-zero h)
       meets-below (suc k) z x y lz lx ly ex ey h = go (meets-below k) (eqb x z) refl (eqb y z) refl where
@@ -166,7 +166,7 @@ module _ (n : ℕ) (ws : List ℕ) (few : n ≤ 64) (low : Lower n ws) where
           every-all _ n λ b lb.
           meets-found a b (meets-below (suc (getD ws (n - 1) 0)) (n - 1) a b (omega arith) la lb (low .most a la) (low .most b lb) (omega arith))
 
--- a pair without a bound tells of all
+-- where one pair has no bound, not every two types have one
 bound-missing : (n : ℕ) (ws : List ℕ) (a b : ℕ) → a < n → b < n → found (wordBound n ws a b) ≡ false → allFound n (wordBound n ws) ≡ false
 unfolding allFound
 bound-missing n ws a b la lb e = every-fails _ n a la (every-fails _ n b lb e)
@@ -263,7 +263,7 @@ module _ (n : ℕ) (ws : List ℕ) where
   pub covers-more : (k w : ℕ) → CoversBounded k → Covered n ws k w → BoundsWithin n ws w true → CoversBounded (k + 1)
   covers-more k w h c b = below-more (λ z. (w : ℕ) × Covered n ws z w × BoundsWithin n ws w true) k h (w, c, b)
 
-  -- so all have
+  -- if every two types that one type covers have a bound, every two types have one
   pub covers-bounded : n ≤ 64 → Lower n ws → (k : ℕ) → n ≤ k → k ≤ n → CoversBounded k → true ≡ allFound n (wordBound n ws)
   covers-bounded few low k l s h = go (below-or-not 0 n) where
     wider : (z : ℕ) → z < n → z < k

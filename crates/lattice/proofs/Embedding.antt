@@ -1,6 +1,6 @@
--- Labels that stand for others: a map of labels that keeps order, meets, joins, the greatest label, the contradiction, and tells labels
--- apart. Graphs with the one or the other labels have the same order, equal meaning and size, and their generalization, unification
--- and difference are one but for the labels.
+-- This file is about labels that stand for others, by a map that keeps order, meets, joins, the greatest label and the contradiction, and
+-- that tells labels apart. Graphs with the one labels or the other have the same order, equal meaning and size, and their generalization,
+-- unification and difference differ in the labels alone.
 use mathlib.Core.Path.{_≡_, refl, sym, ap, ap₂, subst, _∙_, fun-ext}
 use mathlib.Core.Bool.{Bool, true, false, cond, _&&_}
 use mathlib.Core.List.{List, [], _∷_, map, foldr, List·Memᴰ, List·Memᴰ·head, List·Memᴰ·tail, List·Memᴰ·append-cases, Memᴰ·of-map}

@@ -1,4 +1,4 @@
--- Tests as facts: a conjunction, an implication, `every` and `last` of `Table`, each as what it says where it is true.
+-- This file turns tests into facts: it says what a conjunction, an implication, and `every` and `last` of `Table` state where they are true.
 use Prim.Native.Nat.{ℕ, zero, suc, _+_, _<_, _≤_}
 use mathlib.Core.Path.{_≡_, refl, sym, ap, subst, _∙_}
 use mathlib.Core.Bool.{Bool, true, false, cond, not, _&&_, _||_}

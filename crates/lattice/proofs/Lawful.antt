@@ -1,6 +1,6 @@
--- The labels of an accepted table are a lattice: its types, and the levels 0 to 255, are one each, and order, meet and join go by
--- components. The laws hold for types below n and levels to 255, so a label here is such a one; what a cell of the tables holds
--- becomes a label by a total function, which keeps every label of the table.
+-- The labels of an accepted table are a lattice: its types are one, the levels 0 to 255 are one, and order, meet and join go by
+-- components. The laws hold for types below n and levels up to 255, so a label here is a label with a proof of that. A total function makes
+-- a label of what a cell of the tables holds, and keeps every label of the table.
 use Prim.Native.Nat.{ℕ, suc, _-_, _<_, _≤_}
 use mathlib.Core.Path.{_≡_, refl, sym, ap, subst, _∙_}
 use mathlib.Core.Bool.{Bool, true, false, _&&_, _||_}

@@ -1,5 +1,5 @@
--- The laws of an accepted table, for the types below n: an order with a least and a greatest type, meets and joins, wanted types;
--- and where the table admits differences, residuals, which are the wanted types.
+-- This file has the laws of an accepted table, for the types below n: its order with a least and a greatest type, its meets and joins, and
+-- its wanted types. Where the table admits differences it has residuals, and they are the wanted types.
 use Prim.Native.Nat.{ℕ, _*_, _-_, _<_, _≤_}
 use mathlib.Core.Path.{_≡_, refl, sym, ap, subst, _∙_}
 use mathlib.Core.Bool.{true, false, _&&_}

@@ -1,4 +1,4 @@
--- Lemmas that several proofs share.
+-- These files have the lemmas that several proofs share, and the theorems about tables and their labels.
 pub mod Every
 pub mod WordLaws
 pub mod Bits

@@ -1,4 +1,4 @@
--- An order's laws as facts, and that the tests on words decide them.
+-- This file states the laws of an order as facts, and shows that the tests on words decide them.
 use Prim.Native.Nat.{ℕ, suc, _+_, _*_, _-_, _/_, _%_, _^_, _<_, _≤_}
 use mathlib.Core.Path.{_≡_, sym, ap, _∙_}
 use mathlib.Core.Bool.{Bool, true, false, _&&_}

@@ -1,6 +1,6 @@
--- Labels without ranges: types with the full range have the order, meets, joins, greatest label, contradiction and wanted labels of the
--- types alone, and graphs whose labels are such have the results of the graphs of types. "Records without ranges must give the bytes
--- they gave before" (document 02, Paper 7) rests on this. With the types of a table, `withRanges` of them is `tableLabels`.
+-- This file is about labels without ranges: types with the full range have the order, meets, joins, greatest label, contradiction and wanted
+-- labels of the types alone, and graphs with such labels have the results of the graphs of types. "Records without ranges must give the bytes
+-- they gave before" (document 02, Paper 7) rests on this. For the types of a table, `withRanges` gives `tableLabels`.
 use Prim.Native.Nat.{ℕ, _<_}
 use mathlib.Core.Path.{_≡_, refl, ap, fun-ext}
 use mathlib.Core.Bool.{Bool, true, false, _&&_, _||_}

@@ -1,6 +1,6 @@
--- Ranges as sets of levels (document 02, Paper 7): the order, joins and meets of `withRanges`, which compare and combine the lowest and
--- the highest level, are those of the levels inside. A range is non-empty when its lowest level is at most its highest, as that of every
--- accepted record is.
+-- This file is about ranges as sets of levels (document 02, Paper 7): the order, joins and meets of `withRanges`, which compare and combine
+-- the lowest and the highest level, are those of the sets of levels inside. A range is non-empty when its lowest level is at most its
+-- highest; every range of an accepted record is.
 use Prim.Native.Nat.{ℕ, suc, _<_, _≤_}
 use mathlib.Core.Path.{_≡_, refl}
 use mathlib.Core.Bool.{Bool, true, false, _&&_, _||_}
@@ -46,11 +46,11 @@ module _ (𝓣 : Labels) (x y : Ranged (𝓣 .L)) where
       h : Bool
       h = leb (x .highest) (y .highest)
 
-  -- "the common part takes the smallest range holding both": it holds both,
+  -- "the common part takes the smallest range holding both": the range holds both.
   pub join-range-holds : RangeInside x (withRanges 𝓣 .join x y) × RangeInside y (withRanges 𝓣 .join x y)
   join-range-holds = (λ l (a, b). (omega arith, omega arith), λ l (a, b). (omega arith, omega arith))
 
-  -- and lies inside every range that does
+  -- The range lies inside every range that holds both.
   pub join-range-smallest : NonEmpty x → NonEmpty y → (z : Ranged (𝓣 .L)) → RangeInside x z → RangeInside y z →
       RangeInside (withRanges 𝓣 .join x y) z
   join-range-smallest some-x some-y z in-x in-y =

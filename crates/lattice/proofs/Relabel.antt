@@ -1,5 +1,5 @@
--- Graphs with other labels: one root, the same links, hence the same paths and the same numbering, and a written form that differs
--- in the labels alone. And the order carried along equal meaning, which asks no law of the labels.
+-- This file is about graphs with other labels: they have one root and the same links, hence the same paths and the same numbering, and
+-- their written forms differ in the labels alone. The file also carries the order along equal meaning, which asks no law of the labels.
 use mathlib.Core.Path.{_≡_, refl, sym, ap, _∙_}
 use mathlib.Core.Bool.{Bool, true, false, cond}
 use mathlib.Core.List.{List, [], map, map-map, reverse}

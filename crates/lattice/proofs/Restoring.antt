@@ -1,5 +1,5 @@
--- The search for a wanted type in words: the type whose word is the union of the words of all types that restore p over q is the
--- greatest of them. Every one of them is below it, and it is below one of them.
+-- This file is about the search for a wanted type in words. The type whose word is the union of the words of all types that restore p over
+-- q is the greatest of these types: each of them is below that type, and that type is below one of them.
 use Prim.Native.Nat.{ℕ, _+_, _-_, _^_, _<_, _≤_}
 use mathlib.Core.Path.{_≡_, refl, sym, ap, subst, _∙_}
 use mathlib.Core.Bool.{Bool, true, false, not, _&&_}
@@ -99,7 +99,7 @@ module _ (n : ℕ) (t ws : List ℕ) (ok : accepted n t ≡ true) (words : Words
   one-word a b l s e =
       laws .anti a b l s (ap (λ (w : ℕ). bit w b) e ∙ laws .own b s) (ap (λ (w : ℕ). bit w a) (sym e) ∙ laws .own a l)
 
-  -- the common part of two words is the word of the meet
+  -- the bits that two words share are the word of the meet
   common-word : (d q m : ℕ) → d < n → q < n → Meet n t d q m → bitAnd (getD ws d 0) (getD ws q 0) ≡ getD ws m 0
   common-word d q m ld lq is =
       rw (words d ld, words q lq, words m (is .type))
@@ -148,7 +148,7 @@ module _ (n : ℕ) (t ws : List ℕ) (ok : accepted n t ≡ true) (words : Words
         (part-bit u (getD ws (n - 1) 0)
         (all-part (getD ws (n - 1) 0) (λ d s f. below-part d (n - 1) s (top-type n t ok) (top-greatest n t ok d s))) j e)
 
-    -- a type that all that restore are below restores where its word is the union: else the union would be without it
+    -- a type that is above all types that restore, and whose word is the union, restores: else the union would not have its bit
     own-restores : (c : ℕ) → c < n → getD ws c 0 ≡ u → ((d : ℕ) → d < n → restores n t p q d ≡ true → below t d c ≡ true) →
         restores n t p q c ≡ true
     own-restores c l same most =

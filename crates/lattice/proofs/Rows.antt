@@ -1,4 +1,4 @@
--- The rows of a table of bounds: what stands in a row and in the table's cells, and when two such tables are equal.
+-- This file is about the rows of a table of bounds: what stands in a row and in the table's cells, and when two such tables are equal.
 use Prim.Native.Nat.{ℕ, zero, suc, _+_, _<_, _≤_}
 use mathlib.Core.Path.{_≡_, refl, sym, ap, _∙_}
 use mathlib.Core.Bool.{Bool, true, false, cond}
@@ -118,7 +118,7 @@ set-more d f l i v s h e =
     (λ k r. getD-set-other l i k v d (λ q. absurd (omega arith)) ∙ h k r)
     (getD-set-same l i v d s ∙ e)
 
--- a holder is a type
+-- what `holder` finds is a type
 holder-type : (n : ℕ) (ws : List ℕ) (w c : ℕ) → holder n ws w ≡ some c → c < n
 unfolding holder
 holder-type n ws w c e = last-passes (λ k. eqb (getD ws k 0) w) n c e .0

@@ -1,5 +1,5 @@
--- The search for the type that has a word, in the words of one side of an order: it is a bit of its own word, and no type on
--- the side of another that has the word's bits can be it.
+-- This file is about the search for the type that has a word, in the words of one side of an order. The type has its own bit in the word.
+-- If a type of the word has another word, neither this type nor a type on its side is the one sought.
 use Prim.Native.Nat.{ℕ, _^_, _<_, _≤_}
 use mathlib.Core.Path.{_≡_, sym, ap, subst, _∙_}
 use mathlib.Core.Bool.{true, false, not, _&&_}
@@ -74,12 +74,12 @@ module _ {ws : List ℕ} {word left : ℕ} (s : Seeking ws word left) where
         rest : (j : ℕ) → bit (without (without left (2 ^ c)) (getD ws c 0)) j ≡ (bit (without left (2 ^ c)) j && not (bit (getD ws c 0) j))
         rest j = without-bit (without left (2 ^ c)) (getD ws c 0) j
 
--- the common part of two words has no bit at n or above
+-- the bits that two words share are below n
 pub common-inside : (n : ℕ) (ws : List ℕ) (a b : ℕ) → a < n → Sided n ws → Inside n (bitAnd (getD ws a 0) (getD ws b 0))
 common-inside n ws a b l side j r e =
     side .inside a j l r (and-left (bit (getD ws a 0) j) (bit (getD ws b 0) j) (sym (and-bit (getD ws a 0) (getD ws b 0) j) ∙ e))
 
--- a type that has the common part of the words of a and b as its word is their bound
+-- a type whose word has the bits that the words of a and b share is their bound
 module _ (ws : List ℕ) (a b c : ℕ) (l : c < 64) (e : getD ws c 0 ≡ bitAnd (getD ws a 0) (getD ws b 0)) where
   pub bound-at : bit (bitAnd (getD ws a 0) (getD ws b 0)) c ≡ true
       → (n : ℕ) → n ≤ 64 → Sided n ws → a < n → b < n → c ≡ cell (wordBound n ws a b)

@@ -1,7 +1,7 @@
--- Graphs with any labels, and graphs whose labels are those of an accepted table. The first are what records state, the second what
--- the theory of graphs speaks of. `lift` and `lower` only change labels, so the two graphs have one root, the same links and the
--- same paths; where every label is one of the table, order, equal meaning, generalization, unification and
--- difference of the one are those of the other.
+-- This file goes between graphs with any labels, which records state, and graphs whose labels are those of an accepted table, which the
+-- theory of graphs speaks of. `lift` and `lower` only change labels, so the two graphs have one root, the same links and the same paths.
+-- Where every label is one of the table, order, equal meaning, generalization, unification and difference of the one are those of the
+-- other.
 use Prim.Native.Nat.{ℕ, _<_}
 use mathlib.Core.Path.{_≡_, refl, sym, ap, ap₂, subst, _∙_}
 use mathlib.Core.Bool.{Bool, true}
@@ -160,7 +160,7 @@ module _ (n : ℕ) (t : List ℕ) (ok : accepted n t ≡ true) where
     unfoldable pub lift-any-size : OfAnySize n t g → AnySize law (lift g)
     lift-any-size size = any-size-lift (size .typed) .0 (size .any-size)
 
-  -- what means the same as a graph of any size is one
+  -- a graph that means the same as a graph of any size is a graph of any size
   pub same-of-any-size : {A B : Type 0} (g : Graph Label A) (h : Graph Label B) → SameMeaning raw g h → OfAnySize n t g → OfAnySize n t h
   same-of-any-size {B = B} g h m size =
       record {

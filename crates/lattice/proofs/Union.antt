@@ -1,5 +1,5 @@
--- The union of rows, taken row by row, and the test of a type's pairs by one union: below each type strictly below i are
--- only types strictly below i.
+-- This file is about the union of rows, taken row by row, and about the test of a type's pairs by one union: the types below any type
+-- strictly below i are strictly below i.
 use Prim.Native.Nat.{ℕ, _^_, _<_}
 use mathlib.Core.Path.{_≡_, refl, sym, ap, ap₂, subst, _∙_}
 use mathlib.Core.Bool.{Bool, true, false, not, _&&_, _||_}
@@ -149,7 +149,7 @@ pair-lower ws i j = go (eqb j i) refl where
       (cleared-part (getD ws j 0) (getD ws i 0) i ∙
       ap (λ (b : Bool). partOf (getD ws j 0) (getD ws i 0) && b) (strictly (bit (getD ws j 0) i) (eqb i j) apart))
 
--- so one test of the union tells of all pairs of i
+-- one test of the union tells whether all pairs of i are ordered
 pub pairs-lower : (ws : List ℕ) (i lower all : ℕ) → lower ≡ without (getD ws i 0) (2 ^ i) → Union ws lower all
     → partOf all lower ≡ every 64 (λ j. implies (bit (getD ws i 0) j) (pairOrdered ws i j))
 pairs-lower ws i lower all e u =

@@ -1,5 +1,5 @@
--- The wanted label of p over q, for p below q, is the greatest label of the table whose meet with q is p; there is none exactly where
--- there is no wanted type. Each component is looked for alone: a wanted level is always there.
+-- The wanted label of p over q, for p below q, is the greatest label of the table whose meet with q is p. There is none exactly where
+-- there is no wanted type: type, lowest and highest level are found apart, and there is always a wanted level.
 use Prim.Native.Nat.{ℕ, _-_, _<_, _≤_, min, max}
 use mathlib.Core.Path.{_≡_, refl, sym, ap, subst, _∙_}
 use mathlib.Core.Bool.{Bool, true, false, cond}
@@ -48,7 +48,7 @@ level-most : (widest p q m : ℕ) → widest ≤ m → p ≤ m → wantedLevel w
 level-most widest p q m a b =
     ⊎-elim (λ (_, e). subst (λ (x : ℕ). x ≤ m) (sym e) a) (λ (_, e). subst (λ (x : ℕ). x ≤ m) (sym e) b) (level-cases widest p q)
 
--- the wanted lowest level restores, and is the least that does;
+-- the wanted lowest level restores, and is the least that does
 lowest-restores : (p q : ℕ) → q ≤ p → max (wantedLevel 0 p q) q ≡ p
 lowest-restores p q l =
     ⊎-elim (λ (e, w). ap (λ (x : ℕ). max x q) w ∙ omega arith) (λ (_, w). ap (λ (x : ℕ). max x q) w ∙ omega arith) (level-cases 0 p q)

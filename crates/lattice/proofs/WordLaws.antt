@@ -1,5 +1,5 @@
--- Words: two words are equal where their bits are, the common part of two words has the bits that stand in both, and a word
--- is below 2 ^ n where no bit stands at n or above.
+-- This file is about words: two words are equal where their bits are, the overlap of two words has the bits that are set in both, and a
+-- word is below 2 ^ n where no bit is set at n or above.
 use Prim.Native.Nat.{ℕ, zero, suc, _+_, _*_, _-_, _/_, _%_, _^_, _<_, _≤_}
 use mathlib.Core.Path.{_≡_, refl, sym, ap, subst, _∙_}
 use mathlib.Core.Bool.{Bool, true, false, _&&_}
@@ -73,7 +73,7 @@ word-and (suc k) p q =
     and-block k (digit (p k)) (digit (q k)) (word k p) (word k q) (word-below k p) (word-below k q) ∙
     rw (digit-and (p k) (q k), word-and k p q)
 
--- all bits of one word stand in another where it says so
+-- a word is part of another where all its bits are set in the other
 pub bits-part-of : (k : ℕ) (p q : ℕ → Bool) → ((j : ℕ) → j < k → p j ≡ true → q j ≡ true) → partOf (word k p) (word k q) ≡ true
 bits-part-of k p q h =
     eq-eqb _ _ (word-and k p q ∙ word-same k _ p λ j l. same-test (p j && q j) (p j) (and-left (p j) (q j)) λ e. and-both (p j) (q j) e (h j l e))

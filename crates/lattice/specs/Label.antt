@@ -1,5 +1,5 @@
--- The label of a node: what a record says of it beside its links. It is the node's type and its range of levels (document 02, Paper 7:
--- "Bits 0 to 6 of the type byte are the type; bit 7 says that two bytes follow it, lowest and highest level, 0 to 255").
+-- A node's label is what a record says of the node beside its links: its type and its range of levels (document 02, Paper 7: "Bits 0 to 6
+-- of the type byte are the type; bit 7 says that two bytes follow it, lowest and highest level, 0 to 255").
 use mathlib.Core.Bool.{Bool, _&&_}
 use mathlib.Core.List.{List}
 use Prim.Native.Nat.{ℕ}
@@ -13,6 +13,7 @@ pub record Ranged (T : Type 0) : Type 0 where
   pub lowest : ℕ
   pub highest : ℕ
 
+-- the label of a node in a record: the type is a number
 abbrev pub Label : Type 0
 Label = Ranged ℕ
 
@@ -20,7 +21,7 @@ Label = Ranged ℕ
 abbrev pub plain : {T : Type 0} → T → Ranged T
 plain a = record { type = a; lowest = 0; highest = 255 }
 
--- whether a range is the full one
+-- whether the range of a label is the full one, "0 to 255"
 unfoldable pub isFull : Label → Bool
 isFull l = eqb (l .lowest) 0 && eqb (l .highest) 255
 

@@ -1,6 +1,6 @@
--- The labels of a table: its types with the order, meets and joins of the table, n - 1 as top and 0 as the contradiction (document 01,
--- "Type table"), and with each a range of levels (document 02, Paper 7); graphs of any size over a table, bounds among them, what
--- combines two of them over paths, and the wanted labels of their difference.
+-- This file defines the labels of a table: its types, with the order, meets and joins of the table, n - 1 as top and 0 as the contradiction
+-- (document 01, "Type table"), each with a range of levels (document 02, Paper 7). With these labels it says over paths what a graph of any
+-- size over a table is, what bounds two such graphs have, what their combination is, and which labels their difference wants.
 use Prim.Native.Nat.{ℕ, suc, _-_, _<_, _≤_, min, max}
 use mathlib.Core.Path.{_≡_}
 use mathlib.Core.Bool.{Bool, true, cond, _&&_, _||_}
@@ -26,11 +26,11 @@ typeLabels n t =
       contradiction = λ a. eqb a 0;
     }
 
--- Types with ranges. "Below now also asks that the range lies inside; the common part takes the smallest range holding both, the
--- combination the overlap, and an empty overlap is a clash." A lowest level above the highest is a range like any other here, so
--- each law holds for type, lowest and highest level alone.
+-- Types with ranges: "Below now also asks that the range lies inside; the common part takes the smallest range holding both, the
+-- combination the overlap, and an empty overlap is a clash." Here a lowest level above the highest is a range like any other, so
+-- each law can be shown for the type, the lowest level and the highest level apart.
 module _ {T : Type 0} where
-  -- by a join of types, with "the smallest range holding both"
+  -- the join of two types with ranges, by a join of types, with "the smallest range holding both"
   abbrev pub joinRanged : (T → T → T) → Ranged T → Ranged T → Ranged T
   joinRanged join x y =
       record {
@@ -39,7 +39,7 @@ module _ {T : Type 0} where
         highest = max (x .highest) (y .highest);
       }
 
-  -- by a meet of types, with "the overlap"
+  -- the meet of two types with ranges, by a meet of types, with "the overlap"
   abbrev pub meetRanged : (T → T → T) → Ranged T → Ranged T → Ranged T
   meetRanged meet x y =
       record {
@@ -48,11 +48,11 @@ module _ {T : Type 0} where
         highest = min (x .highest) (y .highest);
       }
 
-  -- by a test for the contradiction among types, or for an empty range
+  -- whether a type with a range is a contradiction: the type is one, or the range is empty
   abbrev pub contradictionRanged : (T → Bool) → Ranged T → Bool
   contradictionRanged contradiction x = contradiction (x .type) || leb (suc (x .highest)) (x .lowest)
 
--- the labels that types with ranges are
+-- the types 𝓣 with ranges, as labels
 abbrev pub withRanges : Labels → Labels
 withRanges 𝓣 =
     record {
@@ -68,7 +68,7 @@ withRanges 𝓣 =
 abbrev pub LevelIn : {T : Type 0} → Ranged T → ℕ → Type 0
 LevelIn x l = (x .lowest ≤ l) × (l ≤ x .highest)
 
--- some level lies inside
+-- some level lies inside the range of x
 abbrev pub NonEmpty : {T : Type 0} → Ranged T → Type 0
 NonEmpty x = x .lowest ≤ x .highest
 
@@ -76,7 +76,7 @@ NonEmpty x = x .lowest ≤ x .highest
 abbrev pub RangeInside : {T : Type 0} → Ranged T → Ranged T → Type 0
 RangeInside x y = (l : ℕ) → LevelIn x l → LevelIn y l
 
--- the labels of a table
+-- the labels of a table: its types with ranges
 abbrev pub tableLabels : ℕ → List ℕ → Labels
 tableLabels n t = withRanges (typeLabels n t)
 
@@ -90,7 +90,7 @@ pub record Known (n : ℕ) (x : Label) : Type 0 where
 abbrev pub Typed : {A : Type 0} → ℕ → Graph Label A → Type 0
 Typed {A} n g = (v : A) → Reached g v → Known n (g .label v)
 
--- "A graph of any size keeps every rule of an accepted record but the counts of nodes and links": with them the rule that no type
+-- "A graph of any size keeps every rule of an accepted record but the counts of nodes and links". Among these rules is that no type
 -- is "at least n".
 pub record OfAnySize (n : ℕ) (t : List ℕ) {A : Type 0} (g : Graph Label A) : Type 0 where
   pub any-size : AnySize (tableLabels n t) g
@@ -113,13 +113,13 @@ pub record GreatestOfAnySize (n : ℕ) (t : List ℕ) {A B C : Type 0} (g : Grap
       Below (tableLabels n t) m k
 
 module _ (n : ℕ) (t : List ℕ) {A B : Type 0} (g : Graph Label A) (h : Graph Label B) where
-  -- "A class has the meet of all types in it", and the overlap of all ranges: the greatest of the table's labels below each.
+  -- "a class has the meet of all types in it", and the overlap of all ranges: a is the greatest of the table's labels below each.
   pub record LabelsMeet (p : List ℕ) (a : Label) : Type 0 where
     pub known : Known n a
     pub under : UnderClass (tableLabels n t) g h p a
     pub greatest : (b : Label) → Known n b → UnderClass (tableLabels n t) g h p b → tableLabels n t .le b a ≡ true
 
-  -- "Combination": the paths of u and which of them share are those of the classes, and so are its labels.
+  -- The graph u is the combination of g and h: its paths, which of them share, and its labels are those of the classes.
   pub record IsCombination {C : Type 0} (u : Graph Label C) : Type 0 where
     pub corefers : (p q : List ℕ) → Corefer u p q ↔ Joined g h p q
     pub labels : (p : List ℕ) (x : C) → walk u p ≡ some x → LabelsMeet p (u .label x)
@@ -128,35 +128,37 @@ module _ (n : ℕ) (t : List ℕ) {A B : Type 0} (g : Graph Label A) (h : Graph 
   abbrev pub LabelClash : Type 0
   LabelClash = (p : List ℕ) × (a : Label) × Joined g h p p × LabelsMeet p a × (tableLabels n t .contradiction a ≡ true)
 
--- A level that is wanted of p over q: the widest where they are one, else that of p.
+-- The wanted level, for the level p in s and the level q over it: the widest level where p is q, else p.
 abbrev pub wantedLevel : ℕ → ℕ → ℕ → ℕ
 wantedLevel widest p q = cond (eqb p q) widest p
 
--- a type with the wanted range, "the widest whose overlap with the general side's .. equals that of s": each level is looked for alone
+-- The type c with the wanted range, "the widest whose overlap with the general side's .. equals that of s". The lowest and the highest
+-- level are computed apart.
 abbrev pub wantedRange : Label → Label → ℕ → Label
 wantedRange p q c =
     record { type = c; lowest = wantedLevel 0 (p .lowest) (q .lowest); highest = wantedLevel 255 (p .highest) (q .highest) }
 
--- The wanted label, for the meet q of all g labels over a node and the label p in s: the wanted type, with the wanted
--- range; none where there is no wanted type.
+-- The wanted label of a node, for its label p in s and the meet q of all g labels over it: the wanted type with the wanted range, or
+-- none where there is no wanted type.
 unfoldable pub wantedLabel : ℕ → List ℕ → Label → Label → Option Label
 wantedLabel n t p q = Option·map (wantedRange p q) (wanted n t (p .type) (q .type))
 
 module _ (n : ℕ) (t : List ℕ) {A B : Type 0} (s : Graph Label A) (g : Graph Label B) where
-  -- a label is below each label of g over the node v of s: "Each path of g leads to one node of s, so nodes and links of g lie over
-  -- those of s"
+  -- The label a is below each label of g over the node v of s: "Each path of g leads to one node of s, so nodes and links of g lie over
+  -- those of s".
   abbrev pub BelowOver : A → Label → Type 0
   BelowOver v a = (p : List ℕ) (y : B) → walk s p ≡ some v → walk g p ≡ some y → tableLabels n t .le a (g .label y) ≡ true
 
   -- "the meet of all g types over this node (top if none)", and the overlap of their ranges "(full where nothing of g lies over)":
-  -- the greatest of the table's labels below each
+  -- q is the greatest of the table's labels that are below each.
   pub record MeetOver (v : A) (q : Label) : Type 0 where
     pub known : Known n q
     pub under : BelowOver v q
     pub greatest : (b : Label) → Known n b → BelowOver v b → tableLabels n t .le b q ≡ true
 
   -- "The wanted type is the greatest type whose meet with the meet of all g types over this node (top if none) equals the type in s",
-  -- and "the wanted range is the widest whose overlap with the general side's .. equals that of s": c is both of the node v.
+  -- and "The wanted range is the widest whose overlap with the general side's .. equals that of s": c is the wanted type of the node v
+  -- with its wanted range.
   pub record WantedAt (v : A) (c : Label) : Type 0 where
     pub over : Label
     pub is-over : MeetOver v over

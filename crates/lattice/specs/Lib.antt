@@ -1,4 +1,4 @@
--- Definitions of the type table, of its words, and of labels.
+-- These files define the type table, its words, the labels of a table, and what opening a table returns.
 pub mod Table
 pub mod Words
 pub mod Reply

@@ -1,10 +1,11 @@
-// Whether every two types of an order have a meet. It is enough that every two have one that one type covers.
+// Tests whether every two types of an order have a meet. It is enough to test every two types that one type covers.
 ghost use mathlib.Core.Path.{_≡_};
 ghost use Prim.Native.Nat.{_<_, _≤_};
 ghost use Rattle.lattice.specs.Words.{allFound, wordBound, Sided, Inside, Lower, Covered, BoundsWith, BoundsWithin};
 
-// The types that type i covers: of those strictly below it the highest numbered is taken for one, all below it are put aside, and so on.
-// Where it lies below one that is taken later, as in a table that is not numbered along its order, it is put aside then.
+// The types that type i covers: the types strictly below i that lie below no other such type. The highest numbered type left is taken,
+// and all types below it are put aside. If the table is not numbered along its order, a type taken later may lie above one taken earlier;
+// the earlier one is then dropped.
 fn covered(n: usize, down: &[u64; 64], i: usize) -> u64
     requires { ⌜ (i < n) × (n ≤ 64) × Lower n (now down) ⌝ }
     ensures { λ r. ⌜ Covered n (now (down .entry)) i r ⌝ }

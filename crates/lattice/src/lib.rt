@@ -1,6 +1,6 @@
-// The type lattice of a table (document 01, "Type table"): the table is accepted, or refused by 1, 2 or 3. The order is kept as words: bit
-// j of word i is set where type j is on one side of type i, below it or above it. Crate `bounds` opens a table for meets or joins. It
-// knows a table's bytes, and nothing of records.
+// This crate tests a type table (document 01, "Type table"): the table is accepted, or refused by 1, 2 or 3. The crate also finds the wanted
+// type of a node. The order is kept as words: bit j of word i is set where type j is on one side of type i, below it or above it. Crate
+// `bounds` opens a table for meets or joins. This crate knows a table's bytes, and nothing of records.
 ghost use mathlib.Core.Path.{_≡_};
 ghost use mathlib.Core.Bool.{cond};
 ghost use Rattle.lattice.specs.declared.TableFault.the-variants.{Bounds};
@@ -13,19 +13,21 @@ pub mod search;
 pub mod wanted;
 pub mod words;
 
+// Why a table is refused: document 01's refusals 1, 2 and 3.
 pub enum TableFault {
     Size,
     Order,
     Bounds,
 }
 
+// What opening a table answers: the table is accepted, or why it is refused.
 pub enum Opened {
     Accepted,
     Refused(TableFault),
 }
 
-// What document 01 returns for a table. No join is sought: where every two types have a meet, every two have a join, the meet
-// of all types above both.
+// Whether a table is accepted, or the first of refusals 1 to 3 that applies. No join is sought: where every two types have a meet,
+// every two have a join, the meet of all types above both.
 pub fn accept(n: usize, table: &[u8]) -> Opened
     ensures { λ r. ⌜ r ≡ opened n (now (table .entry)) ⌝ }
 {
@@ -39,7 +41,7 @@ pub fn accept(n: usize, table: &[u8]) -> Opened
     bounded(covers::are_bounded(n, &down))
 }
 
-// The answer by whether every two types of an order have a bound.
+// The answer for a table that passes 1 and 2: accepted if every two types have a bound, which `all` tells, else refused by 3.
 pub fn bounded(all: bool) -> Opened
     ensures { λ r. ⌜ r ≡ cond all Accepted (Refused Bounds) ⌝ }
 {

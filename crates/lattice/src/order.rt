@@ -1,4 +1,5 @@
-// The tests of refusals 1 and 2: the size is right; the rows are an order, 0 is the least type and n - 1 the greatest.
+// Tests a table for refusals 1 and 2: whether its size is right, and whether its rows are an order in which 0 is the least type and
+// n - 1 the greatest.
 ghost use mathlib.Core.Path.{_≡_};
 ghost use Prim.Native.Nat.{_<_, _≤_};
 ghost use lib.ListN.{getD};
@@ -43,7 +44,8 @@ pub fn are_pairs_ordered(down: &[u64; 64], i: usize) -> bool
     all & lower == all
 }
 
-// Whether row i has no bit at n or above, has its own bit and that of 0, bit i of row n - 1 is set, and its pairs are ordered.
+// Whether row i passes the tests of refusal 2: it has no bit at n or above, it has bit i and bit 0, row n - 1 has bit i, and the pairs
+// of i with the types below it are ordered.
 pub fn is_row_ordered(n: usize, down: &[u64; 64], i: usize) -> bool
     requires { ⌜ (i < n) × (n ≤ 64) ⌝ }
     ensures { λ r. ⌜ r ≡ rowOrdered n (now (down .entry)) i ⌝ }

@@ -1,5 +1,5 @@
-// The bits of a table, and the words that are made of them: bit j of word i is set where type j is on one side of type i,
-// below it or above it.
+// Reads the bits of a table and makes words of them: bit j of word i is set where type j is on one side of type i, below it or above
+// it. The operations on words stand here too.
 ghost use mathlib.Core.Path.{_≡_};
 ghost use mathlib.Core.Bool.{true, false};
 ghost use Prim.Native.Nat.{ℕ, _+_, _*_, _^_, _<_, _≤_};
@@ -8,7 +8,7 @@ ghost use lib.ListN.{getD};
 ghost use Rattle.lattice.specs.Table.{below};
 ghost use Rattle.lattice.specs.Words.{digit, word, related, Words, bit, without as withoutOf, turned};
 
-// Whether the table's bit says that type j is below or equal to type i. Off the table no bit is set.
+// Whether the table's bit says that type j is below or equal to type i. Past the end of the table no bit is set.
 pub fn is_below(table: &[u8], j: usize, i: usize) -> bool
     requires { ⌜ (j < 64) × (i < 64) ⌝ }
     ensures { λ r. ⌜ r ≡ below (now (table .entry)) j i ⌝ }
@@ -64,7 +64,7 @@ pub fn end_bit(word: u64, low: bool) -> usize
     }
 }
 
-// The word with one bit more, bit j, above all that it has.
+// The word with bit j set if `stands`. Bit j is above all bits that the word has.
 pub fn with_bit(word: u64, j: usize, stands: bool) -> u64
     requires { ⌜ (j < 64) × (word < 2 ^ j) ⌝ }
     ensures { λ r. ⌜ r ≡ digit stands * 2 ^ j + word ⌝ }
@@ -72,7 +72,7 @@ pub fn with_bit(word: u64, j: usize, stands: bool) -> u64
     word + ((stands as u64) << j)
 }
 
-// The byte at a place, 0 off the table.
+// The byte at a place, or 0 past the end of the table.
 pub fn byte_at(table: &[u8], at: usize) -> u64
     ensures { λ r. ⌜ (r ≡ getD (now (table .entry)) at 0) × (r < 256) ⌝ }
 {
@@ -98,7 +98,7 @@ pub fn read_word(table: &[u8], i: usize) -> u64
     word
 }
 
-// The words of the types below each type below n.
+// The words of the types below each of the n types.
 pub fn read_words(n: usize, table: &[u8]) -> [u64; 64]
     requires { ⌜ n ≤ 64 ⌝ }
     ensures { λ r. ⌜ Words n (now (table .entry)) false r ⌝ }
@@ -126,7 +126,7 @@ pub fn turn_word(n: usize, words: &[u64; 64], i: usize) -> u64
     word
 }
 
-// The words of the types above each type below n, from the words of those below.
+// The words of the types above each of the n types, from the words of those below.
 pub fn turn_words(n: usize, words: &[u64; 64]) -> [u64; 64]
     requires { ⌜ n ≤ 64 ⌝ }
     ensures { λ r. ⌜ ((i : ℕ) → i < n → getD r i 0 ≡ turned n (now (words .entry)) i) ⌝ }

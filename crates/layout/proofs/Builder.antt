@@ -1,5 +1,6 @@
--- The builder's laws: to begin, to open a row with its label, to put a link behind others, to close a row that has its header and its
--- links; the graph that stands once the number of nodes is stated; and what a store elsewhere keeps.
+-- This file has the laws of building a graph in words: how to begin, to open a row with its label, to put a link behind others, and to close
+-- a row that has its header and its links. The file shows which graph the words hold once the number of nodes is stored, and what a store
+-- elsewhere keeps.
 use mathlib.Core.Path.{_≡_, sym, _∙_, ap, ap₂, subst}
 use mathlib.Core.List.{List, [], _∷_, _++_, map, List·Memᴰ}
 use Prim.Native.Nat.{ℕ, _+_, _-_, _*_, _/_, _%_, _≤_, _<_}
@@ -86,7 +87,7 @@ links-put ws a b l low room small =
     link-word m h = ap₂ {C = ℕ × ℕ} (λ (x y : ℕ). (x, y)) (omega arith) (omega arith)
 
 module _ {ws : List ℕ} {base i at : ℕ} (b : Built ws base i at) where
-  -- what is built rests on where its rows begin
+  -- words stay built if the places that say where rows begin are kept
   pub built-kept : (ws′ : List ℕ) → length ws′ ≡ length ws → Same ws ws′ 1 (i + 2) → Built ws′ base i at
   built-kept ws′ long same =
       record {
@@ -99,7 +100,7 @@ module _ {ws : List ℕ} {base i at : ℕ} (b : Built ws base i at) where
         ended = λ v h. omega (arith, same (v + 2) (omega arith) (omega arith), b .ended v h);
       }
 
-  -- and its rows on the words between `base` and `at` too
+  -- the rows stay the same if the words between `base` and `at` are kept too
   pub rows-kept : (ws′ : List ℕ) → length ws′ ≡ length ws → Same ws ws′ 1 (i + 2) → Same ws ws′ base at →
       rowsFrom ws′ 0 i ≡ rowsFrom ws 0 i
   rows-kept ws′ long same within = rows-alike ws ws′ i 0 (λ v _ h. row v (omega arith))
@@ -207,7 +208,7 @@ pub record Orderly (rows : List (Row Label)) : Type 0 where
   pub ascends : (r : Row Label) → List·Memᴰ r rows → Ascending (r .1)
   pub features : (r : Row Label) → List·Memᴰ r rows → (l : ℕ × ℕ) → List·Memᴰ l (r .1) → l .0 < 64
 
--- and targets below n
+-- The rows are orderly, and targets are below n.
 pub record Aimed (n : ℕ) (rows : List (Row Label)) : Type 0 where
   pub targets : (r : Row Label) → List·Memᴰ r rows → (l : ℕ × ℕ) → List·Memᴰ l (r .1) → l .1 < n
 

@@ -1,4 +1,4 @@
--- Laws of words that hold graphs.
+-- These files have the laws of words that hold graphs.
 pub mod Spans
 pub mod Rows
 pub mod Places

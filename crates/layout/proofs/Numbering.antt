@@ -1,4 +1,5 @@
--- Numbers given in turn: `numbers` has the number of each node or pair that has one, and `order` what has each number.
+-- This file is about numbers that are given in turn: `numbers` has the number of each node or pair that has one, and `order` has the node or
+-- pair of each number.
 use mathlib.Core.Path.{_≡_, sym, _∙_, ap}
 use mathlib.Core.List.{List}
 use Prim.Native.Nat.{ℕ, _+_, _<_}

@@ -1,4 +1,4 @@
--- The order of places: rows come one after another, and the links of a row by ascending feature.
+-- This file is about the order of places: rows come one after another, and the links of a row come by ascending feature.
 use mathlib.Core.Path.{_≡_, sym, ap}
 use mathlib.Core.List.{List}
 use Prim.Native.Nat.{ℕ, zero, suc, _+_, _-_, _≤_, _<_}
@@ -32,10 +32,11 @@ module _ {ws : List ℕ} (shaped : Shaped ws) where
         shaped .node (size ws - 1) (omega (arith, shaped .nonempty)) .ended,
       )
 
-  -- rows begin behind the first, and end before the last
+  -- no row begins before the first
   pub row-low : (v : ℕ) → v ≤ size ws → rowFrom ws 0 ≤ rowFrom ws v
   row-low v h = rows-rise v 0 v (omega arith) h
 
+  -- no row ends behind the last
   pub row-last : (v : ℕ) → v < size ws → rowEnd ws v ≤ rowsEnd ws
   row-last v h =
       omega (arith, next-row ws v (suc v) (omega arith), rows-rise (size ws - suc v) (suc v) (size ws) (omega arith) (omega arith))
@@ -67,7 +68,7 @@ module _ {ws : List ℕ} (shaped : Shaped ws) where
   pub place-before : {v k : ℕ} → Place ws v k → k < rowsEnd ws
   place-before {v} {k} p = earlier-row v (size ws) k (p .inside) (omega arith) (p .high)
 
-  -- in one row
+  -- a link stands in one row only
   pub one-row : {a b k : ℕ} → Place ws a k → Place ws b k → a ≡ b
   one-row {a} {b} {k} p q = go (decLt a b) (decLt b a)
     where
@@ -76,7 +77,7 @@ module _ {ws : List ℕ} (shaped : Shaped ws) where
       go (no h) (yes l) = absurd (omega (arith, earlier-row b a k l (omega (arith, p .inside)) (q .high), p .low))
       go (no h) (no l) = omega arith
 
-  -- and not in a header
+  -- a link does not stand in a header
   pub no-header : {u k : ℕ} (v : ℕ) → v < size ws → Place ws u k → k < linksFrom ws v → k < rowFrom ws v
   no-header {u} {k} v h p below = go (decLt u v)
     where

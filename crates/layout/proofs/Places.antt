@@ -1,5 +1,5 @@
--- The graph that words hold, by places: a node's label stands in its header, and its links at the places of its row, each feature at
--- one place.
+-- This file describes the graph that words hold by places: a node's label stands in its header, and its links stand at the places of its
+-- row, each feature at one place.
 use mathlib.Core.Path.{_≡_, refl, sym, _∙_, ap}
 use mathlib.Core.Bool.{Bool, true, false, cond}
 use mathlib.Core.List.{List, []}
@@ -90,7 +90,7 @@ module _ {ws : List ℕ} (sound : Sound ws) where
       let (k, low, high, a, b) = link-place v f w h e in
       (rw a at (sound .shaped .known v k h low high), rw b at (sound .targets v k h low high))
 
-  -- the same where it is not said that v is a node
+  -- the same without the assumption that v is a node
   pub link-inside : (v f w : ℕ) → graphIn ws .link v f ≡ some w → (f < 64) × (w < size ws)
   unfolding target
   link-inside v f w e = go (decLt v (size ws))

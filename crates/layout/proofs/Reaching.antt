@@ -1,4 +1,4 @@
--- What the root of a graph in words reaches are its nodes; where it reaches all of them, their numbers list what is reached.
+-- The root of a graph in words reaches only nodes of the graph. If it reaches all of them, their numbers list what is reached.
 use mathlib.Core.Path.{_≡_}
 use mathlib.Core.List.{List}
 use mathlib.Core.Option.{some}

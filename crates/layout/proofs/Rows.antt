@@ -1,4 +1,4 @@
--- The rows that words hold, by number, and which words they depend on.
+-- This file is about the rows that words hold, by number, and about the words that they depend on.
 use mathlib.Core.Path.{_≡_, refl, sym, _∙_, ap, ap₂}
 use mathlib.Core.List.{List, [], _∷_, _++_, List·Memᴰ, List·Memᴰ·head, List·Memᴰ·tail, List·Memᴰ·not-nil, List·Memᴰ·cases-cons}
 use mathlib.Core.Logic.{⊎-elim}
@@ -25,7 +25,7 @@ unfolding rowsFrom
 length-rows ws u zero = refl
 length-rows ws u (suc k) = ap suc (length-rows ws (suc u) k)
 
--- one row more
+-- k + 1 rows are k rows and one row more
 pub rows-more : (ws : List ℕ) (k u : ℕ) → rowsFrom ws u (suc k) ≡ rowsFrom ws u k ++ ((labelAt ws (u + k), linksAt ws (u + k)) ∷ [])
 unfolding rowsFrom
 rows-more ws zero u = ap (λ (n : ℕ). (labelAt ws n, linksAt ws n) ∷ []) (sym (add-zero u))
@@ -34,7 +34,7 @@ rows-more ws (suc k) u =
     ap (λ (rs : List (Row Label)). (labelAt ws u, linksAt ws u) ∷ rs)
     (rows-more ws k (suc u) ∙ ap (λ (n : ℕ). rowsFrom ws (suc u) k ++ ((labelAt ws n, linksAt ws n) ∷ [])) e)
 
--- rows that are alike one by one
+-- words whose rows are alike one by one hold the same rows
 pub rows-alike : (ws ws′ : List ℕ) (k u : ℕ) →
     ((v : ℕ) → u ≤ v → v < u + k → _≡_ {A = Row Label} (labelAt ws′ v, linksAt ws′ v) (labelAt ws v, linksAt ws v)) →
     rowsFrom ws′ u k ≡ rowsFrom ws u k
@@ -53,7 +53,7 @@ rows-member ws (suc k) u zero v e h =
     List·Memᴰ·head (ap {B = Row Label} (λ (n : ℕ). (labelAt ws n, linksAt ws n)) q)
 rows-member ws (suc k) u (suc i) v e h = List·Memᴰ·tail (rows-member ws k (suc u) i v (omega arith) (omega arith))
 
--- and a row among them is that of a node
+-- a row among the rows is that of a node
 pub rows-source : (ws : List ℕ) (k u : ℕ) (r : Row Label) → List·Memᴰ r (rowsFrom ws u k) →
     (v : ℕ) × (v < u + k) × (r ≡ (labelAt ws v, linksAt ws v))
 unfolding rowsFrom

@@ -1,5 +1,5 @@
--- The links between two places of words: which they are, how many, and that their features ascend along the places exactly where
--- they ascend along the list.
+-- This file is about the links between two places of words: which they are, and how many. The features of the links ascend along the
+-- places exactly where they ascend along the list.
 use mathlib.Core.Path.{_≡_, refl, sym, _∙_, ap, ap₂, subst}
 use mathlib.Core.List.{List, [], _∷_, _++_, map, List·Memᴰ, List·Memᴰ·head, List·Memᴰ·tail, List·Memᴰ·not-nil, List·Memᴰ·cases-cons}
 use mathlib.Core.Logic.{⊎-elim}
@@ -75,7 +75,7 @@ module _ (ws : List ℕ) where
         (λ i. let (k, low, high, p, q) = links-member n (suc a) (omega arith) l i in (k, omega arith, high, p, q))
         (List·Memᴰ·cases-cons (subst (λ (x : List (ℕ × ℕ)). List·Memᴰ l x) (links-cons a (omega arith)) m))
 
-    -- and at each place stands a link
+    -- a link stands at each of the places
     pub links-at : (n a : ℕ) → a + n ≡ b → (k : ℕ) → a ≤ k → k < b → List·Memᴰ {A = ℕ × ℕ} (linkAt ws k) (linksBetween ws a b)
     links-at zero a e k low high = absurd (omega arith)
     links-at (suc n) a e k low high =
@@ -111,7 +111,7 @@ module _ (ws : List ℕ) where
             links-ascending n (suc a) (omega arith) (omega arith),
           )
 
-    -- and links that ascend along the list ascend along the places
+    -- links that ascend along the list ascend along the places
     pub places-ascending : (n a : ℕ) → a + n ≡ b → Ascending (linksBetween ws a b) →
         (k : ℕ) → a ≤ k → k + 1 < b → featureAt ws k < featureAt ws (k + 1)
     places-ascending zero a e up k low high = absurd (omega arith)

@@ -1,4 +1,4 @@
--- Where rows end: behind the first row's beginning come the headers and the links of all rows.
+-- This file shows where rows end: from the beginning of the first row on, the words are the headers and the links of all rows.
 use mathlib.Core.Path.{_≡_, refl, sym, _∙_, ap}
 use mathlib.Core.List.{List, [], _∷_, _++_}
 use Prim.Native.Nat.{ℕ, zero, suc, _+_, _-_, _*_, _≤_, _<_}

@@ -1,4 +1,5 @@
--- How words come to hold a graph: row after row, each opened with its header, given its links and closed; the number of nodes last.
+-- This file says how words come to hold a graph, row after row: a row is opened with its header, gets its links and is closed. The number
+-- of nodes is stored last. The loops that build a graph in words keep these facts.
 use mathlib.Core.Path.{_≡_}
 use mathlib.Core.List.{List}
 use Prim.Native.Nat.{ℕ, _+_, _*_, _≤_, _<_}
@@ -35,6 +36,6 @@ pub record Open (ws : List ℕ) (base i at end : ℕ) : Type 0 where
   pub headed : at + header ≤ end
   pub inside : end ≤ length ws
 
--- what two lists of words have in common from one place to another
+-- Two lists of words have the same words from place `start` up to place `end`.
 abbrev pub Same : List ℕ → List ℕ → ℕ → ℕ → Type 0
 Same ws ws′ start end = (k : ℕ) → start ≤ k → k < end → getD ws′ k 0 ≡ getD ws k 0

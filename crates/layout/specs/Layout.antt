@@ -1,4 +1,4 @@
--- A decoded graph as one list of words:
+-- This file defines how one list of words holds a decoded graph:
 --   word 0               the number of nodes, N
 --   word 1 + v, v <= N   where the row of node v begins; word 1 + N is where the last row ends
 --   a row                its header, which holds the label, and one word for each link, features ascending
@@ -18,6 +18,7 @@ pub use Rattle.lattice.specs.Label.{graphOfRows}
 
 -- The header's length, the label that a header holds, and the packing of a link stand here and in the crate's code alone.
 
+-- the length of a header
 abbrev pub header : ℕ
 header = 2
 
@@ -25,6 +26,7 @@ header = 2
 abbrev pub levels : ℕ
 levels = 256
 
+-- the label that the header at place k holds
 abbrev pub labelFrom : List ℕ → ℕ → Label
 labelFrom ws k = record { type = getD ws k 0; lowest = getD ws (k + 1) 0 / levels; highest = getD ws (k + 1) 0 % levels }
 
@@ -32,9 +34,11 @@ labelFrom ws k = record { type = getD ws k 0; lowest = getD ws (k + 1) 0 / level
 abbrev pub scale : ℕ
 scale = 1024
 
+-- the word of a link
 abbrev pub linkWord : ℕ × ℕ → ℕ
 linkWord l = l .0 * scale + l .1
 
+-- the link that a word states: its feature and its target
 abbrev pub linkOf : ℕ → ℕ × ℕ
 linkOf w = (w / scale, w % scale)
 
@@ -42,13 +46,15 @@ linkOf w = (w / scale, w % scale)
 abbrev pub size : List ℕ → ℕ
 size ws = getD ws 0 0
 
--- where the row of node v begins, where its links begin, and where it ends
+-- where the row of node v begins
 abbrev pub rowFrom : List ℕ → ℕ → ℕ
 rowFrom ws v = getD ws (v + 1) 0
 
+-- where the links of node v begin
 abbrev pub linksFrom : List ℕ → ℕ → ℕ
 linksFrom ws v = rowFrom ws v + header
 
+-- where the row of node v ends
 abbrev pub rowEnd : List ℕ → ℕ → ℕ
 rowEnd ws v = getD ws (v + 2) 0
 
@@ -56,14 +62,15 @@ rowEnd ws v = getD ws (v + 2) 0
 abbrev pub labelAt : List ℕ → ℕ → Label
 labelAt ws v = labelFrom ws (rowFrom ws v)
 
--- the feature and the target of the link at a place
+-- the feature of the link at place k
 abbrev pub featureAt : List ℕ → ℕ → ℕ
 featureAt ws k = getD ws k 0 / scale
 
+-- the target of the link at place k
 abbrev pub targetAt : List ℕ → ℕ → ℕ
 targetAt ws k = getD ws k 0 % scale
 
--- the links at the places from one to another
+-- the links that stand from place `start` up to place `end`
 unfoldable pub linksBetween : List ℕ → ℕ → ℕ → List (ℕ × ℕ)
 linksBetween ws start end = map linkOf (slice start end ws)
 
@@ -84,15 +91,15 @@ rowsOf ws = rowsFrom ws 0 (size ws)
 abbrev pub graphIn : List ℕ → Graph Label ℕ
 graphIn ws = graphOfRows (rowsOf ws)
 
--- v is a node, and its row lies inside
+-- v is a node, and its row lies inside the words
 pub record Node (ws : List ℕ) (v : ℕ) : Type 0 where
   pub inside : v < size ws
   pub listed : v + 2 < length ws
   pub begun : linksFrom ws v ≤ rowEnd ws v
   pub ended : rowEnd ws v ≤ length ws
 
--- Words that hold rows of up to 510 nodes, behind the places where these begin: labels that a record can state, and features below
--- 64 that ascend along a row.
+-- The words hold the rows of 1 to 510 nodes, behind the places that say where rows begin. The labels are such as a record can state, and
+-- features are below 64 and ascend along a row.
 pub record Shaped (ws : List ℕ) : Type 0 where
   pub nonempty : 0 < size ws
   pub few : size ws ≤ 510
@@ -102,12 +109,12 @@ pub record Shaped (ws : List ℕ) : Type 0 where
   pub known : (v k : ℕ) → v < size ws → linksFrom ws v ≤ k → k < rowEnd ws v → featureAt ws k < 64
   pub ascending : (v k : ℕ) → v < size ws → linksFrom ws v ≤ k → k + 1 < rowEnd ws v → featureAt ws k < featureAt ws (k + 1)
 
--- and every target is a node
+-- The words are shaped, and every target is a node.
 pub record Sound (ws : List ℕ) : Type 0 where
   pub shaped : Shaped ws
   pub targets : (v k : ℕ) → v < size ws → linksFrom ws v ≤ k → k < rowEnd ws v → targetAt ws k < size ws
 
--- The graph of a record over a table: at most 255 nodes and 2,048 links, types below 64.
+-- The words hold the graph of a record over a table: it has at most 255 nodes and 2,048 links, and types below 64.
 pub record Recorded (ws : List ℕ) : Type 0 where
   pub sound : Sound ws
   pub small : size ws ≤ 255

@@ -1,3 +1,3 @@
--- A decoded graph as words, and how one is built.
+-- These files define how words hold a decoded graph, and how such words are built.
 pub mod Layout
 pub mod Builder

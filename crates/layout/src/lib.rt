@@ -1,5 +1,6 @@
-// The layout of a decoded graph, one slice of words: the number of nodes, where each row begins, and the rows, each a header and one word
-// for each link. It knows labels and words, and nothing of a record's bytes.
+// This crate lays out a decoded graph in one slice of words: the number of nodes, where each row begins, and the rows, each a header and
+// one word for each link. All crates that compute on graphs share this layout. The crate knows labels and words, and nothing of a
+// record's bytes.
 
 ghost use mathlib.Core.Path.{_≡_};
 ghost use Prim.Native.Nat.{_+_, _/_, _%_, _≤_, _<_, max, min};
@@ -12,19 +13,19 @@ ghost use Rattle.layout.specs.Builder.{putLabel, stated};
 // The length of a row's header, which holds the node's label: its type, and its range of levels.
 pub const HEADER: usize = 2;
 
-// A range's word is its lowest level times this, and its highest.
+// A range's word is its lowest level times this plus its highest level.
 const LEVELS: u16 = 256;
 
 // The word of the full range.
 const FULL: u16 = 255;
 
-// A link's word is its feature times this, and its target.
+// A link's word is its feature times this plus its target.
 pub const SCALE: u16 = 1024;
 
 // The most words of a record's graph: the number of nodes, 256 places, 255 headers of two words, 2,048 links.
 pub const LONGEST: usize = 1 + 256 + 255 * HEADER + 2048;
 
-// The words of a short record's graph.
+// The number of words that have room for the graph of a short record, one of at most 510 bytes.
 pub const SHORT: usize = 768;
 
 // The label of a node: its type and its range of levels.

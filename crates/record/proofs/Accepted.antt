@@ -1,5 +1,5 @@
--- Accepted records: the rules that their rows keep, stated without bytes; that rows which keep them state a graph of any size, and
--- one that fits, so that an accepted record can always be written. Nothing here asks that the table's types are a lattice.
+-- This file states without bytes the rules that the rows of an accepted record keep. Rows that keep the rules state a graph of any size
+-- that fits, so an accepted record can always be written. Nothing here asks that the table's types are a lattice.
 use mathlib.Core.Path.{_≡_, refl}
 use mathlib.Core.Bool.{false}
 use mathlib.Core.List.{List, [], List·Memᴰ}
@@ -104,7 +104,7 @@ module _ (n : ℕ) (rows : List (Row Label)) (rules : Rules n rows) where
         acyclic = λ v f p r e. rules .acyclic (v, reached-inside rows (rules-linked rules) v r, f, p, e);
       }
 
-  -- with types below n
+  -- the graph has types below n
   pub rules-of-any-size : (t : List ℕ) → OfAnySize n t (graphOfRows rows)
   rules-of-any-size t =
       record {
@@ -112,11 +112,11 @@ module _ (n : ℕ) (rows : List (Row Label)) (rules : Rules n rows) where
         typed = reached-label (Known n) (λ x m. rules .ranged x m .0 .1);
       }
 
-  -- and of seven bits
+  -- the graph has types of seven bits
   pub rules-types : (v : ℕ) → Reached (graphOfRows rows) v → graphOfRows rows .label v .type < 128
   rules-types = reached-label (λ l. l .type < 128) (rules .types)
 
-  -- its nodes are the numbers of the rows
+  -- the nodes of the graph are the numbers of the rows
   pub rules-nodes : (t : List ℕ) → rules-of-any-size t .any-size .nodes ≡ from 0 (length rows)
   unfolding rules-of-any-size rules-any-size
   rules-nodes t = refl

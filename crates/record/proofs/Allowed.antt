@@ -1,4 +1,4 @@
--- The tests of `appropriate`: what they find decides what the definitions say of a list, a row, a graph and a reading.
+-- The tests of the module `appropriate` decide what the definitions say about a list, a row, a graph and a reading.
 use mathlib.Core.Path.{_≡_, refl, sym, _∙_, ap, subst}
 use mathlib.Core.Bool.{Bool, true, false, cond}
 use mathlib.Core.List.{List}
@@ -56,7 +56,7 @@ module _ (n : ℕ) (list : List ℕ) where
   pub list-over : (f : ℕ) → f < 64 → n ≤ getD list f 0 → false ≡ listAccepted n list
   list-over f h over = sym (not-true-false (listAccepted n list) (λ e. omega (arith, list-entry e f h)))
 
--- the entries before f are types
+-- The entries before f are types.
 pub record Entries (n : ℕ) (list : List ℕ) (f : ℕ) : Type 0 where
   pub long : length list ≡ 64
   pub high : f ≤ 64
@@ -76,7 +76,7 @@ entries-more {n} {list} {f} before inside here =
 pub entries-all : {n : ℕ} {list : List ℕ} {f : ℕ} → Entries n list f → 64 ≤ f → true ≡ listAccepted n list
 entries-all {n} {list} before end = sym (list-accepted n list (before .long) (λ k h. before .small k (omega (arith, before .high))))
 
--- A row: the links of node v before place k are allowed.
+-- The links of node v before place k are allowed.
 pub record RowAllowed (t list ws : List ℕ) (v kind k : ℕ) : Type 0 where
   pub listed : Listed list
   pub typed : Typed ws
@@ -152,7 +152,7 @@ module _ {t list ws : List ℕ} {v kind : ℕ} where
         ap (λ (i : ℕ). allowed t list (labelAt ws v .type) i) f ∙
         ap (λ (i : ℕ). allowed t list i (featureAt ws j)) (sym (before .kind-is)) ∙ before .all j low (omega arith))
 
--- A graph: the rows before v are allowed.
+-- The rows before v are allowed.
 pub record RowsAllowed (t list ws : List ℕ) (v : ℕ) : Type 0 where
   pub high : v ≤ size ws
   pub all : (u : ℕ) → u < v → rowAppropriate t list (labelAt ws u, linksAt ws u) ≡ true

@@ -1,4 +1,4 @@
--- Laws of the links counted for each node, and of the queue of the nodes that none enters.
+-- This file has the laws of the links that are counted for each node, and of the queue of the nodes that no counted link enters.
 use mathlib.Core.Path.{_≡_, refl, sym, _∙_, ap, subst}
 use mathlib.Core.Bool.{Bool, true, false, cond}
 use mathlib.Core.List.{List, [], _∷_}
@@ -80,7 +80,7 @@ module _ (ws : List ℕ) (w start : ℕ) where
       go (yes i) before = omega (arith, before i, among-suc m)
       go (no i) before = let e : n ≡ suc m = omega arith in omega (arith, ap (among ws w start) e)
 
-  -- as many as there are places, at most
+  -- at most as many links lead to w as there are places
   pub among-bound : (k : ℕ) → start ≤ k → start + among ws w start k ≤ k
   among-bound zero h = omega (arith, among-zero)
   among-bound (suc k) h = go (decLe start k) (among-bound k)
@@ -186,7 +186,7 @@ module _ (ws : List ℕ) (w : ℕ) where
           other-same n (λ (e : n ≡ v). omega arith),
         )
 
-    -- the links of one node taken away
+    -- the links of all nodes that count are those of v and those of the others
     pub entering-split : (n : ℕ) → v < n → entering counts ws w n ≡ entering (without v counts) ws w n + into ws w v
     entering-split zero h = absurd (omega arith)
     entering-split (suc n) h = go (ℕ-discrete n v) (entering-split n)
@@ -530,7 +530,7 @@ queued-done {v} {nodes} {count} {incoming} {queue} q low high = subst (λ (n : �
 
 -- Taking the links of a row away.
 
--- In the row of v at place k.
+-- The links of v before place k are taken away.
 pub record Taking (ws : List ℕ) (v : ℕ) (incoming₀ queue₀ : List ℕ) (queued : ℕ) (incoming queue : List ℕ) (count k : ℕ) : Type 0 where
   pub due : RowDue ws v incoming₀ queue₀ queued
   pub low : linksFrom ws v ≤ k
@@ -586,7 +586,7 @@ module _ {ws incoming₀ queue₀ incoming queue : List ℕ} {v queued count k :
   still-entered =
       omega (arith, t .taken w row-inside, d .due w row-inside, one-more, among-rises ws w (linksFrom ws v) (k + 1) (rowEnd ws v) (omega arith))
 
-  -- it is not queued
+  -- the target is not queued
   not-queued : (i : ℕ) → i < count → getD queue i 0 ≡ w → ⊥
   not-queued i h e = omega (arith, still-entered, t .listing .clear i h, ap (λ (u : ℕ). getD incoming u 0) e)
 

@@ -1,4 +1,4 @@
--- The record of document 01's case 7, top[0: a], written and read, without ranges of levels and with them.
+-- In this file the record of document 01's case 7, top[0: a], is written and read, without ranges of levels and with them.
 use mathlib.Core.Path.{_≡_, refl}
 use mathlib.Core.List.{List, [], _∷_, _++_}
 use mathlib.Core.Option.{bind}
@@ -28,7 +28,8 @@ case-7-read : reading 4 bytes ≡ accepted rows
 unfolding rows bytes reading decoded bind takeRows takeRow takeLinks labelLength labelOf bitOf inRange labelInRange allOf cyclic anyOf deep reachesAll visit each member target from
 case-7-read = refl
 
--- with its target changed: to itself a cycle, to the root too, past the end out of range, cut short malformed
+-- A lone node whose link leads to itself is cyclic. A target past the end is out of range, a record that is cut short is malformed, and
+-- a second node that no link enters is unreached.
 self-loop : reading 4 (1 ∷ 3 ∷ 1 ∷ replicate 7 0 ++ 0 ∷ []) ≡ refused Cyclic
 unfolding reading decoded bind takeRows takeRow takeLinks labelLength labelOf bitOf inRange labelInRange allOf cyclic anyOf deep reachesAll visit each member target from
 self-loop = refl
@@ -60,7 +61,7 @@ ranged-read : reading 4 rangedBytes ≡ accepted ranged
 unfolding ranged rangedBytes reading decoded bind takeRows takeRow takeLinks labelLength labelOf bitOf inRange labelInRange allOf cyclic anyOf deep reachesAll visit each member target from
 ranged-read = refl
 
--- with the full range spelled out, and with the lowest level above the highest
+-- the record with the full range spelled out, and with a lowest level above the highest
 spelled-out : reading 4 (2 ∷ 131 ∷ 0 ∷ 255 ∷ 1 ∷ replicate 7 0 ++ 1 ∷ 1 ∷ replicate 8 0) ≡ accepted rows
 unfolding rows reading decoded bind takeRows takeRow takeLinks labelLength labelOf bitOf inRange labelInRange allOf cyclic anyOf deep reachesAll visit each member target from
 spelled-out = refl

@@ -1,4 +1,4 @@
--- The answers of `judging::judge`, one for each place where it returns: what the parts found gives the verdict of the definition.
+-- This file has a lemma for each place where `judging::judge` returns: what the parts find gives the verdict of the definition.
 use mathlib.Core.Path.{_≡_, sym, _∙_, ap}
 use mathlib.Core.Bool.{Bool, true, false, cond}
 use mathlib.Core.List.{List}
@@ -22,7 +22,7 @@ use Rattle.record.proofs.Nodes.{Linked}
 use Rattle.record.proofs.Reaching.{cyclic-exact}
 use Rattle.record.proofs.Words.{ranged-rows, rows-ranged, ranged-linked, looped-rows, sorted-rows, apart-unreached, entered-reaches}
 
--- a refusal says nothing of the words
+-- a refusal promises nothing about the words
 pub refuses : (n : ℕ) (o : Reading) (ws : List ℕ) (fault : GraphFault) → o ≡ refused fault → ReadsAs n o (Refused fault) ws
 refuses n o ws fault e =
     record {

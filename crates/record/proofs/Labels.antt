@@ -1,5 +1,5 @@
--- Labels as bytes of a record: bytes that state a label are read as it, whatever stands behind them, and an encoded label is such;
--- and a label that is decoded has a type of seven bits.
+-- This file is about labels as bytes of a record. Bytes that state a label are read as that label, whatever stands behind them, and the
+-- bytes of an encoded label state it. A label that is decoded has a type of seven bits.
 use mathlib.Core.Path.{_≡_, refl, sym, _∙_, ap, subst}
 use mathlib.Core.Bool.{Bool, true, false, cond}
 use mathlib.Core.List.{List, [], _∷_, _++_, List·Memᴰ, List·Memᴰ·not-nil, List·Memᴰ·cases-cons}
@@ -27,7 +27,7 @@ pub record States (bytes : List ℕ) (l : Label) : Type 0 where
   pub long : (behind : List ℕ) → labelLength (bytes ++ behind) ≡ length bytes
   pub label : (behind : List ℕ) → labelOf (bytes ++ behind) ≡ l
 
--- a type byte alone
+-- a type byte alone states the type with the full range
 plain-states : (a : ℕ) → a < 128 → States (a ∷ []) (plain a)
 unfolding labelLength labelOf
 plain-states a h =
@@ -35,7 +35,7 @@ plain-states a h =
     let low : a % 128 ≡ a = omega arith in
     record { long = λ behind. rw alone refl; label = λ behind. rw alone (ap plain low) }
 
--- a type byte with bit 7, and two levels
+-- a type byte with bit 7 and two levels state the type with that range
 ranged-states : (l : Label) → l .type < 128 → States ((128 + l .type) ∷ l .lowest ∷ l .highest ∷ []) l
 unfolding labelLength labelOf
 ranged-states l h =
@@ -43,7 +43,7 @@ ranged-states l h =
     let low : (128 + l .type) % 128 ≡ l .type = omega arith in
     record { long = λ behind. rw follows refl; label = λ behind. rw follows (label-parts low refl refl) }
 
--- a label with its range written, or with the full range left out
+-- the bytes of a label state it, with its range written or with the full range left out
 pub spelled-states : (writes : Bool) (l : Label) → l .type < 128 → (isFull l ≡ false → writes ≡ true) → States (spelledLabel writes l) l
 unfolding spelledLabel isFull
 spelled-states true l h range = ranged-states l h
@@ -56,7 +56,7 @@ spelled-states false l h range = go (isFull l) refl range
         (label-parts refl (sym (eqb-true (l .lowest) 0 low)) (sym (eqb-true (l .highest) 255 high))) (plain-states (l .type) h)
     go false e range = true-false (range refl) refl
 
--- an encoded label
+-- the bytes of an encoded label state it
 pub encoded-states : (l : Label) → l .type < 128 → States (encodedLabel l) l
 unfolding encodedLabel spelledLabel
 encoded-states l h = go (isFull l) refl (spelled-states true l h (λ _. refl)) (spelled-states false l h)

@@ -1,4 +1,4 @@
--- Proofs about records.
+-- These files prove the laws of reading and the theorems about records; `Theorems` states them in one place.
 pub mod Readings
 pub mod Labels
 pub mod RoundTrip

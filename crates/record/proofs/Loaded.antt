@@ -1,4 +1,4 @@
--- Words that hold rows whose record is accepted: the rows keep the rules of a record, and every node is reached.
+-- This file is about words that hold rows whose record is accepted: the rows keep the rules of a record, and every node is reached.
 use Prim.Native.Nat.{ℕ, _≤_, _<_}
 use mathlib.Core.List.{List}
 use native.Mathlib.Omega.{arith}
@@ -16,7 +16,7 @@ loaded-rules {n} {ws} given = accepted-rules n (encoded (rowsOf ws)) (rowsOf ws)
 pub loaded-reached : {n : ℕ} {ws : List ℕ} → Loaded n ws → (v : ℕ) → v < size ws → Reached (graphIn ws) v
 loaded-reached {ws = ws} given v h = loaded-rules given .reached v (omega (arith, length-rows ws 0 (size ws)))
 
--- they are the graph of a record over a table
+-- such words hold the graph of a record over a table
 pub loaded-recorded : {n : ℕ} {ws : List ℕ} → n ≤ 64 → Loaded n ws → Recorded ws
 loaded-recorded few given =
     record {

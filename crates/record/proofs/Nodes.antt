@@ -1,6 +1,6 @@
--- The nodes and links of the graph that rows state, where each link has a feature below 64 and leads to a row: the nodes that are
--- reached are among the numbers of the rows, so a list of those holds them, and there are no more; and there are no more links
--- than the rows list. The tests for 6 and 7 and the counts for 11 rest on this.
+-- This file is about the nodes and links of the graph that rows state, where each link has a feature below 64 and leads to a row. The nodes
+-- that are reached are among the numbers of the rows, so there are no more nodes than rows. There are no more links than the rows list. The
+-- tests for 6 and 7 and the counts for 11 rest on this.
 use mathlib.Core.Path.{_≡_, refl, sym, _∙_, ap, ap₂}
 use mathlib.Core.Bool.{Bool, true, false, cond}
 use mathlib.Core.List.{
@@ -38,7 +38,7 @@ pub record Linked (rows : List (Row Label)) : Type 0 where
   pub features : (r : Row Label) → List·Memᴰ r rows → (l : ℕ × ℕ) → List·Memᴰ l (r .1) → l .0 < 64
   pub targets : (r : Row Label) → List·Memᴰ r rows → (l : ℕ × ℕ) → List·Memᴰ l (r .1) → l .1 < length rows
 
--- a record that is well formed and in range
+-- in a record that is well formed and in range, each link has a feature below 64 and leads to a row
 pub decoded-linked : {n : ℕ} {bytes : List ℕ} {rows : List (Row Label)} → Decoded bytes rows → InRange n rows → Linked rows
 decoded-linked says ranged =
     record {
@@ -96,7 +96,7 @@ linksFrom-member (r ∷ rs) k zero i f w q e =
 linksFrom-member (r ∷ rs) k (suc v) i f w q e =
     Memᴰ·append-right (map (λ l. (k, l .0)) (r .1)) (linksFrom-member rs (suc k) v i f w (omega arith) e)
 
--- no more links than the rows list
+-- a graph has no more links than its rows list
 pub few-links : (rows : List (Row Label)) → linksIn rows ≤ 2048 → ManyLinks (graphOfRows rows) → ⊥
 few-links rows few (ls, d, all, h) =
     let listed = distinct-bound ls (linksFrom 0 rows) d
@@ -136,7 +136,7 @@ module _ (rows : List (Row Label)) (linked : Linked rows) where
   pub narrow : (v w f : ℕ) → Reached (graphOfRows rows) v → graphOfRows rows .link v f ≡ some w → f < 64
   narrow v w f r e = link-small v w f e
 
-  -- no more nodes than rows
+  -- a graph has no more nodes than rows
   pub few-nodes : length rows ≤ 255 → ManyNodes (graphOfRows rows) → ⊥
   few-nodes short (xs, d, all, h) =
       let few = distinct-bound xs (from 0 (length rows)) d (λ x m. reached-listed x (all x m)) in

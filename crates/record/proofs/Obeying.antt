@@ -1,5 +1,5 @@
--- Graphs that obey a list (document 02, Paper 9): the test of rows is the condition over paths, and for every list of an accepted table
--- common parts and combinations of graphs of any size that obey it obey it.
+-- This file is about graphs that obey a list (document 02, Paper 9). The test of rows is the condition over paths. For every list over an
+-- accepted table, common parts and combinations of graphs of any size that obey the list obey it too.
 use mathlib.Core.Path.{_≡_, refl, sym, _∙_, ap, subst}
 use mathlib.Core.Bool.{Bool, true, false}
 use mathlib.Core.List.{List, [], _∷_, _++_, List·Memᴰ, List·Memᴰ·not-nil, List·Memᴰ·cases-cons}
@@ -135,7 +135,7 @@ module _ (n : ℕ) (t : List ℕ) (ok : types.accepted n t ≡ true) (list : Lis
 
   module _ {A B : Type 0} (g : Graph Label A) (h : Graph Label B) (a : OfAnySize n t g) (b : OfAnySize n t h) (x : Appropriate t list g)
       (y : Appropriate t list h) where
-    -- The common part: a path of it is a path of both, and the join of two types below an entry is below it.
+    -- The common part obeys the list: its paths are paths of both, and the join of two types below an entry is below the entry.
     pub common-obeys : {C : Type 0} (k : Graph Label C) → IsGeneralization (tableLabels n t) g h k → Appropriate t list k
     common-obeys k is p v w f e l =
         let (i, j, d, c, q) = is .there p v e in
@@ -146,7 +146,7 @@ module _ (n : ℕ) (t : List ℕ) (ok : types.accepted n t ≡ true) (list : Lis
         ap (λ (s : Label). allowed t list (s .type) f) q ∙ ap (λ (o : Option ℕ). types.below t (types.cell o) (getD list f 0)) (joins .is) ∙
         joins .least (getD list f 0) (entry-type f) one other
 
-    -- so does the least graph of any size above both.
+    -- The least graph of any size above both obeys the list.
     pub least-obeys : {C : Type 0} (k : Graph Label C) → LeastOfAnySize n t g h k → Appropriate t list k
     least-obeys k best =
         let product = generalization (tableLabels n t) g h in
@@ -158,7 +158,7 @@ module _ (n : ℕ) (t : List ℕ) (ok : types.accepted n t ≡ true) (list : Lis
         ))
         (common-obeys product (product-is-generalization (tableLabels n t) g h))
 
-    -- The combination: a class goes on by a feature where one of its paths does, and its type is below the type there.
+    -- The combination obeys the list: a class goes on by a feature where one of its paths does, and its type is below the type there.
     pub combination-obeys : {C : Type 0} (u : Graph Label C) → IsCombination n t g h u → Appropriate t list u
     combination-obeys u is p v w f e l =
         let ends : walk u (p ++ (f ∷ [])) ≡ some w = walk-snoc u p f e ∙ l in
@@ -172,7 +172,7 @@ module _ (n : ℕ) (t : List ℕ) (ok : types.accepted n t ≡ true) (list : Lis
             below-transitive n t ok (u .label v .type) (h .label i .type) (getD list f 0) (is .labels p v e .known .type)
             (b .typed i (q, d) .type) (entry-type f) (inside n t (u .label v) (h .label i) (is .labels p v e .under .second q i k d) .type) (y q i j f d m)
 
-  -- So does the greatest graph of any size below both, on whatever nodes.
+  -- The greatest graph of any size below both obeys the list, whatever its nodes are.
   pub greatest-obeys : {A B C : Type 0} (g : Graph Label A) (h : Graph Label B) → OfAnySize n t g → OfAnySize n t h → Appropriate t list g →
       Appropriate t list h → (u : Graph Label C) → GreatestOfAnySize n t g h u → Appropriate t list u
   greatest-obeys g h a b x y u best p v w f e l = go (allowed t list (u .label v .type) f) refl

@@ -1,5 +1,5 @@
--- The answers of `reading::read`: refusal 4 where parsing fails, and otherwise what judging the words says, since these hold the record's
--- rows.
+-- This file shows that the answers of `reading::read` are right: refusal 4 where parsing fails, and otherwise what judging the words
+-- answers, since the words hold the record's rows.
 use mathlib.Core.Path.{_≡_, refl, sym, _∙_, ap, subst}
 use mathlib.Core.Bool.{Bool, true, false, not}
 use mathlib.Core.List.{List}

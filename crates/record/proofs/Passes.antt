@@ -1,6 +1,6 @@
--- The pass that takes the sources away: what holds between two nodes of the queue, and what the pass finds. The nodes whose links are
--- counted no more are those before `next`, so what leads to a queued node stands before it. At the end a node that is still entered
--- is entered from another such node, and going backwards long enough comes to a node again.
+-- This file is about the pass that takes the sources away: what holds between two nodes of the queue, and what the pass finds. The nodes
+-- before `next` in the queue are those whose links are taken away, so every node that leads to a queued node stands before it. At the end
+-- a node that is still entered is entered from another such node, and going backwards long enough comes to a node again.
 use mathlib.Core.Path.{_≡_, refl, sym, _∙_, ap, subst}
 use mathlib.Core.Bool.{Bool, true, false}
 use mathlib.Core.List.{List, [], _∷_, List·Memᴰ, List·Memᴰ·not-nil, List·Memᴰ·cases-cons}
@@ -45,7 +45,7 @@ pub record Peeling (ws : List ℕ) (sources : ℕ) (incoming queue : List ℕ) (
   pub counted : (w : ℕ) → w < size ws → getD incoming w 0 ≡ entering counts ws w (size ws)
   pub gone : (v : ℕ) → counts v ≡ false → (m : ℕ) × (m < next) × (getD queue m 0 ≡ v)
   pub taken : (m : ℕ) → m < next → counts (getD queue m 0) ≡ false
-  -- what leads to a queued node stands before it
+  -- a node that leads to a queued node stands before it in the queue
   pub earlier : (i v : ℕ) → i < count → Leads ws v (getD queue i 0) → (m : ℕ) × (m < i) × (getD queue m 0 ≡ v)
   -- the first of the queue are the sources
   pub enough : sources ≤ count
@@ -62,11 +62,11 @@ module _ {ws : List ℕ} where
         entering-target ws w counts (size ws) v (l .inside) c,
       )
 
-  -- where no link enters
+  -- where no link is counted, no node leads to w
   no-link : {w : ℕ} → entering (λ _. true) ws w (size ws) ≡ 0 → (v : ℕ) → Leads ws v w → ⊥
   no-link none v l = omega (arith, link-counted l (λ _. true) refl)
 
-  -- where one does
+  -- where a link is counted, a node that counts leads to w
   link-in : (counts : ℕ → Bool) (w : ℕ) → 0 < entering counts ws w (size ws) → (v : ℕ) × Leads ws v w × (counts v ≡ true)
   link-in counts w h =
       let (v, inside, c, some) = entering-source ws w counts (size ws) h in

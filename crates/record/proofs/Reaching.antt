@@ -31,7 +31,7 @@ abbrev pub SelfReach : List (Row Label) → Type 0
 SelfReach rows =
     (v : ℕ) × (v < length rows) × (f : ℕ) × (p : List ℕ) × (follow (graphOfRows rows .link) (some v) (f ∷ p) ≡ some v)
 
--- no "node the root does not reach"
+-- there is no "node the root does not reach"
 abbrev pub AllReached : List (Row Label) → Type 0
 AllReached rows = (v : ℕ) → v < length rows → Reached (graphOfRows rows) v
 

@@ -1,6 +1,6 @@
--- What a reading says: for an acceptance and for each refusal, which tests went which way, in the order 4, 5, 6, 7 (document 01,
--- "Returned by a call"); and what the test of ranges says of each label and of each row. One statement over all readings, so that
--- both directions are proved once.
+-- This file shows what a reading says: for an acceptance and for each refusal, which tests pass and which fail, in the order 4, 5, 6, 7
+-- (document 01, "Returned by a call"). The claim is one statement over all readings, so that both directions are proved once. The file
+-- also shows what the range test says about each label and each row.
 use mathlib.Core.Path.{_≡_, refl, sym, subst, ap}
 use mathlib.Core.Bool.{Bool, true, false, cond, not, _&&_}
 use mathlib.Core.List.{List, List·Memᴰ}
@@ -74,11 +74,11 @@ module _ (n : ℕ) (bytes : List ℕ) where
   stands-reading (refused Inappropriate) never = absurd never
   stands-reading (accepted rows) (e, i, c, a) = rw (e, i, c, a)
 
-  -- a reading is what it is exactly where its tests went so
+  -- a record is read as r exactly where the tests behind r pass and fail as they should
   pub reading-says : (r : Reading) → (reading n bytes ≡ r) ↔ Stands n bytes r
   reading-says r = (λ e. subst (Stands n bytes) e reading-stands, stands-reading r)
 
--- not "a type that is 0 or at least n", levels "0 to 255", not "a lowest level above the highest"
+-- The type is not "0 or at least n", the levels are "0 to 255", and the lowest is not "above the highest".
 abbrev pub LabelInRange : ℕ → Label → Type 0
 LabelInRange n l = (0 < l .type) × Known n l × (l .lowest ≤ l .highest)
 
@@ -127,7 +127,7 @@ module _ (n : ℕ) (l : Label) where
       label-in-range .1 (omega arith, record { type = below; lowest = omega arith; highest = top }, up))
       (λ e. le-leb (l .lowest) (l .highest) (label-in-range .0 e .2))
 
--- every label in range, and not "a target at least N"
+-- Every label is in range, and no target is "at least N".
 abbrev pub InRange : ℕ → List (Row Label) → Type 0
 InRange n rows = (r : Row Label) → List·Memᴰ r rows →
     LabelInRange n (r .0) × ((l : ℕ × ℕ) → List·Memᴰ l (r .1) → l .1 < length rows)

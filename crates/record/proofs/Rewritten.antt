@@ -1,6 +1,6 @@
--- Written records. The written form of a graph of any size, whose types have seven bits, keeps the rules of a record, since its rows
--- are the reached nodes of that graph and a cycle of one is a cycle of the other; so it is accepted, and is its own written form.
--- Reading undoes writing, so equal bytes are equal forms, and these are equal meanings.
+-- This file is about written records. The written form of a graph of any size, whose types have seven bits, keeps the rules of a record,
+-- since its rows are the reached nodes of that graph and a cycle of one is a cycle of the other. So it is accepted, and is its own written
+-- form. Reading undoes writing, so equal bytes are equal forms, and equal forms are equal meanings.
 use mathlib.Core.Path.{_≡_, sym, _∙_, ap, subst}
 use mathlib.Core.Bool.{Bool}
 use mathlib.Core.List.{List, _∷_, _++_}
@@ -114,7 +114,7 @@ module _ (n : ℕ) (t : List ℕ) {A : Type 0} (same : A → A → Bool) (tells 
     pub written-reads : (reading n (encoded form) ≡ accepted form) × SameMeaning (tableLabels n t) g (graphOfRows form)
     written-reads = (rules-read n form form-rules, form-meaning)
 
--- so their bytes determine them
+-- rows that keep the rules are determined by their bytes
 encoded-injective : {n : ℕ} (rows other : List (Row Label)) → Rules n rows → Rules n other → encoded rows ≡ encoded other → rows ≡ other
 encoded-injective rows other rules same q =
     some-injective (sym (rules-decoded rules) ∙ ap decoded q ∙ rules-decoded same)

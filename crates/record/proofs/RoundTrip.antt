@@ -1,5 +1,5 @@
--- A record that was encoded, or spelled out with more ranges, is decoded to the rows that it was made of, if there is one at least, and at
--- most 2,048 links, and in each row a type of seven bits and features below 64 that ascend.
+-- The record of rows, encoded or spelled out with more ranges, is decoded to these rows. There must be at least one row and at most 2,048
+-- links, and in each row a type of seven bits and features below 64 that ascend.
 use mathlib.Core.Path.{_≡_, refl, sym, _∙_, ap, ap₂, subst}
 use mathlib.Core.Bool.{Bool, true, false, cond, not}
 use mathlib.Core.List.{List, [], _∷_, _++_, map, append-assoc, append-nil, List·Memᴰ, List·Memᴰ·head, List·Memᴰ·tail, List·Memᴰ·not-nil, List·Memᴰ·cases-cons}
@@ -193,7 +193,7 @@ rows-taken writes (r ∷ rs) room total rest typed ranges proper e =
     (rows-taken (λ v. writes (suc v)) rs room (linksIn rs + room) rest (λ x m. typed x (List·Memᴰ·tail m)) (λ v l. ranges (suc v) (omega arith))
     (λ x m. proper x (List·Memᴰ·tail m)) refl)
 
--- The round trip.
+-- The bytes that spell rows are decoded to the rows.
 pub decode-spelled : (writes : ℕ → Bool) (rows : List (Row Label)) → 0 < length rows → linksIn rows ≤ 2048 → SevenBits rows →
     WritesRanges writes rows → ((r : Row Label) → List·Memᴰ r rows → Proper r) → decoded (spelled writes rows) ≡ some rows
 unfolding decoded spelled
@@ -235,7 +235,7 @@ pub decode-encode : (rows : List (Row Label)) → 0 < length rows → linksIn ro
 decode-encode rows some-row few typed proper =
     ap decoded (encoded-spelled rows) ∙ decode-spelled (notFull rows) rows some-row few typed (not-full-written rows) proper
 
--- So what is written of a graph whose types have seven bits is read again.
+-- What is written of a graph whose types have seven bits is decoded to its written form.
 module _ {A : Type 0} (same : A → A → Bool) (tells : TellsApart same) (g : Graph Label A)
     (narrow : (v w : A) (f : ℕ) → Reached g v → g .link v f ≡ some w → f < 64) (types : (v : A) → Reached g v → g .label v .type < 128)
     (form : List (Row Label)) (e : canonical same g ≡ written form) where

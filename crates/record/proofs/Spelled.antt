@@ -1,5 +1,5 @@
--- The parser is the inverse of spelling: bytes are parsed to rows exactly where they spell them, some ranges written and some left out, and
--- bytes tell which.
+-- The parser is the inverse of spelling: bytes are parsed to rows exactly where they spell the rows, with some ranges written and some left
+-- out. The bytes tell which ranges are written.
 use mathlib.Core.Path.{_≡_, refl, sym, _∙_, ap, ap₂, subst}
 use mathlib.Core.Bool.{Bool, true, false, cond}
 use mathlib.Core.List.{List, [], _∷_, _++_, map, append-assoc, append-nil, append-cancel-left, List·Memᴰ, List·Memᴰ·head, List·Memᴰ·tail, Memᴰ·append-right}

@@ -1,7 +1,7 @@
--- The theorems about records, in one place, each with its statement and a line that cites its proof; document 01, "Graph record" and
--- "Returned by a call", is the text beside it, and document 02, Paper 7, for ranges of levels. A record is a list of bytes, read over
--- a table with n types; its rows are a label and links for each node, and `graphOfRows rows` is the graph that they state. Nothing
--- here asks that the types are a lattice.
+-- This file states the theorems about records in one place, each with a line that cites its proof. The text beside it is document 01,
+-- "Graph record" and "Returned by a call", and document 02, Paper 7, for ranges of levels. A record is a list of bytes, read over a table
+-- with n types; its rows are a label and links for each node, and `graphOfRows rows` is the graph that they state. Nothing here asks that
+-- the types are a lattice.
 use mathlib.Core.Path.{_≡_, sym, _∙_, ap}
 use mathlib.Core.Bool.{Bool, true, false, not}
 use mathlib.Core.List.{List, _∷_, List·Memᴰ}
@@ -32,8 +32,8 @@ use Rattle.record.proofs.Accepted.{accepted-rules, rules-of-any-size, r
 use Rattle.record.proofs.Rewritten as Rewritten
 
 module _ (n : ℕ) (bytes : List ℕ) where
-  -- 1. What is accepted and what is refused: "A table is accepted when none of 1 to 3 applies to it, a graph when none of 4 to 7 does"; each refusal says that those
-  -- before it do not apply.
+  -- 1. What is accepted and what is refused: "A table is accepted when none of 1 to 3 applies to it, a graph when none of 4 to 7 does". Each
+  -- refusal says that those before it do not apply.
 
   pub accepted-exactly : (rows : List (Row Label)) →
       (reading n bytes ≡ accepted rows) ↔
@@ -99,7 +99,7 @@ module _ (n : ℕ) (bytes : List ℕ) where
       reach-exact short = (λ q. reaches-exact rows linked .0 q .1, λ all. reaches-exact rows linked .1 (short, all))
 
 module _ (n : ℕ) (bytes : List ℕ) (rows : List (Row Label)) (ok : reading n bytes ≡ accepted rows) where
-  -- 4. "A graph of any size keeps every rule of an accepted record but the counts of nodes and links": so an accepted one is such.
+  -- 4. "A graph of any size keeps every rule of an accepted record but the counts of nodes and links": an accepted record states one.
 
   pub accepted-of-any-size : (t : List ℕ) → OfAnySize n t (graphOfRows rows)
   accepted-of-any-size t = rules-of-any-size n rows (accepted-rules n bytes rows ok) t
@@ -152,17 +152,17 @@ pub parsed-exactly : (bytes : List ℕ) → AreBytes bytes → (rows : List (Row
     (decoded bytes ≡ some rows) ↔ ((writes : ℕ → Bool) × Spells bytes rows writes)
 parsed-exactly bytes small rows = (Spelled.decoded-spells bytes small rows, λ s. Spelled.spells-decoded (s .1))
 
--- Bytes tell their rows and which ranges they write;
+-- Bytes tell their rows and which ranges they write.
 pub spelled-once : (bytes : List ℕ) (rows rows′ : List (Row Label)) (writes writes′ : ℕ → Bool) → Spells bytes rows writes → Spells bytes rows′ writes′ →
     (rows ≡ rows′) × ((v : ℕ) → v < length rows → writes v ≡ writes′ v)
 spelled-once bytes rows rows′ writes writes′ one other = Spelled.spells-unique one other
 
--- those that spell the same rows are read alike;
+-- Bytes that spell the same rows are read alike.
 pub spelled-alike : (n : ℕ) (bytes bytes′ : List ℕ) (rows : List (Row Label)) (writes writes′ : ℕ → Bool) → Spells bytes rows writes →
     Spells bytes′ rows writes′ → reading n bytes ≡ reading n bytes′
 unfolding reading
 spelled-alike n bytes bytes′ rows writes writes′ one other = ap (judged n) (Spelled.spells-decoded one ∙ sym (Spelled.spells-decoded other))
 
--- and what is encoded writes the ranges that are not full, and no others.
+-- The bytes that rows are encoded as write the ranges that are not full, and no others.
 pub encoded-spells : (rows : List (Row Label)) → Statable rows → Spells (encoded rows) rows (λ v. not (isFull (graphOfRows rows .label v)))
 encoded-spells rows can = record { statable = can; bytes-are = encoded-spelled rows; ranges = not-full-written rows }

@@ -1,5 +1,5 @@
--- Records without ranges: one is read as over types alone, the rows so read are without ranges, and rows without ranges are written as
--- such a record.
+-- This file is about records without ranges: such a record is read as over types alone, the rows that are read have no ranges, and rows
+-- without ranges are written as such a record.
 use mathlib.Core.Path.{_≡_, refl, sym, _∙_, ap, subst}
 use mathlib.Core.Bool.{Bool, true, false, cond, not}
 use mathlib.Core.List.{List, [], _∷_, _++_, map, List·Memᴰ, List·Memᴰ·head, List·Memᴰ·tail}
@@ -98,7 +98,7 @@ judged-accepted n (some found) rows e = go (inRange n found) (cyclic found) (rea
     go true true z e = let z : _≡_ {A = ℕ} 0 1 = cc in absurd (omega arith)
     go false y z e = let z : _≡_ {A = ℕ} 0 1 = cc in absurd (omega arith)
 
--- the types of rows without ranges are theirs
+-- rows of types, with the full range added and taken away again, are the same
 types-of-plain : (rows : List (Row ℕ)) → map (λ r. (r .0 .type, r .1)) (plainRows rows) ≡ rows
 types-of-plain [] = refl
 types-of-plain (r ∷ rows) = ap (λ (rs : List (Row ℕ)). r ∷ rs) (types-of-plain rows)

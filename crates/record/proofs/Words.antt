@@ -1,7 +1,7 @@
--- Rows that words hold, link by link: a link of a row is a place of the words, so the range test, the cycles and the reach of the words
--- are those of the rows. In a graph without a cycle the root reaches every node exactly where a link leads to every node but the
--- root: the sources of the links that lead to a node stand at later places of the order, up to the root, and a walk to a node
--- other than the root ends in a link to it.
+-- This file compares words with the rows that they hold, link by link: a link of a row is a place of the words, so the range test, the
+-- cycles and the reach of the words are those of the rows. In a graph without a cycle the root reaches every node exactly where a link
+-- leads to every node but the root: the sources of the links that lead to a node stand at later places of the order, up to the root, and a
+-- walk to a node other than the root ends in a link to it.
 use mathlib.Core.Path.{_≡_, refl, sym, _∙_, ap, subst}
 use mathlib.Core.Bool.{true, false}
 use mathlib.Core.List.{List, [], _∷_, List·Memᴰ}
@@ -63,7 +63,7 @@ module _ {ws : List ℕ} (shaped : Shaped ws) where
       listed : (v : ℕ) → v < size ws → List·Memᴰ {A = Row Label} (labelAt ws v, linksAt ws v) (rowsOf ws)
       listed v h = rows-member ws (size ws) 0 v v (omega arith) h
 
-  -- and rows in range are rows of a graph
+  -- rows in range are rows of a graph
   pub ranged-linked : (n : ℕ) → Ranged n ws → rows.Linked (rowsOf ws)
   ranged-linked n ranged =
       record {

@@ -1,6 +1,6 @@
--- Which nodes may have which features (document 02, Paper 9): "A list of 64 bytes gives for each feature the broadest type that may have
--- it; a node may have the feature when its type is below or equal to that one, so 0 forbids it." In the field this is an appropriateness
--- condition. Ranges play no part in it. n and t are the table.
+-- This file says which nodes may have which features (document 02, Paper 9): "A list of 64 bytes gives for each feature the broadest type
+-- that may have it; a node may have the feature when its type is below or equal to that one, so 0 forbids it." In the field this is an
+-- appropriateness condition. Ranges play no part in it. `n` and `t` are the number of types and the bytes of the table.
 use mathlib.Core.Path.{_≡_}
 use mathlib.Core.Bool.{Bool, true, cond, _&&_}
 use mathlib.Core.List.{List}
@@ -18,7 +18,7 @@ use Rattle.layout.specs.Layout.{Sound, size, labelAt}
 use Rattle.record.specs.declared.GraphFault.the-variants.{Inappropriate}
 use Rattle.record.specs.Read.{Reading, refused, accepted, reading}
 
--- not "A list entry of n or more, or a list not of 64 bytes"
+-- A list is accepted where it is not refused by 17: "A list entry of n or more, or a list not of 64 bytes, is 17".
 unfoldable pub listAccepted : ℕ → List ℕ → Bool
 listAccepted n list = eqb (length list) 64 && every 64 λ f. leb (suc (getD list f 0)) n
 
@@ -30,7 +30,7 @@ allowed t list type f = below t type (getD list f 0)
 unfoldable pub rowAppropriate : List ℕ → List ℕ → Row Label → Bool
 rowAppropriate t list r = allOf (r .1) λ l. allowed t list (r .0 .type) (l .0)
 
--- no link of a graph is
+-- no link of a graph is one "that the list forbids"
 unfoldable pub appropriate : List ℕ → List ℕ → List (Row Label) → Bool
 appropriate t list rows = allOf rows (rowAppropriate t list)
 
@@ -39,22 +39,23 @@ abbrev pub judgedAppropriate : List ℕ → List ℕ → Reading → Reading
 judgedAppropriate t list (refused fault) = refused fault
 judgedAppropriate t list (accepted rows) = cond (appropriate t list rows) (accepted rows) (refused Inappropriate)
 
+-- what reading a record beside a list answers
 unfoldable pub readingAppropriate : ℕ → List ℕ → List ℕ → List ℕ → Reading
 readingAppropriate n t list bytes = judgedAppropriate t list (reading n bytes)
 
--- Over paths, of a graph of any size: it obeys the list where the node that a path leads to has only features that it may have.
+-- A graph of any size obeys the list: the node that a path leads to has only features that it may have.
 abbrev pub Appropriate : List ℕ → List ℕ → {A : Type 0} → Graph Label A → Type 0
 Appropriate t list {A} g =
     (p : List ℕ) (v w : A) (f : ℕ) → walk g p ≡ some v → g .link v f ≡ some w → allowed t list (g .label v .type) f ≡ true
 
--- What the test of a graph in words asks.
+-- What follows is what the test of a graph in words asks of its inputs.
 
--- 64 types below 64
+-- The list has 64 entries, each below 64.
 pub record Listed (list : List ℕ) : Type 0 where
   pub long : length list ≡ 64
   pub small : (f : ℕ) → f < 64 → getD list f 0 < 64
 
--- words that hold a graph with types below 64
+-- The words hold a graph whose types are below 64.
 pub record Typed (ws : List ℕ) : Type 0 where
   pub sound : Sound ws
   pub typed : (v : ℕ) → v < size ws → Known 64 (labelAt ws v)

@@ -1,5 +1,5 @@
--- What counting the links and taking the sources away finds and keeps. A source is a node that no link enters; `incoming` counts
--- for each node the links that still enter it, and `queue` lists the nodes that none enters any more.
+-- This file states the contracts of the functions that count the links of a graph and take its sources away. A source is a node that no
+-- link enters. `incoming` counts for each node the links that still enter it, and `queue` lists the nodes that no counted link enters.
 use mathlib.Core.Path.{_≡_}
 use mathlib.Core.Bool.{Bool, true, false, cond}
 use mathlib.Core.List.{List}
@@ -14,11 +14,11 @@ use Rattle.record.specs.Read.{labelInRange}
 use Rattle.record.specs.declared.peeling.Shape.{Shape}
 use Rattle.record.specs.declared.peeling.Shape.the-variants.{Cyclic, Apart, Rooted}
 
--- one where a link that counts leads to w
+-- 1 where the link counts and its target is w, else 0
 unfoldable pub hit : Bool → ℕ → ℕ → ℕ
 hit counts target w = cond counts (cond (eqb target w) 1 0) 0
 
--- how many of the links from one place to another lead to w
+-- how many of the links that stand from place `start` up to a place lead to w
 unfoldable pub among : List ℕ → ℕ → ℕ → ℕ → ℕ
 among ws w start zero = 0
 among ws w start (suc k) = among ws w start k + hit (leb start k) (targetAt ws k) w
@@ -27,12 +27,12 @@ among ws w start (suc k) = among ws w start k + hit (leb start k) (targetAt ws k
 abbrev pub into : List ℕ → ℕ → ℕ → ℕ
 into ws w v = among ws w (linksFrom ws v) (rowEnd ws v)
 
--- how many of the links of those of the first nodes that count lead to w
+-- how many links lead to w from those of the first nodes that count
 unfoldable pub entering : (ℕ → Bool) → List ℕ → ℕ → ℕ → ℕ
 entering counts ws w zero = 0
 entering counts ws w (suc v) = entering counts ws w v + cond (counts v) (into ws w v) 0
 
--- the links of the nodes before v are counted
+-- `incoming` counts the links of the nodes before v.
 pub record Counted (ws : List ℕ) (v : ℕ) (incoming : List ℕ) : Type 0 where
   pub shaped : Shaped ws
   pub small : size ws ≤ 255
@@ -43,7 +43,7 @@ pub record Counted (ws : List ℕ) (v : ℕ) (incoming : List ℕ) : Type 0 wher
 abbrev pub Within : List ℕ → ℕ → Type 0
 Within ws v = (k : ℕ) → linksFrom ws v ≤ k → k < rowEnd ws v → targetAt ws k < size ws
 
--- whether that is so, and if so the links of v are counted too
+-- An answer to whether every target of node v is a node. After a yes, `incoming` counts the links of v too.
 pub record RowCount (ws : List ℕ) (v : ℕ) (answer : Bool) (incoming : List ℕ) : Type 0 where
   pub yes-stands : answer ≡ true → Within ws v × Counted ws (v + 1) incoming
   pub no-stands : answer ≡ false → Within ws v → ⊥
@@ -56,17 +56,17 @@ unrangedLength ws = 1 + 9 * size ws + linksIn (rowsOf ws)
 abbrev pub LevelsOrdered : List ℕ → Type 0
 LevelsOrdered ws = (v : ℕ) → v < size ws → labelAt ws v .lowest ≤ labelAt ws v .highest
 
--- every label is in range, every target is a node
+-- every label is in range, and every target is a node
 pub record Ranged (n : ℕ) (ws : List ℕ) : Type 0 where
   pub labels : (v : ℕ) → v < size ws → labelInRange n (labelAt ws v) ≡ true
   pub targets : (v : ℕ) → v < size ws → Within ws v
 
--- whether that is so, and if so all links are counted
+-- An answer to whether every label is in range and every target is a node. After a yes, `incoming` counts all links.
 pub record Count (n : ℕ) (ws : List ℕ) (answer : Bool) (incoming : List ℕ) : Type 0 where
   pub yes-stands : answer ≡ true → Ranged n ws × Counted ws (size ws) incoming
   pub no-stands : answer ≡ false → Ranged n ws → ⊥
 
--- the first `count` of the queue are the nodes that no link enters, each once
+-- The first `count` entries of the queue are the nodes that no counted link enters, each once.
 pub record Queued (nodes : ℕ) (incoming queue : List ℕ) (count : ℕ) : Type 0 where
   pub roomy : length queue ≡ 255
   pub filled : count ≡ whites nodes incoming
@@ -75,7 +75,7 @@ pub record Queued (nodes : ℕ) (incoming queue : List ℕ) (count : ℕ) : Type
   pub found : (w : ℕ) → w < nodes → getD incoming w 0 ≡ 0 → (i : ℕ) × (i < count) × (getD queue i 0 ≡ w)
   pub distinct : (i j : ℕ) → i < j → j < count → getD queue i 0 ≡ getD queue j 0 → ⊥
 
--- the links of node v are still counted
+-- `incoming` still counts the links of node v.
 pub record RowDue (ws : List ℕ) (v : ℕ) (incoming queue : List ℕ) (queued : ℕ) : Type 0 where
   pub sound : Sound ws
   pub small : size ws ≤ 255
@@ -84,7 +84,7 @@ pub record RowDue (ws : List ℕ) (v : ℕ) (incoming queue : List ℕ) (queued 
   pub listing : Queued (size ws) incoming queue queued
   pub due : (w : ℕ) → w < size ws → into ws w v ≤ getD incoming w 0
 
--- the links of node v up to a place are taken away
+-- The links of node v before place `end` are taken away: `later` and `line` are what `incoming` and `queue` have become.
 pub record RowTaken (ws : List ℕ) (v end : ℕ) (incoming queue : List ℕ) (queued : ℕ) (later line : List ℕ) (count : ℕ) : Type 0 where
   pub long : length later ≡ 255
   pub listing : Queued (size ws) later line count
@@ -92,12 +92,13 @@ pub record RowTaken (ws : List ℕ) (v end : ℕ) (incoming queue : List ℕ) (q
   pub more : queued ≤ count
   pub same : (i : ℕ) → i < queued → getD line i 0 ≡ getD queue i 0
 
--- places of nodes where a link leads to an earlier place
+-- Every node has a place, and every link leads to a node at an earlier place.
 pub record Earlier (ws : List ℕ) (place : ℕ → ℕ) : Type 0 where
   pub inside : (v : ℕ) → v < size ws → place v < size ws
   pub earlier : (v w : ℕ) → Leads ws v w → place w < place v
 
--- some node reaches itself, or a link leads to an earlier place; and a link enters every node but the root, or one not
+-- What the answer tells. Cyclic: some node reaches itself. Otherwise the nodes have places so that every link leads to an earlier one.
+-- Rooted: a link enters every node but the root. Apart: no link enters some node beside the root.
 pub record Peels (ws : List ℕ) (answer : Shape) : Type 0 where
   pub cyclic-stands : answer ≡ Cyclic → (v : ℕ) × Reaches ws v v
   pub sorted : (answer ≡ Cyclic → ⊥) → (place : ℕ → ℕ) × Earlier ws place

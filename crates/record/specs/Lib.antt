@@ -1,4 +1,4 @@
--- Definitions of reading records.
+-- These files define what it is to read a record.
 pub mod Read
 pub mod Counts
 pub mod Reads

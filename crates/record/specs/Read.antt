@@ -1,5 +1,5 @@
--- Reading a record over a table with n types: the graph's rows, or the first of refusals 4 to 7 that applies, each over the whole
--- record before the next (document 01, "Returned by a call").
+-- This file defines what reading a record over a table with n types answers (document 01, "Returned by a call"): the graph's rows, or the
+-- first of refusals 4 to 7 that applies. Each refusal is checked over the whole record before the next.
 use mathlib.Core.Bool.{Bool, cond, not, _&&_}
 use mathlib.Core.List.{List, []}
 use mathlib.Core.Option.{Option, none, some}
@@ -16,6 +16,7 @@ use Rattle.record.specs.declared.GraphFault.the-variants.{Malformed, Out
 use Rattle.decode.specs.Decode.{decoded}
 pub use Rattle.layout.specs.Layout.{graphOfRows}
 
+-- the number of a refusal (document 01, "Returned by a call"; 18: document 02, Paper 9)
 abbrev pub graphNumber : GraphFault → ℕ
 graphNumber Malformed = 4
 graphNumber OutOfRange = 5
@@ -23,27 +24,29 @@ graphNumber Cyclic = 6
 graphNumber Unreached = 7
 graphNumber Inappropriate = 18
 
--- a type that is not "0 or at least n", and levels "0 to 255" of which the lowest is not "above the highest" (document 02, Paper 7)
+-- The type is not "0 or at least n", the levels are "0 to 255", and the lowest is not "above the highest" (document 02, Paper 7).
 unfoldable pub labelInRange : ℕ → Label → Bool
 labelInRange n l =
     not (eqb (l .type) 0) && leb (suc (l .type)) n && leb (l .lowest) (l .highest) && leb (l .highest) 255
 
--- not "a type that is 0 or at least n; a target at least N", nor "a lowest level above the highest"
+-- No node has "a type that is 0 or at least n; a target at least N", nor "A lowest level above the highest"; else the record is refused by 5.
 unfoldable pub inRange : ℕ → List (Row Label) → Bool
 inRange n rows = allOf rows λ r. labelInRange n (r .0) && allOf (r .1) λ l. leb (suc (l .1)) (length rows)
 
--- "a node reaches itself": from some node there is a walk of as many links as there are nodes
+-- "a node reaches itself": a walk of as many links as there are nodes starts at some node.
 unfoldable pub cyclic : List (Row Label) → Bool
 cyclic rows = anyOf (from 0 (length rows)) λ v. deep (graphOfRows rows .link) (length rows) v
 
--- not "a node the root does not reach": the visit from the root finds as many nodes as there are
+-- There is no "node the root does not reach": the visit from the root finds as many nodes as there are.
 unfoldable pub reachesAll : List (Row Label) → Bool
 reachesAll rows = holds (λ seen. eqb (length seen) (length rows)) (visit eqb (graphOfRows rows .link) 255 0 [])
 
+-- what reading answers: a refusal, or the rows of the graph
 pub data Reading : Type 0 where
   refused : GraphFault → Reading
   accepted : List (Row Label) → Reading
 
+-- The checks run in the order 4, 5, 6, 7. A record that states no rows is refused by 4.
 abbrev pub judged : ℕ → Option (List (Row Label)) → Reading
 judged n none = refused Malformed
 judged n (some rows) =
@@ -51,5 +54,6 @@ judged n (some rows) =
     (cond (cyclic rows) (refused Cyclic) (cond (reachesAll rows) (accepted rows) (refused Unreached)))
     (refused OutOfRange)
 
+-- what reading a record answers
 unfoldable pub reading : ℕ → List ℕ → Reading
 reading n bytes = judged n (decoded bytes)

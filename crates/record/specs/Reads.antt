@@ -1,4 +1,5 @@
--- What reading promises.
+-- This file says what the functions promise that read a record into words: the verdict, and after an acceptance the graph in the words.
+-- The crates that compute on graphs ask for words that are `Loaded`.
 use mathlib.Core.Path.{_≡_}
 use mathlib.Core.List.{List}
 use Prim.Native.Nat.{ℕ, _≤_, _<_}
@@ -11,30 +12,32 @@ use Rattle.record.specs.declared.reading.Verdict.{Verdict}
 use Rattle.record.specs.declared.reading.Verdict.the-variants.{Accepted, Refused}
 use Rattle.record.specs.Read.{Reading, refused, accepted, reading}
 
+-- the verdict that a reading gives
 abbrev pub verdictOf : Reading → Verdict
 verdictOf (refused fault) = Refused fault
 verdictOf (accepted rows) = Accepted
 
--- the words hold the rows of a record over a table with n types
+-- The words hold the given rows, over a table with n types.
 pub record Holds (n : ℕ) (rows : List (Row Label)) (ws : List ℕ) : Type 0 where
   pub rows-are : rowsOf ws ≡ rows
   pub sound : Sound ws
   pub small : size ws ≤ 255
   pub typed : (v : ℕ) → v < size ws → Known n (labelAt ws v)
 
--- the verdict of a reading, and beside an acceptance the graph
+-- The verdict is that of the reading, and after an acceptance the words hold the rows.
 pub record ReadsAs (n : ℕ) (o : Reading) (v : Verdict) (ws : List ℕ) : Type 0 where
   pub verdict : v ≡ verdictOf o
   pub graph : (rows : List (Row Label)) → o ≡ accepted rows → Holds n rows ws
 
+-- what reading a record promises of the verdict and the words
 abbrev pub Reads : ℕ → List ℕ → Verdict → List ℕ → Type 0
 Reads n bytes v ws = ReadsAs n (reading n bytes) v ws
 
--- rows whose record is accepted over a table with n types
+-- The record of the rows is accepted over a table with n types and states the same rows.
 abbrev pub Acceptable : ℕ → List (Row Label) → Type 0
 Acceptable n rows = reading n (encoded rows) ≡ accepted rows
 
--- words that hold such rows
+-- The words hold rows whose record is accepted over a table with n types.
 pub record Loaded (n : ℕ) (ws : List ℕ) : Type 0 where
   pub acceptable : Acceptable n (rowsOf ws)
   pub sound : Sound ws

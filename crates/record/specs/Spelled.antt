@@ -1,5 +1,6 @@
--- The bytes of a record with each node's range written or left out (document 02, Paper 7: "bit 7 says that two bytes follow it, lowest and
--- highest level .. without the bit the range is 0 to 255. .. A written record never writes the full range, and a read one may").
+-- This file defines the bytes of a record in which each node's range is written or left out (document 02, Paper 7: "bit 7 says that two
+-- bytes follow it, lowest and highest level .. without the bit the range is 0 to 255. .. A written record never writes the full range, and
+-- a read one may"). The definitions serve to say which bytes reading accepts.
 use mathlib.Core.Path.{_≡_}
 use mathlib.Core.Bool.{Bool, true, false, cond}
 use mathlib.Core.List.{List, [], _∷_, _++_, map, List·Memᴰ}
@@ -27,7 +28,8 @@ spelledRows writes (r ∷ rs) = spelledRow (writes 0) r ++ spelledRows (λ v. wr
 unfoldable pub spelled : (ℕ → Bool) → List (Row Label) → List ℕ
 spelled writes rows = length rows ∷ spelledRows writes rows
 
--- rows that a record can state: N is not 0, "at most 2,048 links in all", types of seven bits, features 0 to 63, lowest first
+-- A record can state the rows: there is a node, "At most 2,048 links in all", types have seven bits, and features are 0 to 63, lowest
+-- first.
 pub record Statable (rows : List (Row Label)) : Type 0 where
   pub some-node : 0 < length rows
   pub few-links : linksIn rows ≤ 2048
@@ -35,7 +37,8 @@ pub record Statable (rows : List (Row Label)) : Type 0 where
   pub ascending : (r : Row Label) → List·Memᴰ r rows → Ascending (r .1)
   pub features : (r : Row Label) → List·Memᴰ r rows → (l : ℕ × ℕ) → List·Memᴰ l (r .1) → l .0 < 64
 
--- The bytes are a record of these rows. It writes the range of the nodes that `writes` says, among them every range that is not full.
+-- The bytes are a record of the rows. The record writes the ranges of the nodes for which `writes` says so, among them every range that is
+-- not full.
 pub record Spells (bytes : List ℕ) (rows : List (Row Label)) (writes : ℕ → Bool) : Type 0 where
   pub statable : Statable rows
   pub bytes-are : bytes ≡ spelled writes rows

@@ -1,5 +1,5 @@
-// Reading beside a list that gives for each feature the broadest type that may have it (document 02, Paper 9): the refusals of
-// reading, then 18 for a graph with a link that the list forbids.
+// Reads a record beside a list that gives for each feature the broadest type that may have it (document 02, Paper 9). The record is
+// refused as without a list, then by 18 where the graph has a link that the list forbids.
 
 use crate::GraphFault;
 use crate::reading::Verdict;
@@ -11,7 +11,7 @@ ghost use Rattle.decode.specs.Answers.{Roomy};
 ghost use Rattle.record.specs.Appropriate.{listAccepted, rowAppropriate, appropriate, readingAppropriate, Listed, Typed};
 ghost use Rattle.record.specs.Reads.{ReadsAs};
 
-// Whether a list has 64 entries, each one of n types.
+// Whether a list has 64 entries, each of them one of the n types.
 pub fn is_list_accepted(n: usize, list: &[u8]) -> bool
     ensures { λ r. ⌜ r ≡ listAccepted n (now (list .entry)) ⌝ }
 {
@@ -65,7 +65,8 @@ pub fn is_appropriate(table: &[u8], list: &[u8], graph: &[u16]) -> bool
     true
 }
 
-// Reads a record over a table with n types, beside an accepted list, into the lent words, which are unspecified on refusal.
+// Reads a record over a table with n types, beside an accepted list, into the lent words. What the words hold after a refusal is not
+// specified.
 pub fn read(n: usize, table: &[u8], list: &[u8], bytes: &[u8], graph: &mut [u16]) -> Verdict
     requires { ⌜ (n ≤ 64) × (listAccepted n (now list) ≡ true) ⌝ }
     requires { ⌜ Roomy (now bytes) (now graph) ⌝ }

@@ -1,5 +1,5 @@
-// Judging a graph in words, wherever its words come from: the first of refusals 5 to 7 that applies, each over the whole graph before
-// the next.
+// Judges a graph in words, whether the words come from a record or from a planning table: finds the first of refusals 5 to 7 that
+// applies. Each refusal is checked over the whole graph before the next.
 
 use crate::GraphFault;
 use crate::peeling::Shape;
@@ -13,7 +13,7 @@ ghost use Rattle.record.specs.Counts.{LevelsOrdered};
 ghost use Rattle.record.specs.Read.{judged};
 ghost use Rattle.record.specs.Reads.{ReadsAs};
 
-// Judges a graph over a table with n types. Levels are compared only where there are ranges.
+// Judges a graph over a table with n types. Levels are compared only if `ranged` says that there are ranges.
 pub fn judge(n: usize, graph: &[u16], ranged: bool) -> Verdict
     requires { ⌜ Shaped (now graph) × (size (now graph) ≤ 255) ⌝ }
     requires { ⌜ (ranged ≡ false → LevelsOrdered (now graph)) ⌝ }

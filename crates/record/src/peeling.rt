@@ -1,6 +1,6 @@
-// The range test, which counts the links that enter each node as it goes. Then cycles and reach in one pass (Kahn's topological
-// sort): nodes that no link enters are taken away with their links, as long as there are any. A graph where some stay has a cycle,
-// and in one where none stays the root reaches every node exactly where it is the only node that no link entered to start with.
+// Tests a graph for refusals 5, 6 and 7. The range test also counts the links that enter each node. Cycles and reach are then found in
+// one pass (Kahn's topological sort): nodes that no link enters are taken away with their links, as long as there are any. If nodes stay,
+// the graph has a cycle. If none stays, the root reaches every node exactly where it is the only node that no link entered at the start.
 
 use layout::Label;
 ghost use Prim.Native.Nat.{_+_, _≤_, _<_};
@@ -12,14 +12,15 @@ ghost use Rattle.layout.specs.Layout.{Sound, rowEnd, size};
 ghost use Rattle.record.specs.Read.{labelInRange};
 ghost use Rattle.record.specs.Counts.{Count, Counted, LevelsOrdered, Peels, Queued, RowCount, RowDue, RowTaken};
 
-// What is found: a cycle; else a node beside the root that no link enters; else neither.
+// What is found: a cycle; else a node other than the root that no link enters; else neither.
 pub enum Shape {
     Cyclic,
     Apart,
     Rooted,
 }
 
-// Whether the targets of the links of node v are nodes; if so the links are counted, those of the nodes before v being counted.
+// Whether the targets of the links of node v are nodes. If so, the links of v are added to the counts, which have those of the nodes
+// before v.
 fn count_row<'a>(graph: &'a [u16], v: usize, incoming: &mut [u16; 255]) -> bool
     requires { ⌜ v < size (now graph) ⌝ }
     requires { ⌜ Counted (now graph) v (now incoming) ⌝ }
@@ -39,8 +40,8 @@ fn count_row<'a>(graph: &'a [u16], v: usize, incoming: &mut [u16; 255]) -> bool
     true
 }
 
-// Whether a label's type is among the n and not 0, and its lowest level not above the highest. Levels are compared only if the record has
-// ranges.
+// Whether a label's type is one of the n types and not 0, and its lowest level is not above the highest. Levels are compared only if the
+// record has ranges.
 fn is_label_in_range(n: usize, label: Label, ranged: bool) -> bool
     requires { ⌜ (ranged ≡ false → label .lowest ≤ label .highest) ⌝ }
     ensures { λ r. ⌜ r ≡ labelInRange n (stated label) ⌝ }
@@ -55,8 +56,8 @@ fn is_label_in_range(n: usize, label: Label, ranged: bool) -> bool
     !ranged || label.lowest <= label.highest
 }
 
-// Whether the labels of the nodes are in range, and the targets of their links among the nodes (refusal 5 otherwise); if
-// so the links that enter each node are counted, none being counted before. Levels are tested where there are ranges.
+// Whether the labels of all nodes are in range and the targets of all links are nodes; if not, refusal 5 applies. If so, `incoming` has
+// the number of links that enter each node. `incoming` must be clear at the start. Levels are compared only if there are ranges.
 pub fn count_incoming(n: usize, graph: &[u16], ranged: bool, incoming: &mut [u16; 255]) -> bool
     requires { ⌜ (ranged ≡ false → LevelsOrdered (now graph)) ⌝ }
     requires { ⌜ Counted (now graph) 0 (now incoming) ⌝ }
@@ -76,7 +77,7 @@ pub fn count_incoming(n: usize, graph: &[u16], ranged: bool, incoming: &mut [u16
     true
 }
 
-// Lists the nodes that no link enters; answers how many.
+// Lists the nodes that no link enters, and answers how many they are.
 fn find_sources<'a>(nodes: usize, incoming: &'a [u16; 255], queue: &mut [u16; 255]) -> usize
     requires { ⌜ nodes ≤ 255 ⌝ }
     requires { ⌜ (length (now incoming) ≡ 255) × (length (now queue) ≡ 255) ⌝ }
@@ -94,7 +95,7 @@ fn find_sources<'a>(nodes: usize, incoming: &'a [u16; 255], queue: &mut [u16; 25
     count
 }
 
-// Takes the links of node v away; the nodes that no link enters any more join the queue. Answers how many are queued.
+// Takes the links of node v away. Nodes that no link is left to enter join the queue. Answers how many nodes are queued.
 fn take_links<'a>(
     graph: &'a [u16],
     v: usize,
@@ -121,7 +122,8 @@ fn take_links<'a>(
     count
 }
 
-// Whether some node reaches itself, and if none does, whether a link enters every node but the root. The counts are used up.
+// Whether some node reaches itself, and if none does, whether a link enters every node but the root. The counts in `incoming` are
+// changed.
 pub fn sources_first(graph: &[u16], incoming: &mut [u16; 255]) -> Shape
     requires { ⌜ Sound (now graph) ⌝ }
     requires { ⌜ Counted (now graph) (size (now graph)) (now incoming) ⌝ }

@@ -1,4 +1,4 @@
-// Reading records: a record is parsed (refusal 4), and its graph judged (5 to 7).
+// Reads a record into words: parses it (refusal 4), then judges its graph (refusals 5 to 7).
 
 use crate::GraphFault;
 ghost use mathlib.Core.Bool.{not};
@@ -9,13 +9,13 @@ ghost use Rattle.decode.specs.Answers.{Roomy};
 ghost use Rattle.record.specs.Counts.{unrangedLength};
 ghost use Rattle.record.specs.Reads.{Reads};
 
-// What reading a record answers: that it states a graph, or why not.
+// What reading a record answers: it is accepted, or why it is refused.
 pub enum Verdict {
     Accepted,
     Refused(GraphFault),
 }
 
-// Whether a record of a given length that states the graph has labels with levels: each of these takes two bytes more.
+// Whether a record of the given length that states the graph writes a range. Each written range takes two bytes more.
 fn has_ranges(length: usize, graph: &[u16]) -> bool
     requires { ⌜ Shaped (now graph) ⌝ }
     ensures { λ r. ⌜ r ≡ not (eqb length (unrangedLength (now (graph .entry)))) ⌝ }
@@ -26,7 +26,7 @@ fn has_ranges(length: usize, graph: &[u16]) -> bool
     length != 1 + 9 * nodes + links
 }
 
-// Reads a record over a table with n types into the lent words, which are unspecified on refusal.
+// Reads a record over a table with n types into the lent words. What the words hold after a refusal is not specified.
 pub fn read(n: usize, bytes: &[u8], graph: &mut [u16]) -> Verdict
     requires { ⌜ Roomy (now bytes) (now graph) ⌝ }
     ensures { λ r. ⌜ Reads n (now (bytes .entry)) r (now (graph .exit)) ⌝ }

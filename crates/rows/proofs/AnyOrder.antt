@@ -19,7 +19,7 @@ use Rattle.rows.proofs.Placed.{is-own, cond-false}
 use Rattle.rows.proofs.Tables.{is-of, row-is, target-row, linksOf-same, map-same, stated}
 use Rattle.rows.proofs.Tests.{all-known-exact, some-source, some-member}
 
--- "node v has a link by f to w exactly when some row says so": a row gives its target, where no two have one parent and feature
+-- a row gives the target of its parent and feature, where no two rows have one parent and feature
 pub row-target : (rs : List Row) (r : Row) → hasTwice rs ≡ false → List·Memᴰ r rs → targetIn rs (r .parent) (r .feature) ≡ some (r .target)
 unfolding targetIn hasTwice
 row-target [] r once m = absurd (List·Memᴰ·not-nil m)
@@ -84,7 +84,7 @@ module _ {xs ys : List Row} (members : SameMembers xs ys) where
       same-test (allKnown n xs) (allKnown n ys) (λ e. all-known-exact n ys .1 (λ r m. all-known-exact n xs .0 e r (members .1 r m)))
       (λ e. all-known-exact n xs .1 (λ r m. all-known-exact n ys .0 e r (members .0 r m)))
 
-  -- as many rows, and in one of them no two with one parent and feature
+  -- Both tables have as many rows, and in one of them no two rows have one parent and feature.
   module _ (long : length xs ≡ length ys) (once : hasTwice xs ≡ false) where
     one-target : (r s : Row) → List·Memᴰ r ys → List·Memᴰ s ys → r .parent ≡ s .parent → r .feature ≡ s .feature → r ≡ s
     one-target r s m i p f =
@@ -98,9 +98,9 @@ module _ {xs ys : List Row} (members : SameMembers xs ys) where
         let (zs, l, all) = shorter ys one-target e in
         omega (arith, distinct-bound xs zs (once-distinct xs once) (λ r m. all r (members .0 r m))))
 
-  -- no two with one parent and feature in either
+  -- In neither table do two rows have one parent and feature.
   module _ (once : hasTwice xs ≡ false) (once′ : hasTwice ys ≡ false) where
-    -- as many rows
+    -- both tables have as many rows
     pub members-length : length xs ≡ length ys
     members-length =
         omega (arith, distinct-bound xs ys (once-distinct xs once) (members .0), distinct-bound ys xs (once-distinct ys once′) (members .1))
@@ -115,14 +115,14 @@ module _ {xs ys : List Row} (members : SameMembers xs ys) where
         go none (some w) e q =
             row-target xs (record { parent = p; feature = f; target = w }) once (members .1 (record { parent = p; feature = f; target = w }) (target-row ys p f w q)) ∙ sym q
 
-    -- one graph
+    -- both tables state one graph
     pub members-table : (nodes : List ℕ) → tableRows nodes xs ≡ tableRows nodes ys
     unfolding tableRows
     members-table nodes =
         map-same (stated nodes xs) (stated nodes ys) (from 0 (nodesIn nodes)) (λ v m.
         ap (λ (ls : List (ℕ × ℕ)). (labelIn nodes v, ls)) (linksOf-same (targetIn xs v) (targetIn ys v) features (λ f i. target-same v f)))
 
--- as many of the same rows: 15 is given of both or of neither
+-- of two tables with as many of the same rows, 15 applies to both or to neither
 pub members-twice : {xs ys : List Row} → SameMembers xs ys → length xs ≡ length ys → hasTwice xs ≡ hasTwice ys
 members-twice {xs} {ys} members long = go (hasTwice xs) (hasTwice ys) refl refl
   where

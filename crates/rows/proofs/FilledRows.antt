@@ -1,4 +1,5 @@
--- Filling: the links of a row stored one after another by feature, one row after another by the builder, and the words that come of it.
+-- This file is about filling words with a graph: the links of a row are stored one after another by feature, and the rows one after
+-- another by the builder. The file shows which rows the words then hold.
 use mathlib.Core.Path.{_≡_, refl, sym, _∙_, ap, ap₂, subst}
 use mathlib.Core.Bool.{Bool, true, false}
 use mathlib.Core.List.{List, [], _∷_, _++_, map, append-nil, List·Memᴰ, Memᴰ·of-map}
@@ -36,7 +37,7 @@ from-append a (suc k) m =
     let q : suc a + k ≡ a + suc k = omega arith in
     ap (from a) e ∙ ap (λ (l : List ℕ). a ∷ l) (from-append (suc a) k m ∙ ap (λ (b : ℕ). from (suc a) k ++ from b m) q)
 
--- one number more
+-- the numbers below k + 1 are those below k, and k
 pub from-more : (k : ℕ) → from 0 (k + 1) ≡ from 0 k ++ (k ∷ [])
 unfolding from
 from-more k = let e : 0 + k ≡ k = omega arith in from-append 0 k 1 ∙ ap (λ (b : ℕ). from 0 k ++ (b ∷ [])) e
@@ -51,7 +52,7 @@ linksOf-append next (f ∷ xs) ys = go (next f) (linksOf-append next xs ys)
     go none e = e
     go (some w) e = ap (λ (l : List (ℕ × ℕ)). (f, w) ∷ l) e
 
--- the links by one feature more
+-- the links by the features below f + 1 are those by the features below f, and the one by f if there is one
 pub links-one : (next : ℕ → Option ℕ) (f : ℕ) → linksOf next (from 0 (f + 1)) ≡ linksOf next (from 0 f) ++ addLink f (next f) []
 unfolding linksOf
 links-one next f = ap (linksOf next) (from-more f) ∙ linksOf-append next (from 0 f) (f ∷ [])

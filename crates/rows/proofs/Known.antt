@@ -1,4 +1,4 @@
--- The test of rows, one after another.
+-- This file is about the test for 14, which goes through the rows one after another.
 use mathlib.Core.Bool.{Bool, true, false, cond}
 use mathlib.Core.Path.{_≡_, refl, sym, _∙_, ap, subst}
 use mathlib.Core.List.{List, [], _∷_}
@@ -27,7 +27,7 @@ module _ (n : ℕ) (r : Row) where
   unfolding isKnown
   near h k = simp (le-ltb 63 (r .feature) h, lt-ltb (r .parent) n k)
 
--- the whole is known as what is left is
+-- all rows are known exactly where those from i on are
 abbrev pub Left : ℕ → ℕ → List Row → ℕ → Type 0
 Left n count all i = allKnown n (take count all) ≡ allKnown n (drop i (take count all))
 
@@ -61,7 +61,7 @@ known-each n (r ∷ rs) i e h = go (isKnown n r) refl e i h (λ j. known-each n 
     go true q h zero l later = q
     go true q h (suc j) l later = later j h (omega arith)
 
--- what a known row has
+-- a known row has a feature below 64, and a parent and a target below n
 pub known-parts : (n : ℕ) (r : Row) → isKnown n r ≡ true → (r .feature < 64) × (r .parent < n) × (r .target < n)
 unfolding isKnown
 known-parts n r = go (ltb 63 (r .feature)) refl (ltb (r .parent) n) refl
@@ -72,7 +72,7 @@ known-parts n r = go (ltb 63 (r .feature)) refl (ltb (r .parent) n) refl
     go false p false q h = let z : _≡_ {A = ℕ} 0 1 = cc in absurd (omega arith)
     go false p true q h = (omega (arith, ltb-false 63 (r .feature) p), ltb-true (r .parent) n q, ltb-true (r .target) n h)
 
--- and lies in the table of targets
+-- known rows have places in the table of targets
 pub known-near : (n count : ℕ) (all : List Row) → n ≤ 255 → count ≤ length all → allKnown n (take count all) ≡ true → AllNear count all
 known-near n count all few inside e i h =
     let r : isKnown n (getD all i noRow) ≡ true =

@@ -1,4 +1,4 @@
--- The rows that export lends pass the tests of 14 and 15, and state the graph that they were made of.
+-- The rows that export lends pass the tests of 14 and 15, and state the graph of which they are made.
 use mathlib.Core.Path.{_≡_, refl, sym, _∙_, ap, ap₂, subst}
 use mathlib.Core.Bool.{Bool, true, false, cond}
 use mathlib.Core.List.{List, [], _∷_, map, List·Memᴰ, List·Memᴰ·head, List·Memᴰ·tail, List·Memᴰ·not-nil, Memᴰ·map}
@@ -98,7 +98,7 @@ module _ (form : List (Row Label)) (proper : (r : Row Label) → List·Memᴰ r 
   nodes-are : nodesIn (lentNodes form) ≡ length form
   nodes-are = ap (λ (n : ℕ). n / 3) (nodes-length form) ∙ mul-div-cancel (length form) {n = 3} (omega arith)
 
-  -- what the rows say
+  -- the graph that the lent table states has the lent rows
   lent-rows : lentRows (map (stated (lentNodes form) (lentRows form)) (from 0 (nodesIn (lentNodes form)))) ≡ lentRows form
   unfolding tableRows
   lent-rows = ap lentRows lent-table
@@ -106,13 +106,13 @@ module _ (form : List (Row Label)) (proper : (r : Row Label) → List·Memᴰ r 
   said : (r : lent.Row) → List·Memᴰ r (lentRows form) → (0 ≤ r .parent) × (r .parent < 0 + nodesIn (lentNodes form)) × (r .feature < 64) × (targetIn (lentRows form) (r .parent) (r .feature) ≡ some (r .target))
   said r m = lent-said (lentNodes form) (lentRows form) (nodesIn (lentNodes form)) 0 r (subst (λ (x : List lent.Row). List·Memᴰ r x) (sym lent-rows) m)
 
-  -- not 15
+  -- 15 does not apply to the lent rows
   pub lent-once : hasTwice (lentRows form) ≡ false
   lent-once =
       once-from (targetIn (lentRows form)) (lentRows form)
       (subst Distinct lent-rows (lent-distinct (lentNodes form) (lentRows form) (nodesIn (lentNodes form)) 0)) (λ r m. said r m .3)
 
-  -- not 14
+  -- 14 does not apply to the lent rows
   pub lent-known : ((r : Row Label) → List·Memᴰ r form → (l : ℕ × ℕ) → List·Memᴰ l (r .1) → l .1 < length form) → allKnown (nodesIn (lentNodes form)) (lentRows form) ≡ true
   unfolding tableRows
   lent-known targets =

@@ -1,4 +1,5 @@
--- Lending: rows made link by link along the words, and node bytes written label by label.
+-- This file is about making a planning table: the rows are made link by link along the words, and the node bytes are written label by
+-- label.
 use mathlib.Core.Path.{_≡_, refl, sym, _∙_, ap, ap₂, subst}
 use mathlib.Core.List.{List, [], _∷_, _++_, map, append-assoc, append-nil}
 use Prim.Native.Nat.{ℕ, zero, suc, _+_, _-_, _*_, _≤_, _<_}
@@ -78,7 +79,7 @@ lent-row ws v =
     ∙ ap (λ (u : ℕ). lentFrom 0 (rowsFrom ws 0 v) ++ (map (lentLink u) (linksAt ws v) ++ [])) e
     ∙ ap (λ (l : List lent.Row). lentFrom 0 (rowsFrom ws 0 v) ++ l) (append-nil (map (lentLink v) (linksAt ws v)))
 
--- How far rows are made: those before place k of node v.
+-- The first i rows of `all` are made: those of the links before place k of node v.
 pub record Making (ws : List ℕ) (all : List lent.Row) (i v k : ℕ) : Type 0 where
   pub lendable : Lendable ws
   pub high : v ≤ size ws
@@ -137,7 +138,7 @@ module _ {ws : List ℕ} where
     pub making-target : k < rowEnd ws v → targetAt ws k < 256
     making-target l = omega (arith, m .lendable .sound .targets v k h (m .low) l, m .lendable .small)
 
-    -- a link
+    -- place k holds a link, and its row is made
     pub making-link : {f w : ℕ} → k < rowEnd ws v → f ≡ featureAt ws k → w ≡ targetAt ws k →
         Making ws (set all i (record { parent = v; feature = f; target = w })) (i + 1) v (k + 1)
     making-link {f} {w} l p q =
@@ -157,7 +158,7 @@ module _ {ws : List ℕ} where
               ∙ sym (lent-link ws v k (m .low) (omega (arith, making-inside)));
         }
 
-    -- the end of a row
+    -- place k is the end of the row of node v, and node v + 1 comes next
     pub making-row : rowEnd ws v ≤ k → Making ws all i (v + 1) (k + 2)
     making-row l =
         let e : k ≡ rowEnd ws v = omega (arith, m .within h) in

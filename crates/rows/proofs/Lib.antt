@@ -1,4 +1,4 @@
--- Laws of rows, and of the loops over them.
+-- These files have the laws of rows and of the loops over them.
 pub mod BigLit
 pub mod Laid
 pub mod LocalArray

@@ -1,4 +1,4 @@
--- Placing rows in a table of targets, one after another.
+-- This file is about placing rows in a table of targets, one after another.
 use mathlib.Core.Bool.{Bool, true, false, cond, not}
 use mathlib.Core.Path.{_≡_, refl, sym, _∙_, ap, ap₂, subst}
 use mathlib.Core.Logic.{_≢_}
@@ -21,7 +21,7 @@ abbrev orElse : Option ℕ → Option ℕ → Option ℕ
 orElse none y = y
 orElse (some x) y = some x
 
--- a row at the end
+-- the target of a parent and a feature where one row more stands at the end
 last : (xs : List Row) (r : Row) (p f : ℕ) → targetIn (xs ++ r ∷ []) p f ≡ orElse (targetIn xs p f) (cond (isOf p f r) (some (r .target)) none)
 unfolding targetIn
 last [] r p f = refl
@@ -36,7 +36,7 @@ pub is-own : (r : Row) → isOf (r .parent) (r .feature) r ≡ true
 unfolding isOf
 is-own r = ap (λ (t : Bool). cond t (eqb (r .feature) (r .feature)) false) (eq-eqb (r .parent) (r .parent) refl) ∙ eq-eqb (r .feature) (r .feature) refl
 
--- a row of another slot
+-- a row whose slot is not that of a parent and a feature is not their row
 is-other : (p f : ℕ) (r : Row) → f < 64 → r .feature < 64 → slot r ≢ p * 64 + f → isOf p f r ≡ false
 unfolding isOf
 is-other p f r hf hr d = go (ℕ-discrete (r .parent) p)
@@ -45,7 +45,7 @@ is-other p f r hf hr d = go (ℕ-discrete (r .parent) p)
     go (no n) = ap (λ (t : Bool). cond t (eqb (r .feature) f) false) (ne-eqb (r .parent) p n)
     go (yes e) = ap (λ (t : Bool). cond t (eqb (r .feature) f) false) (eq-eqb (r .parent) p e) ∙ ne-eqb (r .feature) f (λ q. d (ap₂ (λ (a b : ℕ). a * 64 + b) e q))
 
--- rows with a target have a row
+-- where rows give a target, some row is of the parent and the feature
 found : (xs : List Row) (p f : ℕ) → (targetIn xs p f ≡ none → ⊥) → someOf p f xs ≡ true
 unfolding targetIn someOf
 found [] p f h = absurd (h refl)
@@ -64,7 +64,7 @@ missing (x ∷ xs) p f h = go (isOf p f x) h (missing xs p f)
     go true h e = let z : _≡_ {A = ℕ} 0 1 = cc in absurd (omega arith)
     go false h e = e h
 
--- a row with others behind it
+-- some row of two lists in turn is of a parent and a feature exactly where some row of either list is
 someOf-more : (p f : ℕ) (xs ys : List Row) → someOf p f (xs ++ ys) ≡ cond (someOf p f xs) true (someOf p f ys)
 unfolding someOf
 someOf-more p f [] ys = refl
@@ -93,7 +93,7 @@ cond-same : (t : Bool) → cond t true true ≡ true
 cond-same true = refl
 cond-same false = refl
 
--- no two rows have one slot, and a row of a slot that none has comes after them
+-- where no two rows have one slot, and a row of a slot that none has comes after them, no two of all have one slot
 once-end : (xs : List Row) (r : Row) → hasTwice xs ≡ false → someOf (r .parent) (r .feature) xs ≡ false → hasTwice (xs ++ r ∷ []) ≡ false
 unfolding hasTwice someOf
 once-end [] r o h = refl
@@ -108,7 +108,7 @@ first-of : (x r : Row) (ys : List Row) → isOf (x .parent) (x .feature) r ≡ t
 unfolding someOf
 first-of x r ys e = ap (λ (t : Bool). cond t true (someOf (x .parent) (x .feature) ys)) e
 
--- a row comes after one of its slot
+-- where a row comes after another of its slot, two rows have one slot
 twice-end : (xs : List Row) (r : Row) (ys : List Row) → someOf (r .parent) (r .feature) xs ≡ true → hasTwice (xs ++ r ∷ ys) ≡ true
 unfolding hasTwice someOf
 twice-end [] r ys h = let z : _≡_ {A = ℕ} 0 1 = cc in absurd (omega arith)
@@ -134,7 +134,7 @@ pub placed-start : (targets : List ℕ) → ((k : ℕ) → getD targets k 0 ≡ 
 unfolding hasTwice targetIn
 placed-start targets h = record { once = refl; told = λ p f hp hf. h (p * 64 + f); low = λ k. omega (arith, h k) }
 
--- a row is placed
+-- a row is placed in a slot that is free
 pub placed-next : (xs : List Row) (targets : List ℕ) (r : Row) → Placed xs targets → Near r → slot r < length targets → getD targets (slot r) 0 ≡ 0 → r .target ≤ 255 → Placed (xs ++ r ∷ []) (set targets (slot r) (r .target + 1))
 placed-next xs targets r s n l e small = record { once = once-end xs r (s .once) (missing xs (r .parent) (r .feature) free); told = λ p f hp hf. go p f hf (ℕ-discrete (slot r) (p * 64 + f)) (s .told p f hp hf); low = λ k. lower k (ℕ-discrete k (slot r)) }
   where
@@ -154,11 +154,11 @@ placed-next xs targets r s n l e small = record { once = once-end xs r (s .once)
         ∙ ap placeOf (sym (ap₂ (λ (a b : ℕ). targetIn (xs ++ r ∷ []) a b) (sym same-p) (sym same-f) ∙ last xs r (r .parent) (r .feature)
         ∙ ap₂ (λ (o : Option ℕ) (b : Bool). orElse o (cond b (some (r .target)) none)) free (is-own r)))
 
--- a row has the slot of one before it
+-- where a row's slot is taken, two rows have one slot
 pub placed-twice : (xs : List Row) (targets : List ℕ) (r : Row) (ys : List Row) → Placed xs targets → Near r → (getD targets (slot r) 0 ≡ 0 → ⊥) → hasTwice (xs ++ r ∷ ys) ≡ true
 placed-twice xs targets r ys s n d = twice-end xs r ys (found xs (r .parent) (r .feature) (λ e. d (s .told (r .parent) (r .feature) (n .0) (n .1) ∙ ap placeOf e)))
 
--- the loop: the first i rows are placed
+-- The loop's invariant: the first i rows are placed.
 module _ (count : ℕ) (all : List Row) (h : count ≤ length all) (d : Row) where
   pub placed-more : (i : ℕ) (targets : List ℕ) → Placed (take i all) targets → i < count → Near (getD all i d) → slot (getD all i d) < length targets → eqb (getD targets (slot (getD all i d)) 0) 0 ≡ true → getD all i d .target ≤ 255 → Placed (take (i + 1) all) (set targets (slot (getD all i d)) (getD all i d .target + 1))
   placed-more i targets s l n k e small =
@@ -183,7 +183,7 @@ module _ (count : ℕ) (all : List Row) (h : count ≤ length all) (d : Row) whe
       let t : Placed (take count all) targets = subst (λ (m : ℕ). Placed (take m all) targets) e s in
       (ap not (sym (t .once)), λ _. t)
 
-  -- the same, of what a call of `place` tells
+  -- one turn, from what a call of `place` answers
   pub placed-again : (i : ℕ) (targets after : List ℕ) (b : Bool) → length targets ≡ 16320 → Placed (take i all) targets → i < count → Near (getD all i d)
       → (b ≡ eqb (getD targets (slot (getD all i d)) 0) 0) × (after ≡ cond b (set targets (slot (getD all i d)) (getD all i d .target + 1)) targets) × (getD all i d .target ≤ 255) → b ≡ true → (length after ≡ 16320) × Placed (take (i + 1) all) after
   placed-again i targets after b w s l n e t =

@@ -18,7 +18,7 @@ use Rattle.rows.proofs.LentRows.{nodes-length}
 
 -- Lists.
 
--- a list is what a function gives at each place
+-- a list is the list of what a function gives at each of its places
 listed : {X : Type 0} (g : ℕ → X) (d : X) (rs : List X) (v : ℕ) → ((i : ℕ) → i < length rs → g (v + i) ≡ getD rs i d) → map g (from v (length rs)) ≡ rs
 unfolding from
 listed g d [] v h = refl

@@ -25,7 +25,7 @@ sorted-append (x ∷ xs) ys a b across = (
   sorted-append xs ys (a .1) b (λ r s i j. across r s (List·Memᴰ·tail i) j),
 )
 
--- the rows of a node
+-- the rows of one node are sorted
 links-sorted : (v : ℕ) (ls : List (ℕ × ℕ)) → Ascending ls → Sorted (map (lentLink v) ls)
 links-sorted v [] a = tt
 links-sorted v (l ∷ ls) a = (
@@ -38,7 +38,7 @@ links-sorted v (l ∷ ls) a = (
 link-parent : (v : ℕ) (ls : List (ℕ × ℕ)) (r : lent.Row) → List·Memᴰ r (map (lentLink v) ls) → r .parent ≡ v
 link-parent v ls r m = let (k, i, e) = Memᴰ·of-map (lentLink v) ls m in sym (ap (λ (x : lent.Row). x .parent) e)
 
--- nodes from v on
+-- the rows of the nodes from v on have parents from v on
 later-parent : (rs : List (Row Label)) (v : ℕ) (r : lent.Row) → List·Memᴰ r (lentFrom v rs) → v ≤ r .parent
 unfolding lentFrom
 later-parent [] v r m = absurd (List·Memᴰ·not-nil m)

@@ -1,5 +1,5 @@
--- What a table of rows states, over paths: a link is stated exactly where a row says so, and no table states more links than it has rows. The
--- graph that words are filled with is the table's.
+-- This file shows what a planning table states: it states a link exactly where a row says so, and no table states more links than it has
+-- rows. The graph that words are filled with is the one that the table states.
 use mathlib.Core.Path.{_≡_, refl, sym, _∙_, ap, ap₂, subst}
 use mathlib.Core.Bool.{Bool, true, false, cond}
 use mathlib.Core.List.{List, [], _∷_, _++_, map, List·Memᴰ, List·Memᴰ·head, List·Memᴰ·tail, List·Memᴰ·not-nil, List·Memᴰ·append-cases, Memᴰ·of-map}
@@ -70,7 +70,7 @@ module _ (nodes : List ℕ) (rows : List lent.Row) where
   abbrev pub Said : ℕ → ℕ → lent.Row → Type 0
   Said n k r = (k ≤ r .parent) × (r .parent < k + n) × (r .feature < 64) × (targetIn rows (r .parent) (r .feature) ≡ some (r .target))
 
-  -- a row that is lent of the table is said by it
+  -- a row that export lends of the table's graph is one that the table says
   pub lent-said : (n k : ℕ) (r : lent.Row) → List·Memᴰ r (lentFrom k (map stated (from k n))) → Said n k r
   unfolding lentFrom from
   lent-said zero k r m = absurd (List·Memᴰ·not-nil m)
@@ -93,7 +93,7 @@ module _ (nodes : List ℕ) (rows : List lent.Row) where
       let (l, q, e) = Memᴰ·of-map (lentLink k) (linksOf (targetIn rows k) features) i in
       omega (arith, lent-said n (suc k) r j .0, ap (λ (x : lent.Row). x .parent) e))
 
-  -- no more links than rows
+  -- a table states no more links than it has rows
   pub table-links : linksIn (tableRows nodes rows) ≤ length rows
   unfolding tableRows
   table-links =

@@ -1,5 +1,5 @@
--- What refusals 4, 14 and 15 say of a lent table, as facts (document 02, Papers 2 and 7); the tests in `Rows` decide them. And the order in
--- which rows are sorted.
+-- This file says what refusals 4, 14 and 15 state about a lent planning table (document 02, Papers 2 and 7). The tests in `Rows.antt`
+-- decide these facts. The file also defines the order in which rows are sorted.
 use mathlib.Core.Path.{_≡_}
 use mathlib.Core.List.{List, List·Memᴰ}
 use mathlib.Core.Logic.{_⊎_}
@@ -12,7 +12,7 @@ use Rattle.rows.specs.Rows.{nodesIn, noRow}
 abbrev pub Unsized : List ℕ → ℕ → Type 0
 Unsized nodes count = (length nodes % 3 ≡ 0 → ⊥) ⊎ (nodesIn nodes < 1) ⊎ (255 < nodesIn nodes) ⊎ (2048 < count)
 
--- no 4
+-- 4 does not apply.
 abbrev pub Sized : List ℕ → ℕ → Type 0
 Sized nodes count = (length nodes % 3 ≡ 0) × (1 ≤ nodesIn nodes) × (nodesIn nodes ≤ 255) × (count ≤ 2048)
 
@@ -20,7 +20,7 @@ Sized nodes count = (length nodes % 3 ≡ 0) × (1 ≤ nodesIn nodes) × (nodesI
 abbrev pub UnknownRow : ℕ → Row → Type 0
 UnknownRow n r = (63 < r .feature) ⊎ (n ≤ r .parent) ⊎ (n ≤ r .target)
 
--- no 14
+-- 14 does not apply to a row.
 abbrev pub KnownRow : ℕ → Row → Type 0
 KnownRow n r = (r .feature < 64) × (r .parent < n) × (r .target < n)
 

@@ -1,4 +1,4 @@
--- Rows that a caller lends: what they state, and what the functions on them promise.
+-- These files define what the rows that a caller lends state, and what the functions on them promise.
 pub mod Rows
 pub mod Placing
 pub mod Filling

@@ -1,7 +1,7 @@
--- Rows "in any order" (document 02, Paper 2).
+-- This file defines what it is for rows to stand "in any order" (document 02, Paper 2).
 use mathlib.Core.List.{List, _∷_, List·Memᴰ}
 
--- one list is another in another order: two neighbours change places, as often as it takes
+-- One list is another in a different order: it comes from the other by swaps of two neighbours.
 pub data Reordered {A : Type 0} : List A → List A → Type 0 where
   same : (xs : List A) → Reordered xs xs
   kept : (x : A) {xs ys : List A} → Reordered xs ys → Reordered (x ∷ xs) (x ∷ ys)

@@ -1,4 +1,4 @@
-// The graph of a table of targets and three bytes for each node, in words.
+// Makes the graph in words of a planning table, from its table of targets (`placing`) and the three bytes of each node.
 
 use crate::placing;
 use layout::Label;
@@ -10,7 +10,7 @@ ghost use Rattle.layout.specs.Layout.{header, longest};
 ghost use Rattle.rows.specs.Rows.{labelIn, nodesIn};
 ghost use Rattle.rows.specs.Filling.{Fillable, Filled, Labelled, RowFilled, placedLinks};
 
-// The label of node v: its three bytes.
+// The label of node v, which its three bytes state.
 fn label_in(nodes: &[u8], v: usize) -> Label
     requires { ⌜ v * 3 + 2 < length (now nodes) ⌝ }
     ensures { λ r. ⌜ stated r ≡ labelIn (now (nodes .entry)) v ⌝ }
@@ -38,7 +38,7 @@ pub fn are_stated(nodes: &[u8]) -> bool
     true
 }
 
-// Stores the row of node v from a place on, its links with lowest feature first. Answers the next place.
+// Stores the row of node v from a place on, its links lowest feature first. Answers the next place.
 fn fill_row<'a>(
     nodes: &'a [u8],
     targets: &'a [u16; placing::PLACES],

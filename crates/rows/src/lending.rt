@@ -1,4 +1,4 @@
-// The rows and the node bytes of a graph in words, its nodes by the numbers that they have there.
+// Makes a planning table of a graph in words: its rows and its node bytes. The nodes keep the numbers that they have in the words.
 
 use crate::Row;
 ghost use mathlib.Core.Path.{_≡_};
@@ -19,7 +19,7 @@ pub fn count_links(graph: &[u16]) -> usize
     rows - layout::HEADER * nodes
 }
 
-// The rows of a graph, by parent and then by feature. Place k stands in the row of node v, or at its end.
+// The rows of a graph, sorted by parent and then by feature. In the loop, place k stands in the row of node v or at the row's end.
 pub fn lend_rows(graph: &[u16]) -> [Row; 2048]
     requires { ⌜ Lendable (now graph) ⌝ }
     ensures { λ r. ⌜ take (linksIn (rowsOf (now (graph .entry)))) r ≡ lentRows (rowsOf (now (graph .entry))) ⌝ }
@@ -55,7 +55,7 @@ pub fn lend_rows(graph: &[u16]) -> [Row; 2048]
     all
 }
 
-// Writes three bytes for each node: type, lowest and highest level.
+// Writes three bytes for each node: its type, its lowest and its highest level.
 pub fn lend_nodes(graph: &[u16], nodes: &mut [u8])
     requires { ⌜ Lendable (now graph) × (size (now graph) * 3 ≤ length (now nodes)) ⌝ }
     ensures { λ _. ⌜ now (nodes .exit) ≡ filled (lentNodes (rowsOf (now (graph .entry)))) (now (nodes .entry)) ⌝ }

@@ -1,6 +1,6 @@
-// A graph as rows, each a parent, a feature and a target, beside three bytes for each node (document 02, Papers 2 and 7): rows that a
-// caller lends become a graph in words, and a graph in words becomes rows. The two functions of this file are the only loops over lent rows;
-// all other work is on an array of rows by value. It knows rows and words; it judges no graph and knows no table of types.
+// This crate turns a planning table into a graph in words, and a graph in words into a planning table: rows, each a parent, a feature and
+// a target, beside three bytes for each node (document 02, Papers 2 and 7). The two functions of this file are the only loops over lent
+// rows; all other work is on an array of rows by value. The crate knows rows and words; it judges no graph and knows no table of types.
 ghost use mathlib.Core.Path.{_≡_};
 ghost use Prim.Native.Nat.{_≤_};
 ghost use lib.ListN.{length, take, drop};
@@ -18,7 +18,7 @@ pub struct Row {
     pub target: u8,
 }
 
-// The lent rows, the first 2,048 where there are more.
+// The lent rows as an array, or the first 2,048 of them where there are more.
 pub fn load_rows(rows: &[Row]) -> [Row; 2048]
     ensures { λ r. ⌜ take (length (now (rows .entry))) r ≡ take 2048 (now (rows .entry)) ⌝ }
 {
@@ -38,7 +38,7 @@ pub fn load_rows(rows: &[Row]) -> [Row; 2048]
     all
 }
 
-// Stores the first n rows of `all` in the lent ones; the others stay.
+// Stores the first n rows of `all` as the first n lent rows. The other lent rows stay.
 pub fn store_rows(all: [Row; 2048], n: usize, rows: &mut [Row])
     requires { ⌜ (n ≤ length (now rows)) × (n ≤ 2048) ⌝ }
     ensures { λ _. ⌜ now (rows .exit) ≡ take n all ++ drop n (now (rows .entry)) ⌝ }

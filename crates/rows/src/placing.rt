@@ -1,5 +1,5 @@
-// The tests of rows, 14 and 15 (document 02, Paper 2), and the table of targets: a place for each parent and feature, 0 where no row has
-// both, else the row's target and 1.
+// Tests rows for refusals 14 and 15 (document 02, Paper 2), and makes the table of targets. This table has a place for each parent and
+// feature: 0 where no row has both, else the row's target plus 1.
 
 use crate::Row;
 ghost use mathlib.Core.Path.{_≡_};
@@ -9,10 +9,10 @@ ghost use lib.ListN.{take, length};
 ghost use Rattle.rows.specs.Rows.{isKnown, allKnown, hasTwice};
 ghost use Rattle.rows.specs.Placing.{Near, AllNear, Empty, Placed, Places};
 
-// The places of the table: 255 parents with 64 features each.
+// The number of places of the table: 255 parents with 64 features each.
 pub const PLACES: usize = 255 * 64;
 
-// Whether a row's feature is below 64 and its nodes are below a number.
+// Whether a row's feature is below 64, and its parent and its target are below `nodes`.
 fn is_known(row: Row, nodes: usize) -> bool
     ensures { λ r. ⌜ r ≡ isKnown nodes row ⌝ }
 {
@@ -25,7 +25,7 @@ fn is_known(row: Row, nodes: usize) -> bool
     (row.target as usize) < nodes
 }
 
-// Whether the first rows are known.
+// Whether no row of the first `count` has a feature above 63 or a node number outside the count (refusal 14).
 pub fn all_known(all: [Row; 2048], count: usize, nodes: usize) -> bool
     requires { ⌜ count ≤ 2048 ⌝ }
     ensures { λ r. ⌜ r ≡ allKnown nodes (take count all) ⌝ }
@@ -41,7 +41,7 @@ pub fn all_known(all: [Row; 2048], count: usize, nodes: usize) -> bool
     true
 }
 
-// Places a row's target in the table, or tells that its place is taken.
+// Places a row's target in the table. Answers whether its place was free.
 fn place(row: Row, targets: &mut [u16; PLACES]) -> bool
     requires { ⌜ Near row × (length (now targets) ≡ 16320) ⌝ }
     ensures { λ r. ⌜ Places row (now (targets .entry)) r (now (targets .exit)) ⌝ }
@@ -54,7 +54,7 @@ fn place(row: Row, targets: &mut [u16; PLACES]) -> bool
     true
 }
 
-// Places the first rows in an empty table; not where two have one parent and feature.
+// Places the first `count` rows in an empty table. Answers whether no two of them have one parent and feature (refusal 15).
 pub fn place_rows(all: [Row; 2048], count: usize, targets: &mut [u16; PLACES]) -> bool
     requires { ⌜ (count ≤ 2048) × (length (now targets) ≡ 16320) ⌝ }
     requires { ⌜ AllNear count all × Empty (now targets) ⌝ }

@@ -1,5 +1,5 @@
--- Laws of the depth-first walk's colours: what holds where it comes to a node, at each of the node's links, and where it leaves the node;
--- and what holds of the sweep over all nodes.
+-- This file has the laws of the depth-first walk's colours: what holds where the walk comes to a node, at each of the node's links, and
+-- where it leaves the node. The file also says what holds in the sweep over all nodes.
 use mathlib.Core.Path.{_≡_, refl, ap, sym, _∙_}
 use mathlib.Core.Bool.{true, false}
 use mathlib.Core.List.{List, [], _∷_}
@@ -44,7 +44,7 @@ whites-bound (suc n) (suc x ∷ l) = omega (arith, whites-bound n l)
 apart : (l : List ℕ) {u v : ℕ} → (getD l u 0 ≡ getD l v 0 → ⊥) → u ≡ v → ⊥
 apart l h e = h (ap (λ (x : ℕ). getD l x 0) e)
 
--- At place k of the links of v, where `start` is the colouring once v is on the way down: the targets passed are finished.
+-- The walk is at place k of the links of v, and the targets before k are finished. `start` is the colouring once v is on the way down.
 pub record Passing (ws start : List ℕ) (v done : ℕ) (colour order : List ℕ) (k count : ℕ) : Type 0 where
   pub advanced : Advanced ws start done colour order count
   pub passed : (j : ℕ) → j < k → linksFrom ws v ≤ j → 2 ≤ getD colour (targetAt ws j) 0
@@ -266,7 +266,7 @@ module _ {ws : List ℕ} where
             descending : (u : ℕ) → getD (set colour v (count + 2)) u 0 ≡ 1 → (u ≡ v → ⊥) → getD before u 0 ≡ 1
             descending u h n = sym (getD-set-other before v u 1 0 n) ∙ p .advanced .descending u (sym (same u n) ∙ h)
 
--- left by a cycle
+-- the walk leaves a node because of a cycle
 pub leaves-back : {ws before colour order : List ℕ} {v done : ℕ} → length colour ≡ 510 → length order ≡ 510 →
     (u : ℕ) × Reaches ws u u → Leaves ws before v done colour order Back
 leaves-back l m c = record {
@@ -277,7 +277,7 @@ leaves-back l m c = record {
   looped = λ r. c;
 }
 
--- In the sweep over all nodes: those before v are finished, and none is on the way down.
+-- In the sweep over all nodes, those before v are finished, and none is on the way down.
 pub record Sweeping (ws colour order : List ℕ) (v count : ℕ) : Type 0 where
   pub sound : Sound ws
   pub placed : Placed ws colour order count

@@ -1,5 +1,5 @@
--- The visit of `graphs` over the rows that words hold is the visit over the targets of each node in their order: in a row the
--- features ascend and are below 64, so going through the features in turn meets its targets in turn.
+-- The visit of crate `graphs` over the rows that words hold is the visit over the targets of each node in their order. In a row the
+-- features ascend and are below 64, so going through the features in turn meets the row's targets in turn.
 use mathlib.Core.Path.{_≡_, refl, sym, _∙_, ap}
 use mathlib.Core.List.{List, [], _∷_, map}
 use mathlib.Core.Option.{Option, none, some, bind}

@@ -1,4 +1,5 @@
--- The numbering: what a store keeps of the nodes seen, and what each turn of a visit's loop makes of the rest of the targets.
+-- This file is about the numbering: what a store keeps of the nodes seen, and what each turn of a visit's loop makes of the rest of the
+-- targets.
 use mathlib.Core.Path.{_≡_, refl, sym, _∙_, ap, subst}
 use mathlib.Core.Bool.{Bool, true, false, cond, _||_}
 use mathlib.Core.List.{List, [], _∷_, map, reverse, reverse-reverse}
@@ -137,14 +138,14 @@ follow {ws} {numbers} {visited} {v} {given} depth r =
 pub listed : {ws numbers visited : List ℕ} {v given : ℕ} → Visitable ws numbers visited v given → v + 2 < length ws
 listed {v = v} r = r .sound .shaped .node v (r .inside) .listed
 
--- the same, of arrays that are equal
+-- the same for arrays that are equal
 pub follows-as : {ws numbers visited : List ℕ} {v depth count k : ℕ} {found : Option (List ℕ)}
     {numbers′ visited′ : List ℕ} {count′ : ℕ} → numbers′ ≡ numbers → visited′ ≡ visited → count′ ≡ count →
     Follows ws v depth found numbers visited count k →
     Follows ws v depth found numbers′ visited′ count′ k
 follows-as p q e f = rw (p, q, e) f
 
--- what was found, in the terms of the entry
+-- storing v behind the nodes seen keeps them, so what the visit of v finds can be said of the arrays at its entry
 pub entered : {ws numbers visited : List ℕ} {v given : ℕ} → Visitable ws numbers visited v given →
     (depth r : ℕ) (numbers′ visited′ : List ℕ) →
     Finds ws (below ws depth v (seenOf (set visited given v) given)) r numbers′ visited′ →
@@ -289,7 +290,7 @@ clear-more numbers v long done w h = at (ℕ-discrete w v)
     at (yes e) = ap (λ (u : ℕ). getD (set numbers v 65535) u 0) e ∙ getD-set-same numbers v 65535 0 long
     at (no d) = getD-set-other numbers v w 65535 0 d ∙ done w (omega arith)
 
--- nothing seen yet
+-- no node is seen at the start
 pub unmarked : (ws numbers visited : List ℕ) → length numbers ≡ 510 → length visited ≡ 255 →
     ((v : ℕ) → v < size ws → getD numbers v 0 ≡ 65535) → Marks ws numbers visited 0
 unfolding numberAmong

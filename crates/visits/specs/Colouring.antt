@@ -1,5 +1,5 @@
--- What the depth-first walk keeps. A node's colour is 0 while it is white, 1 while it is on the way down, and 2 + p once it is finished
--- and stands at place p of the order.
+-- This file says what the depth-first walk keeps that sorts the nodes. A node's colour is 0 while it is white, 1 while it is on the way
+-- down, and 2 + p once it is finished and stands at place p of the order.
 use mathlib.Core.Path.{_≡_}
 use mathlib.Core.List.{List, [], _∷_}
 use Prim.Native.Nat.{ℕ, zero, suc, _+_, _-_, _≤_, _<_}
@@ -9,7 +9,7 @@ use Rattle.visits.specs.declared.sorting.Leaving.the-variants.{Count, Ba
 use Rattle.layout.specs.Layout.{size, Sound}
 use Rattle.visits.specs.Walks.{Leads, Reaches}
 
--- how many of the first n are white
+-- how many of the first n nodes are white
 unfoldable pub whites : ℕ → List ℕ → ℕ
 whites zero colour = 0
 whites (suc n) [] = 0
@@ -34,7 +34,7 @@ module _ (ws : List ℕ) where
     pub fewer : whites (size ws) later ≤ whites (size ws) colour
     pub counted : more + whites (size ws) later ≤ count + whites (size ws) colour
 
-  -- where the walk comes to a white node: every node on the way down reaches it
+  -- The walk comes to the white node v: every node on the way down reaches v.
   pub record Entered (colour order : List ℕ) (v count : ℕ) : Type 0 where
     pub sound : Sound ws
     pub placed : Placed colour order count
@@ -43,7 +43,7 @@ module _ (ws : List ℕ) where
     pub above : (u : ℕ) → u < size ws → getD colour u 0 ≡ 1 → Reaches ws u v
     pub room : count + whites (size ws) colour ≤ size ws
 
-  -- where it leaves the node: finished, or with a node that reaches itself
+  -- The walk leaves the node v: v is finished, or some node reaches itself.
   pub record Leaves (colour : List ℕ) (v count : ℕ) (later order : List ℕ) (leaving : Leaving) : Type 0 where
     pub long : length later ≡ 510
     pub roomy : length order ≡ 510

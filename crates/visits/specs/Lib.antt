@@ -1,4 +1,4 @@
--- Walks over a graph, and what they find.
+-- These files define walks over a graph in words, and what the walks find.
 pub mod Walks
 pub mod Visiting
 pub mod Colouring

@@ -1,5 +1,5 @@
--- What walks over a graph in words go by: which node leads to which, an order of the nodes with targets first, and the visit of
--- `graphs` over the targets of each node in their order.
+-- This file defines what walks over a graph in words go by: which node leads to which, an order of the nodes with targets first, and the
+-- visit of crate `graphs`, here over the targets of each node in their order. The file also says what sorting and numbering answer.
 use mathlib.Core.Path.{_≡_}
 use mathlib.Core.Bool.{Bool, true, false}
 use mathlib.Core.List.{List, [], _∷_, map, reverse}
@@ -30,12 +30,14 @@ pub record TargetsFirst (ws order : List ℕ) (place : ℕ → ℕ) : Type 0 whe
   pub stands : (v : ℕ) → v < size ws → getD order (place v) 0 ≡ v
   pub earlier : (v w : ℕ) → Leads ws v w → place w < place v
 
--- The visit of `graphs`, over the targets of each node in their order.
+-- What follows is the visit of crate `graphs`, over the targets of each node in their order.
 
+-- the nodes seen once the targets of a list are visited in turn by `go`
 unfoldable pub eachTarget : (ℕ → List ℕ → Option (List ℕ)) → List ℕ → List ℕ → Option (List ℕ)
 eachTarget go [] seen = some seen
 eachTarget go (w ∷ ws) seen = bind (go w seen) (eachTarget go ws)
 
+-- The nodes seen, the last first, once v is visited. A 256th node gives none, and so does a new node that is too deep.
 unfoldable pub visitTargets : (ℕ → List ℕ) → ℕ → ℕ → List ℕ → Option (List ℕ)
 visitTargets next zero v seen = otherwise (member eqb v seen) (some seen) λ _. none
 visitTargets next (suc d) v seen =
@@ -50,12 +52,12 @@ targetsAt ws v = map (λ w. w % scale) (slice (linksFrom ws v) (rowEnd ws v) ws)
 abbrev pub foundIn : List ℕ → Option (List ℕ)
 foundIn ws = visitTargets (targetsAt ws) 255 0 []
 
--- acyclicity: some node reaches itself, or there is an order of the nodes with targets first
+-- What sorting answers: a yes says that some node reaches itself, a no that `order` has the nodes with targets first.
 pub record Sorts (ws order : List ℕ) (found : Bool) : Type 0 where
   pub looped : found ≡ true → (v : ℕ) × Reaches ws v v
   pub sorted : found ≡ false → (place : ℕ → ℕ) × TargetsFirst ws order place
 
--- numbering: the nodes that the root reaches, as the visit finds them; 256 for more than 255
+-- What numbering answers: how many nodes the root reaches, or 256 for more than 255. The arrays hold these nodes as the visit finds them.
 pub record Numbers (ws : List ℕ) (count : ℕ) (numbers visited : List ℕ) : Type 0 where
   pub full : foundIn ws ≡ none → count ≡ 256
   pub counted : (seen : List ℕ) → foundIn ws ≡ some seen → count ≡ length seen

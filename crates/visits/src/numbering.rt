@@ -1,4 +1,5 @@
-// Numbering by first visit, from the root, lowest feature first, following links downward, never deeper than 254 links.
+// Numbers the nodes of a graph as a written record does (document 01, "Graph record"): by first visit, from the root, lowest feature
+// first, following links downward, never deeper than 254 links.
 
 ghost use mathlib.Core.Path.{_≡_};
 ghost use Prim.Native.Nat.{ℕ, _≤_, _<_};
@@ -10,8 +11,8 @@ ghost use Rattle.visits.specs.Walks.{Numbers};
 // The number of a node that has none yet.
 pub const NONE: u16 = 0xFFFF;
 
-// Numbers v, which has no number yet, and all that hangs below it, at most `depth` links deep. Answers how many nodes then have
-// one; 256 where a node is left without.
+// Numbers v, which has no number yet, and all that hangs below it, at most `depth` links deep. Answers how many nodes then have a
+// number, or 256 where a node is left without one.
 fn visit<'a>(
     graph: &'a [u16],
     numbers: &mut [u16; 510],
@@ -48,7 +49,7 @@ fn visit<'a>(
 }
 
 // Numbers the nodes that the root reaches: `numbers[v]` is the number of v, `visited[i]` the node with number i. Answers how many
-// there are, 256 for more than 255.
+// such nodes there are, or 256 for more than 255.
 pub fn number<'a>(graph: &'a [u16], numbers: &mut [u16; 510], visited: &mut [u16; 255]) -> usize
     requires { ⌜ Sound (now graph) ⌝ }
     requires { ⌜ length (now numbers) ≡ 510 ⌝ }

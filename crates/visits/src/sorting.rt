@@ -1,5 +1,5 @@
-// Sorting the nodes of a graph with targets first, which fails exactly where there is a cycle: depth-first over all nodes with three
-// colours.
+// Sorts the nodes of a graph with targets first, which fails exactly where there is a cycle. The walk is depth-first over all nodes,
+// with three colours.
 
 ghost use lib.ListN.{length};
 ghost use mathlib.Core.Path.{_≡_};
@@ -7,7 +7,7 @@ ghost use Rattle.layout.specs.Layout.{Sound};
 ghost use Rattle.visits.specs.Colouring.{Entered, Leaves};
 ghost use Rattle.visits.specs.Walks.{Sorts};
 
-// How a node was left: the number of finished nodes, or a link back to a node on the way down.
+// How the walk leaves a node: with the number of finished nodes, or because a link leads back to a node on the way down.
 enum Leaving {
     Count(usize),
     Back,
@@ -52,7 +52,7 @@ fn finish<'a>(
     Leaving::Count(count + 1)
 }
 
-// Sorts the nodes into `order` with targets first. Answers whether there is a cycle, which leaves them unsorted.
+// Sorts the nodes into `order` with targets first. Answers whether there is a cycle; if so, the nodes are not sorted.
 pub fn sort_targets_first<'a>(graph: &'a [u16], order: &mut [u16; 510]) -> bool
     requires { ⌜ Sound (now graph) ⌝ }
     requires { ⌜ length (now order) ≡ 510 ⌝ }

@@ -1,4 +1,5 @@
--- `open` meets its contract: the types are held as sets, or the cells are filled with the bounds; accepted where all bounds are found.
+-- `open` meets its contract: the types are held as sets, or the cells are filled with the bounds. The table is accepted where every two
+-- types have a bound.
 use mathlib.Core.Path.{refl, sym, _∙_}
 use mathlib.Core.Bool.{true, false}
 use native.Mathlib.Omega.{arith}

@@ -1,5 +1,5 @@
--- The difference asks where the listed nodes of g lie, and nothing else of the map: maps that agree on them, and wanted labels that
--- are the same, give one difference.
+-- The difference asks of the map only where the listed nodes of g lie: maps that agree on these nodes give one difference, if the wanted
+-- labels are the same.
 use mathlib.Core.Path.{_≡_, refl, _∙_, ap, ap₂, fun-ext}
 use mathlib.Core.Bool.{Bool, cond, not, _&&_, _||_}
 use mathlib.Core.Option.{Option, none, some, bind}
@@ -53,7 +53,7 @@ meetWhere-agree 𝓛 label (y ∷ ys) h =
     ap₂ (λ (b : Bool) (m : 𝓛 .L). cond b (𝓛 .meet (label y) m) m) (h y (List·Memᴰ·head refl))
     (meetWhere-agree 𝓛 label ys (λ x m. h x (List·Memᴰ·tail m)))
 
--- the labels over a node
+-- maps that agree give one meet of the labels over a node
 pub meetOver-agree : (𝓛 : Labels) {A B : Type 0} (sameA : A → A → Bool) (g : Graph (𝓛 .L) B) (gs : List B) (over other : B → A) →
     ((y : B) → List·Memᴰ y gs → over y ≡ other y) → (v : A) → meetOver 𝓛 sameA g gs over v ≡ meetOver 𝓛 sameA g gs other v
 unfolding meetOver
@@ -101,7 +101,7 @@ module _ {L A B : Type 0} (sameA : A → A → Bool) (sameB : B → B → Bool) 
         select-agree (incoming sameA sameB s ss g gs over v)
         (λ l. ap (λ m. sameLink sameA sameB s ss g gs over m l) (lead-agree v l))
 
-    -- one reason for a link
+    -- maps that agree give one reason for a link
     pub reason-agree : (l : Link A) (v : A) →
         reasonAt sameA sameB s ss g gs over earlier l v ≡ reasonAt sameA sameB s ss g gs other earlier l v
     unfolding reasonAt differ
@@ -138,7 +138,7 @@ module _ {L A B : Type 0} (sameA : A → A → Bool) (sameB : B → B → Bool) 
           (λ v. ap₂ (λ m b. cond (sameLink sameA sameB s ss g gs over m (u, f) && b) (some v) none) (lead-agree v (u, f))
           (keeps-agree (length ss) v)))
 
--- one difference
+-- maps that agree give one difference
 pub difference-agree : (𝓛 : Labels) {A B : Type 0} (sameA : A → A → Bool) (sameB : B → B → Bool) (earlier : Link A → Link A → Bool)
     (s : Graph (𝓛 .L) A) (ss : List A) (g : Graph (𝓛 .L) B) (gs : List B) (over other : B → A) (wanted want : A → 𝓛 .L) →
     ((y : B) → List·Memᴰ y gs → over y ≡ other y) → ((v : A) → wanted v ≡ want v) →

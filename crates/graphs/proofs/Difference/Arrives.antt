@@ -105,7 +105,7 @@ module _ {L A B : Type 0} (g : Graph L A) (h : Graph L B) where
       let (x, y, a, l, _) = to-last p f z c in
       (x, y, a, l)
 
--- the node of one of both graphs lies over v: some path leads to both
+-- a node of one of the two graphs lies over v: some path leads to both nodes
 abbrev pub Lies : {L A B C : Type 0} → Graph L A → Graph L B → Graph L C → A ⊎ B → C → Type 0
 Lies g h s x v = (p : List ℕ) × Leads g h p x × (walk s p ≡ some v)
 
@@ -189,7 +189,7 @@ module _ {𝓛 : Labels} {A B C : Type 0} {g : Graph (𝓛 .L) A} {h : Graph (�
       let (u, j, e) = lies-source x x′ f v p a k i in
       within u f x x′ y y′ j (related-lies c u .0 j) e k l
 
-  -- The same by cases, for nodes of which the joined paths know that they are related.
+  -- The same by cases, where paths that share in s are joined.
   pub related-cases : ((p q : List ℕ) → Corefer s p q → Joined g h p q) →
       (v : C) → (v ≡ s .root → ⊥) → (T : A ⊎ B → A ⊎ B → Type 0) → Equivalence T →
       ((u : C) (f : ℕ) (x z : A) (y w : A) → Lies g h s (inl x) u → Lies g h s (inl y) u → s .link u f ≡ some v →

@@ -1,5 +1,5 @@
 -- Links ordered by the place of their feature in a list, then by the number of their parent, are in a strict total order, whichever
--- list it is: two features have no place in common.
+-- list it is, because no two features have the same place.
 use mathlib.Core.Path.{_≡_, refl, sym, _∙_, ap}
 use mathlib.Core.Bool.{Bool, true, false, cond}
 use mathlib.Core.List.{List, [], _∷_}

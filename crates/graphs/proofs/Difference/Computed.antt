@@ -29,8 +29,8 @@ use Rattle.graphs.proofs.Difference.Consequences.{
 
 module _ (𝓛 : Labels) {A B : Type 0} (sameA : A → A → Bool) (sameB : B → B → Bool) (earlier : Link A → Link A → Bool)
     (s : Graph (𝓛 .L) A) (ss : List A) (g : Graph (𝓛 .L) B) (gs : List B) (over : B → A) (wanted : A → 𝓛 .L) where
-  -- What is asked for a difference: a lattice of labels, both graphs with their nodes listed and told apart, an order of
-  -- links, s a graph of any size with no node listed twice, a map that shows s below g, and the wanted labels.
+  -- A difference asks for a lattice of labels, both graphs with their nodes listed and told apart, an order of links, a graph s of any
+  -- size, a map that shows s below g, and the wanted labels.
   pub record Setting : Type 0 where
     pub lattice : Lattice 𝓛
     pub operands : Operands sameA sameB s ss g gs
@@ -104,7 +104,7 @@ module _ (𝓛 : Labels) {A B : Type 0} (sameA : A → A → Bool) (sameB : B �
     difference-nothing-more-general e u =
         laws-nothing-more-general difference-laws (set .lattice) (set .sound) (set .map) sameA (set .operands .tells-left) e u
 
-    -- The difference is a graph of any size. Its nodes are the kept ones among those of s,
+    -- The difference is a graph of any size, and its nodes are the kept nodes of s.
     pub difference-any-size : AnySize 𝓛 (difference 𝓛 sameA sameB earlier s ss g gs over wanted)
     unfolding difference
     difference-any-size = laws-any-size difference-laws (set .lattice) listed-size (set .map)
@@ -113,7 +113,7 @@ module _ (𝓛 : Labels) {A B : Type 0} (sameA : A → A → Bool) (sameB : B �
     unfolding difference-any-size listed-size
     difference-nodes = laws-fewer-nodes difference-laws (set .lattice) listed-size (set .map)
 
-    -- and its links are links of s.
+    -- The links of the difference are links of s.
     pub difference-links : (u v : A) (f : ℕ) → Reached (difference 𝓛 sameA sameB earlier s ss g gs over wanted) u →
         difference 𝓛 sameA sameB earlier s ss g gs over wanted .link u f ≡ some v → Reached s u × (s .link u f ≡ some v)
     unfolding difference

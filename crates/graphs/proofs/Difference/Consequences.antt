@@ -1,5 +1,5 @@
--- What the laws of a difference are worth: it restores s, nothing more general does, and it is a graph of any size, no larger
--- than s.
+-- This file shows what follows from the laws of a difference: it restores s, nothing more general does, and it is a graph of any size, no
+-- larger than s.
 use mathlib.Core.Path.{_≡_}
 use mathlib.Core.Bool.{Bool, true}
 use mathlib.Core.List.{List}
@@ -69,7 +69,7 @@ module _ {𝓛 : Labels} {A B : Type 0} {s : Graph (𝓛 .L) A} {g : Graph (𝓛
         acyclic = acyclic-up (below-difference laws) sound;
       }
 
-  -- It is no larger than s: no more nodes, and each of its links is one of s.
+  -- The difference is no larger than s: it has no more nodes, and each of its links is a link of s.
   pub laws-fewer-nodes : length (laws-any-size .nodes) ≤ length (sound .nodes)
   unfolding laws-any-size
   laws-fewer-nodes = select-length keep (sound .nodes)

@@ -1,6 +1,6 @@
--- The groups of links as they are computed. The tests `covers` and `touch` say what they should; as many rounds as there are
--- links close a group, since each round that changes anything adds a link; so the computed group of a link holds just the
--- links that are grouped with it, and its least link, the lead, is one for all of them.
+-- This file is about the groups of links as they are computed. The tests `covers` and `touch` say what they should. As many rounds as
+-- there are links close a group, since each round that changes anything adds a link. So the computed group of a link holds just the
+-- links that are grouped with it.
 use mathlib.Core.Path.{_≡_, refl, sym, _∙_, ap, subst, fst-path, snd-path}
 use mathlib.Core.Bool.{Bool, true, false, not, _&&_, _||_}
 use mathlib.Core.List.{List, List·Memᴰ, Memᴰ·cast}

@@ -1,5 +1,5 @@
--- Induction over the nodes of a graph of any size: parents first, or children first. Both rest on one fact, that every walk
--- from a reached node is shorter than the list of nodes; so no rank of nodes has to be computed.
+-- This file has induction over the nodes of a graph of any size, parents first or children first. Both rest on one fact: every walk
+-- from a reached node is shorter than the list of nodes. So no rank of nodes has to be computed.
 use mathlib.Core.Path.{_≡_, refl, _∙_, ap}
 use mathlib.Core.List.{List, [], _∷_, _++_, List·Memᴰ}
 use mathlib.Core.Option.{some}

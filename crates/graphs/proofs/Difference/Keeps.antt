@@ -1,6 +1,5 @@
--- The nodes that the difference is computed to keep. A node is kept exactly where there is a reason: what is kept for itself
--- is told by the leaders into it, and looking as many links deep as there are nodes finds every kept node below. The list of
--- the nodes of s must not repeat a node: `several` counts leaders by their places in a list.
+-- This file is about the nodes that the computed difference keeps. A node is kept exactly where there is a reason. The leaders into a
+-- node tell whether it is kept for itself, and looking as many links deep as there are nodes finds every kept node below.
 use mathlib.Core.Path.{_≡_, refl, _∙_, ap, subst}
 use mathlib.Core.Bool.{Bool, true, false, cond, not, _&&_, _||_}
 use mathlib.Core.List.{List, [], _∷_, List·Memᴰ}

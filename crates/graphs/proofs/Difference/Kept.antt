@@ -1,5 +1,5 @@
--- What the laws of a difference say at once: its paths are paths of s and lead to kept nodes, every kept node is reached by
--- leaders alone, and s lies below it.
+-- This file shows what follows at once from the laws of a difference: its paths are paths of s and lead to kept nodes, every kept node is
+-- reached by leaders alone, and s lies below the difference.
 use mathlib.Core.Path.{_≡_, refl, sym, _∙_, ap, subst}
 use mathlib.Core.Bool.{Bool, true, false, true≢false}
 use mathlib.Core.List.{List, [], _∷_, _++_}

@@ -1,6 +1,6 @@
--- The laws of a difference d of g and s, over a map `over` from the nodes of g to those of s. A group of links of s is named
--- by its leader, `lead`, and `keep` tells the nodes that d keeps; both are functions with laws on reached nodes. That d
--- restores s, and that nothing more general does, follows from these laws, however groups and kept nodes are computed.
+-- This file states the laws of a difference d of g and s, over a map `over` from the nodes of g to those of s. A group of links of s is
+-- named by its leader, `lead`, and `keep` tells the nodes that d keeps; both are functions with laws on reached nodes. That d restores s,
+-- and that nothing more general does, follows from these laws, however groups and kept nodes are computed.
 use mathlib.Core.Path.{_≡_}
 use mathlib.Core.Bool.{Bool, true, false}
 use mathlib.Core.Logic.{_↔_}

@@ -1,5 +1,5 @@
--- The computed lead of a link: the least link of its group. It keeps the laws: links of g that enter one node lie over links
--- with one lead, a link and its lead are grouped, and a lead is a link of s that leads itself. It is the one link of its
+-- The computed lead of a link is the least link of its group. The lead keeps the laws: links of g that enter one node lie over links
+-- with one lead, a link and its lead are grouped, and a lead is a link of s that leads itself. The lead is the one link of its
 -- group that no other comes before, however it is found (`lead-unique`).
 use mathlib.Core.Path.{_≡_, refl, sym, subst}
 use mathlib.Core.Bool.{Bool, true, false}
@@ -117,7 +117,7 @@ module _ {𝓛 : Labels} {A B : Type 0} {sameA : A → A → Bool} {sameB : B �
     lead-least v l m i c =
         leastOf-least earlier order l (group v l) m (List·Memᴰ·tail (grouped-closed v l c .0 (group-self v l i)))
 
-    -- and it alone is such
+    -- the lead is the only link of its group that no link of the group comes before
     pub lead-unique : (v : A) (l k : Link A) → Into s v l → Grouped s g v l k →
         ((m : Link A) → Grouped s g v l m → earlier m k ≡ false) → k ≡ first v l
     lead-unique v l k i c least =

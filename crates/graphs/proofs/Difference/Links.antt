@@ -1,4 +1,4 @@
--- The links that leave the nodes of a list, by membership.
+-- This file says which links are among those that leave the nodes of a list.
 use mathlib.Core.Path.{_≡_, sym, fst-path}
 use mathlib.Core.List.{List, [], _∷_, map, List·Memᴰ, List·Memᴰ·head, List·Memᴰ·tail, List·Memᴰ·not-nil, List·Memᴰ·cases-cons, List·Memᴰ·append-cases, Memᴰ·append-left, Memᴰ·append-right, Memᴰ·cast, Memᴰ·map, Memᴰ·of-map}
 use mathlib.Core.Logic.{⊎-elim}

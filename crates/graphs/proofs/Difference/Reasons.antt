@@ -1,5 +1,5 @@
--- What the reason for a kept link tells: of the paths of the two graphs, of the groups at the node that it enters, and of what is wanted
--- there or below.
+-- This file shows what the reason for a kept link tells: about the paths of the two graphs, about the groups at the node that the link
+-- enters, and about what is wanted there or below.
 use mathlib.Core.Path.{_≡_, refl, sym, _∙_, ap, subst}
 use mathlib.Core.Bool.{Bool, true, false, cond}
 use mathlib.Core.List.{List, List·Memᴰ}

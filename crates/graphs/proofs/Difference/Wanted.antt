@@ -1,5 +1,5 @@
--- Wanted labels. The wanted label of a node is above that of s, restores it, and is the greatest that does; and where for all
--- labels p and q there is a greatest c whose meet with q is below p, every node has a wanted label.
+-- This file is about wanted labels. The wanted label of a node is above the label in s, restores it, and is the greatest that does. Where
+-- for all labels p and q there is a greatest c whose meet with q is below p, every node has a wanted label.
 use mathlib.Core.Path.{_≡_, refl, sym, _∙_, ap}
 use mathlib.Core.Bool.{Bool, true, false, cond}
 use mathlib.Core.List.{List, [], _∷_, List·Memᴰ, List·Memᴰ·head, List·Memᴰ·tail, List·Memᴰ·not-nil, List·Memᴰ·cases-cons}

@@ -1,5 +1,5 @@
--- Graphs that a relation of their nodes shows to be alike: related nodes have equal labels, and equal features lead to related
--- nodes or to none. Such graphs have the same meaning, and graphs of the same meaning are related so, by the nodes that one path
+-- This file is about graphs that a relation of their nodes shows to be alike: related nodes have equal labels, and equal features lead to
+-- related nodes or to none. Such graphs have the same meaning, and graphs of the same meaning are related so, by the nodes that one path
 -- leads to. A relation serves where no map can be had: it asks nothing of nodes that no path reaches.
 use mathlib.Core.Path.{_≡_, refl, sym, _∙_, ap, subst}
 use mathlib.Core.List.{List, [], _∷_, _++_}

@@ -41,7 +41,7 @@ pointwise-at empty i h a b = absurd (omega arith)
 pointwise-at (more r rs) zero h a b = r
 pointwise-at (more r rs) (suc i) h a b = pointwise-at rs i (omega arith) a b
 
--- what lists that are equal element by element hold
+-- where two lists are equal element by element and P holds at each, P holds of all that the second holds
 pub pointwise-listed : {A : Type 0} {P : A → Type 0} {vs ws : List A} → Pointwise (λ x y. P x × (x ≡ y)) vs ws →
     (w : A) → List·Memᴰ w ws → P w
 pointwise-listed empty w m = absurd (List·Memᴰ·not-nil m)
@@ -175,7 +175,7 @@ module _ {L A B : Type 0} (sameA : A → A → Bool) (sameB : B → B → Bool) 
   related-order absent = empty
   related-order (present rs) = pointwise-reverse rs
 
-  -- and their nodes are numbered alike
+  -- Graphs that are alike have their nodes numbered alike.
   pub bisimilar-order : Pointwise R (writtenOrder sameA g) (writtenOrder sameB h)
   unfolding writtenOrder Goes
   bisimilar-order = related-order (related-visit 255 (g .root) (h .root) [] [] (b .root) empty)

@@ -1,6 +1,6 @@
--- When a graph is too large to be written: the canonical form says so exactly where 256 different nodes are reached, or else
+-- This file shows when a graph is too large to be written: the written form says so exactly where 256 different nodes are reached, or else
 -- 2,049 different links leave reached nodes. The visit lists every reached node once, and the links of the nodes listed are
--- counted once each; a list without repetition inside another is no longer than it.
+-- counted once each; a list without repetition inside another is no longer than the other.
 use mathlib.Core.Path.{_≡_, refl, sym, _∙_, ap, subst}
 use mathlib.Core.Bool.{Bool, true, false, cond}
 use mathlib.Core.List.{

@@ -184,11 +184,11 @@ module _ {L A : Type 0} (same : A → A → Bool) (tells : TellsApart same) (g :
   abbrev Closed : List A → A → Type 0
   Closed seen x = (f : ℕ) (y : A) → g .link x f ≡ some y → List·Memᴰ y seen
 
-  -- so do those of every node that is seen and that v reaches,
+  -- the links of every node that is seen and that v reaches lead to what is seen
   abbrev Settled : A → List A → Type 0
   Settled v seen = (q : List ℕ) (x : A) → follow (g .link) (some v) q ≡ some x → List·Memᴰ x seen → Closed seen x
 
-  -- or that a link of v reaches
+  -- the links of every node that is seen and that a link of v reaches lead to what is seen
   abbrev SettledBelow : A → List A → Type 0
   SettledBelow v seen = (f : ℕ) (q : List ℕ) (x : A) → follow (g .link) (some v) (f ∷ q) ≡ some x → List·Memᴰ x seen → Closed seen x
 
@@ -230,11 +230,11 @@ module _ {L A : Type 0} (same : A → A → Bool) (tells : TellsApart same) (g :
   added-weaker : {Q : A → Type 0} (R : A → Type 0) {old now : List A} → Added Q old now → ((x : A) → Q x → R x) → Added R old now
   added-weaker R a weaker = record { new = a .new; joined = a .joined; with = λ x m. weaker x (a .with x m); ordered = a .ordered }
 
-  -- the least path to x begins with p,
+  -- the least path to x begins with p
   abbrev Under : List ℕ → A → Type 0
   Under p x = (r : List ℕ) × LeastPath g (p ++ r) x
 
-  -- and goes on by a feature from f on
+  -- the least path to x begins with p and goes on by a feature from f on
   abbrev UnderFrom : List ℕ → ℕ → A → Type 0
   UnderFrom p f x = (h : ℕ) × (f ≤ h) × ((r : List ℕ) × LeastPath g (p ++ (h ∷ r)) x)
 
@@ -392,14 +392,14 @@ module _ {L : Type 0} (d : L) (rows : List (Row L))
       (mem-reverse (reached-seen eqb tells-eqb (graphOf d rows) narrow now visited v (p, to)))
       (mem-reverse (reached-seen eqb tells-eqb (graphOf d rows) narrow now visited w (q, onto))) (omega arith)
 
-  -- Every node has a least path,
+  -- Every node has a least path.
   pub least-path : (v : ℕ) → Reached (graphOf d rows) v → (p : List ℕ) × LeastPath (graphOf d rows) p v
   least-path v r =
       let (now, visited, _) = form-numbers eqb tells-eqb (graphOf d rows) narrow d rows own in
       visited-ordered eqb tells-eqb (graphOf d rows) narrow acyclic now visited .1 v
       (reached-seen eqb tells-eqb (graphOf d rows) narrow now visited v r)
 
-  -- and the numbers ascend with the least paths.
+  -- The numbers ascend with the least paths.
   pub numbered-by-least-path : (v w : ℕ) (p q : List ℕ) → LeastPath (graphOf d rows) p v → LeastPath (graphOf d rows) q w → (v < w) ↔ Earlier p q
   numbered-by-least-path v w p q a b = (ahead v w p q a b, back (ℕ-discrete v w) (decLe v w))
     where

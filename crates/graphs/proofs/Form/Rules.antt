@@ -1,5 +1,5 @@
--- Laws of a written form, all that a reader of records asks of it: 1 to 255 rows, one for each reached node, the root's first; at
--- most 2,048 links; in each row features below 64, ascending, with targets that are rows.
+-- This file has the laws of a written form, all that a reader of records asks of it. The form has 1 to 255 rows, one for each reached
+-- node, the root's first, and at most 2,048 links. In each row features are below 64 and ascend, and targets are rows.
 use mathlib.Core.Path.{_≡_, refl, sym, _∙_, ap, subst}
 use mathlib.Core.Bool.{Bool}
 use mathlib.Core.List.{List, [], _∷_, _++_, map, reverse, reverse-cons, List·Memᴰ, Memᴰ·of-map}
@@ -62,7 +62,7 @@ module _ {L A : Type 0} (same : A → A → Bool) (tells : TellsApart same) (g :
   form-length : (now : List A) → map (rowOf same g (reverse now)) (reverse now) ≡ form → length form ≡ length now
   form-length now q = sym (ap length q) ∙ length-map (reverse now) (rowOf same g (reverse now)) ∙ length-reverse now
 
-  -- as many rows as there are nodes
+  -- a written form has as many rows as the graph has nodes
   pub form-nodes : (nodes : List A) × Distinct nodes × ((v : A) → Reached g v ↔ List·Memᴰ v nodes) × (length form ≡ length nodes)
   form-nodes =
       let (now, h, _, q) = canonical-written same g form e in (

@@ -1,5 +1,5 @@
--- What a visit finds: it adds, each once, nodes that are reached, and all that their links lead to; so from the root it finds every
--- reached node. Where it gives nothing there are 256 different reached nodes.
+-- This file shows what a visit finds. A visit adds nodes that are reached, each once, and all that their links lead to; so from the root it
+-- finds every reached node. Where it gives none there are 256 different reached nodes.
 use mathlib.Core.Path.{_≡_, refl, sym, _∙_, ap, subst}
 use mathlib.Core.Bool.{Bool, true, false}
 use mathlib.Core.List.{

@@ -1,5 +1,5 @@
--- Two graphs side by side: their nodes in one type, where a path leads in either, and how the relation of nodes
--- (`RelatedBeside`) answers to the relation of paths (`Joined`). Paths that lead to related nodes are joined
+-- This file puts two graphs side by side, with their nodes in one type. The file says where a path leads in either graph, and how the
+-- relation of nodes (`RelatedBeside`) answers to the relation of paths (`Joined`). Paths that lead to related nodes are joined
 -- (`related-joined`); the way back goes through the graph of the classes, since a joined path may be a path of neither graph.
 use mathlib.Core.Path.{_≡_, refl, sym, _∙_, ap, subst}
 use mathlib.Core.Bool.{Bool}

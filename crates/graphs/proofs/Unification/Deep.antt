@@ -1,6 +1,6 @@
--- Long walks. `deep` answers whether a walk of a given length starts at a node (`deep-walk`, `walk-deep`); a walk that is longer
--- than a list of the nodes on it comes back to one of them (`long-loop`), and what comes back can be walked for ever
--- (`loop-walk`). The loop itself is found, not only that there is one, so a test that tells nodes apart is asked for.
+-- This file is about long walks. `deep` answers whether a walk of a given length starts at a node (`deep-walk`, `walk-deep`). A walk that
+-- has as many links as a list of all nodes that its start reaches is long comes back to one of them (`long-loop`), and a loop can be
+-- walked for ever (`loop-walk`). The loop itself is found, so a test that tells nodes apart is asked for.
 use mathlib.Core.Path.{_≡_, refl, sym, _∙_, ap}
 use mathlib.Core.Bool.{Bool, true}
 use mathlib.Core.List.{
@@ -131,7 +131,7 @@ unfolding again
 again-length zero f r = omega arith
 again-length (suc k) f r = omega (arith, again-length k f r, length-append (f ∷ r) (again k (f ∷ r)))
 
--- what comes back can be walked for ever
+-- a path that comes back to its start can be walked k times
 again-follow : {N : Type 0} (link : N → ℕ → Option N) (k : ℕ) (p : List ℕ) (x : N) → follow link (some x) p ≡ some x →
     follow link (some x) (again k p) ≡ some x
 unfolding again follow
@@ -139,7 +139,7 @@ again-follow link zero p x e = refl
 again-follow link (suc k) p x e =
     follow-append link (some x) p (again k p) ∙ ap (λ o. follow link o (again k p)) e ∙ again-follow link k p x e
 
--- so where there is a loop, walks of every length start
+-- where there is a loop, walks of every length start
 pub loop-walk : {N : Type 0} (link : N → ℕ → Option N) (o : Option N) → Loop link o → (k : ℕ) →
     (p : List ℕ) × (x : N) × (follow link o p ≡ some x) × (k ≤ length p)
 loop-walk link o (x, f, p, (q, e), t) k = (

@@ -1,6 +1,6 @@
--- What `unification` answers, and that the answer is right. A cycle is answered exactly where a class reaches itself, a clash
--- exactly where the meet of a class is the contradiction and there is no cycle; else the graph of the classes is a graph of
--- any size, the greatest below both. So there is a graph below both exactly where a graph is answered.
+-- This file shows that the answer of `unification` is right. A cycle is answered exactly where a class reaches itself, a clash exactly
+-- where the meet of a class is the contradiction and there is no cycle. Else the graph of the classes is a graph of any size, the greatest
+-- below both. So there is a graph below both exactly where a graph is answered.
 use mathlib.Core.Path.{_≡_, refl, _∙_, ap, subst}
 use mathlib.Core.Bool.{Bool, true, false, cond}
 use mathlib.Core.List.{List, map}
@@ -47,7 +47,7 @@ use Rattle.graphs.proofs.Unification.Beside.{Operands, tells-beside, li
 use Rattle.graphs.proofs.Unification.Deep.{deep-walk, walk-deep, long-loop, loop-walk}
 use Rattle.graphs.proofs.Unification.ClassGraph.{class-quotient, class-unification, class-reached, class-features}
 
--- what is answered, by two tests
+-- the answer of unification, from the tests for a cycle and for a clash
 abbrev answer : {L N : Type 0} → Bool → Bool → Graph L N → Unified L N
 answer b c w = cond b cycle (cond c clash (unified w))
 
@@ -189,7 +189,7 @@ module _ {𝓛 : Labels} (lattice : Lattice 𝓛) {A B : Type 0} {sameA : A → 
       unification 𝓛 sameA sameB g gs h hs ≡ unified u
   bounded-graph size b c = answers-graph u .1 (below-no-cycle b c size, below-no-clash b c lattice size, refl)
 
--- Unification is monotone: of graphs above two that have a unification a graph is answered too, and it lies above.
+-- Unification is monotone: if two graphs have a unification, two graphs above them have one too, and it lies above the first.
 pub unification-monotone : {𝓛 : Labels} → Lattice 𝓛 → {A B A′ B′ : Type 0} {sameA : A → A → Bool} {sameB : B → B → Bool}
     {g : Graph (𝓛 .L) A} {gs : List A} {h : Graph (𝓛 .L) B} {hs : List B} {sameA′ : A′ → A′ → Bool} {sameB′ : B′ → B′ → Bool}
     {g′ : Graph (𝓛 .L) A′} {gs′ : List A′} {h′ : Graph (𝓛 .L) B′} {hs′ : List B′} → Operands sameA sameB g gs h hs →

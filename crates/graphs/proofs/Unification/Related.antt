@@ -1,6 +1,6 @@
--- The relation of nodes behind unification, over one type of nodes with two roots: the smallest equivalence on reached nodes
--- that relates the roots and passes down equal features. A map is constant on it as soon as it is constant on the roots
--- and passes down features (`related-constant`); so classes computed in any way are compared with it.
+-- This file defines the relation of nodes behind unification, over one type of nodes with two roots: the smallest equivalence on reached
+-- nodes that relates the roots and passes down equal features. A map is constant on related nodes as soon as it is constant on the roots
+-- and passes down features (`related-constant`). So classes that are computed in any way can be compared with the relation.
 use mathlib.Core.Path.{_≡_, sym, _∙_, subst}
 use mathlib.Core.List.{List, List·Memᴰ}
 use mathlib.Core.Logic.{_↔_}
@@ -8,8 +8,8 @@ use mathlib.Core.Option.{Option, some}
 use Prim.Native.Nat.{ℕ, _<_}
 
 module _ {N : Type 0} (link : N → ℕ → Option N) (r s : N) where
-  -- Nodes of one class. A node is related to itself exactly when a root reaches it: from `roots`, `back` and `next` the roots
-  -- are, and `feat` passes it down.
+  -- Two nodes are of one class. A node is related to itself exactly when a root reaches it: the roots are, by `roots`, `back` and `next`,
+  -- and `feat` passes this down.
   pub data Related : N → N → Type 0 where
     roots : Related r s
     back : {x y : N} → Related x y → Related y x
@@ -23,7 +23,7 @@ module _ {N : Type 0} (link : N → ℕ → Option N) (r s : N) where
     pub second : List·Memᴰ s nodes
     pub onwards : (x y : N) (f : ℕ) → List·Memᴰ x nodes → link x f ≡ some y → List·Memᴰ y nodes × (f < 64)
 
-  -- Names of the classes: a node is related to its name, and what is related has one name.
+  -- `name` names the classes: a node is related to its name, and related nodes have one name.
   pub record Classes (nodes : List N) (name : N → N) : Type 0 where
     pub related : (x : N) → List·Memᴰ x nodes → Related x (name x)
     pub one : {x y : N} → Related x y → name x ≡ name y

@@ -1,6 +1,6 @@
--- What makes a graph the unification (`IsUnification`), and what follows from it alone, for graphs of any node type: it lies
--- below both graphs and above all that does (`unification-left`, `unification-right`, `unification-greatest`), it is unique
--- (`unification-unique`), and there is no cycle and no clash where any graph of any size lies below both.
+-- This file shows what follows from `IsUnification` alone, for graphs on any nodes: the unification lies below both graphs and above every
+-- graph that does (`unification-left`, `unification-right`, `unification-greatest`). There is no cycle and no clash where any graph of
+-- any size lies below both.
 use mathlib.Core.Path.{_≡_, sym, _∙_, ap, subst}
 use mathlib.Core.Bool.{true}
 use mathlib.Core.List.{List, [], _∷_, _++_}
@@ -38,14 +38,14 @@ pub class-meet-unique : {𝓛 : Labels} → Lattice 𝓛 → {A B : Type 0} {g :
     {a b : 𝓛 .L} → ClassMeet 𝓛 g h p a → ClassMeet 𝓛 g h p b → a ≡ b
 class-meet-unique lattice {a = a} {b} m n = lattice .le-antisym a b (n .greatest a (m .under)) (m .greatest b (n .under))
 
--- What lies below both graphs.
+-- The graph k lies below both graphs.
 module _ {𝓛 : Labels} {A B C : Type 0} {g : Graph (𝓛 .L) A} {h : Graph (𝓛 .L) B} {k : Graph (𝓛 .L) C}
     (below-g : Below 𝓛 k g) (below-h : Below 𝓛 k h) where
-  -- joined paths corefer in it
+  -- joined paths corefer in k
   pub below-joined : {p q : List ℕ} → Joined g h p q → Corefer k p q
   below-joined = joined-least g h k (below-g .corefers) (below-h .corefers)
 
-  -- its labels lie below those of the classes
+  -- the labels of k lie below those of the classes
   pub below-under : (p : List ℕ) (x : C) → walk k p ≡ some x → UnderClass 𝓛 g h p (k .label x)
   below-under p x e =
       record {
@@ -59,7 +59,7 @@ module _ {𝓛 : Labels} {A B C : Type 0} {g : Graph (𝓛 .L) A} {h : Graph (�
           let (z, m, n) = below-joined j in
           subst (λ w. 𝓛 .le (k .label w) a ≡ true) (some-unique d (n ∙ sym m ∙ e)) l
 
-  -- The unification lies above it.
+  -- The unification lies above k.
   pub unification-greatest : {D : Type 0} {u : Graph (𝓛 .L) D} → IsUnification 𝓛 g h u → Below 𝓛 k u
   unification-greatest {u = u} is =
       record {
@@ -70,7 +70,7 @@ module _ {𝓛 : Labels} {A B C : Type 0} {g : Graph (𝓛 .L) A} {h : Graph (�
         corefers = λ p q c. below-joined (is .corefers p q .0 c);
       }
 
-  -- With it of any size, there is no cycle and no clash.
+  -- If k is a graph of any size, there is no cycle and no clash.
   pub below-no-cycle : AnySize 𝓛 k → Cycle 𝓛 g h → ⊥
   below-no-cycle size (p, f, r, j) =
       let (x, a, b) = below-joined j in

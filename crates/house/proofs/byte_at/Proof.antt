@@ -1,4 +1,4 @@
--- The word has the bits before j; after eight of them it is the byte.
+-- `byte_at` meets its contract. The loop's invariant: the word has the bits before j. After eight bits the word is the byte.
 use Prim.Native.Nat.{ℕ, _+_, _*_, _/_, _%_, _≤_, _<_, _-_, _^_}
 use mathlib.Core.Path.{sym, subst, _≡_}
 use mathlib.Core.Bool.{Bool}

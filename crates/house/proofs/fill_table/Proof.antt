@@ -1,4 +1,4 @@
--- Each turn stores one byte of the table; what is left is stored from k on.
+-- `fill_table` meets its contract. Each turn of the loop stores one byte of the table; the bytes from k on are still to be stored.
 use Prim.Native.Nat.{ℕ, _≤_, _-_}
 use mathlib.Core.Path.{_≡_, refl, sym, ap₂, _∙_}
 use native.Mathlib.Omega.{arith}

@@ -1,4 +1,4 @@
--- The three tests decide the order by grades.
+-- `is_below` meets its contract: the three tests decide the order by grades.
 use borrow.Author.Tests.{lt-leb, le-leb}
 use Rattle.house.specs.House.{under}
 use Rattle.house.proofs.Filling.{third-decides}

@@ -1,4 +1,4 @@
--- `accept` meets its contract: where every two types have a meet, the table is accepted.
+-- `accept` meets its contract: a table that passes 1 and 2 is accepted exactly where every two types have a meet.
 use mathlib.Core.Path.{sym, _∙_}
 use mathlib.Core.Bool.{false}
 use borrow.Author.Needs.{needs}

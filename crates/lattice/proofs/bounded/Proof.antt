@@ -1,4 +1,4 @@
--- `bounded` meets its contract: branch by branch.
+-- `bounded` meets its contract, branch by branch.
 use mathlib.Core.Path.{refl}
 use Rattle.lattice.proofs.Every.{refuted, held}
 use Rattle.lattice.proofs.bounded.Statement.{statement}

@@ -1,4 +1,4 @@
--- `is_full` meets its contract: one word is that of the full range.
+-- `is_full` meets its contract: only the full range has the word 255.
 use Prim.Native.Nat.{ℕ, _+_, _*_, _≤_}
 use mathlib.Core.Bool.{_&&_}
 use mathlib.Core.Path.{_≡_}

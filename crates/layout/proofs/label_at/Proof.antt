@@ -1,5 +1,5 @@
+-- `label_at` meets its contract: the header of a node lies inside the words.
 use borrow.Author.Needs.{needs}
--- `label_at` meets its contract: the header of a node lies inside.
 use Prim.Native.Nat.{_+_}
 use native.Mathlib.Omega.{arith}
 use Rattle.layout.proofs.label_at.Statement.{statement}

@@ -1,5 +1,5 @@
+-- `put_label` meets its contract: it makes two stores.
 use borrow.Author.Needs.{needs}
--- `put_label` meets its contract: two stores.
 use mathlib.Core.Path.{refl}
 use native.Mathlib.Omega.{arith}
 use lib.ListN.{length-set}

@@ -1,4 +1,4 @@
--- `bound` meets its contract: each type that it answers has the common part as its word.
+-- `bound` meets its contract: the word of each type that it answers has the bits that the words of a and b share.
 use Rattle.lattice.proofs.Seeking.{seek-begin, seek-none, common-inside, bound-at, bound-own}
 use borrow.Author.Needs.{needs}
 use Rattle.bounds.proofs.cells.bound.Statement.{statement}

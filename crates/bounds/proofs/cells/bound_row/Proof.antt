@@ -1,5 +1,5 @@
--- `bound_row` meets its contract: row a and column a hold the bounds of a with the types before b, and `found` tells of those
--- from a on.
+-- `bound_row` meets its contract. The loop's invariant: row a and column a hold the bounds of a with the types before b, and `found` tells
+-- whether a has a bound with each type from a up to b.
 use Prim.Native.Nat.{_+_, _≤_, _-_}
 use mathlib.Core.Bool.{true, false}
 use mathlib.Core.Logic.{⊎-elim}

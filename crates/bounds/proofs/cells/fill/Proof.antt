@@ -1,5 +1,5 @@
--- `fill` meets its contract: the rows before a are overwritten, the columns before a are written, and `found` says whether the
--- bounds of the types before a with those from it on were all found.
+-- `fill` meets its contract. The loop's invariant: the rows before a are overwritten, the columns before a are written, and `found` tells
+-- whether each type before a has a bound with every type from itself on.
 use Prim.Native.Nat.{_+_, _≤_, _-_}
 use mathlib.Core.Logic.{⊎-elim}
 use mathlib.Core.Path.{_≡_, sym, _∙_}

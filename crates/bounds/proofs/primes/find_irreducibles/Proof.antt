@@ -1,4 +1,4 @@
--- `find_irreducibles` meets its contract: the irreducible types before j are prime, and are those found.
+-- `find_irreducibles` meets its contract. The loop's invariant: the irreducible types before j are prime, and they are the types found.
 use Prim.Native.Nat.{ℕ, _+_, _-_, _^_, _≤_, _<_}
 use mathlib.Core.Path.{_≡_, sym, subst, _∙_}
 use mathlib.Core.Bool.{true}

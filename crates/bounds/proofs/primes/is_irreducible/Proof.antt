@@ -1,4 +1,4 @@
--- `is_irreducible` meets its contract: the types strictly below j have a holder where the search finds one.
+-- `is_irreducible` meets its contract: the search finds the type whose word has the types strictly below j, if there is one.
 use Prim.Native.Nat.{_^_}
 use Rattle.bounds.specs.Primes.{wordIrreducible}
 use Rattle.lattice.proofs.Seeking.{part-found}

@@ -1,4 +1,4 @@
--- `is_prime` meets its contract: the types not above have a holder where the search finds one.
+-- `is_prime` meets its contract: the search finds the type whose word has the types that are not in `above`, if there is one.
 use Rattle.bounds.specs.Primes.{wordSplits}
 use Rattle.lattice.proofs.Seeking.{part-found}
 use borrow.Author.Needs.{needs}

@@ -1,4 +1,4 @@
--- `above_all` meets its contract: the word is above all members that are not left.
+-- `above_all` meets its contract. The loop's invariant: `part` has the types above all members that are not left.
 use Prim.Native.Nat.{ℕ, _^_}
 use mathlib.Core.Path.{refl, sym, ap, subst, _∙_}
 use native.Mathlib.Omega.{arith}

@@ -1,4 +1,4 @@
--- `find_set` meets its contract: the type with the set, if there is one, is among those left.
+-- `find_set` meets its contract. The loop's invariant: the type with the set, if there is one, is among those left.
 use Prim.Native.Nat.{ℕ, _≤_}
 use mathlib.Core.Path.{sym, subst}
 use native.Mathlib.Omega.{arith}

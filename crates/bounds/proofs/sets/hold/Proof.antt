@@ -1,4 +1,4 @@
--- `hold` meets its contract: the sets of the types before a stand.
+-- `hold` meets its contract. The loop's invariant: the sets of the types before a are stored.
 use Prim.Native.Nat.{ℕ, _+_, _-_, _<_, _≤_}
 use mathlib.Core.Path.{_≡_, refl, sym, ap, subst, _∙_}
 use mathlib.Core.Bool.{Bool, true, false}

@@ -1,4 +1,4 @@
--- `join` meets its contract: the cell, or the type with the set.
+-- `join` meets its contract: the answer is the cell, or the type whose set is the union.
 use Rattle.bounds.proofs.Held.{union-member, join-in-cells, join-left, join-right, join-sought}
 use borrow.Author.Needs.{needs}
 use Rattle.bounds.proofs.sets.join.Statement.{statement}

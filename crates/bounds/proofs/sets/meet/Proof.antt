@@ -1,4 +1,4 @@
--- `meet` meets its contract: the cell, or the type with the set.
+-- `meet` meets its contract: the answer is the cell, or the type whose set is the overlap.
 use Rattle.bounds.proofs.Held.{meet-in-cells, meet-left, meet-right, meet-sought}
 use borrow.Author.Needs.{needs}
 use Rattle.bounds.proofs.sets.meet.Statement.{statement}

@@ -1,4 +1,4 @@
--- `reader::byte` meets its contract: the walk that takes the struct apart, at `byte_at`.
+-- `reader::byte` meets its contract by the walk that takes the struct apart (`Thin`), applied to `byte_at`.
 use contract.Running.{givenOf, tables, tablesOf}
 use denote.Enum.Laws as EL
 use denote.Triple.Table.{entered, cited}

@@ -1,4 +1,4 @@
--- `reader::byte_from` meets its contract: the walk that makes the struct, at `byte`.
+-- `reader::byte_from` meets its contract by the walk that makes the struct (`Thin`), applied to `byte`.
 use contract.Running.{givenOf, tables, tablesOf}
 use denote.Enum.Laws as EL
 use denote.Triple.Table.{entered, cited}

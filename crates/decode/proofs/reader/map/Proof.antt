@@ -1,4 +1,4 @@
--- `reader::map` meets its contract: the walk that takes the struct apart, at `whole_map_at`.
+-- `reader::map` meets its contract by the walk that takes the struct apart (`Thin`), applied to `whole_map_at`.
 use contract.Running.{givenOf, tables, tablesOf}
 use denote.Enum.Laws as EL
 use denote.Triple.Table.{entered, cited}

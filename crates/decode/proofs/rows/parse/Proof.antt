@@ -1,4 +1,4 @@
--- `rows::parse` meets its contract: what was to be read is the rows that stand and those still to come.
+-- `rows::parse` meets its contract. The loop's invariant: the rows of the record are those that are stored and those still to be read.
 use mathlib.Core.Path.{sym, _∙_}
 use Prim.Native.Nat.{_-_}
 use native.Mathlib.Omega.{arith}

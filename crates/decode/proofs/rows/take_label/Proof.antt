@@ -1,4 +1,4 @@
--- `rows::take_label` meets its contract: a type alone, or a type and two levels.
+-- `rows::take_label` meets its contract: it takes a type alone, or a type and two levels.
 use native.Mathlib.Omega.{arith}
 use borrow.Author.Needs.{needs}
 use denote.Ref.{now}

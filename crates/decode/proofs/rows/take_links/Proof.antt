@@ -1,4 +1,4 @@
--- `rows::take_links` meets its contract: what was to be read is the links stored and those of the digits left.
+-- `rows::take_links` meets its contract. The loop's invariant: the links to be read are those that are stored and those of the digits left.
 use Prim.Native.Nat.{_-_}
 use native.Mathlib.Omega.{arith}
 use lib.ListN.{drop}

@@ -1,4 +1,4 @@
--- `rows::take_row` meets its contract: a label, a map and the links of the map's word.
+-- `rows::take_row` meets its contract: it takes a label, a map and the links of the map's word.
 use mathlib.Core.Path.{refl, ap, _∙_}
 use native.Mathlib.Omega.{arith}
 use lib.ListN.{length}

@@ -1,4 +1,4 @@
--- `measure` meets its contract, by what the numbering says of the visit over the rows.
+-- `measure` meets its contract, because the numbering is the visit over the rows.
 use mathlib.Core.Logic.{inl, inr}
 use mathlib.Core.Path.{_≡_}
 use Prim.Native.Nat.{ℕ}

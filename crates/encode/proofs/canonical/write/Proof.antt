@@ -1,4 +1,4 @@
--- `write` meets its contract, by what is measured.
+-- `write` meets its contract, because `measure` gives the length of the record.
 use mathlib.Core.Path.{sym}
 use native.Mathlib.Omega.{arith}
 use Rattle.encode.proofs.Outcomes.{yields-by, large-written}

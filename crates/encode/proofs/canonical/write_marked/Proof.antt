@@ -1,4 +1,4 @@
--- `write_marked` meets its contract, by what is measured.
+-- `write_marked` meets its contract, because `measure` gives the length of the record and the number of its links.
 use mathlib.Core.Path.{sym}
 use native.Mathlib.Omega.{arith}
 use Rattle.encode.proofs.Outcomes.{large-marked, notes-by}

@@ -1,4 +1,4 @@
--- `encode` meets its contract: in a turn one row is stored behind those before it.
+-- `encode` meets its contract. Each turn of the loop stores one row behind those before it.
 use mathlib.Core.Path.{_∙_}
 use Prim.Native.Nat.{_-_, _≤_}
 use native.Mathlib.Omega.{arith}

@@ -1,4 +1,4 @@
--- `encode_row` meets its contract: behind the label, in a turn one target is stored and one bit of the map added.
+-- `encode_row` meets its contract. Each turn of the loop stores one target behind those before it and adds one bit to the map.
 use mathlib.Core.Path.{_∙_}
 use Prim.Native.Nat.{_+_, _-_, _<_}
 use native.Mathlib.Omega.{arith}

@@ -1,4 +1,5 @@
--- `extent_of` meets its contract: the sums are those of the nodes passed, and grow by less than 65,536 and by at most one a turn.
+-- `extent_of` meets its contract. The loop's invariant: the sums are those of the nodes before i. In a turn the links grow by less than
+-- 65,536 and the ranges by at most 1, so the sums fit.
 use mathlib.Core.Path.{_∙_, ap}
 use Prim.Native.Nat.{_+_, _-_}
 use native.Mathlib.Omega.{arith}

@@ -1,4 +1,4 @@
--- `put_map` meets its contract: what is left to store is the bytes of what is left of the map.
+-- `put_map` meets its contract. The loop's invariant: the bytes still to be stored are the bytes of what is left of the map.
 use mathlib.Core.Path.{refl, _≡_, sym, _∙_}
 use Prim.Native.Nat.{_+_, _-_, _≤_}
 use native.Mathlib.Omega.{arith}

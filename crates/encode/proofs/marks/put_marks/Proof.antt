@@ -1,4 +1,4 @@
--- `put_marks` meets its contract: in a turn the marks of one row are stored behind those before them.
+-- `put_marks` meets its contract. Each turn of the loop stores the marks of one row behind those before them.
 use Prim.Native.Nat.{_-_}
 use native.Mathlib.Omega.{arith}
 use Rattle.encode.proofs.MarkedRows.{MarkProgress, marks-start, marks-room, marks-step, marks-done}

@@ -1,4 +1,4 @@
--- `put_row` meets its contract: in a turn one mark is stored behind those before it.
+-- `put_row` meets its contract. Each turn of the loop stores one mark behind those before it.
 use Prim.Native.Nat.{_+_, _-_, _<_}
 use native.Mathlib.Omega.{arith}
 use Rattle.layout.specs.Layout.{linksFrom}

@@ -1,4 +1,4 @@
--- `renumber` meets its contract, by what the numbering says of the visit over the rows.
+-- `renumber` meets its contract, because the numbering is the visit over the rows.
 use native.Mathlib.Omega.{arith}
 use Rattle.encode.proofs.WrittenForm.{too-many, many-links, visited-nodes, visited-room}
 use Rattle.encode.proofs.CopiedRows.{renumbered, renumbers-links, renumbers-nodes, visited-numbered}

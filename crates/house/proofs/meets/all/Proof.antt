@@ -1,4 +1,4 @@
--- The constant is the meets of all pairs: antt computes the test of the rule over the whole of it.
+-- `all` meets its contract: the constant is the meets of all pairs. The rule is tested over the whole constant by computation.
 use mathlib.Core.Path.{refl}
 use Rattle.house.specs.House.{lesser}
 use Rattle.house.proofs.Entries.{rule-meets}

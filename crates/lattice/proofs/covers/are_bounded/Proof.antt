@@ -1,4 +1,4 @@
--- `are_bounded` meets its contract: every two types that one of the first i types covers have a bound.
+-- `are_bounded` meets its contract. The loop's invariant: every two types that one of the first i types covers have a bound.
 use Prim.Native.Nat.{_≤_, _-_}
 use mathlib.Core.Path.{sym, subst}
 use native.Mathlib.Nat.{not-suc-le-zero}

@@ -1,4 +1,4 @@
--- `are_bounded_within` meets its contract: the bounds of the types whose bits are cleared with all types of the word were found.
+-- `are_bounded_within` meets its contract. The loop's invariant: each type whose bit is cleared has a bound with every type of the word.
 use Prim.Native.Nat.{ℕ, _^_}
 use mathlib.Core.Path.{refl, sym, ap, subst, _∙_}
 use native.Mathlib.Omega.{arith}

@@ -1,4 +1,4 @@
--- `covered` meets its contract: every type strictly below i is left, or below one that was taken.
+-- `covered` meets its contract. The loop's invariant: every type strictly below i is left, or below a type that is taken.
 use Prim.Native.Nat.{ℕ, _*_, _%_, _^_}
 use mathlib.Core.Path.{sym, ap₂, subst}
 use native.Mathlib.Omega.{arith}

@@ -1,4 +1,4 @@
--- `is_bounded_with` meets its contract: the bounds of a with the types whose bits are cleared were found.
+-- `is_bounded_with` meets its contract. The loop's invariant: a has a bound with each type whose bit is cleared.
 use Prim.Native.Nat.{ℕ, _^_}
 use mathlib.Core.Path.{refl, sym, ap, subst, _∙_}
 use native.Mathlib.Omega.{arith}

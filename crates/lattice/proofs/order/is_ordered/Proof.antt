@@ -1,4 +1,4 @@
--- `is_ordered` meets its contract: the rows before i are ordered.
+-- `is_ordered` meets its contract. The loop's invariant: the rows before i are ordered.
 use Prim.Native.Nat.{_≤_, _-_}
 use mathlib.Core.Path.{_≡_, sym}
 use mathlib.Core.Bool.{true}

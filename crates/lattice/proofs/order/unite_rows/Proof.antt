@@ -1,4 +1,4 @@
--- `unite_rows` meets its contract: `all` is the union of the rows of the bits that are cleared.
+-- `unite_rows` meets its contract. The loop's invariant: `all` is the union of the rows of the types whose bits are cleared.
 use Prim.Native.Nat.{ℕ, _^_}
 use mathlib.Core.Path.{refl, sym, ap, subst, _∙_}
 use native.Mathlib.Omega.{arith}

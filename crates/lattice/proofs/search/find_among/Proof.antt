@@ -1,4 +1,4 @@
--- `find_among` meets its contract: every type that has the word is among the bits left.
+-- `find_among` meets its contract. The loop's invariant: every type that has the word is among the bits left.
 use Prim.Native.Nat.{ℕ}
 use mathlib.Core.Path.{ap, sym, subst, _∙_}
 use native.Mathlib.Omega.{arith}

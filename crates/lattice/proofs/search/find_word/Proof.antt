@@ -1,4 +1,4 @@
--- `find_word` meets its contract: the first look, and then the bits left.
+-- `find_word` meets its contract: the first bit's type has the word, or the type that has it is among the bits left.
 use Prim.Native.Nat.{ℕ}
 use mathlib.Core.Path.{ap, sym, subst, _∙_}
 use native.Mathlib.Omega.{arith}

@@ -1,5 +1,5 @@
--- `wanted` meets its contract: the greatest type or p where that is known, else the type whose word is the union of the words of
--- the types that restore.
+-- `wanted` meets its contract: the wanted type is the greatest type where q is p, p where q is the greatest type, and else the type whose
+-- word is the union of the words of the types that restore.
 use Rattle.lattice.proofs.Restoring.{wanted-cell, same-cell, top-cell}
 use borrow.Author.Needs.{needs}
 use Rattle.lattice.proofs.wanted.wanted.Statement.{statement}

@@ -1,4 +1,4 @@
--- `byte_at` meets its contract: off the table the byte counts as 0.
+-- `byte_at` meets its contract: past the end of the table the byte counts as 0.
 use mathlib.Core.Path.{refl, sym}
 use native.Mathlib.Omega.{arith}
 use lib.ListN.{List·getD-eq-default}

@@ -1,4 +1,4 @@
--- `end_bit` meets its contract: next to the zeros at an end stands a bit.
+-- `end_bit` meets its contract: the bit next to the zeros at either end is set.
 use mathlib.Core.Path.{refl}
 use native.Mathlib.Omega.{arith}
 use Rattle.lattice.proofs.Every.{true-not-false}

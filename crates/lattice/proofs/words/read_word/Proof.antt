@@ -1,4 +1,4 @@
--- `read_word` meets its contract: the word has the bits of the bytes before k.
+-- `read_word` meets its contract. The loop's invariant: the word has the bits of the bytes before k.
 use Prim.Native.Nat.{_≤_, _-_, _*_}
 use mathlib.Core.Path.{_≡_, sym}
 use mathlib.Core.Bool.{false}

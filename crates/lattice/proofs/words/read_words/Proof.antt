@@ -1,4 +1,4 @@
--- `read_words` meets its contract: the words before i are read.
+-- `read_words` meets its contract. The loop's invariant: the words before i are read.
 use Prim.Native.Nat.{ℕ, _≤_, _<_, _-_}
 use mathlib.Core.Path.{_≡_}
 use mathlib.Core.Bool.{false}

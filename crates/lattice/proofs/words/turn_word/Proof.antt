@@ -1,4 +1,4 @@
--- `turn_word` meets its contract: the word has the bits from j on, and those before j are still to come.
+-- `turn_word` meets its contract. The loop's invariant: the word has the bits from j on, and those before j are still to come.
 use Prim.Native.Nat.{_+_, _*_, _≤_, _^_}
 use mathlib.Core.Path.{_≡_}
 use lib.ListN.{getD}

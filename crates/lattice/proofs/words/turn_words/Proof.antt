@@ -1,4 +1,4 @@
--- `turn_words` meets its contract: the words before i are turned.
+-- `turn_words` meets its contract. The loop's invariant: the words before i are turned.
 use Prim.Native.Nat.{ℕ, _≤_, _<_, _-_}
 use mathlib.Core.Path.{_≡_}
 use native.Mathlib.Omega.{arith}

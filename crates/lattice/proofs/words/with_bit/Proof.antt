@@ -1,4 +1,4 @@
--- `with_bit` meets its contract: the bit stands above the word, so that the sum fits.
+-- `with_bit` meets its contract: the bit is above all bits of the word, so the sum fits.
 use borrow.Author.Needs.{needs}
 use Rattle.lattice.proofs.WordLaws.{bit-fits, bit-placed}
 use Rattle.lattice.proofs.words.with_bit.Statement.{statement}

@@ -1,4 +1,4 @@
--- `judging::judge` meets its contract: each return hands what the parts found to the step of that refusal.
+-- `judging::judge` meets its contract: for each return a lemma gives the reading from what the two tests find.
 use borrow.Author.Needs.{needs}
 use borrow.Author.Tests.{not-true, not-false}
 use Rattle.record.proofs.Counting.{counted-start}

@@ -1,4 +1,4 @@
--- `reading::has_ranges` meets its contract: behind the first row's beginning come the headers and the links.
+-- `reading::has_ranges` meets its contract: from the beginning of the first row on, the words are the headers and the links.
 use mathlib.Core.Bool.{not}
 use mathlib.Core.List.{List}
 use mathlib.Core.Path.{_≡_, ap}

@@ -1,4 +1,4 @@
--- `reading::read` meets its contract: what parsing and judging say gives the reading.
+-- `reading::read` meets its contract: the reading follows from what parsing and judging answer.
 use borrow.Author.Needs.{needs}
 use borrow.Author.Tests.{not-true, not-false}
 use Rattle.record.proofs.Parsed as parsed

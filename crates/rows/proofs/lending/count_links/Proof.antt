@@ -1,4 +1,4 @@
--- `lending::count_links` meets its contract: behind the first row's beginning come the headers and the links.
+-- `lending::count_links` meets its contract: from the beginning of the first row on, the words are the headers and the links.
 use native.Mathlib.Omega.{arith}
 use Prim.Native.Nat.{_+_}
 use Rattle.layout.specs.Layout.{size}

@@ -1,3 +1,4 @@
+-- `placing::all_known` meets its contract. The loop's invariant: all rows are known exactly where those from i on are.
 use mathlib.Core.Path.{_≡_, refl, sym, _∙_}
 use borrow.Author.Tests.{not-true, not-false}
 use Prim.Native.Nat.{_-_, _≤_}

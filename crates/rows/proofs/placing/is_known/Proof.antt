@@ -1,3 +1,4 @@
+-- `placing::is_known` meets its contract, test by test.
 use borrow.Author.Needs.{needs}
 use Rattle.rows.proofs.Known.{far-feature, far-parent, near}
 use Rattle.rows.proofs.placing.is_known.Statement.{statement}

@@ -1,3 +1,4 @@
+-- `placing::place_rows` meets its contract. The loop's invariant: the first i rows are placed.
 use mathlib.Core.Path.{_≡_, refl, sym, _∙_}
 use native.Mathlib.Omega.{arith}
 use Prim.Native.Nat.{ℕ, _+_, _-_, _≤_}

@@ -1,5 +1,5 @@
--- The cycle of calls {finish}. Each call turns a white node to the way down, so the number of white nodes is the measure; at a link the
--- targets passed are finished, and the loop's measure is the links left.
+-- `sorting::finish` meets its contract. Each call turns a white node to the way down, so the number of white nodes is the measure of the
+-- recursion. The loop's invariant: the targets of the links before k are finished. The loop's measure is the number of links left.
 use mathlib.Core.Logic.{⊎-elim}
 use borrow.Author.Needs.{needs}
 use Prim.Native.Nat.{ℕ, _+_, _-_, _<_}

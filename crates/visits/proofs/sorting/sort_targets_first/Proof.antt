@@ -1,4 +1,5 @@
--- `sort_targets_first` meets its contract. In the sweep the nodes before v are finished and none is on the way down; the measure is the nodes left.
+-- `sorting::sort_targets_first` meets its contract. The loop's invariant: the nodes before v are finished, and none is on the way down. The
+-- loop's measure is the number of nodes left.
 use mathlib.Core.Path.{refl}
 use mathlib.Core.Logic.{⊎-elim}
 use Prim.Native.Nat.{_-_}
