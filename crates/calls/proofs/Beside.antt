@@ -1,4 +1,5 @@
--- The calls with a list of types for features and those without one are one: an empty list stands for none.
+-- The definition of an operation with a list or without one gives both calls: the call with a list of types for features, and the call without
+-- one, for which the list is empty.
 use mathlib.Core.Path.{_≡_, refl, sym, _∙_, ap, ap₂}
 use mathlib.Core.Bool.{Bool, true, false, cond}
 use mathlib.Core.List.{List}
@@ -24,27 +25,27 @@ use Rattle.calls.specs.Appropriate.{rewritingAppropriate, generalizingAp
 use Rattle.calls.specs.Beside.{checkedBeside, rewritingBeside, generalizingBeside, unifyingBeside}
 use Rattle.calls.proofs.Listed.{Checks}
 
--- a list that passes its test is none or accepted
+-- A list that passes the test is empty or accepted.
 pub optional-passed : (n : ℕ) (listed : Bool) (list : List ℕ) → (listed ≡ false → length list ≡ 0) → cond listed (listAccepted n list) true ≡ true →
     Optional n list
 optional-passed n true list none ok = λ _. ok
 optional-passed n false list none ok = optional-none n list (none refl)
 
--- the test of a list passes where there is an accepted one, or none
+-- The test passes if there is an accepted list, or no list.
 pub test-passed : (listed ok : Bool) → ((listed ≡ true) × (ok ≡ true)) ⊎ (listed ≡ false) → cond listed ok true ≡ true
 test-passed listed ok (inl (is, accepts)) = ap₂ (λ (b o : Bool). cond b o true) is accepts
 test-passed listed ok (inr none) = ap (λ (b : Bool). cond b ok true) none
 
--- and fails where there is one that is not accepted
+-- The test fails if there is a list that is not accepted.
 pub test-failed : (listed ok : Bool) → listed ≡ true → ok ≡ false → cond listed ok true ≡ false
 test-failed listed ok is other = ap₂ (λ (b o : Bool). cond b o true) is other
 
--- the table's 1 to 3, then 17 if there is a list
+-- The call checks the table's 1 to 3, then 17 if there is a list.
 pub beside-checked : (n : ℕ) (t : List ℕ) (listed : Bool) (list out : List ℕ) (next : Result) →
     Checks n t (cond listed (listAccepted n list) true) TypeList out (checkedBeside n t listed list out next) next
 beside-checked n t listed list out next = record { is = refl }
 
--- what comes next matters for a list that is accepted only
+-- What a call does next matters only if its list is accepted.
 next-same : (n : ℕ) (t : List ℕ) (ok : Bool) (wrong : Reply) (out : List ℕ) {next other : Result} → (ok ≡ true → next ≡ other) →
     checkedList n t ok wrong out next ≡ checkedList n t ok wrong out other
 next-same n t true wrong out same =
@@ -52,7 +53,7 @@ next-same n t true wrong out same =
 next-same n t false wrong out same = refl
 
 module _ (n : ℕ) (t list : List ℕ) where
-  -- Without a list.
+  -- Without a list, the definition gives the plain call.
   module _ (none : length list ≡ 0) (out : List ℕ) where
     both-plain : (a b : List ℕ) (next : List (Row Label) → List (Row Label) → Result) →
         readBoth (λ r. refusing r out) (readingBeside n t list a) (readingBeside n t list b) next ≡
@@ -77,7 +78,7 @@ module _ (n : ℕ) (t list : List ℕ) where
     unifying-plain a b =
         ap (λ (r : Result). checked (λ q. refusing q out) (table.opened n t) r) (both-plain a b (unifiedRows n t out))
 
-  -- With a list.
+  -- With a list, the definition gives the call with a list.
   module _ (out : List ℕ) where
     both-listed : (a b : List ℕ) (next : List (Row Label) → List (Row Label) → Result) → listAccepted n list ≡ true →
         readBoth (λ r. refusing r out) (readingBeside n t list a) (readingBeside n t list b) next ≡

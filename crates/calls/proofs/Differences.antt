@@ -1,4 +1,4 @@
--- From what the difference of two records answers over an accepted table to what the calls reply.
+-- The promise of the difference of two records over an accepted table gives the replies of the calls.
 use mathlib.Core.Path.{_≡_, refl, sym, _∙_, ap}
 use mathlib.Core.Bool.{Bool, true, false}
 use mathlib.Core.List.{List}
@@ -19,12 +19,12 @@ use Rattle.calls.specs.Explained.{explaining, explainingBy, differingWit
 use Rattle.calls.proofs.Tables.{table-refused, table-accepted}
 use Rattle.calls.proofs.Listed.{table-before-list, list-refused, list-passed, differing-checked}
 
--- without the reasons, reply and output alone are told
+-- Without reasons, the result is the reply and the output for the record.
 pub plain-part : {plain : Result} {old : List ℕ} {r : Reply} {new rest : List ℕ} →
     explainedResult r new rest ≡ explainedResult (plain .reply) (plain .output) old → resulting r new ≡ plain
 plain-part e = ap (λ (x : Explained). resulting (x .reply) (x .output)) e
 
--- the two with their reasons
+-- If the reasons are asked for, the definitions give the calls with reasons.
 pub with-explaining : (n : ℕ) (t a b out old : List ℕ) → differingWith true n t a b out old ≡ explaining n t a b out old
 unfolding explaining
 with-explaining n t a b out old = refl
@@ -34,11 +34,11 @@ unfolding explainingBy
 with-explaining-by n t list a b out old = refl
 
 module _ (explained : Bool) (n : ℕ) (t a b out old : List ℕ) where
-  -- the difference by an order of links, and its reasons
+  -- The difference of two records by an order of links, with its reasons if `explained`.
   abbrev partingBy : (Link ℕ → Link ℕ → Bool) → Explained
   partingBy earlier = withReasonsIf explained (parting earlier n t a b out) (reasonsOf earlier n t a b) out old
 
-  -- 1 to 3
+  -- If the table is refused, the reply is the refusal 1 to 3.
   pub differing-refused : (fault : TableFault) → table.opened n t ≡ opened.Refused fault →
       explainedResult (Table fault) out old ≡ differingWith explained n t a b out old
   unfolding differing
@@ -46,7 +46,7 @@ module _ (explained : Bool) (n : ℕ) (t a b out old : List ℕ) where
       refuses-with-reasons explained (Table fault) (reasonsOf byNumber n t a b) out old refl
       (sym (table-refused (λ r. refusing r out) (parting byNumber n t a b out) fault e))
 
-  -- by an order of links that is document 01's
+  -- If the table is accepted, the result is the difference by document 01's order of links.
   pub differing-accepted : {earlier : Link ℕ → Link ℕ → Bool} {x : Explained} → table.opened n t ≡ opened.Accepted → earlier ≡ byNumber →
       x ≡ partingBy earlier → x ≡ differingWith explained n t a b out old
   unfolding differing
@@ -55,7 +55,7 @@ module _ (explained : Bool) (n : ℕ) (t a b out old : List ℕ) where
       ap (λ (p : Result). withReasonsIf explained p (reasonsOf byNumber n t a b) out old)
       (sym (table-accepted (λ r. refusing r out) (parting byNumber n t a b out) e))
 
-  -- and by one that is a list's
+  -- For a call with a list, the list is tested after the table, and the result is the difference by the list's order of links.
   module _ (list : List ℕ) where
     pub differing-by-refused : (fault : TableFault) → table.opened n t ≡ opened.Refused fault →
         explainedResult (Table fault) out old ≡ differingByWith explained n t list a b out old

@@ -1,4 +1,4 @@
--- From what the parts of a call with a list promise to what the call replies.
+-- A call with a list checks the table, then the list. The promises of its parts give the reply of the call.
 use mathlib.Core.Path.{_≡_, refl, sym, _∙_, ap}
 use mathlib.Core.Bool.{Bool, true, false, cond}
 use mathlib.Core.List.{List}
@@ -23,13 +23,13 @@ use Rattle.engine.specs.Differing.{parting}
 use Rattle.calls.specs.Appropriate.{rewritingAppropriate, generalizingAppropriate, unifyingAppropriate}
 use Rattle.calls.proofs.Tables.{table-refused, table-accepted}
 
--- a call checks the table, then the list, before what it does next
+-- A call checks the table, then the list, and then goes on with `next`.
 pub record Checks (n : ℕ) (t : List ℕ) (listed : Bool) (wrong : Reply) (out : List ℕ) (call next : Result) : Type 0 where
   pub is : call ≡ checkedList n t listed wrong out next
 
 module _ {n : ℕ} {t : List ℕ} {listed : Bool} {wrong : Reply} {out : List ℕ} {call next : Result}
     (checks : Checks n t listed wrong out call next) where
-  -- 1 to 3
+  -- If the table is refused, the reply is the refusal 1 to 3.
   pub table-before-list : (fault : TableFault) → table.opened n t ≡ opened.Refused fault → refusing (Table fault) out ≡ call
   table-before-list fault e = sym (checks .is ∙ table-refused (λ r. refusing r out) (cond listed next (refusing wrong out)) fault e)
 
@@ -37,14 +37,15 @@ module _ {n : ℕ} {t : List ℕ} {listed : Bool} {wrong : Reply} {out : List �
     over-table : call ≡ cond listed next (refusing wrong out)
     over-table = checks .is ∙ table-accepted (λ r. refusing r out) (cond listed next (refusing wrong out)) opens
 
-    -- the list's refusal
+    -- If the list is not accepted, the reply is the refusal of the list.
     pub list-refused : listed ≡ false → refusing wrong out ≡ call
     list-refused e = sym (over-table ∙ ap (λ (b : Bool). cond b next (refusing wrong out)) e)
 
     pub list-passed : listed ≡ true → next ≡ call
     list-passed e = sym (over-table ∙ ap (λ (b : Bool). cond b next (refusing wrong out)) e)
 
-  -- The list's refusal where it is due, and nowhere else: it is none of the table, and what comes next never gives it.
+  -- The reply is the list's refusal exactly if the table is accepted and the list is not. This holds if neither a table's refusal nor `next` has
+  -- that reply.
   pub list-exact : ((fault : TableFault) → Table fault ≡ wrong → ⊥) → (next .reply ≡ wrong → ⊥) →
       (call .reply ≡ wrong) ↔ ((table.opened n t ≡ opened.Accepted) × (listed ≡ false))
   list-exact other never = (

@@ -1,4 +1,4 @@
--- The table's 1 to 3 come before what a call does.
+-- The table's 1 to 3 are checked first: a refused table gives its refusal, and over an accepted table a call goes on.
 use mathlib.Core.Path.{_≡_, sym, _∙_, ap}
 use mathlib.Core.List.{List}
 use Prim.Native.Nat.{ℕ}
@@ -14,14 +14,14 @@ use Rattle.engine.specs.Ordering.{ordered}
 use Rattle.calls.specs.Calls.{checked, checking, ordering}
 
 module _ {X : Type 0} (refuse : Reply → X) (next : X) {o : Opened} where
-  -- 1 to 3
+  -- A refused table gives its refusal 1 to 3.
   pub table-refused : (fault : TableFault) → o ≡ opened.Refused fault → checked refuse o next ≡ refuse (Table fault)
   table-refused fault e = ap (λ p. checked refuse p next) e
 
   pub table-accepted : o ≡ opened.Accepted → checked refuse o next ≡ next
   table-accepted e = ap (λ p. checked refuse p next) e
 
--- the order
+-- The order of two records.
 module _ (n : ℕ) (t a b : List ℕ) where
   pub ordering-refused : (fault : TableFault) → table.opened n t ≡ opened.Refused fault → Table fault ≡ ordering n t a b
   unfolding ordering
@@ -34,7 +34,7 @@ module _ (n : ℕ) (t a b : List ℕ) where
   ordering-accepted e h =
       h ∙ sym (table-accepted (λ r. r) (readBoth (λ r. r) (reading n a) (reading n b) (ordered n t)) e)
 
--- a table alone
+-- A table alone.
 module _ (n : ℕ) (t : List ℕ) where
   pub checking-refused : (fault : TableFault) → table.opened n t ≡ opened.Refused fault → Table fault ≡ checking n t
   unfolding checking

@@ -1,4 +1,5 @@
--- What each call answers and leaves in the output (documents 01, "Returned by a call", and 02).
+-- What each call replies, and what it leaves in the output (document 01, "Returned by a call"; document 02, Papers 3 and 10). Each definition has
+-- the checks in their order.
 use mathlib.Core.Bool.{Bool, cond}
 use mathlib.Core.List.{List}
 use Prim.Native.Nat.{ℕ}
@@ -18,41 +19,43 @@ use Rattle.engine.specs.Ordering.{ordered}
 use Rattle.engine.specs.Generalizing.{generalized}
 use Rattle.engine.specs.Unifying.{unifiedRows}
 
--- the table's 1 to 3, before what a call does; `refuse` makes what it gives of a refusal
+-- The table's 1 to 3 are checked; then the call goes on with `next`. `refuse` makes the call's result from a refusal.
 abbrev pub checked : {X : Type 0} → (Reply → X) → Opened → X → X
 checked refuse (opened.Refused fault) next = refuse (Table fault)
 checked refuse opened.Accepted next = next
 
--- the same beside a list, and the refusal of one that is not accepted, "after the table"
+-- The table's 1 to 3 are checked and, "after the table", the list; then the call goes on with `next`. `listed` tells whether the list is accepted,
+-- and `fault` is the reply if it is not.
 abbrev pub checkedList : ℕ → List ℕ → Bool → Reply → List ℕ → Result → Result
 checkedList n t listed fault out next =
     checked (λ r. refusing r out) (table.opened n t) (cond listed next (refusing fault out))
 
--- a table alone: 1 to 3, else a length of 0. "A table is accepted when none of 1 to 3 applies to it"
+-- The reply for a table alone is the refusal 1 to 3, or a length of 0. "A table is accepted when none of 1 to 3 applies to it".
 unfoldable pub checking : ℕ → List ℕ → Reply
 checking n t = checked (λ r. r) (table.opened n t) (Length 0)
 
--- "Rewriting one record in written form is a call too": the table's 1 to 3, the graph's 4 to 7, then 8
+-- "Rewriting one record in written form is a call too." The table's 1 to 3 are checked, the graph's 4 to 7, then 8.
 unfoldable pub rewriting : ℕ → List ℕ → List ℕ → List ℕ → Result
 rewriting n t bytes out = checked (λ r. refusing r out) (table.opened n t) (rewritten (reading n bytes) out)
 
--- the order of two records
+-- The order of two records: the table's 1 to 3 are checked, then both graphs' 4 to 7 (document 02, Paper 3).
 unfoldable pub ordering : ℕ → List ℕ → List ℕ → List ℕ → Reply
 ordering n t a b = checked (λ r. r) (table.opened n t) (readBoth (λ r. r) (reading n a) (reading n b) (ordered n t))
 
--- the common part: then 11, 8
+-- The common part of two records: the table's 1 to 3 are checked, both graphs' 4 to 7, then 11 and 8.
 unfoldable pub generalizing : ℕ → List ℕ → List ℕ → List ℕ → List ℕ → Result
 generalizing n t a b out =
     checked (λ r. refusing r out) (table.opened n t)
     (readBoth (λ r. refusing r out) (reading n a) (reading n b) (generalized n t out))
 
--- the combination: then 9, 10, 11, 8
+-- The combination of two records: the table's 1 to 3 are checked, both graphs' 4 to 7, then 9, 10, 11 and 8.
 unfoldable pub unifying : ℕ → List ℕ → List ℕ → List ℕ → List ℕ → Result
 unifying n t a b out =
     checked (λ r. refusing r out) (table.opened n t)
     (readBoth (λ r. refusing r out) (reading n a) (reading n b) (unifiedRows n t out))
 
--- the difference of g, the first, and s, the second: then 12, 13, 8. "Links are ordered by parent number, then feature."
+-- The difference of g, the first graph, and s, the second: the table's 1 to 3 are checked, both graphs' 4 to 7, then 12, 13 and 8. "Links are
+-- ordered by parent number, then feature."
 unfoldable pub differing : ℕ → List ℕ → List ℕ → List ℕ → List ℕ → Result
 differing n t a b out =
     checked (λ r. refusing r out) (table.opened n t)

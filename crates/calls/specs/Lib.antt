@@ -1,4 +1,4 @@
--- What the public calls answer, and leave in their outputs.
+-- What the public calls reply, and what they leave in their outputs.
 pub mod Calls
 pub mod Appropriate
 pub mod Explained

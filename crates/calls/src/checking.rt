@@ -1,11 +1,11 @@
-// The call that asks whether a table is accepted.
+// The call that tells whether a table is accepted (document 01, "Type table").
 
 use lattice::Opened;
 use replies::Reply;
 ghost use mathlib.Core.Path.{_≡_};
 ghost use Rattle.calls.specs.Calls.{checking};
 
-// Accepts a table by a length of 0, or refuses it by 1 to 3.
+// Replies with a length of 0 if the table is accepted, else with the refusal 1, 2 or 3.
 pub fn check(n: usize, table: &[u8]) -> Reply
     ensures { λ r. ⌜ r ≡ checking n (now (table .entry)) ⌝ }
 {

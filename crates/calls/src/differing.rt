@@ -1,5 +1,5 @@
-// The calls that write the difference of two records: g is the first graph, s the second. Links are ordered by number, or by a list of
-// features (document 02, Paper 10); the reasons come beside the record where they are asked for (document 02, Paper 13).
+// The calls that write the difference of two records (document 01, "Difference"). g is the first graph, s the second. Links are ordered by
+// number, or by a list of features (document 02, Paper 10). Two of the calls write the reasons beside the record (document 02, Paper 13).
 
 use difference::Options;
 use lattice::Opened;
@@ -10,7 +10,7 @@ ghost use Rattle.difference.specs.Explained.{explainedResult};
 ghost use Rattle.calls.specs.Calls.{differing, differingBy};
 ghost use Rattle.calls.specs.Explained.{explaining, explainingBy, differingWith, differingByWith};
 
-// The difference of the first graph, g, and the second, s, in written form.
+// Writes the difference of the first graph, g, and the second, s. Links are ordered by parent number, then feature.
 pub fn difference(n: usize, table: &[u8], first: &[u8], second: &[u8], out: &mut [u8]) -> Reply
     ensures { λ r. ⌜ resulting r (now (out .exit)) ≡ differing n (now (table .entry)) (now (first .entry)) (now (second .entry)) (now (out .entry)) ⌝ }
 {
@@ -18,7 +18,7 @@ pub fn difference(n: usize, table: &[u8], first: &[u8], second: &[u8], out: &mut
     difference_with(n, table, false, first, second, out, &mut none)
 }
 
-// The same with links ordered by the features of a list, which has all 64, each once.
+// Writes the difference of g and s, with links ordered by a list of all 64 features, each once. Any other list is refused by 19.
 pub fn difference_by(
     n: usize,
     table: &[u8],
@@ -33,7 +33,7 @@ pub fn difference_by(
     difference_by_with(n, table, list, false, first, second, out, &mut none)
 }
 
-// The difference, and beside the record one byte for each of its links, in record order: the reason why the link is kept.
+// Writes the difference of g and s and, beside its record, one byte for each of its links, in record order: the reason why the link is kept.
 pub fn difference_explained(
     n: usize,
     table: &[u8],
@@ -48,7 +48,7 @@ pub fn difference_explained(
     difference_with(n, table, true, first, second, out, reasons)
 }
 
-// The same with links ordered by the features of a list.
+// Writes the difference of g and s with its reasons, as `difference_explained` does, with links ordered by a list of all 64 features, each once.
 pub fn difference_explained_by(
     n: usize,
     table: &[u8],
@@ -64,7 +64,7 @@ pub fn difference_explained_by(
     difference_by_with(n, table, list, true, first, second, out, reasons)
 }
 
-// The difference with links ordered by number, and its reasons where they are asked for.
+// Writes the difference of g and s, with links ordered by number, and, if `explained`, its reasons.
 fn difference_with(
     n: usize,
     table: &[u8],
@@ -88,7 +88,7 @@ fn difference_with(
     }
 }
 
-// The same with links ordered by a list of features.
+// Writes the difference of g and s, with links ordered by a list of features, and, if `explained`, its reasons.
 fn difference_by_with(
     n: usize,
     table: &[u8],

@@ -1,4 +1,5 @@
-// The calls that write the common part of two records.
+// The calls that write the common part of two records (document 01, "Common part"), without a list of types for features or with one (document 02,
+// Paper 9).
 
 use lattice::Opened;
 use replies::Reply;
@@ -10,14 +11,14 @@ ghost use Rattle.calls.specs.Calls.{generalizing};
 ghost use Rattle.calls.specs.Appropriate.{generalizingAppropriate};
 ghost use Rattle.calls.specs.Beside.{generalizingBeside};
 
-// The common part of two graphs in written form.
+// Writes the common part of two records.
 pub fn generalize(n: usize, table: &[u8], first: &[u8], second: &[u8], out: &mut [u8]) -> Reply
     ensures { λ r. ⌜ resulting r (now (out .exit)) ≡ generalizing n (now (table .entry)) (now (first .entry)) (now (second .entry)) (now (out .entry)) ⌝ }
 {
     generalize_beside(n, table, false, &table[..0], first, second, out)
 }
 
-// The same beside a list that gives for each feature the broadest type that may have it.
+// Writes the common part of two records if both obey a list. The list gives for each feature the broadest type that may have it.
 pub fn generalize_appropriate(
     n: usize,
     table: &[u8],
@@ -31,7 +32,7 @@ pub fn generalize_appropriate(
     generalize_beside(n, table, true, list, first, second, out)
 }
 
-// Both: beside a list if there is one.
+// Replies as `generalize_appropriate` does if `listed`, else as `generalize` does. Without a list, `list` is empty.
 fn generalize_beside(
     n: usize,
     table: &[u8],

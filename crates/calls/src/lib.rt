@@ -1,6 +1,6 @@
-// The public calls on bytes, a module for each operation: a table, one or two records, and an output that the caller lends. A call opens
-// the table, tests a list where it has one, and goes on in `engine`. Every call answers a `Reply`; on a refusal no byte of an output is
-// written. It knows tables and lists; it conducts no operation.
+// The calls on a table and up to two records, as bytes, with a module for each operation. A call that writes a record takes an output that the
+// caller lends. A call on records checks the table, then the list if it has one, and goes on in `engine`. Every call answers a `Reply`, and a
+// refusal leaves every output unchanged. This crate knows tables and lists; `engine` does the operations.
 
 pub mod checking;
 pub mod differing;

@@ -1,11 +1,11 @@
-// The call that tells which of two records is the broader.
+// The call that tells which of two records is the broader (document 02, Paper 3).
 
 use lattice::Opened;
 use replies::Reply;
 ghost use mathlib.Core.Path.{_≡_};
 ghost use Rattle.calls.specs.Calls.{ordering};
 
-// Which of two graphs is the broader, seen from the first.
+// Tells which of two records is the broader: same, under, above or neither, seen from the first.
 pub fn order(n: usize, table: &[u8], first: &[u8], second: &[u8]) -> Reply
     ensures { λ r. ⌜ r ≡ ordering n (now (table .entry)) (now (first .entry)) (now (second .entry)) ⌝ }
 {

@@ -1,4 +1,5 @@
-// The calls that write a record in written form.
+// The calls that write a record in written form (document 01, "Returned by a call"), without a list of types for features or with one (document 02,
+// Paper 9).
 
 use lattice::Opened;
 use replies::Reply;
@@ -10,14 +11,14 @@ ghost use Rattle.calls.specs.Calls.{rewriting};
 ghost use Rattle.calls.specs.Appropriate.{rewritingAppropriate};
 ghost use Rattle.calls.specs.Beside.{rewritingBeside};
 
-// A record in written form.
+// Writes a record in written form.
 pub fn rewrite(n: usize, table: &[u8], bytes: &[u8], out: &mut [u8]) -> Reply
     ensures { λ r. ⌜ resulting r (now (out .exit)) ≡ rewriting n (now (table .entry)) (now (bytes .entry)) (now (out .entry)) ⌝ }
 {
     rewrite_beside(n, table, false, &table[..0], bytes, out)
 }
 
-// The same beside a list that gives for each feature the broadest type that may have it.
+// Writes a record in written form if the record obeys a list. The list gives for each feature the broadest type that may have it.
 pub fn rewrite_appropriate(
     n: usize,
     table: &[u8],
@@ -30,7 +31,7 @@ pub fn rewrite_appropriate(
     rewrite_beside(n, table, true, list, bytes, out)
 }
 
-// Both: beside a list if there is one.
+// Replies as `rewrite_appropriate` does if `listed`, else as `rewrite` does. Without a list, `list` is empty.
 fn rewrite_beside(
     n: usize,
     table: &[u8],

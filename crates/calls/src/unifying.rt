@@ -1,4 +1,5 @@
-// The calls that write the combination of two records.
+// The calls that write the combination of two records (document 01, "Combination"), without a list of types for features or with one (document 02,
+// Paper 9).
 
 use lattice::Opened;
 use replies::Reply;
@@ -10,14 +11,14 @@ ghost use Rattle.calls.specs.Calls.{unifying};
 ghost use Rattle.calls.specs.Appropriate.{unifyingAppropriate};
 ghost use Rattle.calls.specs.Beside.{unifyingBeside};
 
-// The combination of two graphs in written form.
+// Writes the combination of two records.
 pub fn unify(n: usize, table: &[u8], first: &[u8], second: &[u8], out: &mut [u8]) -> Reply
     ensures { λ r. ⌜ resulting r (now (out .exit)) ≡ unifying n (now (table .entry)) (now (first .entry)) (now (second .entry)) (now (out .entry)) ⌝ }
 {
     unify_beside(n, table, false, &table[..0], first, second, out)
 }
 
-// The same beside a list that gives for each feature the broadest type that may have it.
+// Writes the combination of two records if both obey a list. The list gives for each feature the broadest type that may have it.
 pub fn unify_appropriate(
     n: usize,
     table: &[u8],
@@ -31,7 +32,7 @@ pub fn unify_appropriate(
     unify_beside(n, table, true, list, first, second, out)
 }
 
-// Both: beside a list if there is one.
+// Replies as `unify_appropriate` does if `listed`, else as `unify` does. Without a list, `list` is empty.
 fn unify_beside(
     n: usize,
     table: &[u8],

@@ -1,4 +1,5 @@
--- The difference along the order's node map is the difference: of each node of g there is one node of s that its paths lead to.
+-- The difference along the node map that the order finds is the difference as it is defined, because all paths to a node of g lead to one node
+-- of s.
 use mathlib.Core.Path.{_≡_, sym, ap, ap₂, fun-ext}
 use mathlib.Core.Bool.{Bool}
 use mathlib.Core.List.{List}
@@ -31,7 +32,7 @@ module _ (n : ℕ) (t : List ℕ) (s g : List (Row Label)) (map : List ℕ) (gen
   lies : (y : ℕ) → y < length g → getD map y 0 ≡ over s g y
   lies y h = sym (over-only n t g s general (map-below along) (λ y. getD map y 0) along y h)
 
-  -- the wanted labels along it are the wanted labels
+  -- The wanted labels along the node map are the wanted labels as they are defined.
   wanted-along : (v : ℕ) → wantedAlong n t s g (λ y. getD map y 0) v ≡ wantedAt n t s g v
   unfolding wantedAlong
   wanted-along v =
@@ -45,7 +46,7 @@ module _ (n : ℕ) (t : List ℕ) (s g : List (Row Label)) (map : List ℕ) (gen
       every-same (λ v. types.found (wantedAlong n t s g (λ y. getD map y 0) v)) (λ v. types.found (wantedAt n t s g v)) (length s)
       (λ v _. ap types.found (wanted-along v))
 
-  -- and the difference along it is the difference
+  -- The difference along the node map is the difference as it is defined.
   pub difference-along : (earlier : Link ℕ → Link ℕ → Bool) → differenceAlong earlier n t s g (λ y. getD map y 0) ≡ differenceRows earlier n t g s
   unfolding differenceAlong
   difference-along earlier =
@@ -54,7 +55,7 @@ module _ (n : ℕ) (t : List ℕ) (s g : List (Row Label)) (map : List ℕ) (gen
       (λ v. Option·getD (wantedAt n t s g v) noLabel) (λ y m. lies y (omega (arith, from-range 0 (length g) y m)))
       (λ v. ap (λ (o : Option Label). Option·getD o noLabel) (wanted-along v))
 
-  -- with its reasons
+  -- The reasons along the node map are the reasons as they are defined.
   pub reasons-along : (earlier : Link ℕ → Link ℕ → Bool) → reasonsAlong earlier n t s g (λ y. getD map y 0) ≡ reasonsRows earlier n t g s
   unfolding reasonsAlong
   reasons-along earlier =

@@ -1,4 +1,4 @@
--- From what the order, the wanted labels and the kept rows promise to what the difference replies, with its reasons and without them.
+-- The promises of the order, of the wanted labels and of the kept rows give the promise of the difference, with its reasons and without them.
 use mathlib.Core.Path.{_≡_, refl, sym, _∙_, ap, ap₂}
 use mathlib.Core.Bool.{Bool, true, false, cond}
 use mathlib.Core.List.{List, [], _++_}
@@ -56,13 +56,13 @@ use Rattle.difference.proofs.Along.{all-along, difference-along, reason
 
 -- Words that hold acceptable rows.
 
--- what the order asks of two graphs
+-- Comparable graphs meet what the order requires.
 pub comparable-recorded : {n : ℕ} {t g s : List ℕ} → Comparable n t g s → Recorded s × Recorded g
 comparable-recorded {n} {t} given =
     let few = accepted-size n t (given .accepts) .1 in
     (loaded-recorded few (given .specific), loaded-recorded few (given .general))
 
--- what the steps of the difference ask where s is below g
+-- Where s is below g, comparable graphs meet what the steps of the difference require.
 pub asked-below : (n : ℕ) (t g s : List ℕ) {answer : Order} {map : List ℕ} → Comparable n t g s →
     Orders n t (rowsOf s) (rowsOf g) answer map → answer ≡ order.Below → Asked n t g s map
 asked-below n t g s given orders below =
@@ -82,7 +82,7 @@ asked-below n t g s given orders below =
       lies = orders .yes-stands below;
     }
 
--- and what making its rows asks
+-- With wanted labels and marks, the graphs meet what making the rows requires.
 pub prepared-below : (order : LinkOrder) (n : ℕ) (t g s : List ℕ) {map marks labels : List ℕ} {wanted : Bool} → Asked n t g s map →
     WantsAll n t s g map wanted labels → wanted ≡ true → MarkedBy (earlierBy order) s g map marks →
     Prepared (earlierBy order) n t g s map marks labels
@@ -100,7 +100,7 @@ module _ (earlier : Link ℕ → Link ℕ → Bool) (n : ℕ) (t out : List ℕ)
   abbrev chosen : Bool → Bool → Result
   chosen lies all = cond lies (cond all written (refusing NoWantedType out)) (refusing NotBelow out)
 
-  -- 12
+  -- The reply is 12 where s is not below g.
   differed-refused : answer ≡ order.NotBelow → resulting NotBelow out ≡ differed earlier n t out (rowsOf g) (rowsOf s)
   unfolding differed
   differed-refused e = sym (ap (λ (b : Bool). chosen b (allWanted n t (rowsOf s) (rowsOf g))) (go below refl))
@@ -120,12 +120,12 @@ module _ (earlier : Link ℕ → Link ℕ → Bool) (n : ℕ) (t out : List ℕ)
         ap (chosen true) (all ∙ all-along n t (rowsOf s) (rowsOf g) map (loaded-rules given) (orders .yes-stands e)) ∙
         ap (λ (x : Bool). chosen x (allWanted n t (rowsOf s) (rowsOf g))) (sym lies-below)
 
-    -- 13
+    -- The reply is 13 where a node has no wanted label.
     differed-unwanted : false ≡ allWantedAlong n t (rowsOf s) (rowsOf g) (λ y. getD map y 0) →
         resulting NoWantedType out ≡ differed earlier n t out (rowsOf g) (rowsOf s)
     differed-unwanted = chosen-all false
 
-    -- 8, 11 or the record
+    -- Else the difference is written, or the reply is 11 or 8.
     differed-same : true ≡ allWantedAlong n t (rowsOf s) (rowsOf g) (λ y. getD map y 0) →
         resultOf (writtenOut (canonical eqb (differenceAlong earlier n t (rowsOf s) (rowsOf g) (λ y. getD map y 0))) out) ≡
         differed earlier n t out (rowsOf g) (rowsOf s)
@@ -134,20 +134,20 @@ module _ (earlier : Link ℕ → Link ℕ → Bool) (n : ℕ) (t out : List ℕ)
         (difference-along n t (rowsOf s) (rowsOf g) map (loaded-rules given) (orders .yes-stands e) earlier) ∙
         chosen-all true all
 
--- With the reasons.
+-- The difference with its reasons.
 
--- a refusal of the plain call
+-- A refusal without reasons is the same refusal with reasons.
 pub refuses-with-reasons : (explained : Bool) {plain : Result} (r : Reply) (reasons out old : List ℕ) → lengthOf r ≡ none → resulting r out ≡ plain →
     explainedResult r out old ≡ withReasonsIf explained plain reasons out old
 refuses-with-reasons true r reasons out old e q =
     ap (λ (o : Option ℕ). lengthWithReasons o (resulting r out) reasons out old) (sym e) ∙ ap (λ (p : Result). withReasons p reasons out old) q
 refuses-with-reasons false r reasons out old e q = ap (λ (p : Result). explainedResult (p .reply) (p .output) old) q
 
--- what writing with marks yields, as a result
+-- The result of writing with marks.
 abbrev noted : Noted → Explained
 noted o = explainedResult (markedReply (o .answer)) (o .output) (o .beside)
 
--- is what writing yields, with the marks beside it
+-- Writing with marks has the result of writing, with the marks beside it.
 noted-with-reasons : (form : Canonical Label) (marks out old : List ℕ) →
     noted (markedOut form marks out old) ≡ withReasons (resultOf (writtenOut form out)) marks out old
 unfolding markedOut writtenOut fitted fittedBoth
@@ -179,7 +179,7 @@ noted-with-reasons (canonicalRows rows) marks out old = record-fits (leb (length
     record-fits false = refl
 
 module _ {explained : Bool} {s marks words : List ℕ} (out old : List ℕ) where
-  -- the rows are written alone
+  -- The record is written without reasons.
   pub plain-written : explained ≡ false → {w : Written} {r : Reply} {new : List ℕ} → yielding w new ≡ writtenOut (canonical eqb (graphIn words)) out → r ≡ replyOf w →
       WritesRows explained s marks words out old (explainedResult r new old)
   plain-written e {new = new} yields said =
@@ -192,7 +192,7 @@ module _ {explained : Bool} {s marks words : List ℕ} (out old : List ℕ) wher
             ∙ ap (λ (b : Bool). withReasonsIf b (resultOf (writtenOut (canonical eqb (graphIn words)) out)) (marksAlong words [] (writtenOrder eqb (graphIn words))) out old) (sym e);
       }
 
-  -- the rows are written with their reasons
+  -- The record is written with its reasons.
   pub marked-written : explained ≡ true → {held : List ℕ} → Explains s marks words held → {m : Marked} {r : Reply} {new reasons : List ℕ} →
       noting m new reasons ≡ markedOut (canonical eqb (graphIn words)) (marksAlong words held (writtenOrder eqb (graphIn words))) out old → r ≡ markedReply m →
       WritesRows explained s marks words out old (explainedResult r new reasons)
@@ -207,14 +207,14 @@ module _ {explained : Bool} {s marks words : List ℕ} (out old : List ℕ) wher
             ∙ ap (λ (b : Bool). withReasonsIf b (resultOf (writtenOut (canonical eqb (graphIn words)) out)) (marksAlong words held (writtenOrder eqb (graphIn words))) out old) (sym e);
       }
 
--- The whole: what is replied to a call that asks for a difference.
+-- The reply to a call for a difference.
 
 module _ (options : Options) (n : ℕ) (t g s out old : List ℕ) (given : Comparable n t g s) {answer : Order} {map : List ℕ}
     (orders : Orders n t (rowsOf s) (rowsOf g) answer map) where
   abbrev earlier : Link ℕ → Link ℕ → Bool
   earlier = earlierBy (options .order)
 
-  -- 12
+  -- The reply is 12 where s is not below g.
   pub answers-not-below : answer ≡ order.NotBelow → explainedResult NotBelow out old ≡ differedWords options n t g s out old
   answers-not-below e =
       refuses-with-reasons (options .explained) NotBelow (reasonsRows earlier n t (rowsOf g) (rowsOf s)) out old refl
@@ -224,13 +224,13 @@ module _ (options : Options) (n : ℕ) (t g s out old : List ℕ) (given : Compa
     is-wanted : wanted ≡ allWantedAlong n t (rowsOf s) (rowsOf g) (λ y. getD map y 0)
     is-wanted = answers-wanted (asked-below n t g s given orders below) wants
 
-    -- 13
+    -- The reply is 13 where a node has no wanted label.
     pub answers-unwanted : wanted ≡ false → explainedResult NoWantedType out old ≡ differedWords options n t g s out old
     answers-unwanted e =
         refuses-with-reasons (options .explained) NoWantedType (reasonsRows earlier n t (rowsOf g) (rowsOf s)) out old refl
         (differed-unwanted earlier n t out g s (given .general) orders below (sym e ∙ is-wanted))
 
-    -- else the difference, with its reasons if they are asked for
+    -- Else the difference is written, with its reasons if they are asked for.
     module _ (all : wanted ≡ true) {marks words : List ℕ} (by : MarkedBy earlier s g map marks) (made : Made n t s marks labels words) where
       prepared : Prepared earlier n t g s map marks labels
       prepared = prepared-below (options .order) n t g s (asked-below n t g s given orders below) wants all by
@@ -253,6 +253,6 @@ module _ (options : Options) (n : ℕ) (t g s out old : List ℕ) (given : Compa
               (sym (made-reasons prepared made (writes .explains e))
               ∙ reasons-along n t (rowsOf s) (rowsOf g) map (loaded-rules (given .general)) (orders .yes-stands below) earlier)
 
--- the first bytes of fresh marks are as many as the words of s
+-- As many fresh bytes for marks are lent as s has words.
 pub marks-fresh : (m : ℕ) (s : List ℕ) → length s ≤ m → length {A = ℕ} (take (length s) (replicate m 0)) ≡ length s
 marks-fresh m s short = length-take-le (length s) (replicate m 0) (omega (arith, short, length-replicate {A = ℕ} m 0))

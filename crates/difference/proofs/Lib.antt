@@ -1,4 +1,4 @@
--- Laws of the difference.
+-- Laws of the difference: the code's steps give the difference that the definitions describe.
 pub mod Wanting
 pub mod Result
 pub mod Over

@@ -1,5 +1,5 @@
--- "Each path of g leads to one node of s": where s is below g, the node of s for each node of g is found among the pairs of nodes that
--- one path leads to, and every node map is that one.
+-- "Each path of g leads to one node of s" (document 01, "Difference"). Where s is below g, the definition finds the node of s for each node of g
+-- among the pairs of nodes that one path leads to, and no other node map exists.
 use mathlib.Core.Path.{_≡_, refl, sym, _∙_, ap, ap₂}
 use mathlib.Core.Bool.{Bool, true, false, cond}
 use mathlib.Core.List.{List, [], _∷_, List·Memᴰ, List·Memᴰ·head, List·Memᴰ·tail, List·Memᴰ·not-nil, List·Memᴰ·cases-cons}
@@ -25,7 +25,7 @@ use Rattle.record.proofs.Accepted.{Rules, rules-of-any-size}
 use Rattle.record.proofs.Ordered.{short}
 use Rattle.difference.specs.Difference.{firstAt, over}
 
--- the first pair with y stands in the list
+-- If some pair of the list has y on the right, the pair that `firstAt` gives is in the list.
 first-listed : (y : ℕ) (xs : List (ℕ × ℕ)) (x : ℕ) → List·Memᴰ (x, y) xs → List·Memᴰ (firstAt y xs, y) xs
 unfolding firstAt
 first-listed y [] x m = absurd (List·Memᴰ·not-nil m)
@@ -59,7 +59,7 @@ module _ (n : ℕ) (t : List ℕ) (g s : List (Row Label)) (general : Rules n g)
   pub over-map : NodeMap (tableLabels n t) (graphOfRows s) (graphOfRows g) (over s g)
   over-map = carries-map below (over s g) over-carries
 
-  -- two walks along one path end at one node
+  -- Every node map is this one, because two walks along one path end at one node.
   pub over-only : (to : ℕ → ℕ) → NodeMap (tableLabels n t) (graphOfRows s) (graphOfRows g) to → (y : ℕ) → y < length g → over s g y ≡ to y
   over-only to map y h =
       let (p, e) = general .reached y h in

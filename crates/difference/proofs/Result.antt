@@ -1,5 +1,5 @@
--- The rows that are written are those of the difference: the marks tell the leaders, a node is kept in the one exactly where it is kept
--- in the other, and so the two graphs are alike.
+-- The rows that the code makes are those of the difference as it is defined. The marks tell which links lead, and the code keeps a node exactly
+-- where the definition keeps it, so the two graphs are alike. The reasons are those of the definition too.
 use mathlib.Core.Path.{_≡_, refl, sym, _∙_, ap, ap₂, subst}
 use mathlib.Core.Bool.{Bool, true, false, cond}
 use mathlib.Core.List.{List, [], _∷_, List·Memᴰ}
@@ -54,7 +54,7 @@ use Rattle.difference.proofs.Wanting.{wants-known, meetWhere-same}
 use Rattle.keeping.proofs.Thinning.{rows-sound, copied-feature, copied-target}
 use Rattle.keeping.proofs.Explaining.{reason-one, reason-two, reason-three}
 
--- Links lead along a path.
+-- A node that links reach is the end of a path.
 module _ {ws : List ℕ} (sound : Sound ws) where
   reaches-path : {v w : ℕ} → Reaches ws v w → (f : ℕ) × (p : List ℕ) × (follow (graphIn ws .link) (some v) (f ∷ p) ≡ some w)
   unfolding follow
@@ -121,7 +121,7 @@ module _ {n : ℕ} {t gw sw map : List ℕ} (asked : Asked n t gw sw map) where
       let r = asked .upper-reached y h in
       reached-inside s-sound (over y) (r .0, walk-map (asked .lies) (r .0) y (r .1))
 
-  -- what meeting the labels of g asks
+  -- The two graphs meet what `meet_over` requires.
   pub asked-labels : LabelsOver n (size sw) gw map
   asked-labels =
       let size = accepted-size n t (asked .ok) in
@@ -154,7 +154,7 @@ module _ {n : ℕ} {t gw sw map : List ℕ} (asked : Asked n t gw sw map) where
   markable-words a b =
       record { sound = s-sound; small = asked .lower .small; short = asked .short; marks-long = a; keep-long = b }
 
-  -- the wanted label, by the numbers of nodes
+  -- The wanted label of the node v, with the nodes of g listed by number.
   abbrev want : ℕ → Label
   want v = Option·getD (wantedLabel n t (s .label v) (meetOver (tableLabels n t) eqb g (from 0 (size gw)) over v)) noLabel
 
@@ -169,7 +169,7 @@ module _ {n : ℕ} {t gw sw map : List ℕ} (asked : Asked n t gw sw map) where
   wants-labels : {labels : List ℕ} → Wants n t sw gw map (size sw) labels → (v : ℕ) → v < size sw → labelFrom labels (2 * v) ≡ want v
   wants-labels w v h = ap (λ o. Option·getD o noLabel) (sym (w .each v h) ∙ at-label v h)
 
-  -- whether every node has a wanted label, as it is defined, with the length of the list of rows for the number of nodes
+  -- The code's answer is `allWantedAlong`, which takes the length of the list of rows as the number of nodes.
   pub answers-wanted : {answer : Bool} {labels : List ℕ} → WantsAll n t sw gw map answer labels →
       answer ≡ allWantedAlong n t (rowsOf sw) (rowsOf gw) (λ y. getD map y 0)
   unfolding allWantedAlong wantedAlong
@@ -199,7 +199,7 @@ module _ {n : ℕ} {t gw sw map : List ℕ} (asked : Asked n t gw sw map) where
     read : (k : ℕ) (l : Link ℕ) (at : At sw k l) → says k l at
     read k l at = mark-says n t lying-words operands (asked .lies) strict marked k l at
 
-    -- a link with a mark leads its group
+    -- A link whose mark is not 0 leads its group.
     marked-leads : (k : ℕ) (l : Link ℕ) (at : At sw k l) → (getD marks k 0 ≡ 0 → ⊥) → Leader s first (targetAt sw k) l
     marked-leads k l at d = go (read k l at)
       where
@@ -208,7 +208,7 @@ module _ {n : ℕ} {t gw sw map : List ℕ} (asked : Asked n t gw sw map) where
         go (leads-covered e x z c) = x
         go (leads-bare e x c) = x
 
-    -- and a link that leads has one
+    -- A link that leads its group stands at a place whose mark is not 0.
     leads-marked : (v : ℕ) (l : Link ℕ) → Leader s first v l →
         (k : ℕ) × At sw k l × (targetAt sw k ≡ v) × (getD marks k 0 ≡ 0 → ⊥)
     leads-marked v l (i, e) =
@@ -231,7 +231,7 @@ module _ {n : ℕ} {t gw sw map : List ℕ} (asked : Asked n t gw sw map) where
         go k at w (leads-covered q x y c) = absurd (nothing y c)
         go k at w (leads-bare q x c) = q
 
-    -- the link at a place of the row of v
+    -- At a place in the row of v stands a link that leaves v.
     at-row : (v k : ℕ) → Place sw v k → At sw k (v, featureAt sw k)
     at-row v k p = record { place = p; feature = refl }
 
@@ -273,7 +273,7 @@ module _ {n : ℕ} {t gw sw map : List ℕ} (asked : Asked n t gw sw map) where
         true-false (later f w (at-link s-sound k (v, f) at) .0 (x .enters))
         (idle .noneBelow f w (marked-leads k (v, f) at (x .leads)))
 
-    -- two leaders are a cause to keep the node that they enter
+    -- Two links that lead their groups are a cause to keep the node that they enter.
     two-cause : (v : ℕ) (l m : Link ℕ) → Leader s first v l → Leader s first v m → (l ≡ m → ⊥) → Cause sw marks (rowsEnd sw) v
     two-cause v l m a b apart =
         let (j, atj, p, x) = leads-marked v l a in
@@ -326,7 +326,7 @@ module _ {n : ℕ} {t gw sw map : List ℕ} (asked : Asked n t gw sw map) where
           record { leads = m; enters = ap (λ (x : ℕ). getD keeps x 0) p ∙ later f w (a .0 .1) .1 e },
         )
 
-    -- a node is kept in the arrays exactly where the difference keeps it
+    -- The code keeps a node exactly where the definition of the difference keeps it.
     kept-same : (v : ℕ) → Reached s v → Same v
     unfolding Same
     kept-same = children-first any Same next
@@ -422,7 +422,7 @@ module _ {n : ℕ} {t gw sw map : List ℕ} (asked : Asked n t gw sw map) where
           go absent = refl
           go (present x) = ap some (x .1)
 
-      -- as it is defined, with the lengths of the lists of rows for the numbers of nodes
+      -- `made` is `differenceAlong`, which takes the lengths of the lists of rows as the numbers of nodes.
       named : differenceAlong earlier n t (rowsOf sw) (rowsOf gw) (λ y. getD map y 0) ≡ made
       unfolding differenceAlong wantedAlong
       named =
@@ -442,7 +442,7 @@ module _ {n : ℕ} {t gw sw map : List ℕ} (asked : Asked n t gw sw map) where
       reason l v = reasonAt eqb eqb s (from 0 (size sw)) g (from 0 (size gw)) over earlier l v
 
       module _ {reasons : List ℕ} (explained : Explains sw marks ws reasons) where
-        -- a leader that is covered enters a node with a cause exactly where leaders differ
+        -- Two links that lead groups at v differ. Where a link with the mark 1 enters v, this holds exactly if v has a cause to be kept.
         abbrev apart : ℕ → Bool
         apart v = differ eqb eqb s (from 0 (size sw)) g (from 0 (size gw)) over (leaders eqb eqb s (from 0 (size sw)) g (from 0 (size gw)) over earlier v)
 

@@ -1,4 +1,5 @@
--- Wanted labels: meeting the labels of g's nodes from the last to the first, and one search for each node of s.
+-- Lemmas about the wanted labels. The loop of `meet_over` meets the labels of g's nodes from the last to the first, and the loop of
+-- `wanted_labels` searches once for each node of s.
 use mathlib.Core.Path.{_≡_, refl, sym, _∙_, ap, ap₂, subst}
 use mathlib.Core.Bool.{Bool, true, false, cond}
 use mathlib.Core.List.{List, [], _∷_, List·Memᴰ, List·Memᴰ·head, List·Memᴰ·tail}
@@ -29,7 +30,7 @@ use Rattle.keeping.specs.Keeping.{NodeLabels}
 use Rattle.difference.specs.Asked.{Asked}
 use Rattle.difference.specs.Wanted.{LabelsOver, MetLong, MetPart, wordOf, Met, MetBy, LabelHeld, WantedLabelOver, wantedAt, Wants, WantsAll, metFrom}
 
--- The loop that fills with one value.
+-- The first k words have the value.
 pub record Filling (value k : ℕ) (types : List ℕ) : Type 0 where
   pub long : length types ≡ 255
   pub each : (v : ℕ) → v < k → getD types v 0 ≡ value
@@ -42,15 +43,15 @@ filling-next {value} {k} {types} f h =
     go v l (yes e) = ap (λ (i : ℕ). getD (set types k value) i 0) e ∙ getD-set-same types k value 0 (omega (arith, f .long))
     go v l (no d) = getD-set-other types k v value 0 d ∙ f .each v (omega arith)
 
--- Meeting.
+-- The meet of labels.
 
--- one node more, before the others
+-- The meet from y on is the label of y, if y lies over v, met with the meet from the next node on.
 met-cons : (n : ℕ) (t g map : List ℕ) (y c v : ℕ) → metFrom n t g map y (suc c) v ≡
     cond (eqb (getD map y 0) v) (tableLabels n t .meet (labelAt g y) (metFrom n t g map (suc y) c v)) (metFrom n t g map (suc y) c v)
 unfolding metFrom meetWhere from
 met-cons n t g map y c v = refl
 
--- a meet of labels of the table is one
+-- A meet of labels of the table is a label of the table.
 met-known : (n : ℕ) (t g map : List ℕ) → accepted n t ≡ true → (y c v : ℕ) → ((x : ℕ) → x < y + c → Known n (labelAt g x)) →
     Known n (metFrom n t g map y c v)
 unfolding metFrom meetWhere from
@@ -63,12 +64,12 @@ met-known n t g map ok y (suc c) v known =
     go true later = meet-known n t ok (labelAt g y) (metFrom n t g map (suc y) c v) (known y (omega arith)) later
     go false later = later
 
--- An array with a part of what is met of the labels behind y; the part of a meet is made of those of both.
+-- An array has one part of the meet over each node, taken over the nodes of g after y. `op` makes the part of a meet from the parts of two labels.
 module _ (part : Label → ℕ) (op : ℕ → ℕ → ℕ) (n : ℕ) (t : List ℕ) (nodes : ℕ) (g map : List ℕ) (y c : ℕ) where
   abbrev rest : ℕ → Label
   rest v = metFrom n t g map (suc y) c v
 
-  -- the label of y is met at its node of s
+  -- The label of y enters the meet at the node of s that y lies over.
   part-met : (values : List ℕ) → ((v : ℕ) → part (tableLabels n t .meet (labelAt g y) (rest v)) ≡ op (part (labelAt g y)) (part (rest v))) →
       getD map y 0 < length values → getD map y 0 < nodes → MetPart part n t nodes g map (suc y) c values →
       MetPart part n t nodes g map y (suc c) (set values (getD map y 0) (op (part (labelAt g y)) (getD values (getD map y 0) 0)))
@@ -92,14 +93,14 @@ module _ (part : Label → ℕ) (op : ℕ → ℕ → ℕ) (n : ℕ) (t : List �
           getD-set-other values u v new 0 d ∙ before v l ∙
           ap (λ (b : Bool). part (cond b (tableLabels n t .meet a (rest v)) (rest v))) (sym (ne-eqb u v (λ e. d (sym e))))
 
--- What is met over the nodes from y on, by each accepted table that has the words.
+-- The three arrays hold the meet over each node of s, taken over the nodes of g from y on, for every accepted table with these words.
 pub record Meeting (n : ℕ) (ws : List ℕ) (nodes : ℕ) (g map : List ℕ) (y : ℕ) (over lowest highest : List ℕ) : Type 0 where
   pub labelled : LabelsOver n nodes g map
   pub left : y ≤ size g
   pub long : MetLong over lowest highest
   pub each : (t : List ℕ) → accepted n t ≡ true → Words n t false ws → Met n t ws nodes g map y (size g - y) over lowest highest
 
--- what is read at node y of g, and stored at its node of s
+-- The bounds that a turn of the loop needs at node y of g and at its node of s.
 pub record Turn (n : ℕ) (g map : List ℕ) (y : ℕ) : Type 0 where
   pub few : n ≤ 64
   pub small : y < 255
@@ -141,7 +142,7 @@ module _ {n : ℕ} {ws : List ℕ} {nodes : ℕ} {g map : List ℕ} where
     abbrev a : Label
     a = labelAt g (y - 1)
 
-    -- the loop goes down
+    -- A turn of the loop goes from y to y - 1.
     pub met-down : Meeting n ws nodes g map (y - 1) (set over u (bitAnd (wordOf ws a) (getD over u 0)))
         (set lowest u (max (a .lowest) (getD lowest u 0))) (set highest u (min (a .highest) (getD highest u 0)))
     met-down =
@@ -189,7 +190,7 @@ module _ {n : ℕ} {ws : List ℕ} {nodes : ℕ} {g map : List ℕ} where
                 (part-met part op n t nodes g map (y - 1) (size g - y) values law (omega (arith, long, turn-known .stored)) inside
                 (subst (λ (i : ℕ). MetPart part n t nodes g map i (size g - y) values) first before))
 
-    -- the same, of a label and levels that are equal
+    -- `met-down`, for an equal label and equal levels.
     pub met-down-as : {label : Label} {low high : ℕ} → label ≡ labelAt g (y - 1) → low ≡ max (label .lowest) (getD lowest (getD map (y - 1) 0) 0) →
         high ≡ min (label .highest) (getD highest (getD map (y - 1) 0) 0) →
         Meeting n ws nodes g map (y - 1) (set over (getD map (y - 1) 0) (bitAnd (wordOf ws label) (getD over (getD map (y - 1) 0) 0)))
@@ -206,12 +207,12 @@ module _ {n : ℕ} {ws : List ℕ} {nodes : ℕ} {g map : List ℕ} where
 
 -- Wanted labels.
 
--- the wanted label of p over q, for a type
+-- The label with the type c and the wanted levels of p over q.
 abbrev wantedOf : Label → Label → ℕ → Label
 wantedOf p q c =
     record { type = c; lowest = wantedLevel 0 (p .lowest) (q .lowest); highest = wantedLevel 255 (p .highest) (q .highest) }
 
--- what the search for a wanted type answers, with the wanted levels, tells the wanted label
+-- The answer of the search for a wanted type, with the wanted levels, is the wanted label.
 pub wanted-tells : (n : ℕ) (t : List ℕ) (p q label : Label) → n ≤ 64 → label .type ≡ cell (wanted n t (p .type) (q .type)) →
     label .lowest ≡ wantedLevel 0 (p .lowest) (q .lowest) → label .highest ≡ wantedLevel 255 (p .highest) (q .highest) →
     LabelHeld (wantedLabel n t p q) label
@@ -227,7 +228,7 @@ wanted-tells n t p q label few e low high = go (wanted n t (p .type) (q .type)) 
           none-stands = λ h. absurd (omega (arith, wanted-type n t (p .type) (q .type) c d));
         }
 
--- a wanted level is a level
+-- A wanted level is at most 255.
 level-most : (widest p q : ℕ) → widest ≤ 255 → p ≤ 255 → wantedLevel widest p q ≤ 255
 level-most widest p q a b = go (eqb p q)
   where
@@ -247,7 +248,7 @@ wanted-known n t p q c k e =
       highest = level-most 255 (p .highest) (q .highest) (omega arith) (k .highest);
     })
 
--- the wanted labels of the nodes before k
+-- The wanted labels of the nodes before k are stored, and the arrays hold the meets.
 pub record Wanting (n : ℕ) (t ws s g map over lowest highest : List ℕ) (k : ℕ) (labels : List ℕ) : Type 0 where
   pub ok : accepted n t ≡ true
   pub words : Words n t false ws
@@ -320,7 +321,7 @@ module _ {n : ℕ} {t ws s g map over lowest highest : List ℕ} where
             ap some
             (sym (label-same labels (putLabel labels (2 * k) label) (2 * v) (put-before labels (2 * k) label (2 * v) (2 * v + header) (omega arith))))
 
-    -- node k has none
+    -- If node k has no wanted label, the answer is false.
     pub wants-none : 64 ≤ label .type → (labels′ : List ℕ) → WantsAll n t s g map false labels′
     wants-none high labels′ =
         record {
@@ -345,7 +346,7 @@ wants-known {n} {t} {s} {g} {map} {labels} asked w =
           wanted-known n t (labelAt s v) (metFrom n t g map 0 (size g) v) (labelFrom labels (2 * v)) (asked .lower-typed v h) (w .each v h);
     }
 
--- what is met depends on the labels listed alone
+-- The meet depends on the labels of the listed nodes alone.
 pub meetWhere-same : (𝓛 : Labels) {B : Type 0} (test : B → Bool) (label label′ : B → 𝓛 .L) (ys : List B) →
     ((y : B) → List·Memᴰ y ys → label y ≡ label′ y) → meetWhere 𝓛 test label ys ≡ meetWhere 𝓛 test label′ ys
 unfolding meetWhere

@@ -1,5 +1,5 @@
--- What a difference is asked of: an accepted table and two graphs of records over it, s below g, and what is prepared of them. `map` has
--- the node of s that each node of g leads to.
+-- What the steps of a difference require: two graphs of records over an accepted table, s below g (document 01, "Difference"), and then the
+-- marks of the links of s and the wanted labels of its nodes. `map` has the node of s that each node of g lies over.
 use mathlib.Core.Path.{_≡_}
 use mathlib.Core.Bool.{Bool, true}
 use mathlib.Core.List.{List}
@@ -14,6 +14,7 @@ use Rattle.layout.specs.Layout.{longest, size, labelAt, graphIn, Recorded}
 use Rattle.groups.specs.Marks.{Marked}
 use Rattle.difference.specs.Wanted.{Wants}
 
+-- The table is accepted, s and g are graphs of records over this table, and s is below g by `map`.
 pub record Asked (n : ℕ) (t g s map : List ℕ) : Type 0 where
   pub ok : accepted n t ≡ true
   pub upper : Recorded g

@@ -1,5 +1,5 @@
--- The difference of g and s with its reasons: what is replied, and left in the two outputs (document 02, Paper 13). Reply and record are
--- those of the difference without them.
+-- The difference of g and s with its reasons (document 02, Paper 13): what a call replies, and what it leaves in its two outputs. Unless the
+-- reply is 22, reply and record are those of the difference without reasons.
 use mathlib.Core.Bool.{Bool, true, false, cond}
 use mathlib.Core.List.{List, _++_}
 use mathlib.Core.Option.{Option, none, some}
@@ -26,11 +26,13 @@ pub record Explained : Type 0 where
   pub output : List ℕ
   pub reasons : List ℕ
 
+-- This reply and these two outputs, as one.
 abbrev pub explainedResult : Reply → List ℕ → List ℕ → Explained
 explainedResult reply output reasons = record { reply = reply; output = output; reasons = reasons }
 
--- "Beside the record, one byte for each of its links .., further bytes unchanged"; "too few bytes lent for the reasons gives 22, after 8,
--- with both buffers unchanged". Every other refusal of the plain call stays, both outputs as they were.
+-- "Beside the record, one byte for each of its links .., further bytes unchanged". "Too few bytes lent for the reasons gives 22, after 8, with
+-- both buffers unchanged." `plain` is the result without reasons. A plain reply without a length is a refusal: it stays, and both outputs are
+-- unchanged.
 abbrev pub lengthWithReasons : Option ℕ → Result → List ℕ → List ℕ → List ℕ → Explained
 lengthWithReasons none plain reasons out old = explainedResult (plain .reply) out old
 lengthWithReasons (some l) plain reasons out old =
@@ -38,6 +40,7 @@ lengthWithReasons (some l) plain reasons out old =
     (explainedResult (plain .reply) (plain .output) (reasons ++ drop (length reasons) old))
     (explainedResult NoReasonRoom out old)
 
+-- the result `plain` with the reasons beside it
 abbrev pub withReasons : Result → List ℕ → List ℕ → List ℕ → Explained
 withReasons plain reasons out old = lengthWithReasons (lengthOf (plain .reply)) plain reasons out old
 
@@ -45,18 +48,18 @@ withReasons plain reasons out old = lengthWithReasons (lengthOf (plain .reply)) 
 abbrev pub reasonsRows : (Link ℕ → Link ℕ → Bool) → ℕ → List ℕ → List (Row Label) → List (Row Label) → List ℕ
 reasonsRows earlier n t g s = reasonsAlong earlier n t s g (over s g)
 
--- the reasons beside the plain result if they are asked for, else as they were
+-- If the reasons are asked for, they stand beside the plain result; else the output for reasons is unchanged.
 abbrev pub withReasonsIf : Bool → Result → List ℕ → List ℕ → List ℕ → Explained
 withReasonsIf true plain reasons out old = withReasons plain reasons out old
 withReasonsIf false plain reasons out old = explainedResult (plain .reply) (plain .output) old
 
--- the difference of graphs in words, as a call asks for it
+-- The difference of two graphs in words, by the options of a call.
 abbrev pub differedWords : Options → ℕ → List ℕ → List ℕ → List ℕ → List ℕ → List ℕ → Explained
 differedWords options n t g s out old =
     withReasonsIf (options .explained) (differed (earlierBy (options .order)) n t out (rowsOf g) (rowsOf s))
     (reasonsRows (earlierBy (options .order)) n t (rowsOf g) (rowsOf s)) out old
 
--- what writing with marks answers, as a reply
+-- The reply that tells the answer of writing with marks.
 abbrev pub markedReply : Marked → Reply
 markedReply (marked.Written w) = replyOf w
 markedReply marked.NoMarkRoom = NoReasonRoom

@@ -1,4 +1,4 @@
--- The difference that is written, and what the steps on the way to it keep.
+-- The difference that a call writes, and what its steps require and promise.
 pub mod Wanted
 pub mod Asked
 pub mod Promise

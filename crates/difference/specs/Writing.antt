@@ -1,4 +1,4 @@
--- What writing the rows of a difference promises.
+-- What `write_rows` promises: the record of the difference is written, with its reasons if they are asked for.
 use mathlib.Core.Path.{_≡_}
 use mathlib.Core.Bool.{Bool, true}
 use mathlib.Core.List.{List}
@@ -13,8 +13,8 @@ use Rattle.replies.specs.Reply.{resultOf}
 use Rattle.keeping.specs.Explaining.{Explains}
 use Rattle.difference.specs.Explained.{Explained, withReasonsIf}
 
--- The record of the rows is written and, if they are asked for, the reasons for its links. `held` has the reasons at the places of the
--- links.
+-- The record of the rows is written and, if `explained`, the reasons for its links are written too. `held` has the reasons at the places of
+-- the links.
 pub record WritesRows (explained : Bool) (s marks words out old : List ℕ) (result : Explained) : Type 0 where
   pub held : List ℕ
   pub explains : explained ≡ true → Explains s marks words held

@@ -1,6 +1,6 @@
-// The difference of g and s (document 01, "Difference"): the links of s that lead their group and enter a kept node, between nodes that
-// carry their wanted labels. Its record is written and, where a call asks for them, beside it the reasons for its links (document 02,
-// Paper 13). It knows graphs in words, an accepted table and replies; it reads no record.
+// The difference of g and s (document 01, "Difference"). The difference has the links of s that lead their groups and enter a kept node, and
+// kept nodes carry their wanted labels. This crate writes the record of the difference for `engine` and, if a call asks for them, the reasons
+// for the links of the difference (document 02, Paper 13). This crate knows graphs in words, an accepted table and replies; it reads no record.
 
 pub mod wanted;
 
@@ -20,14 +20,14 @@ ghost use Rattle.difference.specs.Comparable.{Comparable};
 ghost use Rattle.difference.specs.Explained.{differedWords, explainedResult, markedReply};
 ghost use Rattle.difference.specs.Writing.{WritesRows};
 
-// What a call asks of a difference: the order of links, and whether the reasons are wanted beside the record.
+// A call for a difference chooses the order of links, and whether the reasons are written beside the record.
 pub struct Options {
     pub order: LinkOrder,
     pub explained: bool,
 }
 
-// The difference of g and s, where s is below g and each of its nodes has a wanted type. Its rows are made in the words of g. Unless the
-// options ask for the reasons, these are left as they were.
+// Writes the difference of g and s and, if the options ask for them, the reasons for its links; else `reasons` stays unchanged. The reply is
+// 12 where s is not below g, and 13 where a node of s has no wanted type. The words of g are overwritten with the rows of the difference.
 pub fn difference<'a>(
     n: usize,
     table: &'a [u8],
@@ -50,7 +50,7 @@ pub fn difference<'a>(
     difference_in(n, table, options, g, s, &mut marks[..words], out, reasons)
 }
 
-// The same with bytes that are lent for the marks of the links of s.
+// Replies as `difference` does. `marks` is lent for the marks of the links of s.
 fn difference_in<'a>(
     n: usize,
     table: &'a [u8],
@@ -81,7 +81,7 @@ fn difference_in<'a>(
     write_rows(options.explained, s, marks, g, out, reasons)
 }
 
-// Fills words with the rows of the difference: `marks` has the marks of the links of s, and `labels` the wanted label of each node of s.
+// Fills `words` with the rows of the difference. `marks` has the marks of the links of s, and `labels` has the wanted label of each node of s.
 fn make<'a>(
     n: usize,
     table: &'a [u8],
@@ -98,7 +98,7 @@ fn make<'a>(
     keeping::rows::kept_links(s, marks, &keep, labels, words)
 }
 
-// Writes the rows of the difference and, where `explained`, the reasons for its links.
+// Writes the record of the difference, whose rows are in `words`, and, if `explained`, the reasons for its links.
 fn write_rows<'a>(
     explained: bool,
     s: &'a [u16],
@@ -119,7 +119,7 @@ fn write_rows<'a>(
     marked_reply(encode::canonical::write_marked(words, &held, out, reasons))
 }
 
-// What writing the rows with reasons answers, as a reply.
+// The reply that tells the answer of writing with reasons.
 fn marked_reply(marked: Marked) -> Reply
     ensures { λ r. ⌜ r ≡ markedReply marked ⌝ }
 {

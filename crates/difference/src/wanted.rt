@@ -1,4 +1,6 @@
-// The wanted labels: of each node of s the greatest label whose meet with the meet of all g labels over the node is its own.
+// The wanted labels of the nodes of s (document 01, "Difference"; document 02, Papers 6 and 7). The wanted label of a node is the greatest
+// label whose meet with the meet of all g labels over the node equals the node's label in s. The difference is refused where a node has no
+// wanted label.
 
 use layout::Label;
 ghost use mathlib.Core.Path.{_≡_};
@@ -9,7 +11,7 @@ ghost use Rattle.layout.specs.Builder.{stated};
 ghost use Rattle.difference.specs.Asked.{Asked};
 ghost use Rattle.difference.specs.Wanted.{LabelsOver, MetBy, MetLong, WantedLabelOver, WantsAll};
 
-// Fills the first `nodes` words with one.
+// Stores `value` in each of the first `nodes` words.
 fn clear(value: u64, nodes: usize, words: &mut [u64; 255])
     requires { ⌜ (nodes ≤ 255) × (length (now words) ≡ 255) ⌝ }
     ensures { λ _. ⌜ length (now (words .exit)) ≡ 255 ⌝ }
@@ -22,8 +24,8 @@ fn clear(value: u64, nodes: usize, words: &mut [u64; 255])
     }
 }
 
-// What is met of all g labels over each of the `nodes` nodes of s, top if none: the word of what is below all types, and the overlap of
-// the ranges.
+// Finds the meet of all g labels over each of the `nodes` nodes of s, top if none. `over` gets the word of the types below the meet of the
+// types, and `lowest` and `highest` get the overlap of the ranges.
 pub fn meet_over<'a>(
     n: usize,
     down: &'a [u64; 64],
@@ -51,15 +53,15 @@ pub fn meet_over<'a>(
     }
 }
 
-// The wanted level of p over q: the widest where they are one, else p.
+// The wanted level for the level p in s, over the level q: `widest` if p equals q, else p.
 fn wanted_level(widest: u8, p: u8, q: u8) -> u8
     ensures { λ r. ⌜ r ≡ wantedLevel widest p q ⌝ }
 {
     if p == q { widest } else { p }
 }
 
-// The wanted label for the label p in s and the meet of all g labels, of which the word of the type and the levels are given; of type 64
-// where there is none.
+// The wanted label for the label p in s. The meet of all g labels is given by the word of its type and by its levels. Where there is no
+// wanted label, the answer has the type 64.
 fn wanted_label(n: usize, down: &[u64; 64], p: Label, over: u64, lowest: u8, highest: u8) -> Label
     requires { ⌜ (n ≤ 64) × (p .kind < n) ⌝ }
     ensures { λ r. ⌜ WantedLabelOver n (now (down .entry)) (stated p) over lowest highest (stated r) ⌝ }
@@ -71,7 +73,7 @@ fn wanted_label(n: usize, down: &[u64; 64], p: Label, over: u64, lowest: u8, hig
     }
 }
 
-// The wanted label of each node of s; whether every node, the root too, has one.
+// Stores the wanted label of each node of s. Answers whether every node, the root too, has a wanted label.
 pub fn wanted_labels<'a>(
     n: usize,
     table: &'a [u8],

@@ -1,4 +1,5 @@
--- From the combination by meets as they are held to what is answered: they are the meets of the accepted table.
+-- The code combines by the meets that the words and cells hold. These are the meets of the accepted table, so the result is the one that is
+-- defined.
 use mathlib.Core.Path.{_≡_, refl, _∙_, ap}
 use mathlib.Core.Bool.{false}
 use mathlib.Core.List.{List}
@@ -30,7 +31,7 @@ use Rattle.record.proofs.Loaded.{loaded-reached, loaded-recorded, loaded-rules}
 use Rattle.engine.specs.Unifying.{combined, combinedReply, unifiedRows}
 use Rattle.engine.proofs.Tables.{label-known}
 
--- what combining yields, as a result
+-- The result of combining.
 abbrev combinedResult : Yield Combined → Result
 combinedResult y = resulting (combinedReply (y .answer)) (y .output)
 
@@ -40,12 +41,12 @@ combined-is cycle out = refl
 combined-is clash out = refl
 combined-is (unified u) out = refl
 
--- the unification of rows by given meets
+-- The combination of two graphs, given by their rows, by given meets.
 abbrev byMeets : ℕ → (ℕ → ℕ → ℕ) → List (Row Label) → List (Row Label) → Unified Label (ℕ ⊎ ℕ)
 byMeets n meets g h = combinationOf (meetRanged meets) (plain (n - 1)) contradicts noLabel g h
 
 module _ {n : ℕ} {t sets : List ℕ} {cells : List (List ℕ)} (meets : OpenedFor false n t sets cells) where
-  -- what combining asks of a graph
+  -- An accepted graph in words meets what combining requires of a graph.
   operand : {g : List ℕ} → Loaded n g → Operand n g
   operand one =
       record {
@@ -54,7 +55,7 @@ module _ {n : ℕ} {t sets : List ℕ} {cells : List (List ℕ)} (meets : Opened
         reached = loaded-reached one;
       }
 
-  -- and of two graphs and the meets
+  -- Two accepted graphs in words and the held meets meet what combining requires.
   pub ready-to-combine : {g h : List ℕ} → Loaded n g → Loaded n h →
       ((0 < n) × (n ≤ 64)) × (Meeting n sets cells × (Operand n g × Operand n h))
   ready-to-combine one other = (
@@ -68,7 +69,7 @@ module _ {n : ℕ} {t sets : List ℕ} {cells : List (List ℕ)} (meets : Opened
     ),
   )
 
-  -- the combination by the meets as they are held is that by the table's types
+  -- The combination by the held meets is the combination by the meets of the table.
   held-unified : (out : List ℕ) (g h : List (Row Label)) → Rules n g → Rules n h →
       combined (byMeets n (meetIn n sets cells) g h) out ≡ unifiedRows n t out g h
   unfolding unifiedRows
@@ -79,7 +80,7 @@ module _ {n : ℕ} {t sets : List ℕ} {cells : List (List ℕ)} (meets : Opened
       (graphOfRows g) (from 0 (length g)) (graphOfRows h) (from 0 (length h)) (λ v _. label-known (zero-type n t (meets .ok)) left v)
       (λ w _. label-known (zero-type n t (meets .ok)) right w))
 
-  -- what is written of two graphs in words
+  -- For two graphs in words, reply and output are those that `unifiedRows` defines.
   pub unified-as : {g h : List ℕ} (out : List ℕ) → Loaded n g → Loaded n h → {answer : Combined} {r : Reply} {new : List ℕ} →
       yielding answer new ≡ unifyingOut n (meetIn n sets cells) g h out → r ≡ combinedReply answer →
       resulting r new ≡ unifiedRows n t out (rowsOf g) (rowsOf h)

@@ -1,4 +1,5 @@
--- From the common part by joins as they are held to what is answered: they are the joins of the accepted table.
+-- The code makes the common part by the joins that the words and cells hold. These are the joins of the accepted table, so the result is the one
+-- that is defined.
 use mathlib.Core.Path.{_≡_, refl, sym, _∙_, ap}
 use mathlib.Core.Bool.{true}
 use mathlib.Core.List.{List}
@@ -30,7 +31,7 @@ use Rattle.engine.proofs.Written.{replied-as}
 use Rattle.engine.proofs.Tables.{label-known, canonical-same}
 
 module _ {n : ℕ} {t sets : List ℕ} {cells : List (List ℕ)} (joins : OpenedFor true n t sets cells) where
-  -- what the common part asks of two graphs and of the joins
+  -- Two accepted graphs in words and the held joins meet what the common part requires.
   pub ready-to-join : {g h : List ℕ} → Loaded n g → Loaded n h →
       Recorded g × (Recorded h × (Joinable n (joinIn n sets cells) g h × Seekable true n sets))
   ready-to-join one other =
@@ -50,7 +51,7 @@ module _ {n : ℕ} {t sets : List ℕ} {cells : List (List ℕ)} (joins : Opened
         ),
       )
 
-  -- the common part by the joins as they are held is that by the table's types
+  -- The common part by the held joins is the common part by the joins of the table.
   held-generalized : (g h : List (Row Label)) → Rules n g → Rules n h →
       commonForm (joinRanged (joinIn n sets cells)) noLabel g h ≡ commonForm (tableLabels n t .join) noLabel g h
   unfolding generalizationBy
@@ -63,7 +64,7 @@ module _ {n : ℕ} {t sets : List ℕ} {cells : List (List ℕ)} (joins : Opened
       (label-known (zero-type n t (joins .ok)) right (x .1) .type) (joins .holding) .0) refl refl)
       (λ x f. refl)
 
-  -- what is written of two graphs in words
+  -- For two graphs in words, reply and output are those that `generalized` defines.
   pub generalized-as : {g h : List ℕ} (out : List ℕ) → Loaded n g → Loaded n h → {w : Written} {r : Reply} {new : List ℕ} →
       yielding w new ≡ productOut (joinIn n sets cells) g h out →
       r ≡ replyOf w → resulting r new ≡ generalized n t out (rowsOf g) (rowsOf h)

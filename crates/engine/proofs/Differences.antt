@@ -1,4 +1,5 @@
--- From what renumbering and the difference promise to what is answered: s in written form has the rows that renumbering reads.
+-- The promises of reading, of renumbering and of the difference give the promise for two records. Renumbering leaves words with the rows of s in
+-- written form.
 use mathlib.Core.Path.{_≡_, refl, sym, _∙_, ap, ap₂, subst}
 use mathlib.Core.Bool.{Bool}
 use mathlib.Core.List.{List, [], List·Memᴰ}
@@ -34,12 +35,12 @@ use Rattle.pairs.specs.Pair.{ReadsBoth}
 use Rattle.pairs.proofs.Readings.{both-next, both-refused}
 use Rattle.engine.specs.Differing.{ReadsNumbered, parting, partingWith, reasonsOf}
 
--- the words hold the rows of the written form, whose record is accepted
+-- The words hold the written form of the graph with these rows, and its record is accepted.
 pub record Renumbered (n : ℕ) (rows : List (Row Label)) (ws : List ℕ) : Type 0 where
   pub loaded : Loaded n ws
   pub rows-are : rowsOf ws ≡ numbered (canonical eqb (graphOfRows rows))
 
--- the labels of words that hold rows are those of the table
+-- If the words hold accepted rows, the labels in the words are labels of the table.
 rows-typed : {n : ℕ} {form : List (Row Label)} (ws : List ℕ) → Rules n form → rowsOf ws ≡ form → (v : ℕ) → v < size ws → Known n (labelAt ws v)
 rows-typed ws rules same v h =
     rules .ranged (labelAt ws v, linksAt ws v)
@@ -66,7 +67,7 @@ renumbered n g given {ws = ws} holds =
       rows-are = same ∙ sym (ap numbered fits);
     }
 
--- What reading two records, and numbering the second as written, comes to.
+-- Reading two records and numbering the second as written gives `ReadsNumbered`.
 module _ {n : ℕ} {a b : List ℕ} {v : PairVerdict} {g given : List ℕ} (reads : ReadsBoth n (reading n a) (reading n b) v g given) where
   pub numbered-refused : {fault : GraphFault} {side : Side} → v ≡ pair.Refused fault side → {s : List ℕ} →
       ReadsNumbered n a b (pair.Refused fault side) g s
@@ -89,14 +90,14 @@ module _ {n : ℕ} {a b : List ℕ} {v : PairVerdict} {g given : List ℕ} (read
 
 module _ (options : Options) (n : ℕ) (t a b out old : List ℕ) {v : PairVerdict} {g s : List ℕ}
     (reads : ReadsBoth n (reading n a) (reading n b) v g s) where
-  -- 4 to 7
+  -- If a record is refused, the reply is the refusal 4 to 7.
   pub parting-refused : (fault : GraphFault) (side : Side) → v ≡ pair.Refused fault side →
       explainedResult (Graph fault side) out old ≡ partingWith options n t a b out old
   parting-refused fault side e =
       refuses-with-reasons (options .explained) (Graph fault side) (reasonsOf (earlierBy (options .order)) n t a b) out old refl
       (sym (both-refused reads (λ r. refusing r out) (differedRows (earlierBy (options .order)) n t out) fault side e))
 
-  -- the difference of the graphs that the words hold
+  -- If both records are accepted, the result is that of the difference of the graphs in words.
   pub parting-both : v ≡ pair.Both → (h : List ℕ) → rowsOf h ≡ numbered (canonical eqb (graphOfRows (rowsOf s))) → {x : Explained} →
       x ≡ differedWords options n t g h out old → x ≡ partingWith options n t a b out old
   unfolding reasonsOf differedRows

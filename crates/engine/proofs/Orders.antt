@@ -1,4 +1,4 @@
--- From the order's promise to what is answered: a node map shows that the first graph is below the second.
+-- The promise of the order, in both directions, gives the reply. A node map shows that the first graph is below the second.
 use mathlib.Core.Path.{_≡_, refl, sym, ap₂}
 use mathlib.Core.List.{List}
 use Prim.Native.Nat.{ℕ}
@@ -17,12 +17,12 @@ use Rattle.subsume.specs.Promise.{Orders, rowsBelow, isBelow}
 use Rattle.engine.specs.Ordering.{compared, ordered}
 
 module _ (n : ℕ) (t : List ℕ) (s g : List (Row Label)) (rules : Rules n g) where
-  -- what the walk answers
+  -- The order's answer tells whether s is below g.
   order-found : (answer : Order) (map : List ℕ) → Orders n t s g answer map → isBelow answer ≡ rowsBelow n t s g
   order-found order.Below map orders = sym (order-test n t s g rules .1 (map-below (orders .yes-stands refl)))
   order-found order.NotBelow map orders = sym (not-true (rowsBelow n t s g) (λ q. orders .no-stands refl (order-test n t s g rules .0 q)))
 
--- one of the four, by the walk in both directions
+-- The order's answers in both directions give one of the four replies.
 pub compared-ordered : {n : ℕ} (t : List ℕ) {s g : List ℕ} → Loaded n s → Loaded n g → {lower upper : Order} {map map′ : List ℕ} →
     Orders n t (rowsOf s) (rowsOf g) lower map → Orders n t (rowsOf g) (rowsOf s) upper map′ →
     compared (isBelow lower) (isBelow upper) ≡ ordered n t (rowsOf s) (rowsOf g)

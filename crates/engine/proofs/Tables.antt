@@ -1,4 +1,5 @@
--- What an accepted table lets graphs go by: labels are those of the table. Graphs that differ in nothing have one written form, whichever labels they were computed with.
+-- Facts for graphs over an accepted table: the labels of accepted rows are labels of the table, and graphs with the same root, labels and links
+-- have one written form.
 use mathlib.Core.Path.{_≡_, refl, sym, _∙_, ap, subst}
 use mathlib.Core.Bool.{Bool}
 use mathlib.Core.List.{List, []}
@@ -28,7 +29,7 @@ use Rattle.record.proofs.Accepted.{Rules}
 pub few-types : (n : ℕ) (t : List ℕ) (answer : Opened) → answer ≡ opened n t → answer ≡ Accepted → n ≤ 64
 few-types n t answer e told = accepted-size n t (opened-accepted n t answer e told) .1
 
--- every label of accepted rows is one of the table, also the one past their end
+-- Every label of accepted rows is a label of the table, and so is the label past their end.
 pub label-known : {n : ℕ} {rows : List (Row Label)} → 0 < n → Rules n rows → (v : ℕ) → Known n (graphOfRows rows .label v)
 label-known {n} {rows} types rules v = go (decLe (length rows) v)
   where

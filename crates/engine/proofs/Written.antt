@@ -1,4 +1,4 @@
--- From what writing and reading promise to what an operation answers.
+-- The promises of writing and of reading give the result of an operation.
 use mathlib.Core.Path.{_≡_, sym, _∙_, ap}
 use mathlib.Core.List.{List}
 use Prim.Native.Nat.{ℕ}
@@ -17,11 +17,11 @@ use Rattle.replies.specs.Reply.{Result, resulting, replyOf, resultOf}
 use Rattle.pairs.proofs.Readings.{told-refused, told-accepted}
 use Rattle.engine.specs.Rewriting.{rewritten, rewrittenRows}
 
--- what writing yields, as a result
+-- The reply that tells the answer of writing makes, with the output, the result of writing.
 pub replied-as : {o : Outcome} {w : Written} {r : Reply} {new : List ℕ} → yielding w new ≡ o → r ≡ replyOf w → resulting r new ≡ resultOf o
 replied-as {new = new} yields said = ap (λ (q : Reply). resulting q new) said ∙ ap resultOf yields
 
--- the refusal of a lone graph, and its written form
+-- A refused record gives its refusal, and the graph of an accepted record is written.
 module _ {n : ℕ} {o : Reading} {v : Verdict} {ws : List ℕ} (tells : ReadsAs n o v ws) (out : List ℕ) where
   pub rewritten-refused : (fault : GraphFault) → v ≡ Refused fault → resulting (Graph fault First) out ≡ rewritten o out
   rewritten-refused fault e = sym (ap (λ (i : Reading). rewritten i out) (told-refused tells fault e))

@@ -1,4 +1,4 @@
--- What the operations answer over an accepted table.
+-- What each operation on records replies over an accepted table, and what it leaves in the output.
 pub mod Rewriting
 pub mod Ordering
 pub mod Generalizing

@@ -8,13 +8,14 @@ use Rattle.subsume.specs.Promise.{rowsBelow}
 use Rattle.replies.specs.declared.Reply.{Reply}
 use Rattle.replies.specs.declared.Reply.the-variants.{Same, Under, Above, Neither}
 
--- "one of four: same, under, above, neither, seen from the first graph": whether it is below the second, and the second below it
+-- "one of four: same, under, above, neither, seen from the first graph". The first truth value says whether the first graph is below the second,
+-- and the other says whether the second graph is below the first.
 abbrev pub compared : Bool → Bool → Reply
 compared true true = Same
 compared true false = Under
 compared false true = Above
 compared false false = Neither
 
--- which of two graphs is the broader
+-- Which of two graphs, given by their rows, is the broader.
 unfoldable pub ordered : ℕ → List ℕ → List (Row Label) → List (Row Label) → Reply
 ordered n t s g = compared (rowsBelow n t s g) (rowsBelow n t g s)

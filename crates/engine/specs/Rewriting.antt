@@ -1,4 +1,4 @@
--- A graph in written form, over an accepted table.
+-- "Rewriting one record in written form" (document 01, "Returned by a call"), over an accepted table: the reply, and what is left in the output.
 use mathlib.Core.List.{List}
 use Prim.Native.Nat.{ℕ}
 use lib.Dec.{eqb}
@@ -11,11 +11,11 @@ use Rattle.replies.specs.declared.Side.the-variants.{First}
 use Rattle.replies.specs.declared.Reply.the-variants.{Graph}
 use Rattle.replies.specs.Reply.{Result, resultOf, refusing}
 
--- a graph in written form
+-- The result of writing a graph, given by its rows, in written form.
 abbrev pub rewrittenRows : List ℕ → List (Row Label) → Result
 rewrittenRows out rows = resultOf (writtenOut (canonical eqb (graphOfRows rows)) out)
 
--- over an accepted table: the graph's refusals, then the record in written form
+-- A refused record gives its refusal: "A lone graph counts as the first." An accepted record is written in written form.
 abbrev pub rewritten : Reading → List ℕ → Result
 rewritten (refused fault) out = refusing (Graph fault First) out
 rewritten (accepted rows) out = rewrittenRows out rows

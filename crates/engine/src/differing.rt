@@ -1,5 +1,5 @@
-// The difference of two records (document 01, "Difference"): g is the first graph, s the second, which is numbered as written before it
-// is compared.
+// The difference of two records over an accepted table (document 01, "Difference"). g is the first graph, s the second. s is numbered as
+// written before it is compared with g.
 
 use difference::Options;
 use pairs::PairVerdict;
@@ -18,7 +18,7 @@ ghost use Rattle.difference.specs.Explained.{explainedResult};
 ghost use Rattle.pairs.specs.declared.PairVerdict.the-variants.{Both};
 ghost use Rattle.engine.specs.Differing.{ReadsNumbered, partingWith};
 
-// Writes the difference of two records over an accepted table with n types and, where the options ask for them, its reasons.
+// Writes the difference of two records over an accepted table with n types and, if the options ask for them, the reasons for its links.
 pub fn of_records<'a>(
     n: usize,
     table: &'a [u8],
@@ -46,7 +46,8 @@ pub fn of_records<'a>(
     of_read(verdict, n, table, options, &mut g, &s, out, reasons)
 }
 
-// Reads g and s, and numbers s as written where both are accepted.
+// Reads the records of g and s. Where both are accepted, `g` gets the first graph, and `s` gets the second graph numbered as written. `given`
+// is lent for the second graph as it is read.
 fn read_numbered(
     n: usize,
     table: &[u8],
@@ -63,14 +64,15 @@ fn read_numbered(
     match verdict {
         PairVerdict::Refused(fault, side) => PairVerdict::Refused(fault, side),
         PairVerdict::Both => {
-            // an accepted graph can be written: the words alone are wanted
+            // An accepted graph can always be written, so the answer of `renumber` is not needed.
             encode::numbered::renumber(given, s);
             PairVerdict::Both
         }
     }
 }
 
-// Goes on by the verdict on two records, with their graphs in words where both are accepted.
+// Replies by the verdict on two records that are read. If a record is refused, the reply is the refusal; else the difference of the two graphs
+// in words is written.
 fn of_read<'a>(
     verdict: PairVerdict,
     n: usize,

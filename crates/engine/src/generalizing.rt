@@ -1,4 +1,5 @@
-// The common part of two graphs in written form, by the joins of an accepted table as opening left them in lent words and cells.
+// The common part of two records, or of two graphs in words, over an accepted table (document 01, "Common part"). `sets` and `cells` hold the
+// joins of the table, as opening the table left them.
 
 use pairs::PairVerdict;
 use replies::Reply;
@@ -14,7 +15,7 @@ ghost use Rattle.pairs.specs.Pair.{Optional, ReadsBeside};
 ghost use Rattle.replies.specs.Reply.{resulting};
 ghost use Rattle.engine.specs.Generalizing.{generalized, generalizedBeside};
 
-// Writes the common part of two records.
+// Writes the common part of two records. The records are read with a list of types for features, unless the list is empty.
 pub fn of_records<'a>(
     n: usize,
     table: &[u8],
@@ -40,7 +41,8 @@ pub fn of_records<'a>(
     of_read(verdict, n, sets, cells, &a, &b, out)
 }
 
-// Goes on by the verdict on two records, with their graphs in words where both are accepted.
+// Replies by the verdict on two records that are read. If a record is refused, the reply is the refusal; else the common part of the two graphs
+// in words is written.
 fn of_read<'a>(
     verdict: PairVerdict,
     n: usize,

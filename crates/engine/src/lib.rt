@@ -1,5 +1,6 @@
-// What a call does once its table is accepted: the operations on records, and on graphs in words. A list of types for features may stand
-// beside the records; an empty list is none. It knows records, an accepted table and the operations; it opens no table.
+// The operations on records, and on graphs in words, over a table that is already accepted, for `calls` and for the crates that open a table
+// themselves. Rewriting, common part and combination take a list of types for features; an empty list stands for no list. This crate knows
+// records, an accepted table and the operations; it opens no table.
 
 pub mod differing;
 pub mod generalizing;

@@ -1,4 +1,5 @@
-// Which of two graphs is the broader, seen from the first.
+// The order of two records, or of two graphs in words, over an accepted table (document 02, Paper 3): which of the two is the broader, seen from
+// the first.
 
 use pairs::PairVerdict;
 use replies::Reply;
@@ -28,7 +29,7 @@ pub fn of_records(n: usize, table: &[u8], first: &[u8], second: &[u8]) -> Reply
     order_in(n, table, first, second, &mut s, &mut g)
 }
 
-// The same in words that are lent for the graphs.
+// Replies as `of_records` does. `s` and `g` are lent for the words of the first and the second graph.
 fn order_in(
     n: usize,
     table: &[u8],
@@ -59,7 +60,7 @@ pub fn of_graphs<'a>(table: &'a [u8], s: &'a [u16], g: &'a [u16]) -> Reply
     order_reply(below, above)
 }
 
-// What the order of two graphs in both directions comes to.
+// The reply for two graphs, by whether the first is below the second, and whether the second is below the first.
 fn order_reply(below: Order, above: Order) -> Reply
     ensures { λ r. ⌜ r ≡ compared (isBelow below) (isBelow above) ⌝ }
 {

@@ -1,4 +1,4 @@
-// A graph in written form.
+// Rewriting a record in written form, and writing a graph in words, over an accepted table (document 01, "Returned by a call").
 
 use record::reading::Verdict;
 use replies::Reply;
@@ -11,7 +11,8 @@ ghost use Rattle.pairs.specs.Pair.{Optional, readingBeside};
 ghost use Rattle.replies.specs.Reply.{resulting};
 ghost use Rattle.engine.specs.Rewriting.{rewritten, rewrittenRows};
 
-// Writes the graph of a record over an accepted table with n types.
+// Writes a record over an accepted table with n types in written form. The record is read with a list of types for features, unless the list is
+// empty.
 pub fn of_record(n: usize, table: &[u8], list: &[u8], bytes: &[u8], out: &mut [u8]) -> Reply
     requires { ⌜ (n ≤ 64) × Optional n (now list) ⌝ }
     ensures { λ r. ⌜ resulting r (now (out .exit)) ≡ rewritten (readingBeside n (now (table .entry)) (now (list .entry)) (now (bytes .entry))) (now (out .entry)) ⌝ }
@@ -24,7 +25,7 @@ pub fn of_record(n: usize, table: &[u8], list: &[u8], bytes: &[u8], out: &mut [u
     rewrite_in(n, table, list, bytes, &mut graph, out)
 }
 
-// The same in words that are lent for the graph.
+// Replies as `of_record` does. `graph` is lent for the words of the graph.
 fn rewrite_in(
     n: usize,
     table: &[u8],
@@ -43,7 +44,7 @@ fn rewrite_in(
     }
 }
 
-// Writes a graph in words.
+// Writes the written record of a graph in words.
 pub fn of_graph(graph: &[u16], out: &mut [u8]) -> Reply
     requires { ⌜ Sound (now graph) ⌝ }
     ensures { λ r. ⌜ resulting r (now (out .exit)) ≡ rewrittenRows (now (out .entry)) (rowsOf (now (graph .entry))) ⌝ }

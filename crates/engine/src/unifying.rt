@@ -1,4 +1,5 @@
-// The combination of two graphs in written form, by the meets of an accepted table as opening left them in lent words and cells.
+// The combination of two records, or of two graphs in words, over an accepted table (document 01, "Combination"). `sets` and `cells` hold the
+// meets of the table, as opening the table left them.
 
 use pairs::PairVerdict;
 use replies::Reply;
@@ -15,7 +16,7 @@ ghost use Rattle.pairs.specs.Pair.{Optional, ReadsBeside};
 ghost use Rattle.replies.specs.Reply.{resulting};
 ghost use Rattle.engine.specs.Unifying.{combinedReply, unifiedBeside, unifiedRows};
 
-// Writes the combination of two records.
+// Writes the combination of two records. The records are read with a list of types for features, unless the list is empty.
 pub fn of_records<'a>(
     n: usize,
     table: &[u8],
@@ -41,7 +42,8 @@ pub fn of_records<'a>(
     of_read(verdict, n, sets, cells, &a, &b, out)
 }
 
-// Goes on by the verdict on two records, with their graphs in words where both are accepted.
+// Replies by the verdict on two records that are read. If a record is refused, the reply is the refusal; else the combination of the two graphs
+// in words is written.
 fn of_read<'a>(
     verdict: PairVerdict,
     n: usize,
@@ -78,7 +80,7 @@ pub fn of_graphs<'a>(
     combined_reply(unify::unify(n, sets, cells, a, b, out))
 }
 
-// What combining answers, as a reply.
+// The reply that tells the answer of a combination.
 fn combined_reply(combined: Combined) -> Reply
     ensures { λ r. ⌜ r ≡ combinedReply combined ⌝ }
 {

@@ -1,5 +1,5 @@
--- Laying links of g over links of s: a place of g lies over one place of s, seeking its feature finds that place, and each place more
--- keeps owners and classes.
+-- Lemmas about laying links of g over links of s. A place of g lies over one place of s, and seeking the feature finds that place.
+-- `Grouping` extends from one place of g to the next, and from one row to the next.
 use mathlib.Core.Path.{_≡_, refl, sym, _∙_, ap, subst}
 use mathlib.Core.List.{List}
 use mathlib.Core.Logic.{_⊎_, inl, inr}
@@ -17,7 +17,8 @@ use Rattle.classes.proofs.Roots.{separate-forest, fixed-root}
 use Rattle.groups.specs.Cover.{Lying, Over, Covers, Tied, same, shared, back, next, Grouping, Unowned, Owns}
 use Rattle.groups.specs.Marks.{Owned}
 
--- At place k of the row of y and place j of its row of s: no place before j has the feature at k, nor a later one.
+-- The loop stands at place k in the row of y, and at place j in the row of s that belongs to y. In that row, every place before j has a lesser
+-- feature than place k.
 pub record Covering (s g map : List ℕ) (y k j : ℕ) (owner parent : List ℕ) : Type 0 where
   pub lying : Lying s g map
   pub inside : y < size g
@@ -28,7 +29,7 @@ pub record Covering (s g map : List ℕ) (y k j : ℕ) (owner parent : List ℕ)
   pub s-high : j ≤ rowEnd s (getD map y 0)
   pub before : k < rowEnd g y → (i : ℕ) → linksFrom s (getD map y 0) ≤ i → i < j → featureAt s i < featureAt g k
 
--- what is known of the two rows that belong to node y of g
+-- The row of node y of g and the row of its node of s lie inside the words, and the two nodes have numbers below 255.
 pub record RowsKnown (s g map : List ℕ) (y : ℕ) : Type 0 where
   pub node : Node g y
   pub small : y < 255
@@ -70,7 +71,7 @@ module _ {s g map : List ℕ} (lying : Lying s g map) where
       (getD owner j 0 ≡ 65535 → ⊥) → getD owner j 0 < size g
   owner-low group j h d = entered-low (group .owned j h d)
 
-  -- what the marks ask of owners and classes
+  -- `Grouping` gives what marking asks of owners and classes.
   pub grouping-owned : {bound : ℕ} {owner parent : List ℕ} → Grouping s g map bound owner parent → Flat (size g) parent →
       Owned s owner parent
   grouping-owned group flat =
@@ -85,7 +86,7 @@ module _ {s g map : List ℕ} (lying : Lying s g map) where
         linked = λ j h d. let (i, l, o, e) = group .owned j h d in (getD map (o .node) 0, o .under);
       }
 
-  -- what is said up to one place is said up to another where no link stands between
+  -- `Grouping` moves from place k to place l where no link stands between them.
   moved : {k l : ℕ} {owner parent : List ℕ} → Grouping s g map k owner parent → ((v i : ℕ) → Place g v i → i < l → i < k) →
       Grouping s g map l owner parent
   moved group none =
@@ -97,7 +98,7 @@ module _ {s g map : List ℕ} (lying : Lying s g map) where
         tied = group .tied;
       }
 
-  -- no place yet
+  -- At the start, no place has an owner and each node is a class of its own.
   pub grouping-start : {owner parent : List ℕ} → Unowned s owner → length parent ≡ 510 → ((x : ℕ) → x < size g → getD parent x 0 ≡ x) →
       Grouping s g map (rowFrom g 0) owner parent
   grouping-start {owner} {parent} free parent-long apart =
@@ -244,7 +245,7 @@ module _ {s g map : List ℕ} {y k j place : ℕ} {owner parent : List ℕ} (c :
   here : Place g y k
   here = record { inside = c .inside; low = c .low; high = more }
 
-  -- the place sought is the one that k lies over
+  -- Place k lies over the place that is found.
   pub sought-over : Over s g map k place
   sought-over =
       let (p, at, e) = c .lying .found y k here in
@@ -298,7 +299,7 @@ pub covering-done : {s g map : List ℕ} {y k j : ℕ} {owner parent : List ℕ}
 covering-done {s} {g} {map} {y} {k} {j} {owner} {parent} c h =
     subst (λ (i : ℕ). Grouping s g map i owner parent) (omega (arith, c .high)) (c .grouping)
 
--- the same roots
+-- `Grouping` holds for a later forest with the same roots.
 pub grouping-same : {s g map : List ℕ} {bound : ℕ} {owner parent later : List ℕ} → Lying s g map → Grouping s g map bound owner parent →
     SameRoots (size g) parent later → Grouping s g map bound owner later
 grouping-same {s} {g} {map} {bound} {owner} {parent} {later} lying group roots =
@@ -317,19 +318,19 @@ grouping-same {s} {g} {map} {bound} {owner} {parent} {later} lying group roots =
           group .tied x y h l (sym (roots .same x h) ∙ e ∙ roots .same y l);
     }
 
--- the next row
+-- The end of a row is the beginning of the next.
 pub grouping-row : {s g map : List ℕ} (y : ℕ) {owner parent : List ℕ} → Grouping s g map (rowEnd g y) owner parent →
     Grouping s g map (rowFrom g (y + 1)) owner parent
 grouping-row {s} {g} {map} y {owner} {parent} c =
     subst (λ (i : ℕ). Grouping s g map i owner parent) (next-row g y (y + 1) (omega arith)) c
 
--- all places
+-- After the last row, `Grouping` holds for all places.
 pub grouping-end : {s g map : List ℕ} (y : ℕ) {owner parent : List ℕ} → Grouping s g map (rowFrom g y) owner parent → y ≤ size g →
     size g ≤ y → Grouping s g map (rowsEnd g) owner parent
 grouping-end {s} {g} {map} y {owner} {parent} c low high =
     subst (λ (i : ℕ). Grouping s g map (rowFrom g i) owner parent) (omega arith) c
 
--- The first words of fresh owners: none of the places of s has an owner.
+-- In fresh words no place of s has an owner.
 pub unowned-fresh : (m : ℕ) (s : List ℕ) → length s ≤ m → Unowned s (take (length s) (replicate m 65535))
 unowned-fresh m s short =
     record {

@@ -1,5 +1,5 @@
--- The marks say which links of s lead their groups: a link at place k is marked 1 or 2 exactly where it is the least of its group, and 2
--- exactly where nothing of g lies over it.
+-- The marks say which links of s lead their groups. A link has the mark 1 or 2 exactly where it is the least of its group, and 2 exactly
+-- where nothing of g lies over it.
 use mathlib.Core.Path.{_≡_, refl, sym, _∙_, ap, subst}
 use mathlib.Core.Bool.{Bool, true, false}
 use mathlib.Core.List.{List}
@@ -34,7 +34,7 @@ pub use Rattle.groups.specs.Marks.{At}
 -- Places of one graph.
 
 module _ {ws : List ℕ} (sound : Sound ws) where
-  -- a link stands at one place, and at a place one link
+  -- A link stands at one place, and one link stands at a place.
   pub at-one : (j k : ℕ) (l : Link ℕ) → At ws j l → At ws k l → j ≡ k
   at-one j k l a b = one-feature (sound .shaped) (a .place) (b .place) (a .feature ∙ sym (b .feature))
 
@@ -58,7 +58,7 @@ module _ {ws : List ℕ} (sound : Sound ws) where
       let (k, low, high, f, t) = link-place sound (l .0) (l .1) w h e in
       (k, record { place = record { inside = h; low = low; high = high }; feature = f }, t)
 
--- A link of a place, and the place of a link, in two graphs.
+-- Links and their places, for two graphs of which g lies over s.
 module _ (n : ℕ) (t : List ℕ) {sw gw map : List ℕ} (lying : Lying sw gw map)
     (operands : Operands eqb eqb (graphIn sw) (from 0 (size sw)) (graphIn gw) (from 0 (size gw)))
     (lies : NodeMap (tableLabels n t) (graphIn sw) (graphIn gw) (λ y. getD map y 0)) where
@@ -114,7 +114,7 @@ module _ (n : ℕ) (t : List ℕ) {sw gw map : List ℕ} (lying : Lying sw gw ma
         w,
       )
 
-  -- Tied nodes of g are entered over links of one group.
+  -- Two tied nodes of g are one, or links of g that enter them lie over links of one group.
 
   pub record Meeting (x y : ℕ) : Type 0 where
     pub from-link : Link ℕ
@@ -177,7 +177,7 @@ module _ (n : ℕ) (t : List ℕ) {sw gw map : List ℕ} (lying : Lying sw gw ma
     within k l a =
         omega (arith, a .place .high, s-sound .shaped .node (l .0) (a .place .inside) .ended, grouping .owner-long)
 
-    -- places with owners of one class are those of links of one group
+    -- Links at places with owners of one class are in one group.
     together-grouped : (j k : ℕ) (l m : Link ℕ) → At sw j l → At sw k m → Beside j k → Joins (targetAt sw j) l m
     together-grouped j k l m a b t =
         let hx = owner-low lying grouping j (within j l a) (t .left) in
@@ -209,7 +209,7 @@ module _ (n : ℕ) (t : List ℕ) {sw gw map : List ℕ} (lying : Lying sw gw ma
     together-sym : {j k : ℕ} → Beside j k → Beside k j
     together-sym t = record { left = t .right; right = t .left; class = sym (t .class) }
 
-    -- and links of one group stand at such places
+    -- Links of one group stand at one place, or at places with owners of one class.
     grouped-together : (v : ℕ) (j k : ℕ) {l m : Link ℕ} → Joins v l m → At sw j l → At sw k m → (j ≡ k) ⊎ Beside j k
     grouped-together v j k (itself {l} _) a b = inl (at-one s-sound j k l a b)
     grouped-together v j k (touching {l} {m} _ _ (z, p, q)) a b =
@@ -229,7 +229,7 @@ module _ (n : ℕ) (t : List ℕ) {sw gw map : List ℕ} (lying : Lying sw gw ma
       abbrev first : ℕ → Link ℕ → Link ℕ
       first v l = lead eqb eqb s (from 0 (size sw)) g (from 0 (size gw)) over earlier v l
 
-      -- a link leads its group where no earlier one is at a place with its class
+      -- A link leads its group if no earlier link stands at a place whose owner is of the same class.
       place-leads : (k : ℕ) (l : Link ℕ) → At sw k l → Into s (targetAt sw k) l →
           ((j : ℕ) → j < length owner → Earlier earlier sw j k → Beside j k → ⊥) → first (targetAt sw k) l ≡ l
       place-leads k l a i alone =
@@ -246,7 +246,7 @@ module _ (n : ℕ) (t : List ℕ) {sw gw map : List ℕ} (lying : Lying sw gw ma
               (λ (t : Beside k j). absurd (alone j (within j m at) (m, l, at, a, e) (together-sym t)))
               (grouped-together (targetAt sw k) k j c a at)
 
-      -- and else it does not
+      -- A link does not lead its group if an earlier link stands at a place whose owner is of the same class.
       place-follows : (j k : ℕ) (l : Link ℕ) → At sw k l → Into s (targetAt sw k) l → Earlier earlier sw j k → Beside j k →
           first (targetAt sw k) l ≡ l → ⊥
       place-follows j k l a i (m, l′, b, a′, less) t e =

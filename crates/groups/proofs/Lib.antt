@@ -1,4 +1,4 @@
--- Lemmas that several proofs share.
+-- Lemmas about owners, classes, marks and orders of links.
 pub mod Covering
 pub mod Marking
 pub mod ReadingOrder

@@ -1,4 +1,4 @@
--- The orders of links that are asked for: document 01's, and that of a list, of which a copy is made.
+-- The two orders of links are those of the definitions: document 01's, and that of a list, which the code copies.
 use mathlib.Core.Path.{_≡_, refl, sym, _∙_, ap}
 use mathlib.Core.Bool.{true, false}
 use mathlib.Core.List.{List}

@@ -1,5 +1,5 @@
--- Marking the links of s in one pass over their places: each turn meets one place more, and headers are passed over. A link that is
--- sooner than the first of its class so far takes its place.
+-- Lemmas about marking the links of s in one pass over their places. Each turn of the loop marks one link, and headers are passed over. A
+-- link leads its class if it comes before the link that led the class so far; that link then follows.
 use mathlib.Core.Path.{_≡_, refl, sym, _∙_, ap, subst}
 use mathlib.Core.List.{List}
 use mathlib.Core.Logic.{_⊎_, inl, inr}
@@ -30,7 +30,7 @@ use Rattle.groups.specs.Marks.{
   Marking,
 }
 
--- the class of an owner
+-- The parent of an owner is the root of its class, and it is a node.
 module _ {nodes : ℕ} {parent : List ℕ} (flat : Flat nodes parent) {x : ℕ} (small : x < nodes) where
   pub class-low : getD parent x 0 < nodes
   class-low = omega (arith, flat .forest .down x small)
@@ -38,7 +38,7 @@ module _ {nodes : ℕ} {parent : List ℕ} (flat : Flat nodes parent) {x : ℕ} 
   pub class-is : getD parent x 0 ≡ rootOf parent x
   class-is = flat .near x small
 
--- By rank, then by place.
+-- The order by rank, then by place.
 
 sooner-trans : {x y z a b c : ℕ} → (x < y) ⊎ ((x ≡ y) × (a < b)) → (y < z) ⊎ ((y ≡ z) × (b < c)) → (x < z) ⊎ ((x ≡ z) × (a < c))
 sooner-trans (inl p) (inl q) = inl (omega arith)
@@ -56,7 +56,7 @@ module _ {s owner parent : List ℕ} (o : Owned s owner parent) where
   within : {v k : ℕ} → Place s v k → k < length owner
   within {v} p = omega (arith, p .high, o .shaped .node v (p .inside) .ended, o .long)
 
-  -- places are less than the word of none
+  -- Every place is less than 65535, which stands for no place.
   low-place : {k : ℕ} → k < length owner → k < 65535
   low-place h = omega (arith, o .long, o .short)
 
@@ -65,7 +65,7 @@ module _ {s owner parent : List ℕ} (o : Owned s owner parent) where
       let low = o .low k h has in
       omega (arith, class-is (o .flat) low, class-low (o .flat) low, o .few)
 
--- What is known when place k is met.
+-- What is known when the link at place k is met.
 abbrev pub Turn : (s owner parent rank : List ℕ) (k : ℕ) (lead marks : List ℕ) → Type 0
 Turn s owner parent rank k lead marks = (Owned s owner parent × ((v : ℕ) × Place s v k)) × Marking s owner parent rank k lead marks
 
@@ -97,7 +97,7 @@ module _ {s owner parent rank : List ℕ} {k : ℕ} {lead marks : List ℕ} (tur
   pub here-known : featureAt s k < 64
   here-known = o .shaped .known v k (p .inside) (p .low) (p .high)
 
-  -- a mark that changes no leader
+  -- Place k gets a mark, and no leader changes.
   stays : {x : ℕ} → Standing s owner parent rank lead k x → Marking s owner parent rank (k + 1) lead (set marks k x)
   stays {x} new =
       record {
@@ -124,7 +124,7 @@ module _ {s owner parent rank : List ℕ} {k : ℕ} {lead marks : List ℕ} (tur
     class : c ≡ classAt owner parent k
     class = class-is (o .flat) (o .low k here-within has)
 
-    -- Place k leads from now on. The places of its class before it follow it; `before` has the marks of all places before it.
+    -- Place k becomes the leader of its class. `before` has marks for the places before k that fit the new leader.
     takes : (before : List ℕ) → length before ≡ length s →
         ((u i : ℕ) → Place s u i → i < k → Standing s owner parent rank (set lead c k) i (getD before i 0)) →
         Marking s owner parent rank (k + 1) (set lead c k) (set before k 1)
@@ -153,7 +153,7 @@ module _ {s owner parent rank : List ℕ} {k : ℕ} {lead marks : List ℕ} (tur
             (stands-first refl has (ap (λ (x : ℕ). getD (set lead c k) x 0) (sym class) ∙ now))
         go u i q l (no d) = rw (getD-set-other before k i 1 0 d) (each u i q (omega arith))
 
-    -- the leader of another class stays
+    -- A place of another class keeps its leader.
     other : (i x : ℕ) → (classAt owner parent i ≡ c → ⊥) → Standing s owner parent rank lead i x →
         Standing s owner parent rank (set lead c k) i x
     other i x d st = go st (getD-set-other lead c (classAt owner parent i) k 0 d)
@@ -165,7 +165,7 @@ module _ {s owner parent rank : List ℕ} {k : ℕ} {lead marks : List ℕ} (tur
         go (stands-first e h q) same = stands-first e h (same ∙ q)
         go (stands-bare e h) same = stands-bare e h
 
-    -- the first of its class
+    -- Place k is the first of its class that is met.
     pub marking-first : getD lead c 0 ≡ 65535 → Marking s owner parent rank (k + 1) (set lead c k) (set marks k 1)
     marking-first free = takes marks (m .long) (λ u i q l. go u i q l (ℕ-discrete (classAt owner parent i) c) (m .each u i q l))
       where
@@ -178,7 +178,7 @@ module _ {s owner parent rank : List ℕ} {k : ℕ} {lead marks : List ℕ} (tur
             absurd (omega (arith, sym w ∙ ap (λ (x : ℕ). getD lead x 0) e ∙ free, low-place o (within o q)))
         go u i q l (yes e) (stands-bare f h) = stands-bare f h
 
-    -- another of its class was met before
+    -- Another place of the class is met before place k.
     module _ (led : getD lead c 0 ≡ 65535 → ⊥) where
       abbrev j : ℕ
       j = getD lead c 0
@@ -252,7 +252,7 @@ module _ {s owner parent rank : List ℕ} {k : ℕ} {lead marks : List ℕ} (tur
 -- All places.
 
 module _ {s owner parent rank : List ℕ} (o : Owned s owner parent) where
-  -- what is said up to one place is said up to another where no link stands between
+  -- `Marking` moves from place k to place l where no link stands between them.
   moved : {k l : ℕ} {lead marks : List ℕ} → Marking s owner parent rank k lead marks → k ≤ l →
       ((v j : ℕ) → Place s v j → j < l → j < k) → Marking s owner parent rank l lead marks
   moved m low none =
@@ -273,7 +273,7 @@ module _ {s owner parent rank : List ℕ} (o : Owned s owner parent) where
         each = λ v j p h. absurd (omega (arith, place-from (o .shaped) p));
       }
 
-  -- what the marks say when all links are met
+  -- When all links are met, the marks are those by rank, then by place.
   pub marking-all : (v : ℕ) {lead marks : List ℕ} → Marking s owner parent rank (rowFrom s v) lead marks → v ≤ size s → size s ≤ v →
       Marks (Sooner s rank) s owner parent marks
   marking-all v {lead} {marks} m low high = record { long = m .long; each = λ u k p. go u k p (stands u k p) }
@@ -300,7 +300,7 @@ module _ {s owner parent rank : List ℕ} (o : Owned s owner parent) where
           leads e h (λ j l w t. let (x, at) = o .linked j l (t .left) in alone k q j w t (stands x j at))
       go u k p (stands-bare e h) = bare e h
 
--- in the row of node v, at place k
+-- The loop stands at place k in the row of node v, and the links before place k are marked.
 pub record InRow (s owner parent rank : List ℕ) (v k : ℕ) (lead marks : List ℕ) : Type 0 where
   pub owned : Owned s owner parent
   pub inside : v < size s

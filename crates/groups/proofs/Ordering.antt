@@ -1,5 +1,5 @@
--- The order of links that is asked for is a strict total order, and it is the order by the ranks of features, then by places. So marks
--- by ranks are marks by that order.
+-- The order of links that a call asks for is a strict total order. It is the same as the order by the ranks of features, then by places, so
+-- marks by ranks are marks by that order.
 use mathlib.Core.Path.{_≡_, refl, sym, _∙_, ap, subst}
 use mathlib.Core.Bool.{Bool, true, false, cond}
 use mathlib.Core.List.{List}
@@ -18,7 +18,7 @@ use Rattle.groups.specs.declared.link_orders.LinkOrder.{LinkOrder}
 use Rattle.groups.specs.Marks.{At, Earlier, rankAt, Sooner, Owned, Mark, follows, leads, bare, Marks}
 use Rattle.groups.specs.LinkOrders.{earlierBy, Ranks}
 
--- The order that is asked for.
+-- The order that a call asks for.
 
 pub earlier-by-order : (order : LinkOrder) → StrictOrder (earlierBy order)
 unfolding earlierBy
@@ -28,13 +28,13 @@ earlier-by-order order = go (order .listed)
     go true = by-reading-order (order .list)
     go false = by-number-order
 
--- By places.
+-- The order of links by their places.
 
 module _ {ws : List ℕ} (shaped : Shaped ws) {j k : ℕ} {l m : Link ℕ} (a : At ws j l) (b : At ws k m) where
   moved : l .0 ≡ m .0 → Place ws (l .0) k
   moved e = subst (λ (u : ℕ). Place ws u k) (sym e) (b .place)
 
-  -- the order of places is the order of links by number
+  -- The order of places is the order of links by parent number, then feature.
   at-before : Before l m → j < k
   at-before (inl h) =
       omega (arith, earlier-row shaped (l .0) (m .0) j h (omega (arith, b .place .inside)) (a .place .high), b .place .low)
@@ -64,7 +64,7 @@ module _ {ws : List ℕ} (shaped : Shaped ws) {j k : ℕ} {l m : Link ℕ} (a : 
           let e : l .0 ≡ m .0 = omega arith in
           inr (e, rw (sym (a .feature), sym (b .feature)) (place-rises shaped (a .place) (moved e) h))
 
-  -- links by one feature are in the order of their parents
+  -- Links with one feature stand in the order of their parents.
   before-parent : l .1 ≡ m .1 → j < k → l .0 < m .0
   before-parent e h = ⊎-elim (λ (x : l .0 < m .0). x) (λ (x : (l .0 ≡ m .0) × (l .1 < m .1)). absurd (omega (arith, x .1))) (before-at h)
 
@@ -79,7 +79,7 @@ module _ {ws : List ℕ} (shaped : Shaped ws) {j k : ℕ} {l m : Link ℕ} (a : 
         ranks .each (featureAt ws k) (shaped .known (m .0) k (b .place .inside) (b .place .low) (b .place .high)) ∙
         ap (λ (f : ℕ). cond (order .listed) (placeIn (order .list) f) 0) (b .feature)
 
-    -- The order by ranks and places is the order that is asked for.
+    -- The order by ranks, then by places, is the order that a call asks for.
     pub sooner-earlier : Sooner ws rank j k ↔ (earlierBy order l m ≡ true)
     unfolding earlierBy
     sooner-earlier = go (order .listed) rank-left rank-right
@@ -107,7 +107,7 @@ module _ {ws : List ℕ} (shaped : Shaped ws) {j k : ℕ} {l m : Link ℕ} (a : 
             back (inl h) = inl (rw (p, q) h)
             back (inr (e, h)) = inr (p ∙ ap (placeIn (order .list)) e ∙ sym q, at-before (inl h))
 
--- Marks by ranks are marks by the order that is asked for.
+-- Marks by ranks are marks by the order that a call asks for.
 pub marks-by-order : {s owner parent : List ℕ} {order : LinkOrder} {rank marks : List ℕ} → Owned s owner parent → Ranks order rank →
     Marks (Sooner s rank) s owner parent marks → Marks (Earlier (earlierBy order) s) s owner parent marks
 marks-by-order {s} {owner} {parent} {order} {rank} {marks} o ranks m =

@@ -1,5 +1,5 @@
--- Reading orders: the test passes exactly the lists of all 64 features, each once, and a feature's place in such a list is where it
--- stands. Of as many features as there are, none twice, none is left out.
+-- Lemmas about reading orders. The test passes exactly the lists of all 64 features, each once, and the code finds a feature's place in such
+-- a list. A list of 64 features, none twice, leaves none out.
 use mathlib.Core.Path.{_≡_, refl, sym, _∙_, ap, subst}
 use mathlib.Core.Bool.{Bool, true, false, cond, not, _&&_}
 use mathlib.Core.List.{List, [], _∷_, List·Memᴰ, List·Memᴰ·head, List·Memᴰ·tail}
@@ -18,9 +18,9 @@ use Rattle.lattice.specs.Table.{every}
 use Rattle.lattice.proofs.Every.{and-left, and-right, and-both, every-at, every-all, not-true-false}
 use Rattle.groups.specs.LinkOrders.{isReadingOrder, EachOnce}
 
--- The test, as facts.
+-- What the test says of a list.
 
--- a feature that did not stand before
+-- Place i has a feature that stands at no earlier place.
 fresh : List ℕ → ℕ → Bool
 fresh list i = leb (suc (getD list i 0)) 64 && every i λ j. not (eqb (getD list j 0) (getD list i 0))
 
@@ -87,7 +87,7 @@ getD-listed (x ∷ xs) (suc i) h = List·Memᴰ·tail (getD-listed xs i (omega a
 once-reading : {list : List ℕ} → EachOnce list → Reading list
 once-reading {list} o = record { long = o .long; low = low; apart = apart }
   where
-    -- a number that is no feature would leave too little room for the features
+    -- Every entry is a feature: an entry of 64 or more would leave 63 places for 64 features.
     low : (i : ℕ) → i < 64 → getD list i 0 < 64
     low i h = go (decLt (getD list i 0) 64)
       where
@@ -122,7 +122,7 @@ reading-order list = (
   λ o. reading-back list (once-reading o),
 )
 
--- Testing a list: the features before place i are told by `seen`.
+-- The test has passed the places before i. `seen` has 1 for exactly the features at these places, and no feature came twice.
 pub record Scanned (list : List ℕ) (i : ℕ) (seen : List ℕ) : Type 0 where
   pub high : i ≤ 64
   pub long : length list ≡ 64
@@ -199,7 +199,7 @@ module _ {list : List ℕ} {i : ℕ} {seen : List ℕ} (c : Scanned list i seen)
 
 -- The place of each feature.
 
--- the place of the first of its kind
+-- The place of a feature is the first place where the feature stands.
 pub place-in : (list : List ℕ) (i f : ℕ) → i < length list → getD list i 0 ≡ f → ((j : ℕ) → j < i → getD list j 0 ≡ f → ⊥) → placeIn list f ≡ i
 unfolding placeIn
 place-in [] i f h e first = absurd (omega arith)
@@ -208,7 +208,7 @@ place-in (x ∷ xs) (suc i) f h e first =
     ap (λ (b : Bool). cond b zero (suc (placeIn xs f))) (ne-eqb x f (first 0 (omega arith))) ∙
     ap suc (place-in xs i f (omega arith) e (λ j l. first (suc j) (omega arith)))
 
--- the features before place i have their places
+-- `at` has the place of each feature that stands before place i.
 pub record Placed (list : List ℕ) (i : ℕ) (at : List ℕ) : Type 0 where
   pub high : i ≤ 64
   pub order : Reading list

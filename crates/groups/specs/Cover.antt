@@ -1,4 +1,6 @@
--- Links of g over links of s. A link is a place in the words of its graph.
+-- "nodes and links of g lie over those of s" (document 01, "Difference"): which links of g lie over which links of s, the owner of each
+-- link of s, and the classes of the nodes of g. The code of `cover` promises these facts. A link is given by its place in the words of its
+-- graph.
 use mathlib.Core.Path.{_≡_}
 use mathlib.Core.List.{List}
 use Prim.Native.Nat.{ℕ, _≤_, _<_}
@@ -7,7 +9,8 @@ use Rattle.layout.specs.Layout.{longest, size, featureAt, targetAt, Recorded, P
 use Rattle.classes.specs.Forest.{Forest, United, rootOf}
 
 module _ (s g map : List ℕ) where
-  -- Two graphs and a map that takes the nodes of g to nodes of s, and each of g's links to one by the same feature.
+  -- s and g are graphs of records, and `map` takes each node of g to a node of s. Whenever a node of g has a link, the node of s that `map`
+  -- has for that node has a link by the same feature.
   pub record Lying : Type 0 where
     pub lower : Recorded s
     pub upper : Recorded g
@@ -22,19 +25,21 @@ module _ (s g map : List ℕ) where
     pub under : Place s (getD map node 0) j
     pub feature : featureAt s j ≡ featureAt g i
 
-  -- a place of g before `bound` that lies over place j enters z
+  -- A link of g at a place before `bound` lies over place j and enters z.
   abbrev pub Covers : ℕ → ℕ → ℕ → Type 0
   Covers bound j z = (i : ℕ) × (i < bound) × Over i j × (targetAt g i ≡ z)
 
-  -- Nodes of g that places over one place of s enter, and so on.
+  -- Nodes x and y of g are tied when a link that enters x and a link that enters y lie over one link of s. The relation is closed to an
+  -- equivalence.
   pub data Tied : ℕ → ℕ → Type 0 where
     same : {x : ℕ} → Tied x x
     shared : {x y : ℕ} (j : ℕ) → Covers (rowsEnd g) j x → Covers (rowsEnd g) j y → Tied x y
     back : {x y : ℕ} → Tied x y → Tied y x
     next : {x y z : ℕ} → Tied x y → Tied y z → Tied x z
 
-  -- Owners and classes by the places of g before `bound`: an owner is a node that a place over the link enters, 65535 where there is
-  -- none; nodes that places over one link enter are in one class, and nodes of one class are tied.
+  -- Owners and classes are complete for the links of g before place `bound`. The owner of a link of s is a node of g that some link over it
+  -- enters, or 65535 for no owner. All nodes that links before `bound` over one link of s enter are in the class of that link's owner, and
+  -- nodes of one class are tied.
   pub record Grouping (bound : ℕ) (owner parent : List ℕ) : Type 0 where
     pub owner-long : length owner ≡ length s
     pub forest : Forest (size g) parent
@@ -42,12 +47,12 @@ module _ (s g map : List ℕ) where
     pub covered : (j z : ℕ) → Covers bound j z → (getD owner j 0 ≡ 65535 → ⊥) × (rootOf parent (getD owner j 0) ≡ rootOf parent z)
     pub tied : (x y : ℕ) → x < size g → y < size g → rootOf parent x ≡ rootOf parent y → Tied x y
 
--- words for the owners of the places of s, none of which has one yet
+-- `owner` has a word for each place of s, and no place has an owner yet.
 pub record Unowned (s owner : List ℕ) : Type 0 where
   pub long : length owner ≡ length s
   pub none : (j : ℕ) → j < length owner → getD owner j 0 ≡ 65535
 
--- z is an owner of place j, or in one class with the one that there is
+-- If place j has no owner, z becomes its owner. Else the owner stays, and the classes of the owner and of z become one.
 pub record Owns (owner parent : List ℕ) (j z : ℕ) (owner′ parent′ : List ℕ) : Type 0 where
   pub first : getD owner j 0 ≡ 65535 → (owner′ ≡ set owner j z) × (parent′ ≡ parent)
   pub later : (getD owner j 0 ≡ 65535 → ⊥) → (owner′ ≡ owner) ×

@@ -1,5 +1,5 @@
--- The clinic's reading order: "a list of all 64 features, each once" (document 02, Paper 10), and the order of links that a difference
--- is asked for.
+-- The order of links that a call for a difference asks for: document 01's, or that of the clinic's reading order, "a list of all 64
+-- features, each once" (document 02, Paper 10). The code computes with the rank that an order gives to each feature.
 use mathlib.Core.Path.{_≡_}
 use mathlib.Core.Bool.{Bool, true, cond, not, _&&_}
 use mathlib.Core.List.{List}
@@ -10,7 +10,7 @@ use Rattle.graphs.specs.Difference.{Link, byNumber, placeIn, byReading}
 use Rattle.lattice.specs.Table.{every}
 use Rattle.groups.specs.declared.link_orders.LinkOrder.{LinkOrder}
 
--- 64 bytes, none above 63, no feature twice; "a list that is anything else is 19"
+-- The list has 64 bytes, none above 63 and none twice. "A list that is anything else is 19".
 unfoldable pub isReadingOrder : List ℕ → Bool
 isReadingOrder list =
     eqb (length list) 64
@@ -25,11 +25,12 @@ pub record EachOnce (list : List ℕ) : Type 0 where
 unfoldable pub earlierBy : LinkOrder → Link ℕ → Link ℕ → Bool
 earlierBy order = cond (order .listed) (byReading (order .list)) byNumber
 
--- a list that is given is a reading order
+-- If the order has a list, the list is a reading order.
 abbrev pub Fitting : LinkOrder → Type 0
 Fitting order = order .listed ≡ true → isReadingOrder (order .list) ≡ true
 
--- The rank of each feature: links of a lesser rank come first, and links of one rank in the order of their places.
+-- The rank of each feature is its place in the list, or 0 where the order has no list. Links of a lesser rank come first, and links of one
+-- rank come in the order of their places.
 pub record Ranks (order : LinkOrder) (rank : List ℕ) : Type 0 where
   pub long : length rank ≡ 64
   pub each : (f : ℕ) → f < 64 → getD rank f 0 ≡ cond (order .listed) (placeIn (order .list) f) 0

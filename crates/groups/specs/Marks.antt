@@ -1,5 +1,5 @@
--- The marks of the links of s, for an order of links: 2 where nothing of g lies over a link, which is a group alone; else 1 where no
--- link of its group comes before it, and 0 where one does.
+-- The marks of the links of s, by an order of links (document 01, "Difference"). A mark is 2 where nothing of g lies over the link, which is
+-- then a group alone. Else the mark is 1 where no link of the same group comes before the link, and 0 where one does.
 use mathlib.Core.Path.{_≡_}
 use mathlib.Core.Bool.{Bool, true}
 use mathlib.Core.List.{List}
@@ -20,10 +20,11 @@ pub record At (ws : List ℕ) (k : ℕ) (l : Link ℕ) : Type 0 where
 abbrev pub Earlier : (Link ℕ → Link ℕ → Bool) → List ℕ → ℕ → ℕ → Type 0
 Earlier earlier s j k = (l : Link ℕ) × (m : Link ℕ) × At s j l × At s k m × (earlier l m ≡ true)
 
--- the same by the ranks of features: one of a lesser rank, or of the same rank at an earlier place
+-- the rank of the feature at place k
 abbrev pub rankAt : List ℕ → List ℕ → ℕ → ℕ
 rankAt s rank k = getD rank (featureAt s k) 0
 
+-- The link at place j comes before the link at place k by rank, then by place.
 abbrev pub Sooner : List ℕ → List ℕ → ℕ → ℕ → Type 0
 Sooner s rank j k = (rankAt s rank j < rankAt s rank k) ⊎ ((rankAt s rank j ≡ rankAt s rank k) × (j < k))
 
@@ -31,7 +32,7 @@ Sooner s rank j k = (rankAt s rank j < rankAt s rank k) ⊎ ((rankAt s rank j �
 abbrev pub Has : List ℕ → ℕ → Type 0
 Has owner k = getD owner k 0 ≡ 65535 → ⊥
 
--- Owners of links of s, and the classes of the owners.
+-- Only links of s have owners, each owner is one of `nodes` nodes, and `parent` has for each of these nodes the root of its class.
 pub record Owned (s owner parent : List ℕ) : Type 0 where
   pub shaped : Shaped s
   pub short : length s ≤ longest
@@ -53,7 +54,8 @@ module _ (owner parent : List ℕ) where
     pub right : Has owner k
     pub class : classAt j ≡ classAt k
 
-  -- the mark of place k, by an order of places
+  -- The mark of place k, where `Before` is an order of places: 0 if a place with an owner of the same class comes before place k, 1 if none
+  -- does, and 2 if place k has no owner.
   pub data Mark (Before : ℕ → ℕ → Type 0) (k mark : ℕ) : Type 0 where
     follows : mark ≡ 0 → (j : ℕ) → j < length owner → Before j k → Together j k → Mark Before k mark
     leads : mark ≡ 1 → Has owner k → ((j : ℕ) → j < length owner → Before j k → Together j k → ⊥) → Mark Before k mark
@@ -64,7 +66,8 @@ pub record Marks (Before : ℕ → ℕ → Type 0) (s owner parent marks : List 
   pub long : length marks ≡ length s
   pub each : (v k : ℕ) → Place s v k → Mark owner parent Before k (getD marks k 0)
 
--- The mark of place k so far, where `lead` has the place of the first link met of each class, and 65535 for a class that is not met.
+-- The mark of place k so far. `lead` has for each class the place of its first link so far, by rank and then by place, and 65535 where no
+-- link of the class is met.
 pub data Standing (s owner parent rank lead : List ℕ) (k mark : ℕ) : Type 0 where
   stands-behind : mark ≡ 0 → Has owner k → getD lead (classAt owner parent k) 0 < length owner →
       Sooner s rank (getD lead (classAt owner parent k) 0) k → Standing s owner parent rank lead k mark
@@ -79,7 +82,7 @@ pub record Marking (s owner parent rank : List ℕ) (bound : ℕ) (lead marks : 
       (getD lead c 0 < bound) × Has owner (getD lead c 0) × (classAt owner parent (getD lead c 0) ≡ c)
   pub each : (v k : ℕ) → Place s v k → k < bound → Standing s owner parent rank lead k (getD marks k 0)
 
--- all links of s are marked by an order of links, with owners and classes that all places of g have part in
+-- All links of s are marked by an order of links, and the owners and classes are complete for all links of g.
 pub record Marked (earlier : Link ℕ → Link ℕ → Bool) (s g map marks : List ℕ) : Type 0 where
   pub owner : List ℕ
   pub parent : List ℕ

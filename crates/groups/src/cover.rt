@@ -1,5 +1,5 @@
-// Links of g over links of s. The owner of a link of s is a node of g that a link over it enters; nodes that links over one link
-// enter are in one class. A link is its place in the words.
+// The links of g that lie over links of s, for the groups of a difference. A link is given by its place in the words of its graph. The
+// owner of a link of s is a node of g that some link over it enters. All nodes of g that links over one link of s enter are in one class.
 
 ghost use mathlib.Core.Path.{_≡_};
 ghost use Prim.Native.Nat.{ℕ, _<_};
@@ -8,10 +8,11 @@ ghost use Rattle.layout.specs.Layout.{size, rowFrom, rowEnd};
 ghost use Rattle.classes.specs.Forest.{Forest};
 ghost use Rattle.groups.specs.Cover.{Grouping, Lying, Owns};
 
-// The owner of a link with nothing of g over it, and the place of a link that is not met yet.
+// The word for no owner, where nothing of g lies over a link, and for no place, where no link of a class is met yet.
 pub const NONE: u16 = 0xFFFF;
 
-// A link over place j enters z.
+// Notes that a link of g over place j enters z. If place j has no owner, z becomes its owner; else the classes of the owner and of z
+// become one.
 pub fn own(owner: &mut [u16], parent: &mut [u16; 510], j: usize, z: u16)
     requires { ⌜ j < length (now owner) ⌝ }
     requires { ⌜ ((nodes : ℕ) × Forest nodes (now parent) × (z < nodes) × ((getD (now owner) j 0 ≡ 65535 → ⊥) → getD (now owner) j 0 < nodes)) ⌝ }
@@ -25,7 +26,7 @@ pub fn own(owner: &mut [u16], parent: &mut [u16; 510], j: usize, z: u16)
     }
 }
 
-// Lays the links of node y of g over those of its node of s.
+// Lays the links of node y of g over the links of the node of s that `map` has for y.
 pub fn cover_row<'a>(
     s: &'a [u16],
     g: &'a [u16],

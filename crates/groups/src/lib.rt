@@ -1,5 +1,6 @@
-// The groups of links of a difference (document 01, "Difference"): which links of s lead their group, for graphs s and g with g's nodes
-// mapped to those of s, by the order of links that is asked for. It knows graphs in words and an order of links.
+// The groups of links of a difference (document 01, "Difference"). For graphs s and g, and a map of the nodes of g to those of s, this crate
+// marks which links of s lead their groups, by the order of links that a call asks for. `difference` asks for the marks, and `keeping` goes
+// on from them. This crate knows graphs in words and an order of links.
 
 pub mod cover;
 pub mod link_orders;
@@ -14,15 +15,17 @@ ghost use Rattle.groups.specs.Cover.{Lying, Unowned};
 ghost use Rattle.groups.specs.Marks.{Marked, Marking, Marks, Owned, Sooner};
 ghost use Rattle.groups.specs.LinkOrders.{Fitting, earlierBy};
 
-// The mark of a link that another of its group comes before, of one that leads a group with links of g over it, and of one with
-// nothing of g over it, which is a group alone.
+// The mark of a link that another link of its group comes before.
 pub const FOLLOWS: u8 = 0;
 
+// The mark of a link that leads its group, with links of g over it.
 pub const LEADS: u8 = 1;
 
+// The mark of a link with nothing of g over it. Such a link is a group alone.
 pub const BARE: u8 = 2;
 
-// Marks the link at place k; `lead` has the place of the first link so far of each class.
+// Marks the link at place k, where all links before it are marked. `lead` has for each class the place of its first link so far, by rank
+// and then by place.
 fn mark_place<'a>(
     s: &'a [u16],
     owner: &'a [u16],
@@ -59,7 +62,7 @@ fn mark_place<'a>(
     marks[k] = FOLLOWS;
 }
 
-// Marks the links of s, by their owners, the classes of those and the ranks of features.
+// Marks the links of s, given the owner of each link, the classes of the owners and the rank of each feature.
 pub fn mark<'a>(
     s: &'a [u16],
     owner: &'a [u16],
@@ -84,7 +87,7 @@ pub fn mark<'a>(
     }
 }
 
-// Marks the links of s, by an order of links.
+// Marks the links of s: which lead their groups by an order of links, which follow, and which have nothing of g over them.
 pub fn mark_links<'a>(
     s: &'a [u16],
     g: &'a [u16],
@@ -104,7 +107,7 @@ pub fn mark_links<'a>(
     mark_owned(s, g, map, order, &mut owner[..words], marks)
 }
 
-// The same with words that are lent for the owners, each `cover::NONE`.
+// Marks the links of s as `mark_links` does. `owner` is lent for the owners of the links; each of its words is `cover::NONE` at the start.
 fn mark_owned<'a>(
     s: &'a [u16],
     g: &'a [u16],

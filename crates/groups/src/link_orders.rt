@@ -1,5 +1,6 @@
-// The order of links that a difference is asked for: document 01's, or that of a list of all 64 features, each once (document 02,
-// Paper 10). The order is given by a rank for each feature: links of a lesser rank come first, and links of one rank by their places.
+// The order of links that a call for a difference asks for: by parent number, then feature (document 01, "Difference"), or by a clinic's
+// reading order, which is a list of all 64 features, each once (document 02, Paper 10). Either order gives each feature a rank. Links of
+// a lesser rank come first, and links of one rank come in the order of their places.
 
 ghost use mathlib.Core.Path.{_≡_};
 ghost use Prim.Native.Nat.{ℕ, _<_};
@@ -11,7 +12,8 @@ ghost use Rattle.groups.specs.LinkOrders.{Fitting, Ranks, earlierBy, isR
 // The number of features.
 pub const FEATURES: usize = 64;
 
-// An order of links: by parent number, then feature; or, listed, by the feature's place in the list, then parent number.
+// An order of links. If `listed`, links are ordered by the feature's place in `list`, then by parent number; else by parent number, then
+// by feature.
 pub struct LinkOrder {
     pub listed: bool,
     pub list: [u8; FEATURES],
@@ -40,7 +42,7 @@ pub fn is_reading_order(list: &[u8]) -> bool
     true
 }
 
-// "Links are ordered by parent number, then feature."
+// The order of document 01: "Links are ordered by parent number, then feature."
 pub fn by_number() -> LinkOrder
     ensures { λ r. ⌜ Fitting r × (earlierBy r ≡ byNumber) ⌝ }
 {
@@ -50,7 +52,7 @@ pub fn by_number() -> LinkOrder
     }
 }
 
-// "By the feature's place in the list, then by parent number", for a list of all 64 features, each once.
+// The order "by the feature's place in the list, then by parent number" (document 02, Paper 10), for a list of all 64 features, each once.
 pub fn by_list(list: &[u8]) -> LinkOrder
     requires { ⌜ isReadingOrder (now list) ≡ true ⌝ }
     ensures { λ r. ⌜ Fitting r × (earlierBy r ≡ byReading (now (list .entry))) ⌝ }
@@ -67,7 +69,7 @@ pub fn by_list(list: &[u8]) -> LinkOrder
     }
 }
 
-// The place of each feature in a list that has each once.
+// The place of each feature in a list of all 64 features, each once.
 fn places(list: &[u8; FEATURES]) -> [u8; FEATURES]
     requires { ⌜ isReadingOrder (now list) ≡ true ⌝ }
     ensures { λ r. ⌜ (length r ≡ 64) × ((f : ℕ) → f < 64 → getD r f 0 ≡ placeIn (now (list .entry)) f) ⌝ }
@@ -82,7 +84,7 @@ fn places(list: &[u8; FEATURES]) -> [u8; FEATURES]
     at
 }
 
-// The rank of each feature.
+// The rank that an order of links gives to each feature.
 pub fn ranks(order: LinkOrder) -> [u8; FEATURES]
     requires { ⌜ Fitting order ⌝ }
     ensures { λ r. ⌜ Ranks order r ⌝ }

@@ -1,4 +1,4 @@
--- As many of the fresh marks as s has words are lent.
+-- `difference` meets its contract: it lends as many fresh bytes for marks as s has words.
 use mathlib.Core.Path.{sym}
 use native.Mathlib.Omega.{arith}
 use borrow.Author.Needs.{needs}

@@ -1,4 +1,5 @@
--- The difference goes on only where s is below g, along the order's node map, and where every node of s has a wanted label.
+-- `difference_in` meets its contract: it goes on only where s is below g, along the order's node map, and where every node of s has a wanted
+-- label.
 use borrow.Author.Needs.{needs}
 use borrow.Author.Tests.{not-true, not-false}
 use Prim.Native.Nat.{ℕ}

@@ -1,4 +1,4 @@
--- `make` meets its contract: kept nodes and rows, one after another.
+-- `make` meets its contract: the kept nodes are found, then the rows are made.
 use Prim.Native.Nat.{ℕ}
 use native.Mathlib.Omega.{arith}
 use borrow.Author.Needs.{needs}

@@ -1,4 +1,4 @@
--- `marked_reply` meets its contract: by what was written, and by the cases without a record.
+-- `marked_reply` meets its contract, case by case.
 use mathlib.Core.Path.{sym, _∙_, ap}
 use Rattle.difference.specs.Explained.{markedReply}
 use borrow.Author.Needs.{needs}

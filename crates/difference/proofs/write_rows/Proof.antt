@@ -1,4 +1,4 @@
--- `write_rows` meets its contract: the rows are written, with the reasons beside them if they are asked for.
+-- `write_rows` meets its contract: the record is written, with the reasons beside it if they are asked for.
 use Prim.Native.Nat.{ℕ}
 use native.Mathlib.Omega.{arith}
 use lib.ListN.{length-replicate, replicate}

@@ -1,4 +1,4 @@
--- `mark` meets its contract. The loops' invariants: the links before row v, and those before place k, are met and marked.
+-- `mark` meets its contract. The loops' invariants: the links before row v, and before place k, are marked.
 use mathlib.Core.Path.{sym, _∙_}
 use Prim.Native.Nat.{ℕ, _+_, _-_, _≤_}
 use native.Mathlib.Omega.{arith}

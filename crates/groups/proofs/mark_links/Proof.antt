@@ -1,4 +1,4 @@
--- `mark_links` meets its contract: as many of the fresh owners as s has words are lent.
+-- `mark_links` meets its contract: it lends as many fresh words for owners as s has words.
 use mathlib.Core.Path.{sym}
 use native.Mathlib.Omega.{arith}
 use borrow.Author.Needs.{needs}

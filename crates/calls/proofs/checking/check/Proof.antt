@@ -1,4 +1,4 @@
--- The table is opened, and nothing else.
+-- `check` meets its contract: the table is tested, and nothing else is done.
 use mathlib.Core.Path.{sym, _∙_}
 use Rattle.calls.proofs.Tables.{checking-refused, checking-accepted}
 use borrow.Author.Needs.{needs}

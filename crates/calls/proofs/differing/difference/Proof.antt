@@ -1,4 +1,4 @@
--- The call without a list and without reasons.
+-- `difference` meets its contract: it is the call without a list and without reasons.
 use Rattle.calls.proofs.Differences.{plain-part}
 use borrow.Author.Needs.{needs}
 use Rattle.calls.proofs.differing.difference.Statement.{statement}

@@ -1,4 +1,4 @@
--- The call with a list and without reasons.
+-- `difference_by` meets its contract: it is the call with a list and without reasons.
 use Rattle.calls.proofs.Differences.{plain-part}
 use borrow.Author.Needs.{needs}
 use Rattle.calls.proofs.differing.difference_by.Statement.{statement}

@@ -1,4 +1,4 @@
--- The table is opened and the list tested; then the records are read.
+-- `difference_by_with` meets its contract: the table is tested, then the list; then the difference is written.
 use mathlib.Core.Path.{sym, _∙_}
 use borrow.Author.Tests.{not-true, not-false}
 use Rattle.lattice.proofs.Acceptance.{opened-accepted}

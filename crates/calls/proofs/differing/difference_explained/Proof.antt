@@ -1,4 +1,4 @@
--- The call without a list, with reasons.
+-- `difference_explained` meets its contract: it is the call without a list and with reasons.
 use mathlib.Core.Path.{_∙_}
 use Rattle.calls.proofs.Differences.{with-explaining}
 use borrow.Author.Needs.{needs}

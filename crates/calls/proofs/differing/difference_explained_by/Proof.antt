@@ -1,4 +1,4 @@
--- The call with a list and reasons.
+-- `difference_explained_by` meets its contract: it is the call with a list and with reasons.
 use mathlib.Core.Path.{_∙_}
 use Rattle.calls.proofs.Differences.{with-explaining-by}
 use borrow.Author.Needs.{needs}

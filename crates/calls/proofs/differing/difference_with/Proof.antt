@@ -1,4 +1,4 @@
--- The table is opened; then the records are read.
+-- `difference_with` meets its contract: the table is tested; then the difference is written.
 use mathlib.Core.Path.{sym, _∙_}
 use Rattle.lattice.proofs.Acceptance.{opened-accepted}
 use Rattle.calls.proofs.Differences.{differing-refused, differing-accepted}

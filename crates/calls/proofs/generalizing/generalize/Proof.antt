@@ -1,4 +1,4 @@
--- The call without a list.
+-- `generalize` meets its contract: it is the call without a list.
 use mathlib.Core.Path.{refl, _∙_}
 use Rattle.calls.proofs.Beside.{generalizing-plain}
 use borrow.Author.Needs.{needs}

@@ -1,4 +1,4 @@
--- The table is opened; then the records are compared.
+-- `order` meets its contract: the table is tested; then the records are compared.
 use mathlib.Core.Path.{sym, _∙_}
 use Rattle.engine.proofs.Tables.{few-types}
 use Rattle.calls.proofs.Tables.{ordering-refused, ordering-accepted}

@@ -1,4 +1,4 @@
--- The table is opened and the list tested; then the record is rewritten.
+-- `rewrite_beside` meets its contract: the table is tested, then the list; then the record is rewritten.
 use mathlib.Core.Path.{refl, sym, _∙_}
 use mathlib.Core.Logic.{⊎-elim, inl, inr}
 use borrow.Author.Tests.{not-true, not-false}

@@ -1,4 +1,4 @@
--- The call with a list.
+-- `unify_appropriate` meets its contract: it is the call with a list.
 use mathlib.Core.Path.{refl, _∙_}
 use Rattle.graphs.proofs.Search.{true-false}
 use Rattle.calls.proofs.Beside.{unifying-listed}

@@ -1,4 +1,4 @@
--- The table is opened and the list tested; then the records go on.
+-- `unify_beside` meets its contract: the table is opened and the list is tested; then the combination is written.
 use mathlib.Core.Path.{refl, sym, _∙_}
 use mathlib.Core.Logic.{⊎-elim, inl, inr}
 use borrow.Author.Tests.{not-true, not-false}

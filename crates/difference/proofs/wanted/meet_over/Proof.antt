@@ -1,4 +1,4 @@
--- `meet_over` meets its contract. The loop's invariant: the labels of g's nodes from y on are met.
+-- `meet_over` meets its contract. The loop's invariant: the arrays hold the meets of the labels of g's nodes from y on.
 use borrow.Author.Needs.{needs}
 use mathlib.Core.Path.{ap}
 use native.Mathlib.Omega.{arith}

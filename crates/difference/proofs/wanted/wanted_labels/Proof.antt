@@ -1,4 +1,4 @@
--- `wanted_labels` meets its contract. The loop's invariant: the nodes before v have their wanted labels.
+-- `wanted_labels` meets its contract. The loop's invariant: the wanted labels of the nodes before v are stored.
 use mathlib.Core.Path.{ap}
 use Prim.Native.Nat.{ℕ, _-_}
 use native.Mathlib.Omega.{arith}

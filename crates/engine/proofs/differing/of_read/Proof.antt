@@ -1,4 +1,4 @@
--- A refused record is answered; of two accepted ones the difference is made.
+-- `differing::of_read` meets its contract: a refused record gives its refusal; else the difference of the two graphs is written.
 use Rattle.engine.proofs.Differences.{parting-refused, parting-both}
 use borrow.Author.Needs.{needs}
 use Rattle.engine.proofs.differing.of_read.Statement.{statement}

@@ -1,4 +1,4 @@
--- Two records are read; where both are accepted, the second is numbered as written.
+-- `read_numbered` meets its contract: two records are read; where both are accepted, the second graph is numbered as written.
 use mathlib.Core.Path.{_≡_, refl, subst}
 use mathlib.Core.List.{List}
 use Prim.Native.Nat.{ℕ}

@@ -1,4 +1,4 @@
--- The operation is done by the bounds as they are held.
+-- `generalizing::of_graphs` meets its contract: the joins that are held are the joins of the table.
 use Rattle.engine.proofs.CommonParts.{ready-to-join, generalized-as}
 use borrow.Author.Needs.{needs}
 use Rattle.engine.proofs.generalizing.of_graphs.Statement.{statement}

@@ -1,4 +1,4 @@
--- Both records are short or not: the words that are lent have room for their graphs.
+-- `generalizing::of_records` meets its contract: the lent words have room for the two graphs, whether both records are short or not.
 use Prim.Native.Nat.{ℕ}
 use native.Mathlib.Omega.{arith}
 use lib.ListN.{length-replicate}

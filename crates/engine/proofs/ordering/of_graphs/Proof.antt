@@ -1,4 +1,4 @@
--- Two graphs are compared in both directions.
+-- `ordering::of_graphs` meets its contract: two graphs are compared in both directions.
 use mathlib.Core.Path.{_∙_}
 use Rattle.record.proofs.Loaded.{both-recorded}
 use Rattle.engine.proofs.Orders.{compared-ordered}

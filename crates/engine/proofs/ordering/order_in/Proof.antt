@@ -1,4 +1,4 @@
--- Two records are read, and compared where both are accepted.
+-- `order_in` meets its contract: two records are read, and their graphs are compared where both are accepted.
 use mathlib.Core.Path.{refl, sym, _∙_}
 use Rattle.pairs.proofs.Readings.{both-loaded, both-next, both-refused, optional-none, reads-plain}
 use Rattle.engine.specs.Ordering.{ordered}

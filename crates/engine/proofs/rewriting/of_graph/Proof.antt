@@ -1,4 +1,4 @@
--- A graph in words is written.
+-- `of_graph` meets its contract: the graph is written.
 use Rattle.engine.proofs.Written.{replied-as}
 use borrow.Author.Needs.{needs}
 use Rattle.engine.proofs.rewriting.of_graph.Statement.{statement}

@@ -1,4 +1,4 @@
--- A record is read, and its graph written where it is accepted.
+-- `rewrite_in` meets its contract: a record is read, and its graph is written where the record is accepted.
 use mathlib.Core.Path.{_∙_}
 use Rattle.pairs.proofs.Readings.{told-accepted}
 use Rattle.engine.proofs.Written.{rewritten-refused, rewritten-accepted}

@@ -1,4 +1,4 @@
--- `combined_reply` meets its contract: by what was written, and by the cases without a record.
+-- `combined_reply` meets its contract, case by case.
 use mathlib.Core.Path.{sym, _∙_, ap}
 use Rattle.engine.specs.Unifying.{combinedReply}
 use borrow.Author.Needs.{needs}

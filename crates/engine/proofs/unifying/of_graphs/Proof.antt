@@ -1,4 +1,4 @@
--- The operation is done by the bounds as they are held.
+-- `unifying::of_graphs` meets its contract: the meets that are held are the meets of the table.
 use Rattle.engine.proofs.Combinations.{ready-to-combine, unified-as}
 use borrow.Author.Needs.{needs}
 use Rattle.engine.proofs.unifying.of_graphs.Statement.{statement}

@@ -1,4 +1,4 @@
--- A refused record is answered; the graphs of two accepted ones go on.
+-- `unifying::of_read` meets its contract: a refused record gives its refusal; else the combination of the two graphs is written.
 use mathlib.Core.Path.{sym, _∙_}
 use Rattle.replies.specs.Reply.{refusing}
 use Rattle.pairs.proofs.Readings.{both-next, both-refused}

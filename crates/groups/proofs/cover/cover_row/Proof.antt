@@ -1,4 +1,4 @@
--- `cover_row` meets its contract. The loop's invariant: the row of y is laid over its row of s up to place k.
+-- `cover_row` meets its contract. The loop's invariant: the links of y before place k are laid over links of s.
 use mathlib.Core.Path.{sym, _∙_}
 use Prim.Native.Nat.{_+_, _-_}
 use native.Mathlib.Omega.{arith}

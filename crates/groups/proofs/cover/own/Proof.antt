@@ -1,4 +1,4 @@
--- `own` meets its contract: the first node becomes the owner, later ones join its class.
+-- `own` meets its contract: the first node becomes the owner, and the class of each later node becomes one with the owner's.
 use borrow.Author.Needs.{needs}
 use native.Mathlib.Omega.{arith}
 use mathlib.Core.Path.{refl}

@@ -1,4 +1,4 @@
--- `by_number` meets its contract: the list is not asked.
+-- `by_number` meets its contract: an order without a list is document 01's.
 use Rattle.groups.proofs.LinkOrders.{number-order}
 use Rattle.groups.proofs.link_orders.by_number.Statement.{statement}
 use Rattle.groups.proofs.link_orders.by_number.Tie as tie

@@ -1,4 +1,4 @@
--- `is_reading_order` meets its contract. The loop's invariant: `seen` tells the features before place i, and none came twice.
+-- `is_reading_order` meets its contract. The loop's invariant: `seen` has 1 for the features before place i, and no feature came twice.
 use Prim.Native.Nat.{ℕ, _-_}
 use native.Mathlib.Omega.{arith}
 use lib.ListN.{length-replicate, getD-replicate}

@@ -1,4 +1,4 @@
--- `places` meets its contract. The loop's invariant: the features before place i have their places.
+-- `places` meets its contract. The loop's invariant: the place is stored for each feature that stands before place i.
 use Prim.Native.Nat.{ℕ, _-_}
 use native.Mathlib.Omega.{arith}
 use lib.ListN.{length-replicate}
