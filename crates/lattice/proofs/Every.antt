@@ -23,9 +23,9 @@ pub and-both : (a b : Bool) → a ≡ true → b ≡ true → a && b ≡ true
 and-both true b g h = h
 and-both false b g h = g
 
--- four tests that passed leave the fifth to decide
-pub fifth-decides : {a b c d e : Bool} → a ≡ true → b ≡ true → c ≡ true → d ≡ true → e ≡ (a && b && c && d && e)
-fifth-decides f g h k = rw (f, g, h, k)
+-- three tests that passed leave the fourth to decide
+pub fourth-decides : {a b c d : Bool} → a ≡ true → b ≡ true → c ≡ true → d ≡ (a && b && c && d)
+fourth-decides f g h = rw (f, g, h)
 
 pub implies-at : (a b : Bool) → implies a b ≡ true → a ≡ true → b ≡ true
 implies-at true b h g = h

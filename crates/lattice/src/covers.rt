@@ -1,23 +1,8 @@
 // Whether every two types of an order have a meet. It is enough that every two have one that one type covers.
 ghost use mathlib.Core.Path.{_≡_};
-ghost use Prim.Native.Nat.{_<_, _≤_};
+ghost use Prim.Native.Nat.{ℕ, _<_, _≤_};
+ghost use lib.ListN.{getD};
 ghost use Rattle.lattice.specs.Words.{allFound, wordBound, Sided, Inside, Lower, Covered, BoundsWith, BoundsWithin};
-
-// The types that type i covers: of those strictly below it the highest numbered is taken for one, all below it are put aside, and so on.
-// Where it lies below one that is taken later, as in a table that is not numbered along its order, it is put aside then.
-fn covered(n: usize, down: &[u64; 64], i: usize) -> u64
-    requires { ⌜ (i < n) × (n ≤ 64) × Lower n (now down) ⌝ }
-    ensures { λ r. ⌜ Covered n (now (down .entry)) i r ⌝ }
-{
-    let mut left = super::words::cleared(down[i], i);
-    let mut word = 0u64;
-    while left != 0 {
-        let c = super::words::end_bit(left, false);
-        word = super::words::without(word, down[c]) | (1u64 << c);
-        left = super::words::without(left, down[c]);
-    }
-    word
-}
 
 // Whether type a has a meet with every type of a word.
 fn is_bounded_with(n: usize, down: &[u64; 64], a: usize, word: u64) -> bool
@@ -51,6 +36,21 @@ fn are_bounded_within(n: usize, down: &[u64; 64], word: u64) -> bool
     true
 }
 
+// Whether every two types have a meet, from the types that each type covers.
+pub fn are_covers_bounded(n: usize, down: &[u64; 64], covers: &[u64; 64]) -> bool
+    requires { ⌜ (n ≤ 64) × Lower n (now down) × ((i : ℕ) → i < n → Covered n (now down) i (getD (now covers) i 0)) ⌝ }
+    ensures { λ r. ⌜ r ≡ allFound n (wordBound n (now (down .entry))) ⌝ }
+{
+    let mut i = 0;
+    while i < n {
+        if !are_bounded_within(n, down, covers[i]) {
+            return false;
+        }
+        i += 1;
+    }
+    true
+}
+
 // Whether every two types have a meet.
 pub fn are_bounded(n: usize, down: &[u64; 64]) -> bool
     requires { ⌜ (n ≤ 64) × Lower n (now down) ⌝ }
@@ -58,8 +58,8 @@ pub fn are_bounded(n: usize, down: &[u64; 64]) -> bool
 {
     let mut i = 0;
     while i < n {
-        let word = covered(n, down, i);
-        if !are_bounded_within(n, down, word) {
+        let covers = super::order::covers_of(n, down, i);
+        if !are_bounded_within(n, down, covers.word) {
             return false;
         }
         i += 1;

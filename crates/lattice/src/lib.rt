@@ -33,10 +33,11 @@ pub fn accept(n: usize, table: &[u8]) -> Opened
         return Opened::Refused(TableFault::Size);
     }
     let down = words::read_words(n, table);
-    if !order::is_ordered(n, &down) {
+    let mut covers = [0u64; 64];
+    if !order::find_covers(n, &down, &mut covers) {
         return Opened::Refused(TableFault::Order);
     }
-    bounded(covers::are_bounded(n, &down))
+    bounded(covers::are_covers_bounded(n, &down, &covers))
 }
 
 // The answer by whether every two types of an order have a bound.

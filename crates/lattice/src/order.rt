@@ -1,9 +1,9 @@
 // The tests of refusals 1 and 2: the size is right; the rows are an order, 0 is the least type and n - 1 the greatest.
 ghost use mathlib.Core.Path.{_≡_};
 ghost use Prim.Native.Nat.{_<_, _≤_};
-ghost use lib.ListN.{getD};
-ghost use Rattle.lattice.specs.Table.{every, implies, sized};
-ghost use Rattle.lattice.specs.Words.{bit, Union, pairOrdered, rowOrdered};
+ghost use lib.ListN.{length};
+ghost use Rattle.lattice.specs.Table.{every, sized};
+ghost use Rattle.lattice.specs.Words.{rowSet, rowOrdered, Owned, CoversOf, CoversFound};
 
 // Whether n is 2 to 64 and the table has 8 bytes for each type.
 pub fn is_sized(n: usize, table: &[u8]) -> bool
@@ -18,35 +18,10 @@ pub fn is_sized(n: usize, table: &[u8]) -> bool
     table.len() == 8 * n
 }
 
-// The union of the rows of a word's types.
-pub fn unite_rows(down: &[u64; 64], word: u64) -> u64
-    ensures { λ r. ⌜ Union (now (down .entry)) word r ⌝ }
-{
-    let mut left = word;
-    let mut all = 0u64;
-    while left != 0 {
-        let j = super::words::end_bit(left, true);
-        all |= down[j];
-        left = super::words::without_lowest(left);
-    }
-    all
-}
-
-// Whether the pairs of type i with every type below it are ordered: what is below a type strictly below i is strictly below i.
-pub fn are_pairs_ordered(down: &[u64; 64], i: usize) -> bool
-    requires { ⌜ i < 64 ⌝ }
-    ensures { λ r. ⌜ r ≡ every 64 (λ j. implies (bit (getD (now (down .entry)) i 0) j) (pairOrdered (now (down .entry)) i j)) ⌝ }
-{
-    let row = down[i];
-    let lower = super::words::cleared(row, i);
-    let all = unite_rows(down, lower);
-    all & lower == all
-}
-
-// Whether row i has no bit at n or above, has its own bit and that of 0, bit i of row n - 1 is set, and its pairs are ordered.
-pub fn is_row_ordered(n: usize, down: &[u64; 64], i: usize) -> bool
+// Whether row i has no bit at n or above, has its own bit and that of 0, and bit i of row n - 1 is set.
+fn is_row_set(n: usize, down: &[u64; 64], i: usize) -> bool
     requires { ⌜ (i < n) × (n ≤ 64) ⌝ }
-    ensures { λ r. ⌜ r ≡ rowOrdered n (now (down .entry)) i ⌝ }
+    ensures { λ r. ⌜ r ≡ rowSet n (now (down .entry)) i ⌝ }
 {
     if 1 < down[i] >> (n - 1) {
         return false;
@@ -57,10 +32,76 @@ pub fn is_row_ordered(n: usize, down: &[u64; 64], i: usize) -> bool
     if !super::words::has_bit(down[i], 0) {
         return false;
     }
-    if !super::words::has_bit(down[n - 1], i) {
+    super::words::has_bit(down[n - 1], i)
+}
+
+// Whether it is so of every row.
+fn are_rows_set(n: usize, down: &[u64; 64]) -> bool
+    requires { ⌜ n ≤ 64 ⌝ }
+    ensures { λ r. ⌜ r ≡ every n (rowSet n (now (down .entry))) ⌝ }
+{
+    let mut i = 0;
+    while i < n {
+        if !is_row_set(n, down, i) {
+            return false;
+        }
+        i += 1;
+    }
+    true
+}
+
+// The types that a type covers, and whether what is below each of them is strictly below it.
+pub struct Covers {
+    pub ordered: bool,
+    pub word: u64,
+}
+
+// The types that type i covers: of those strictly below it the highest numbered is taken for one, all below it are put aside, and so on.
+// Where it lies below one that is taken later, as in a table that is not numbered along its order, it is put aside then.
+pub fn covers_of(n: usize, down: &[u64; 64], i: usize) -> Covers
+    requires { ⌜ (i < n) × (n ≤ 64) × Owned n (now down) ⌝ }
+    ensures { λ r. ⌜ CoversOf n (now (down .entry)) i (r .ordered) (r .word) ⌝ }
+{
+    let row = down[i];
+    let lower = super::words::cleared(row, i);
+    let mut left = lower;
+    let mut word = 0u64;
+    while left != 0 {
+        let c = super::words::end_bit(left, false);
+        let below = down[c];
+        if below & lower != below {
+            return Covers {
+                ordered: false,
+                word,
+            };
+        }
+        word = super::words::without(word, below) | (1u64 << c);
+        left = super::words::without(left, below);
+    }
+    Covers {
+        ordered: true,
+        word,
+    }
+}
+
+// Whether the rows pass all the tests of refusal 2. If so, `covers[i]` has the types that type i covers.
+pub fn find_covers(n: usize, down: &[u64; 64], covers: &mut [u64; 64]) -> bool
+    requires { ⌜ (n ≤ 64) × (length (now covers) ≡ 64) ⌝ }
+    ensures { λ r. ⌜ CoversFound n (now (down .entry)) r (now (covers .exit)) ⌝ }
+{
+    if !are_rows_set(n, down) {
         return false;
     }
-    are_pairs_ordered(down, i)
+    let mut i = 0;
+    while i < n {
+        let found = covers_of(n, down, i);
+        if !found.ordered {
+            return false;
+        }
+        covers[i] = found.word;
+        i += 1;
+    }
+    true
 }
 
 // Whether the rows pass all the tests of refusal 2.
@@ -68,12 +109,6 @@ pub fn is_ordered(n: usize, down: &[u64; 64]) -> bool
     requires { ⌜ n ≤ 64 ⌝ }
     ensures { λ r. ⌜ r ≡ every n (rowOrdered n (now (down .entry))) ⌝ }
 {
-    let mut i = 0;
-    while i < n {
-        if !is_row_ordered(n, down, i) {
-            return false;
-        }
-        i += 1;
-    }
-    true
+    let mut covers = [0u64; 64];
+    find_covers(n, down, &mut covers)
 }

@@ -18,15 +18,17 @@ abbrev μ-loop : tie.MeasureT-loop
 loop-holds : tie.Need-loop-holds Inv-loop μ-loop
 loop-holds c = (search needs, λ z l. absurd (not-suc-le-zero l))
 
-covered-requires : tie.Need-covered-requires Inv-loop μ-loop
-covered-requires c κs = search needs
+covers-of-requires : tie.Need-covers-of-requires Inv-loop μ-loop
+covers-of-requires c κs =
+    let side = c .before .before .pre .1 .sided in
+    (search needs, search needs, record { own = side .own; inside = side .inside })
 
 are-bounded-within-requires : tie.Need-are-bounded-within-requires Inv-loop μ-loop
 are-bounded-within-requires c κs =
     let start = c .before .before .before in
     let turn = c .before .before .loop in
     let side = start .pre .1 .sided in
-    (start .pre .0, side, covered-inside (start .args .n) (start .args .down .now) (turn .i) _ (search needs) side (c .covered .ensures))
+    (start .pre .0, side, covered-inside (start .args .n) (start .args .down .now) (turn .i) _ (search needs) side (c .covers-of .ensures .covers (start .pre .1)))
 
 returns : tie.Need-returns Inv-loop μ-loop
 returns c =
@@ -43,7 +45,7 @@ loop-again c =
     let turn = c .before .before .before .before .loop in
     let start = c .before .before .before .before .before in (
       search needs,
-      covers-more (start .args .n) (start .args .down .now) (turn .i) _ (turn .inv .1) (c .before .before .covered .ensures)
+      covers-more (start .args .n) (start .args .down .now) (turn .i) _ (turn .inv .1) (c .before .before .covers-of .ensures .covers (start .pre .1))
           (subst (BoundsWithin (start .args .n) (start .args .down .now) _) (not-false _ (c .if1 .left)) (c .before .are-bounded-within .ensures)),
     )
 
@@ -60,7 +62,7 @@ are-bounded-spec =
     Inv-loop
     μ-loop
     loop-holds
-    covered-requires
+    covers-of-requires
     are-bounded-within-requires
     returns
     add-i

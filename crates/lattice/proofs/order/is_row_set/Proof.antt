@@ -1,11 +1,10 @@
--- `is_row_ordered` meets its contract, return by return.
+-- `is_row_set` meets its contract, return by return.
 use mathlib.Core.Path.{_∙_}
 use borrow.Author.Tests.{le-leb, lt-leb}
-use Rattle.lattice.specs.Words.{rowOrdered}
-use Rattle.lattice.proofs.Every.{fifth-decides, refuted, held}
+use Rattle.lattice.proofs.Every.{fourth-decides, refuted, held}
 use borrow.Author.Needs.{needs}
-use Rattle.lattice.proofs.order.is_row_ordered.Statement.{statement}
-use Rattle.lattice.proofs.order.is_row_ordered.Tie as tie
+use Rattle.lattice.proofs.order.is_row_set.Statement.{statement}
+use Rattle.lattice.proofs.order.is_row_set.Tie as tie
 
 mul-if1 : tie.Need-mul-if1
 mul-if1 c = search needs
@@ -20,7 +19,6 @@ shr-if1 : tie.Need-shr-if1
 shr-if1 c = search needs
 
 returns : tie.Need-returns
-unfolding rowOrdered
 returns c = simp (lt-leb _ _ (c .if1 .taken))
 
 mul-has-bit : tie.Need-mul-has-bit
@@ -33,7 +31,6 @@ has-bit-requires : tie.Need-has-bit-requires
 has-bit-requires c κs = search needs
 
 returns-2 : tie.Need-returns-2
-unfolding rowOrdered
 returns-2 c = simp (le-leb _ _ (c .before .before .before .if1 .left), refuted (c .before .has-bit .ensures) (c .if2 .taken))
 
 mul-has-bit-2 : tie.Need-mul-has-bit-2
@@ -46,7 +43,6 @@ has-bit-requires-2 : tie.Need-has-bit-requires-2
 has-bit-requires-2 c κs = search needs
 
 returns-3 : tie.Need-returns-3
-unfolding rowOrdered
 returns-3 c =
     simp (
       le-leb _ _ (c .before .before .before .before .before .before .if1 .left),
@@ -67,30 +63,14 @@ has-bit-requires-3 : tie.Need-has-bit-requires-3
 has-bit-requires-3 c κs = search needs
 
 returns-4 : tie.Need-returns-4
-unfolding rowOrdered
 returns-4 c =
-    simp (
-      le-leb _ _ (c .before .before .before .before .before .before .before .before .before .if1 .left),
-      held (c .before .before .before .before .before .before .before .has-bit .ensures) (c .before .before .before .before .before .before .if2 .left),
-      held (c .before .before .before .before .has-bit2 .ensures) (c .before .before .before .if3 .left),
-      refuted (c .before .has-bit3 .ensures) (c .if4 .taken),
-    )
+    c .has-bit3 .ensures ∙
+    fourth-decides (le-leb _ _ (c .before .before .before .before .before .before .before .before .if1 .left))
+    (held (c .before .before .before .before .before .before .has-bit .ensures) (c .before .before .before .before .before .if2 .left))
+    (held (c .before .before .before .has-bit2 .ensures) (c .before .before .if3 .left))
 
-are-pairs-ordered-requires : tie.Need-are-pairs-ordered-requires
-are-pairs-ordered-requires c κs = search needs
-
-returns-5 : tie.Need-returns-5
-unfolding rowOrdered
-returns-5 c =
-    c .are-pairs-ordered .ensures ∙
-    fifth-decides
-    (le-leb _ _ (c .before .before .before .before .before .before .before .before .before .before .if1 .left))
-    (held (c .before .before .before .before .before .before .before .before .has-bit .ensures) (c .before .before .before .before .before .before .before .if2 .left))
-    (held (c .before .before .before .before .before .has-bit2 .ensures) (c .before .before .before .before .if3 .left))
-    (held (c .before .before .has-bit3 .ensures) (c .before .if4 .left))
-
-pub is-row-ordered-spec : {M : Type 1} → statement M
-is-row-ordered-spec =
+pub is-row-set-spec : {M : Type 1} → statement M
+is-row-set-spec =
     tie.close
     (tie.spec
     mul-if1
@@ -110,6 +90,4 @@ is-row-ordered-spec =
     mul-has-bit-3
     element-copy-out-has-bit-3
     has-bit-requires-3
-    returns-4
-    are-pairs-ordered-requires
-    returns-5)
+    returns-4)

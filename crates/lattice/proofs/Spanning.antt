@@ -1,0 +1,232 @@
+-- The test of an order by covers. Of the types strictly below i the highest numbered is taken, its word is tested to have only types
+-- strictly below i, all below it are put aside, and so on. Where every row passes, every pair is ordered: a type x strictly below i is
+-- below a taken type c, the word of c is less than that of i, so what is below x is below c, and what is below c is strictly below i.
+use Prim.Native.Nat.{ℕ, zero, suc, _+_, _-_, _/_, _^_, _<_, _≤_}
+use mathlib.Core.Path.{_≡_, refl, sym, ap, ap₂, subst, _∙_}
+use mathlib.Core.Bool.{Bool, true, false, not, _&&_}
+use mathlib.Core.List.{List}
+use mathlib.Core.Logic.{_⊎_, inl, inr, ⊎-elim}
+use native.Mathlib.Nat.{not-suc-le-zero}
+use native.Mathlib.Omega.{arith}
+use lib.ListN.{length, getD, set}
+use lib.Seq.{getD-set-same, getD-set-other}
+use lib.Bits.{bitAnd, bitOr, and-comm, and-le-l}
+use lib.Dec.{leb, eqb}
+use borrow.Author.Count.{below-more}
+use borrow.Author.Tests.{eq-eqb, ne-eqb, eqb-true, not-true}
+use Rattle.lattice.specs.Table.{every, implies}
+use Rattle.lattice.specs.Words.{
+  bit,
+  without,
+  strictly,
+  partOf,
+  pairOrdered,
+  pairsOrdered,
+  rowSet,
+  rowOrdered,
+  Owned,
+  Spans,
+  Spanned,
+  CoversOf,
+  CoversFound,
+  Lower,
+  Covered,
+}
+use Rattle.lattice.proofs.Every.{and-left, and-right, and-both, true-not-false, not-true-false, implies-from, every-at, every-all, every-fails, every-same}
+use Rattle.lattice.proofs.Bits.{no-bit, without-bit, without-less, cleared-bit, cleared-less, part-bit, part-from, short-inside}
+use Rattle.lattice.proofs.Parts.{cleared-part}
+use Rattle.lattice.proofs.Covering.{Taking, take-begin, take-next, take-end, strictly-under, below-strictly}
+
+and-yes : (b : Bool) → b && true ≡ b
+and-yes true = refl
+and-yes false = refl
+
+-- of a type j strictly below i: the pair is ordered where what is below j is strictly below i
+pair-lower : (ws : List ℕ) (i j : ℕ)
+    → implies (bit (strictly ws i) j) (partOf (getD ws j 0) (strictly ws i))
+    ≡ implies (bit (getD ws i 0) j) (pairOrdered ws i j)
+unfolding pairOrdered
+pair-lower ws i j = go (eqb j i) refl where
+  apart-only : (x b : Bool) → b ≡ false → not x ≡ implies x b
+  apart-only true b e = sym e
+  apart-only false b e = refl
+
+  go : (b : Bool) → eqb j i ≡ b
+      → implies (bit (strictly ws i) j) (partOf (getD ws j 0) (strictly ws i))
+      ≡ implies (bit (getD ws i 0) j) (partOf (getD ws j 0) (getD ws i 0) && implies (bit (getD ws j 0) i) (eqb i j))
+  go true e =
+      let q : j ≡ i = eqb-true j i e in
+      implies-from (bit (strictly ws i) j) (partOf (getD ws j 0) (strictly ws i))
+      (λ h.
+      absurd
+      (true-not-false (eqb j i) e
+      (not-true (eqb j i) (and-right (bit (getD ws i 0) j) (not (eqb j i)) (sym (cleared-bit (getD ws i 0) i j) ∙ h))))) ∙
+      sym
+      (implies-from (bit (getD ws i 0) j) (partOf (getD ws j 0) (getD ws i 0) && implies (bit (getD ws j 0) i) (eqb i j)) λ h.
+      and-both (partOf (getD ws j 0) (getD ws i 0)) (implies (bit (getD ws j 0) i) (eqb i j))
+      (part-from (getD ws j 0) (getD ws i 0) λ k f. ap (λ (a : ℕ). bit (getD ws a 0) k) (sym q) ∙ f)
+      (implies-from (bit (getD ws j 0) i) (eqb i j) λ f. eq-eqb i j (sym q)))
+  go false e =
+      let apart : eqb i j ≡ false = ne-eqb i j λ q. true-not-false (eqb j i) (eq-eqb j i (sym q)) e in
+      ap₂ (λ (x y : Bool). implies x y)
+      (cleared-bit (getD ws i 0) i j ∙ ap (λ (b : Bool). bit (getD ws i 0) j && not b) e ∙ and-yes (bit (getD ws i 0) j))
+      (cleared-part (getD ws j 0) (getD ws i 0) i ∙
+      ap (λ (b : Bool). partOf (getD ws j 0) (getD ws i 0) && b) (apart-only (bit (getD ws j 0) i) (eqb i j) apart))
+
+-- so it is of all pairs of i
+pairs-lower : (ws : List ℕ) (i : ℕ) → every 64 (λ j. implies (bit (strictly ws i) j) (partOf (getD ws j 0) (strictly ws i))) ≡ pairsOrdered ws i
+pairs-lower ws i = every-same _ _ 64 (λ j l. pair-lower ws i j)
+
+-- The types taken so far: every type strictly below i is left, or below one of them.
+pub record Spanning (n : ℕ) (ws : List ℕ) (i left word : ℕ) : Type 0 where
+  pub left-part : (j : ℕ) → bit left j ≡ true → bit (strictly ws i) j ≡ true
+  pub spanned : (x : ℕ) → bit (strictly ws i) x ≡ true → (bit left x ≡ true) ⊎ ((c : ℕ) × Spans ws i x c)
+  pub taking : Lower n ws → Taking n ws i left word
+
+module _ {n : ℕ} {ws : List ℕ} {i : ℕ} (li : i < n) where
+  pub span-begin : Spanning n ws i (strictly ws i) 0
+  span-begin = record { left-part = λ j e. e; spanned = λ x e. inl e; taking = λ low. take-begin low li }
+
+  pub span-end : {left word : ℕ} → left ≡ 0 → Spanning n ws i left word → CoversOf n ws i true word
+  span-end {left} e s =
+      record {
+        yes-stands = λ h x f.
+            ⊎-elim (λ (g : bit left x ≡ true). absurd (true-not-false (bit left x) g (ap (λ (w : ℕ). bit w x) e ∙ no-bit x))) (λ r. r)
+            (s .spanned x f);
+        no-stands = λ h. absurd (true-not-false true refl h);
+        covers = λ low. take-end low li e (s .taking low);
+      }
+
+  module _ {left word : ℕ} (s : Spanning n ws i left word) (c : ℕ) (small : c < 64) (stands : bit left c ≡ true) where
+    taken : Owned n ws → c < n
+    taken owned =
+        owned .inside i c li small
+        (and-left (bit (getD ws i 0) c) (not (eqb c i)) (sym (cleared-bit (getD ws i 0) i c) ∙ s .left-part c stands))
+
+    pub span-less : Owned n ws → without left (getD ws c 0) < left
+    span-less owned = without-less left (getD ws c 0) c stands (owned .own c (taken owned))
+
+    pub span-next : partOf (getD ws c 0) (strictly ws i) ≡ true
+        → Spanning n ws i (without left (getD ws c 0)) (bitOr (without word (getD ws c 0)) (2 ^ c))
+    span-next part =
+        record {
+          left-part = λ j e. s .left-part j (and-left (bit left j) (not (bit (getD ws c 0) j)) (sym (without-bit left (getD ws c 0) j) ∙ e));
+          spanned = λ x e. go x (bit (getD ws c 0) x) refl (s .spanned x e);
+          taking = λ low. take-next low li (s .taking low) c small stands;
+        }
+      where
+        go : (x : ℕ) (b : Bool) → bit (getD ws c 0) x ≡ b → (bit left x ≡ true) ⊎ ((c : ℕ) × Spans ws i x c)
+            → (bit (without left (getD ws c 0)) x ≡ true) ⊎ ((c : ℕ) × Spans ws i x c)
+        go x true e h = inr (c, record { small = small; under = s .left-part c stands; part = part; over = e })
+        go x false e (inl f) = inl (without-bit left (getD ws c 0) x ∙ rw (f, e))
+        go x false e (inr r) = inr r
+
+    -- a type below c is not strictly below i
+    pub span-fails : n ≤ 64 → Owned n ws → partOf (getD ws c 0) (strictly ws i) ≡ false → CoversOf n ws i false word
+    span-fails few owned e =
+        record {
+          yes-stands = λ h. absurd (true-not-false false h refl);
+          no-stands = λ h. sym (pairs-lower ws i) ∙ every-fails _ 64 c small (rw (s .left-part c stands, e));
+          covers = λ low.
+              let under = strictly-under ws i c (s .left-part c stands) in
+              absurd
+              (true-not-false (partOf (getD ws c 0) (strictly ws i))
+              (eq-eqb _ _ (below-strictly n ws few low i c li (taken owned) (under .below) (under .apart))) e);
+        }
+
+-- Where every row is spanned, all pairs are ordered.
+module _ {n : ℕ} {ws : List ℕ} (owned : Owned n ws) (spans : (i : ℕ) → i < n → Spanned ws i) where
+  -- what is below a type strictly below i is strictly below i, where the word of i is below k
+  lower-part : (k i x : ℕ) → i < n → getD ws i 0 < k → bit (strictly ws i) x ≡ true → partOf (getD ws x 0) (strictly ws i) ≡ true
+  lower-part zero i x li h e = absurd (not-suc-le-zero h)
+  lower-part (suc k) i x li h e = go (lower-part k) (spans i li x e) where
+    go : ((i x : ℕ) → i < n → getD ws i 0 < k → bit (strictly ws i) x ≡ true → partOf (getD ws x 0) (strictly ws i) ≡ true)
+        → (c : ℕ) × Spans ws i x c → partOf (getD ws x 0) (strictly ws i) ≡ true
+    go next (c, s) = at (eqb x c) refl where
+      least : getD ws c 0 < k
+      least =
+          omega (
+            arith,
+            eqb-true (bitAnd (getD ws c 0) (strictly ws i)) (getD ws c 0) (s .part),
+            and-comm (getD ws c 0) (strictly ws i),
+            and-le-l (strictly ws i) (getD ws c 0),
+            cleared-less (getD ws i 0) i (owned .own i li),
+          )
+
+      at : (b : Bool) → eqb x c ≡ b → partOf (getD ws x 0) (strictly ws i) ≡ true
+      at true q = ap (λ (j : ℕ). partOf (getD ws j 0) (strictly ws i)) (eqb-true x c q) ∙ s .part
+      at false q =
+          let in-n : c < n =
+          owned .inside i c li (s .small)
+          (and-left (bit (getD ws i 0) c) (not (eqb c i)) (sym (cleared-bit (getD ws i 0) i c) ∙ s .under)) in
+          let below : partOf (getD ws x 0) (strictly ws c) ≡ true =
+          next c x in-n least (cleared-bit (getD ws c 0) c x ∙ rw (s .over, q)) in
+          part-from (getD ws x 0) (strictly ws i) λ j f.
+          part-bit (getD ws c 0) (strictly ws i) (s .part) j
+          (and-left (bit (getD ws c 0) j) (not (eqb j c))
+          (sym (cleared-bit (getD ws c 0) c j) ∙ part-bit (getD ws x 0) (strictly ws c) below j f))
+
+  pairs-hold : (i : ℕ) → i < n → pairsOrdered ws i ≡ true
+  pairs-hold i li =
+      sym (pairs-lower ws i) ∙
+      every-all _ 64 λ j l. implies-from (bit (strictly ws i) j) (partOf (getD ws j 0) (strictly ws i)) (lower-part (suc (getD ws i 0)) i j li (omega arith))
+
+module _ (n : ℕ) (ws : List ℕ) where
+  -- rows that are set own their types
+  pub rows-owned : every n (rowSet n ws) ≡ true → Owned n ws
+  rows-owned h =
+      record {
+        own = λ i l.
+            and-right (leb (getD ws i 0 / 2 ^ (n - 1)) 1) (bit (getD ws i 0) i)
+            (and-left _ (bit (getD ws i 0) 0) (and-left _ (bit (getD ws (n - 1) 0) i) (every-at _ n i h l)));
+        inside = λ i j l s e.
+            short-inside n (getD ws i 0) j (omega arith)
+            (and-left (leb (getD ws i 0 / 2 ^ (n - 1)) 1) (bit (getD ws i 0) i)
+            (and-left _ (bit (getD ws i 0) 0) (and-left _ (bit (getD ws (n - 1) 0) i) (every-at _ n i h l))))
+            e;
+      }
+
+  -- the answer for all rows
+  pub rows-hold : every n (rowSet n ws) ≡ true → ((i : ℕ) → i < n → Spanned ws i) → every n (rowOrdered n ws) ≡ true
+  unfolding rowOrdered
+  rows-hold h spans =
+      every-all _ n λ i l. and-both (rowSet n ws i) (pairsOrdered ws i) (every-at _ n i h l) (pairs-hold (rows-owned h) spans i l)
+
+  pub rows-fail : (i : ℕ) → i < n → pairsOrdered ws i ≡ false → every n (rowOrdered n ws) ≡ false
+  unfolding rowOrdered
+  rows-fail i l e = every-fails _ n i l (none (rowSet n ws i) e)
+    where
+      none : (a : Bool) {b : Bool} → b ≡ false → a && b ≡ false
+      none true e = e
+      none false e = refl
+
+  pub rows-unset : every n (rowSet n ws) ≡ false → every n (rowOrdered n ws) ≡ false
+  unfolding rowOrdered
+  rows-unset e =
+      not-true-false (every n (rowOrdered n ws)) λ h.
+      true-not-false (every n (rowSet n ws)) (every-all _ n λ i l. and-left (rowSet n ws i) (pairsOrdered ws i) (every-at _ n i h l)) e
+
+  -- the first k rows are spanned, and `cs` has the words of the types that they cover
+  pub record CoversBefore (k : ℕ) (cs : List ℕ) : Type 0 where
+    pub spans : (i : ℕ) → i < k → Spanned ws i
+    pub covers : Lower n ws → (i : ℕ) → i < k → Covered n ws i (getD cs i 0)
+
+  pub found-none : (cs : List ℕ) → CoversBefore 0 cs
+  found-none cs = record { spans = λ i l. absurd (not-suc-le-zero l); covers = λ low i l. absurd (not-suc-le-zero l) }
+
+  pub found-more : (k w : ℕ) (cs : List ℕ) → k < length cs → CoversBefore k cs → CoversOf n ws k true w → CoversBefore (k + 1) (set cs k w)
+  found-more k w cs l b o =
+      record {
+        spans = below-more (Spanned ws) k (b .spans) (o .yes-stands refl);
+        covers = λ low.
+            below-more (λ i. Covered n ws i (getD (set cs k w) i 0)) k
+            (λ i r. subst (Covered n ws i) (sym (getD-set-other cs k i w 0 (λ q. absurd (omega arith)))) (b .covers low i r))
+            (subst (Covered n ws k) (sym (getD-set-same cs k w 0 l)) (o .covers low));
+      }
+
+  pub found-all : (k : ℕ) (cs : List ℕ) → every n (rowSet n ws) ≡ true → n ≤ k → CoversBefore k cs → CoversFound n ws true cs
+  found-all k cs h l b =
+      record { told = sym (rows-hold h (λ i r. b .spans i (omega arith))); covers = λ e low i r. b .covers low i (omega arith) }
+
+  pub found-fails : (cs : List ℕ) → every n (rowOrdered n ws) ≡ false → CoversFound n ws false cs
+  found-fails cs e = record { told = sym e; covers = λ h. absurd (true-not-false false h refl) }

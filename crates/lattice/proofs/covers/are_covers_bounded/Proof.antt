@@ -1,0 +1,73 @@
+-- `are_covers_bounded` meets its contract: every two types that one of the first i types covers have a bound.
+use Prim.Native.Nat.{_≤_, _-_}
+use mathlib.Core.Path.{sym, subst}
+use native.Mathlib.Nat.{not-suc-le-zero}
+use borrow.Author.Tests.{not-true, not-false}
+use Rattle.lattice.specs.Words.{BoundsWithin}
+use borrow.Author.Needs.{needs}
+use Rattle.lattice.proofs.Covering.{CoversBounded, covered-inside, covers-more, covers-bounded}
+use Rattle.lattice.proofs.covers.are_covers_bounded.Statement.{statement}
+use Rattle.lattice.proofs.covers.are_covers_bounded.Tie as tie
+
+abbrev Inv-loop : tie.InvT-loop
+Inv-loop n down covers i₀ i = (i ≤ n) × CoversBounded n down i
+
+abbrev μ-loop : tie.MeasureT-loop
+μ-loop n down covers i₀ i = n - i
+
+loop-holds : tie.Need-loop-holds Inv-loop μ-loop
+loop-holds c = (search needs, λ z l. absurd (not-suc-le-zero l))
+
+mul-are-bounded-within : tie.Need-mul-are-bounded-within Inv-loop μ-loop
+mul-are-bounded-within c = search needs
+
+element-copy-out-are-bounded-within : tie.Need-element-copy-out-are-bounded-within Inv-loop μ-loop
+element-copy-out-are-bounded-within c = search needs
+
+are-bounded-within-requires : tie.Need-are-bounded-within-requires Inv-loop μ-loop
+are-bounded-within-requires c κs =
+    let start = c .before .before .before in
+    let turn = c .before .before .loop in
+    let side = start .pre .1 .sided in
+    (start .pre .0, side, covered-inside (start .args .n) (start .args .down .now) (turn .i) _ (search needs) side (start .pre .2 (turn .i) (search needs)))
+
+returns : tie.Need-returns Inv-loop μ-loop
+returns c =
+    sym (c .before .are-bounded-within .ensures .no-stands (not-true _ (c .if1 .taken)))
+
+add-i : tie.Need-add-i Inv-loop μ-loop
+add-i c = search needs
+
+loop-less : tie.Need-loop-less Inv-loop μ-loop
+loop-less c = search needs
+
+loop-again : tie.Need-loop-again Inv-loop μ-loop
+loop-again c =
+    let turn = c .before .before .before .before .loop in
+    let start = c .before .before .before .before .before in (
+      search needs,
+      covers-more (start .args .n) (start .args .down .now) (turn .i) _ (turn .inv .1) (start .pre .2 (turn .i) (search needs))
+          (subst (BoundsWithin (start .args .n) (start .args .down .now) _) (not-false _ (c .if1 .left)) (c .before .are-bounded-within .ensures)),
+    )
+
+returns-2 : tie.Need-returns-2 Inv-loop μ-loop
+returns-2 c =
+    let turn = c .before .loop in
+    let start = c .before .before in
+    covers-bounded (start .args .n) (start .args .down .now) (start .pre .0) (start .pre .1) (turn .i) (search needs) (turn .inv .0) (turn .inv .1)
+
+pub are-covers-bounded-spec : {M : Type 1} → statement M
+are-covers-bounded-spec =
+    tie.close
+    (tie.spec
+    Inv-loop
+    μ-loop
+    loop-holds
+    mul-are-bounded-within
+    element-copy-out-are-bounded-within
+    are-bounded-within-requires
+    returns
+    add-i
+    loop-less
+    loop-again
+    returns-2)
