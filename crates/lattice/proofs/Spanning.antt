@@ -8,8 +8,7 @@ use mathlib.Core.List.{List}
 use mathlib.Core.Logic.{_⊎_, inl, inr, ⊎-elim}
 use native.Mathlib.Nat.{not-suc-le-zero}
 use native.Mathlib.Omega.{arith}
-use lib.ListN.{length, getD, set}
-use lib.Seq.{getD-set-same, getD-set-other}
+use lib.ListN.{getD}
 use lib.Bits.{bitAnd, bitOr, and-comm, and-le-l}
 use lib.Dec.{leb, eqb}
 use borrow.Author.Count.{below-more}
@@ -28,14 +27,28 @@ use Rattle.lattice.specs.Words.{
   Spans,
   Spanned,
   CoversOf,
-  CoversFound,
+  wordBound,
+  allFound,
+  Sided,
+  Inside,
   Lower,
-  Covered,
+  BoundsWithin,
 }
 use Rattle.lattice.proofs.Every.{and-left, and-right, and-both, true-not-false, not-true-false, implies-from, every-at, every-all, every-fails, every-same}
 use Rattle.lattice.proofs.Bits.{no-bit, without-bit, without-less, cleared-bit, cleared-less, part-bit, part-from, short-inside}
 use Rattle.lattice.proofs.Parts.{cleared-part}
-use Rattle.lattice.proofs.Covering.{Taking, take-begin, take-next, take-end, strictly-under, below-strictly}
+use Rattle.lattice.proofs.Covering.{
+  Taking,
+  take-begin,
+  take-next,
+  take-end,
+  strictly-under,
+  below-strictly,
+  CoversBounded,
+  covered-inside,
+  covers-more,
+  covers-bounded,
+}
 
 and-yes : (b : Bool) → b && true ≡ b
 and-yes true = refl
@@ -206,27 +219,44 @@ module _ (n : ℕ) (ws : List ℕ) where
       not-true-false (every n (rowOrdered n ws)) λ h.
       true-not-false (every n (rowSet n ws)) (every-all _ n λ i l. and-left (rowSet n ws i) (pairsOrdered ws i) (every-at _ n i h l)) e
 
-  -- the first k rows are spanned, and `cs` has the words of the types that they cover
-  pub record CoversBefore (k : ℕ) (cs : List ℕ) : Type 0 where
+  -- the first k rows are spanned; `all` tells whether every two types that one of the first k types covers have a bound
+  pub record Judging (k : ℕ) (all : Bool) : Type 0 where
     pub spans : (i : ℕ) → i < k → Spanned ws i
-    pub covers : Lower n ws → (i : ℕ) → i < k → Covered n ws i (getD cs i 0)
+    pub yes-stands : all ≡ true → Lower n ws → CoversBounded n ws k
+    pub no-stands : all ≡ false → Lower n ws → allFound n (wordBound n ws) ≡ false
 
-  pub found-none : (cs : List ℕ) → CoversBefore 0 cs
-  found-none cs = record { spans = λ i l. absurd (not-suc-le-zero l); covers = λ low i l. absurd (not-suc-le-zero l) }
-
-  pub found-more : (k w : ℕ) (cs : List ℕ) → k < length cs → CoversBefore k cs → CoversOf n ws k true w → CoversBefore (k + 1) (set cs k w)
-  found-more k w cs l b o =
+  pub judge-begin : Judging 0 true
+  judge-begin =
       record {
-        spans = below-more (Spanned ws) k (b .spans) (o .yes-stands refl);
-        covers = λ low.
-            below-more (λ i. Covered n ws i (getD (set cs k w) i 0)) k
-            (λ i r. subst (Covered n ws i) (sym (getD-set-other cs k i w 0 (λ q. absurd (omega arith)))) (b .covers low i r))
-            (subst (Covered n ws k) (sym (getD-set-same cs k w 0 l)) (o .covers low));
+        spans = λ i l. absurd (not-suc-le-zero l);
+        yes-stands = λ h low i l. absurd (not-suc-le-zero l);
+        no-stands = λ h. absurd (true-not-false true refl h);
       }
 
-  pub found-all : (k : ℕ) (cs : List ℕ) → every n (rowSet n ws) ≡ true → n ≤ k → CoversBefore k cs → CoversFound n ws true cs
-  found-all k cs h l b =
-      record { told = sym (rows-hold h (λ i r. b .spans i (omega arith))); covers = λ e low i r. b .covers low i (omega arith) }
+  module _ {k w : ℕ} {all : Bool} (j : Judging k all) (o : CoversOf n ws k true w) where
+    -- the bounds of the types that type k covers are sought, or one is missing already
+    pub judge-next : k < n → n ≤ 64 → all ≡ true → {answer : Bool} → (Sided n ws → Inside n w → BoundsWithin n ws w answer) → Judging (k + 1) answer
+    judge-next l few h {answer} told =
+        record {
+          spans = below-more (Spanned ws) k (j .spans) (o .yes-stands refl);
+          yes-stands = λ e low.
+              covers-more n ws k w (j .yes-stands h low) (o .covers low) (subst (BoundsWithin n ws w) e (at low));
+          no-stands = λ e low. at low .no-stands e;
+        }
+      where
+        at : Lower n ws → BoundsWithin n ws w answer
+        at low = told (low .sided) (covered-inside n ws k w l (low .sided) (o .covers low))
 
-  pub found-fails : (cs : List ℕ) → every n (rowOrdered n ws) ≡ false → CoversFound n ws false cs
-  found-fails cs e = record { told = sym e; covers = λ h. absurd (true-not-false false h refl) }
+    pub judge-kept : all ≡ false → Judging (k + 1) all
+    judge-kept h =
+        record {
+          spans = below-more (Spanned ws) k (j .spans) (o .yes-stands refl);
+          yes-stands = λ e. absurd (true-not-false all e h);
+          no-stands = j .no-stands;
+        }
+
+  pub judge-end : {k : ℕ} {all : Bool} → n ≤ 64 → n ≤ k → k ≤ n → Judging k all → Lower n ws → all ≡ allFound n (wordBound n ws)
+  judge-end {k} {all} few l r j low = go all refl where
+    go : (b : Bool) → all ≡ b → all ≡ allFound n (wordBound n ws)
+    go true e = e ∙ covers-bounded n ws few low k l r (j .yes-stands e low)
+    go false e = e ∙ sym (j .no-stands e low)

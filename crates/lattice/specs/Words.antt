@@ -150,11 +150,6 @@ pub record CoversOf (n : ℕ) (ws : List ℕ) (i : ℕ) (answer : Bool) (w : ℕ
   pub no-stands : answer ≡ false → pairsOrdered ws i ≡ false
   pub covers : Lower n ws → Covered n ws i w
 
--- an answer whether the rows are ordered; where they are, `cs` has a word of the types that each type covers
-pub record CoversFound (n : ℕ) (ws : List ℕ) (answer : Bool) (cs : List ℕ) : Type 0 where
-  pub told : answer ≡ every n (rowOrdered n ws)
-  pub covers : answer ≡ true → Lower n ws → (i : ℕ) → i < n → Covered n ws i (getD cs i 0)
-
 module _ (n : ℕ) (ws : List ℕ) where
   -- an answer whether type a has a bound with each type of w; where it has not, not every two types have one
   pub record BoundsWith (a w : ℕ) (answer : Bool) : Type 0 where

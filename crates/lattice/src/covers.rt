@@ -1,13 +1,12 @@
 // Whether every two types of an order have a meet. It is enough that every two have one that one type covers.
 ghost use mathlib.Core.Path.{_≡_};
 ghost use Prim.Native.Nat.{ℕ, _<_, _≤_};
-ghost use lib.ListN.{getD};
 ghost use Rattle.lattice.specs.Words.{allFound, wordBound, Sided, Inside, Lower, Covered, BoundsWith, BoundsWithin};
 
 // Whether type a has a meet with every type of a word.
-fn is_bounded_with(n: usize, down: &[u64; 64], a: usize, word: u64) -> bool
-    requires { ⌜ (a < n) × (n ≤ 64) × Sided n (now down) × Inside n word ⌝ }
-    ensures { λ r. ⌜ BoundsWith n (now (down .entry)) a word r ⌝ }
+fn is_bounded_with(down: &[u64; 64], a: usize, word: u64) -> bool
+    requires { ⌜ a < 64 ⌝ }
+    ensures { λ r. ⌜ ((n : ℕ) → a < n → n ≤ 64 → Sided n (now (down .entry)) → Inside n word → BoundsWith n (now (down .entry)) a word r) ⌝ }
 {
     let mut left = word;
     while left != 0 {
@@ -21,32 +20,16 @@ fn is_bounded_with(n: usize, down: &[u64; 64], a: usize, word: u64) -> bool
 }
 
 // Whether every two types of a word have a meet; each pair is tested once.
-fn are_bounded_within(n: usize, down: &[u64; 64], word: u64) -> bool
-    requires { ⌜ (n ≤ 64) × Sided n (now down) × Inside n word ⌝ }
-    ensures { λ r. ⌜ BoundsWithin n (now (down .entry)) word r ⌝ }
+pub fn are_bounded_within(down: &[u64; 64], word: u64) -> bool
+    ensures { λ r. ⌜ ((n : ℕ) → n ≤ 64 → Sided n (now (down .entry)) → Inside n word → BoundsWithin n (now (down .entry)) word r) ⌝ }
 {
     let mut left = word;
     while left != 0 {
         let a = super::words::end_bit(left, true);
         left = super::words::without_lowest(left);
-        if !is_bounded_with(n, down, a, left) {
+        if !is_bounded_with(down, a, left) {
             return false;
         }
-    }
-    true
-}
-
-// Whether every two types have a meet, from the types that each type covers.
-pub fn are_covers_bounded(n: usize, down: &[u64; 64], covers: &[u64; 64]) -> bool
-    requires { ⌜ (n ≤ 64) × Lower n (now down) × ((i : ℕ) → i < n → Covered n (now down) i (getD (now covers) i 0)) ⌝ }
-    ensures { λ r. ⌜ r ≡ allFound n (wordBound n (now (down .entry))) ⌝ }
-{
-    let mut i = 0;
-    while i < n {
-        if !are_bounded_within(n, down, covers[i]) {
-            return false;
-        }
-        i += 1;
     }
     true
 }
@@ -58,8 +41,8 @@ pub fn are_bounded(n: usize, down: &[u64; 64]) -> bool
 {
     let mut i = 0;
     while i < n {
-        let covers = super::order::covers_of(n, down, i);
-        if !are_bounded_within(n, down, covers.word) {
+        let found = super::order::covers_of(n, down, i);
+        if !are_bounded_within(down, found.word) {
             return false;
         }
         i += 1;

@@ -2,10 +2,14 @@
 // j of word i is set where type j is on one side of type i, below it or above it. Crate `bounds` opens a table for meets or joins. It
 // knows a table's bytes, and nothing of records.
 ghost use mathlib.Core.Path.{_≡_};
-ghost use mathlib.Core.Bool.{cond};
+ghost use mathlib.Core.Bool.{true, false, cond};
+ghost use mathlib.Core.List.{List};
+ghost use Prim.Native.Nat.{ℕ, _≤_};
 ghost use Rattle.lattice.specs.declared.TableFault.the-variants.{Bounds};
 ghost use Rattle.lattice.specs.declared.Opened.the-variants.{Accepted, Refused};
 ghost use Rattle.lattice.specs.Reply.{opened};
+ghost use Rattle.lattice.specs.Table.{sized};
+ghost use Rattle.lattice.specs.Words.{Words};
 
 pub mod covers;
 pub mod order;
@@ -33,11 +37,31 @@ pub fn accept(n: usize, table: &[u8]) -> Opened
         return Opened::Refused(TableFault::Size);
     }
     let down = words::read_words(n, table);
-    let mut covers = [0u64; 64];
-    if !order::find_covers(n, &down, &mut covers) {
+    judge(n, &down)
+}
+
+// What document 01 returns for a table of a right size, from its words. Types are covered once for both tests: a row that is not
+// ordered is refused at once, a meet that is missing only at the end, since 2 goes before 3.
+fn judge(n: usize, down: &[u64; 64]) -> Opened
+    requires { ⌜ n ≤ 64 ⌝ }
+    ensures { λ r. ⌜ ((t : List ℕ) → sized n t ≡ true → Words n t false (now (down .entry)) → r ≡ opened n t) ⌝ }
+{
+    if !order::are_rows_set(n, down) {
         return Opened::Refused(TableFault::Order);
     }
-    bounded(covers::are_covers_bounded(n, &down, &covers))
+    let mut all = true;
+    let mut i = 0;
+    while i < n {
+        let found = order::covers_of(n, down, i);
+        if !found.ordered {
+            return Opened::Refused(TableFault::Order);
+        }
+        if all {
+            all = covers::are_bounded_within(down, found.word);
+        }
+        i += 1;
+    }
+    bounded(all)
 }
 
 // The answer by whether every two types of an order have a bound.

@@ -1,9 +1,8 @@
 // The tests of refusals 1 and 2: the size is right; the rows are an order, 0 is the least type and n - 1 the greatest.
 ghost use mathlib.Core.Path.{_≡_};
 ghost use Prim.Native.Nat.{_<_, _≤_};
-ghost use lib.ListN.{length};
 ghost use Rattle.lattice.specs.Table.{every, sized};
-ghost use Rattle.lattice.specs.Words.{rowSet, rowOrdered, Owned, CoversOf, CoversFound};
+ghost use Rattle.lattice.specs.Words.{rowSet, rowOrdered, Owned, CoversOf};
 
 // Whether n is 2 to 64 and the table has 8 bytes for each type.
 pub fn is_sized(n: usize, table: &[u8]) -> bool
@@ -36,7 +35,7 @@ fn is_row_set(n: usize, down: &[u64; 64], i: usize) -> bool
 }
 
 // Whether it is so of every row.
-fn are_rows_set(n: usize, down: &[u64; 64]) -> bool
+pub fn are_rows_set(n: usize, down: &[u64; 64]) -> bool
     requires { ⌜ n ≤ 64 ⌝ }
     ensures { λ r. ⌜ r ≡ every n (rowSet n (now (down .entry))) ⌝ }
 {
@@ -84,10 +83,10 @@ pub fn covers_of(n: usize, down: &[u64; 64], i: usize) -> Covers
     }
 }
 
-// Whether the rows pass all the tests of refusal 2. If so, `covers[i]` has the types that type i covers.
-pub fn find_covers(n: usize, down: &[u64; 64], covers: &mut [u64; 64]) -> bool
-    requires { ⌜ (n ≤ 64) × (length (now covers) ≡ 64) ⌝ }
-    ensures { λ r. ⌜ CoversFound n (now (down .entry)) r (now (covers .exit)) ⌝ }
+// Whether the rows pass all the tests of refusal 2.
+pub fn is_ordered(n: usize, down: &[u64; 64]) -> bool
+    requires { ⌜ n ≤ 64 ⌝ }
+    ensures { λ r. ⌜ r ≡ every n (rowOrdered n (now (down .entry))) ⌝ }
 {
     if !are_rows_set(n, down) {
         return false;
@@ -98,17 +97,7 @@ pub fn find_covers(n: usize, down: &[u64; 64], covers: &mut [u64; 64]) -> bool
         if !found.ordered {
             return false;
         }
-        covers[i] = found.word;
         i += 1;
     }
     true
-}
-
-// Whether the rows pass all the tests of refusal 2.
-pub fn is_ordered(n: usize, down: &[u64; 64]) -> bool
-    requires { ⌜ n ≤ 64 ⌝ }
-    ensures { λ r. ⌜ r ≡ every n (rowOrdered n (now (down .entry))) ⌝ }
-{
-    let mut covers = [0u64; 64];
-    find_covers(n, down, &mut covers)
 }
