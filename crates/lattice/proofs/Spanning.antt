@@ -1,18 +1,19 @@
 -- The test of an order by covers. Of the types strictly below i the highest numbered is taken, its word is tested to have only types
 -- strictly below i, all below it are put aside, and so on. Where every row passes, every pair is ordered: a type x strictly below i is
 -- below a taken type c, the word of c is less than that of i, so what is below x is below c, and what is below c is strictly below i.
-use Prim.Native.Nat.{ℕ, zero, suc, _+_, _-_, _/_, _^_, _<_, _≤_}
+use Prim.Native.Nat.{ℕ, zero, suc, _+_, _*_, _-_, _/_, _^_, _<_, _≤_}
 use mathlib.Core.Path.{_≡_, refl, sym, ap, ap₂, subst, _∙_}
 use mathlib.Core.Bool.{Bool, true, false, not, _&&_}
 use mathlib.Core.List.{List}
 use mathlib.Core.Logic.{_⊎_, inl, inr, ⊎-elim}
-use native.Mathlib.Nat.{not-suc-le-zero}
+use native.Mathlib.Nat.{not-suc-le-zero, div-lt-iff-lt-mul}
 use native.Mathlib.Omega.{arith}
 use lib.ListN.{getD}
 use lib.Bits.{bitAnd, bitOr, and-comm, and-le-l}
 use lib.Dec.{leb, eqb}
+use lib.Pow.{pow-pos}
 use borrow.Author.Count.{below-more}
-use borrow.Author.Tests.{eq-eqb, ne-eqb, eqb-true, not-true}
+use borrow.Author.Tests.{eq-eqb, ne-eqb, eqb-true, le-leb, leb-true, not-true}
 use Rattle.lattice.specs.Table.{every, implies}
 use Rattle.lattice.specs.Words.{
   bit,
@@ -21,6 +22,7 @@ use Rattle.lattice.specs.Words.{
   partOf,
   pairOrdered,
   pairsOrdered,
+  rowInside,
   rowSet,
   rowOrdered,
   Owned,
@@ -184,19 +186,68 @@ module _ {n : ℕ} {ws : List ℕ} (owned : Owned n ws) (spans : (i : ℕ) → i
       sym (pairs-lower ws i) ∙
       every-all _ 64 λ j l. implies-from (bit (strictly ws i) j) (partOf (getD ws j 0) (strictly ws i)) (lower-part (suc (getD ws i 0)) i j li (omega arith))
 
+-- All rows are set where row n - 1 has no bit at n or above and every row lies inside it and has its own bit and that of 0.
+module _ (n : ℕ) (ws : List ℕ) (some : 0 < n) where
+  -- what the tests of row i say
+  module _ (set : every n (rowSet n ws) ≡ true) (i : ℕ) (l : i < n) where
+    set-short : leb (getD ws i 0 / 2 ^ (n - 1)) 1 ≡ true
+    set-short =
+        and-left (leb (getD ws i 0 / 2 ^ (n - 1)) 1) (bit (getD ws i 0) i)
+        (and-left _ (bit (getD ws i 0) 0) (and-left _ (bit (getD ws (n - 1) 0) i) (every-at _ n i set l)))
+
+    set-own : bit (getD ws i 0) i ≡ true
+    set-own =
+        and-right (leb (getD ws i 0 / 2 ^ (n - 1)) 1) (bit (getD ws i 0) i)
+        (and-left _ (bit (getD ws i 0) 0) (and-left _ (bit (getD ws (n - 1) 0) i) (every-at _ n i set l)))
+
+    set-least : bit (getD ws i 0) 0 ≡ true
+    set-least =
+        and-right (leb (getD ws i 0 / 2 ^ (n - 1)) 1 && bit (getD ws i 0) i) (bit (getD ws i 0) 0)
+        (and-left _ (bit (getD ws (n - 1) 0) i) (every-at _ n i set l))
+
+    set-greatest : bit (getD ws (n - 1) 0) i ≡ true
+    set-greatest = and-right (leb (getD ws i 0 / 2 ^ (n - 1)) 1 && bit (getD ws i 0) i && bit (getD ws i 0) 0) _ (every-at _ n i set l)
+
+  row-inside : every n (rowSet n ws) ≡ true → (i : ℕ) → i < n → rowInside (getD ws (n - 1) 0) (getD ws i 0) i ≡ true
+  row-inside set i l =
+      and-both (partOf (getD ws i 0) (getD ws (n - 1) 0) && bit (getD ws i 0) i) (bit (getD ws i 0) 0)
+      (and-both (partOf (getD ws i 0) (getD ws (n - 1) 0)) (bit (getD ws i 0) i)
+      (part-from (getD ws i 0) (getD ws (n - 1) 0) λ j e. set-greatest set j (short-inside n (getD ws i 0) j some (set-short set i l) e))
+      (set-own set i l))
+      (set-least set i l)
+
+  pub rows-set : leb (getD ws (n - 1) 0 / 2 ^ (n - 1)) 1 ≡ true
+      → ((i : ℕ) → i < n → rowInside (getD ws (n - 1) 0) (getD ws i 0) i ≡ true) → every n (rowSet n ws) ≡ true
+  rows-set short inside =
+      every-all _ n λ i l.
+      let all : ℕ = getD ws (n - 1) 0 in
+      let row : ℕ = getD ws i 0 in
+      let both : partOf row all && bit row i ≡ true = and-left (partOf row all && bit row i) (bit row 0) (inside i l) in
+      let part : partOf row all ≡ true = and-left (partOf row all) (bit row i) both in
+      let own : bit row i ≡ true = and-right (partOf row all) (bit row i) both in
+      let least : bit row 0 ≡ true = and-right (partOf row all && bit row i) (bit row 0) (inside i l) in
+      let most : all / 2 ^ (n - 1) ≤ 1 = leb-true (all / 2 ^ (n - 1)) 1 short in
+      let under : row ≤ all = omega (arith, eqb-true (bitAnd row all) row part, and-comm row all, and-le-l all row) in
+      let wide : all < 2 * 2 ^ (n - 1) = div-lt-iff-lt-mul (pow-pos (n - 1)) .0 (omega arith) in
+      let less : row / 2 ^ (n - 1) < 2 = div-lt-iff-lt-mul (pow-pos (n - 1)) .1 (omega arith) in
+      let shorter : leb (row / 2 ^ (n - 1)) 1 ≡ true = le-leb (row / 2 ^ (n - 1)) 1 (omega arith) in
+      and-both (leb (row / 2 ^ (n - 1)) 1 && bit row i && bit row 0) (bit all i)
+      (and-both (leb (row / 2 ^ (n - 1)) 1 && bit row i) (bit row 0) (and-both (leb (row / 2 ^ (n - 1)) 1) (bit row i) shorter own) least)
+      (part-bit row all part i own)
+
+  pub top-fails : leb (getD ws (n - 1) 0 / 2 ^ (n - 1)) 1 ≡ false → every n (rowSet n ws) ≡ false
+  top-fails e = not-true-false (every n (rowSet n ws)) λ h. true-not-false _ (set-short h (n - 1) (omega arith)) e
+
+  pub row-fails : (i : ℕ) → i < n → rowInside (getD ws (n - 1) 0) (getD ws i 0) i ≡ false → every n (rowSet n ws) ≡ false
+  row-fails i l e = not-true-false (every n (rowSet n ws)) λ h. true-not-false _ (row-inside h i l) e
+
 module _ (n : ℕ) (ws : List ℕ) where
   -- rows that are set own their types
   pub rows-owned : every n (rowSet n ws) ≡ true → Owned n ws
   rows-owned h =
       record {
-        own = λ i l.
-            and-right (leb (getD ws i 0 / 2 ^ (n - 1)) 1) (bit (getD ws i 0) i)
-            (and-left _ (bit (getD ws i 0) 0) (and-left _ (bit (getD ws (n - 1) 0) i) (every-at _ n i h l)));
-        inside = λ i j l s e.
-            short-inside n (getD ws i 0) j (omega arith)
-            (and-left (leb (getD ws i 0 / 2 ^ (n - 1)) 1) (bit (getD ws i 0) i)
-            (and-left _ (bit (getD ws i 0) 0) (and-left _ (bit (getD ws (n - 1) 0) i) (every-at _ n i h l))))
-            e;
+        own = λ i l. set-own n ws (omega arith) h i l;
+        inside = λ i j l s e. short-inside n (getD ws i 0) j (omega arith) (set-short n ws (omega arith) h i l) e;
       }
 
   -- the answer for all rows

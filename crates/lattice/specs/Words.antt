@@ -53,6 +53,10 @@ pairOrdered ws i j = partOf (getD ws j 0) (getD ws i 0) && implies (bit (getD ws
 abbrev pub rowSet : ℕ → List ℕ → ℕ → Bool
 rowSet n ws i = leb (getD ws i 0 / 2 ^ (n - 1)) 1 && bit (getD ws i 0) i && bit (getD ws i 0) 0 && bit (getD ws (n - 1) 0) i
 
+-- a row lies inside `all` and has bit i and bit 0
+abbrev pub rowInside : ℕ → ℕ → ℕ → Bool
+rowInside all row i = partOf row all && bit row i && bit row 0
+
 -- the pairs of type i with every type below it are ordered
 abbrev pub pairsOrdered : List ℕ → ℕ → Bool
 pairsOrdered ws i = every 64 λ j. implies (bit (getD ws i 0) j) (pairOrdered ws i j)

@@ -1,7 +1,7 @@
 // Whether every two types of an order have a meet. It is enough that every two have one that one type covers.
 ghost use mathlib.Core.Path.{_≡_};
 ghost use Prim.Native.Nat.{ℕ, _<_, _≤_};
-ghost use Rattle.lattice.specs.Words.{allFound, wordBound, Sided, Inside, Lower, Covered, BoundsWith, BoundsWithin};
+ghost use Rattle.lattice.specs.Words.{allFound, wordBound, Sided, Inside, Lower, BoundsWith, BoundsWithin};
 
 // Whether type a has a meet with every type of a word.
 fn is_bounded_with(down: &[u64; 64], a: usize, word: u64) -> bool

@@ -2,7 +2,7 @@
 ghost use mathlib.Core.Path.{_≡_};
 ghost use Prim.Native.Nat.{_<_, _≤_};
 ghost use Rattle.lattice.specs.Table.{every, sized};
-ghost use Rattle.lattice.specs.Words.{rowSet, rowOrdered, Owned, CoversOf};
+ghost use Rattle.lattice.specs.Words.{rowInside, rowSet, rowOrdered, Owned, CoversOf};
 
 // Whether n is 2 to 64 and the table has 8 bytes for each type.
 pub fn is_sized(n: usize, table: &[u8]) -> bool
@@ -17,31 +17,36 @@ pub fn is_sized(n: usize, table: &[u8]) -> bool
     table.len() == 8 * n
 }
 
-// Whether row i has no bit at n or above, has its own bit and that of 0, and bit i of row n - 1 is set.
-fn is_row_set(n: usize, down: &[u64; 64], i: usize) -> bool
-    requires { ⌜ (i < n) × (n ≤ 64) ⌝ }
-    ensures { λ r. ⌜ r ≡ rowSet n (now (down .entry)) i ⌝ }
+// Whether a row lies inside `all` and has bit i and bit 0.
+fn is_row_inside(all: u64, row: u64, i: usize) -> bool
+    requires { ⌜ i < 64 ⌝ }
+    ensures { λ r. ⌜ r ≡ rowInside all row i ⌝ }
 {
-    if 1 < down[i] >> (n - 1) {
+    if row & all != row {
         return false;
     }
-    if !super::words::has_bit(down[i], i) {
+    if !super::words::has_bit(row, i) {
         return false;
     }
-    if !super::words::has_bit(down[i], 0) {
-        return false;
-    }
-    super::words::has_bit(down[n - 1], i)
+    super::words::has_bit(row, 0)
 }
 
-// Whether it is so of every row.
+// Whether each row i has no bit at n or above, has its own bit and that of 0, and bit i of row n - 1 is set. Row n - 1 is tested to have no
+// bit at n or above; each row is tested to lie inside it.
 pub fn are_rows_set(n: usize, down: &[u64; 64]) -> bool
     requires { ⌜ n ≤ 64 ⌝ }
     ensures { λ r. ⌜ r ≡ every n (rowSet n (now (down .entry))) ⌝ }
 {
+    if n == 0 {
+        return true;
+    }
+    let all = down[n - 1];
+    if 1 < all >> (n - 1) {
+        return false;
+    }
     let mut i = 0;
     while i < n {
-        if !is_row_set(n, down, i) {
+        if !is_row_inside(all, down[i], i) {
             return false;
         }
         i += 1;

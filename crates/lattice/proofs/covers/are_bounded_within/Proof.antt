@@ -1,5 +1,5 @@
 -- `are_bounded_within` meets its contract: the bounds of the types whose bits are cleared with all types of the word were found.
-use Prim.Native.Nat.{ℕ, _^_, _<_, _≤_}
+use Prim.Native.Nat.{ℕ, _^_, _≤_}
 use mathlib.Core.Path.{refl, sym, ap, subst, _∙_}
 use native.Mathlib.Omega.{arith}
 use mathlib.Core.Bool.{true}
