@@ -148,7 +148,8 @@ pub record Spans (ws : List ℕ) (i x c : ℕ) : Type 0 where
 abbrev pub Spanned : List ℕ → ℕ → Type 0
 Spanned ws i = (x : ℕ) → bit (strictly ws i) x ≡ true → (c : ℕ) × Spans ws i x c
 
--- what an answer of type i and a word of the types that it covers say; where the answer is false, a pair of i is not ordered
+-- an answer and a word for type i: for true, i is spanned; for false, a pair of i is not ordered; in an order, the word has the types
+-- that i covers
 pub record CoversOf (n : ℕ) (ws : List ℕ) (i : ℕ) (answer : Bool) (w : ℕ) : Type 0 where
   pub yes-stands : answer ≡ true → Spanned ws i
   pub no-stands : answer ≡ false → pairsOrdered ws i ≡ false

@@ -40,8 +40,8 @@ pub fn accept(n: usize, table: &[u8]) -> Opened
     judge(n, &down)
 }
 
-// What document 01 returns for a table of a right size, from its words. Types are covered once for both tests: a row that is not
-// ordered is refused at once, a meet that is missing only at the end, since 2 goes before 3.
+// What document 01 returns for a table of the right size, from its words. One pass over the types serves both tests. A row that is
+// not ordered is refused at once. A missing meet is refused after the last row, since 2 goes before 3.
 fn judge(n: usize, down: &[u64; 64]) -> Opened
     requires { ⌜ n ≤ 64 ⌝ }
     ensures { λ r. ⌜ ((t : List ℕ) → sized n t ≡ true → Words n t false (now (down .entry)) → r ≡ opened n t) ⌝ }

@@ -31,8 +31,8 @@ fn is_row_inside(all: u64, row: u64, i: usize) -> bool
     super::words::has_bit(row, 0)
 }
 
-// Whether each row i has no bit at n or above, has its own bit and that of 0, and bit i of row n - 1 is set. Row n - 1 is tested to have no
-// bit at n or above; each row is tested to lie inside it.
+// Whether each row i has no bit at n or above, its own bit and bit 0, and row n - 1 has bit i. It is enough that row n - 1 has no bit at
+// n or above and that every row lies inside row n - 1 and has its own bit and bit 0.
 pub fn are_rows_set(n: usize, down: &[u64; 64]) -> bool
     requires { ⌜ n ≤ 64 ⌝ }
     ensures { λ r. ⌜ r ≡ every n (rowSet n (now (down .entry))) ⌝ }
@@ -54,14 +54,15 @@ pub fn are_rows_set(n: usize, down: &[u64; 64]) -> bool
     true
 }
 
-// The types that a type covers, and whether what is below each of them is strictly below it.
+// `word`: the types that a type covers. `ordered`: whether all types below these are strictly below that type.
 pub struct Covers {
     pub ordered: bool,
     pub word: u64,
 }
 
-// The types that type i covers: of those strictly below it the highest numbered is taken for one, all below it are put aside, and so on.
-// Where it lies below one that is taken later, as in a table that is not numbered along its order, it is put aside then.
+// The types that type i covers. Of the types strictly below i the loop takes the highest numbered, puts aside all types below that one, and
+// so on. It drops a taken type that lies below a later one, as in a table that is not numbered along its order. It ends at a taken type
+// with a type below it that is not strictly below i: then a pair of i is not ordered. Where no row ends so, all pairs are ordered.
 pub fn covers_of(n: usize, down: &[u64; 64], i: usize) -> Covers
     requires { ⌜ (i < n) × (n ≤ 64) × Owned n (now down) ⌝ }
     ensures { λ r. ⌜ CoversOf n (now (down .entry)) i (r .ordered) (r .word) ⌝ }

@@ -98,7 +98,7 @@ fn read_whole(table: &[u8], i: usize) -> u64
     word
 }
 
-// The same where the table ends before the eight bytes do.
+// The same for a table that may end before the eight bytes do.
 fn read_cut(table: &[u8], i: usize) -> u64
     requires { ⌜ i < 64 ⌝ }
     ensures { λ r. ⌜ r ≡ word 64 (related (now (table .entry)) false i) ⌝ }
