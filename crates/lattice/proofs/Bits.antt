@@ -9,14 +9,14 @@ use native.Mathlib.Decide.{decLe}
 use native.Mathlib.Omega.{arith}
 use lib.Bits.{bitAnd, bitOr, bitXor, and-shr, or-shr, xor-shr, and-mod, or-mod, xor-mod, xor-add-and, and-le-l, and-step, and-self}
 use lib.Count.{trailingZeros, under, leadingZeros, leading-top}
-use lib.Dec.{eqb}
+use lib.Dec.{leb, eqb}
 use lib.ListN.{getD}
 use lib.Pow.{mod-pow-add, shr-shr, shr-lt, pow-mono, pow-pos, pow-add, shl-exact}
-use borrow.Author.Tests.{eq-eqb, ne-eqb, eqb-true}
+use borrow.Author.Tests.{eq-eqb, ne-eqb, eqb-true, leb-true}
 use Rattle.lattice.specs.Table.{below}
 use Rattle.lattice.specs.Words.{digit, word, related, bit, without, partOf}
 use Rattle.lattice.proofs.Every.{and-right, and-both, true-not-false}
-use Rattle.lattice.proofs.WordLaws.{word-below, word-same, word-bits, word-cut, turn-more, turn-fits}
+use Rattle.lattice.proofs.WordLaws.{word-below, word-same, word-bits, word-cut, pow-twice, turn-more, turn-fits}
 
 two : 0 < 2
 two = omega arith
@@ -56,6 +56,19 @@ word-inside k p j s e = go (decLe k j) where
       let most : 2 ^ k ≤ 2 ^ j = pow-mono above in
       let none : word k p / 2 ^ j ≡ 0 = div-eq-of-lt (omega (arith, word-below k p)) in
       absurd (true-not-false (eqb (word k p / 2 ^ j % 2) 1) e (rw none))
+  go (no inside) = omega arith
+
+-- a number has no bit at n or above where it is at most 1 once it is shifted down by n - 1
+pub short-inside : (n w j : ℕ) → 0 < n → leb (w / 2 ^ (n - 1)) 1 ≡ true → bit w j ≡ true → j < n
+unfolding bit
+short-inside n w j l h e = go (decLe n j) where
+  go : Dec (n ≤ j) → j < n
+  go (yes above) =
+      let most : 2 ^ n ≤ 2 ^ j = pow-mono above in
+      let short : w / 2 ^ (n - 1) ≤ 1 = leb-true _ _ h in
+      let under : w < 2 * 2 ^ (n - 1) = div-lt-iff-lt-mul (pow-pos (n - 1)) .0 (omega arith) in
+      let none : w / 2 ^ j ≡ 0 = div-eq-of-lt (omega (arith, pow-twice n l)) in
+      absurd (true-not-false (eqb (w / 2 ^ j % 2) 1) e (rw none))
   go (no inside) = omega arith
 
 pub no-bit : (j : ℕ) → bit 0 j ≡ false

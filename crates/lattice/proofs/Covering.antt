@@ -14,14 +14,10 @@ use lib.Dec.{eqb}
 use borrow.Author.Count.{below-more}
 use borrow.Author.Tests.{eq-eqb, ne-eqb, eqb-true, not-true}
 use Rattle.lattice.specs.Table.{every, found}
-use Rattle.lattice.specs.Words.{bit, without, Under, holder, wordBound, allFound, Sided, Inside, Lower, Covered, BoundsWith, BoundsWithin}
+use Rattle.lattice.specs.Words.{bit, without, strictly, Under, holder, wordBound, allFound, Sided, Inside, Lower, Covered, BoundsWith, BoundsWithin}
 use Rattle.lattice.proofs.Every.{and-left, and-right, every-all, every-none, every-fails, below-or-not, true-not-false, found-some, last-passes, last-found}
 use Rattle.lattice.proofs.BoundLaws.{bound-turned}
 use Rattle.lattice.proofs.Bits.{bits-same, no-bit, and-bit, without-bit, cleared-bit, cleared-less, without-less, one-bit, or-bit}
-
--- the word of type j without its own bit
-abbrev strictly : List ℕ → ℕ → ℕ
-strictly ws j = without (getD ws j 0) (2 ^ j)
 
 pub strictly-under : (ws : List ℕ) (i j : ℕ) → bit (strictly ws i) j ≡ true → Under ws i j
 strictly-under ws i j e =
@@ -60,19 +56,11 @@ module _ (n : ℕ) (ws : List ℕ) (few : n ≤ 64) (low : Lower n ws) where
       go k l true f = rw (f, low .chain z x k lz lx (low .sided .inside x k lx l f) e f)
       go k l false f = rw f
 
-  -- the word of a type strictly below z is less than the word of z
-  below-less : (z x : ℕ) → z < n → x < n → bit (getD ws z 0) x ≡ true → (x ≡ z → ⊥) → getD ws x 0 < getD ws z 0
-  below-less z x lz lx e apart =
-      let common : bitAnd (getD ws x 0) (strictly ws z) ≡ getD ws x 0 =
+  -- what is below a type strictly below z is strictly below z
+  pub below-strictly : (z x : ℕ) → z < n → x < n → bit (getD ws z 0) x ≡ true → (x ≡ z → ⊥) → bitAnd (getD ws x 0) (strictly ws z) ≡ getD ws x 0
+  below-strictly z x lz lx e apart =
       bits-same 64 _ _ (omega (arith, and-le-l (getD ws x 0) (strictly ws z), low .small x lx)) (low .small x lx) (λ k l.
-      and-bit (getD ws x 0) (strictly ws z) k ∙ go k l (bit (getD ws x 0) k) refl) in
-      omega (
-        arith,
-        common,
-        and-comm (getD ws x 0) (strictly ws z),
-        and-le-l (strictly ws z) (getD ws x 0),
-        cleared-less (getD ws z 0) z (low .sided .own z lz),
-      )
+      and-bit (getD ws x 0) (strictly ws z) k ∙ go k l (bit (getD ws x 0) k) refl)
     where
       go : (k : ℕ) → k < 64 → (b : Bool) → bit (getD ws x 0) k ≡ b → bit (getD ws x 0) k && bit (strictly ws z) k ≡ bit (getD ws x 0) k
       go k l true f =
@@ -80,6 +68,17 @@ module _ (n : ℕ) (ws : List ℕ) (few : n ≤ 64) (low : Lower n ws) where
           ne-eqb k z (λ q. apart (low .sided .anti x z lx lz (ap (bit (getD ws x 0)) (sym q) ∙ f) e)) in
           rw (f, cleared-bit (getD ws z 0) z k, low .chain z x k lz lx (low .sided .inside x k lx l f) e f, off)
       go k l false f = rw f
+
+  -- strictly below is less
+  below-less : (z x : ℕ) → z < n → x < n → bit (getD ws z 0) x ≡ true → (x ≡ z → ⊥) → getD ws x 0 < getD ws z 0
+  below-less z x lz lx e apart =
+      omega (
+        arith,
+        below-strictly z x lz lx e apart,
+        and-comm (getD ws x 0) (strictly ws z),
+        and-le-l (strictly ws z) (getD ws x 0),
+        cleared-less (getD ws z 0) z (low .sided .own z lz),
+      )
 
   -- every two types below a type whose word is below k have a meet
   abbrev MeetsUnder : ℕ → Type 0

@@ -23,9 +23,9 @@ pub and-both : (a b : Bool) → a ≡ true → b ≡ true → a && b ≡ true
 and-both true b g h = h
 and-both false b g h = g
 
--- four tests that passed leave the fifth to decide
-pub fifth-decides : {a b c d e : Bool} → a ≡ true → b ≡ true → c ≡ true → d ≡ true → e ≡ (a && b && c && d && e)
-fifth-decides f g h k = rw (f, g, h, k)
+-- two tests that passed leave the third to decide
+pub third-decides : {a b c : Bool} → a ≡ true → b ≡ true → c ≡ (a && b && c)
+third-decides f g = rw (f, g)
 
 pub implies-at : (a b : Bool) → implies a b ≡ true → a ≡ true → b ≡ true
 implies-at true b h g = h

@@ -3,11 +3,12 @@ pub mod Every
 pub mod WordLaws
 pub mod Bits
 pub mod OrderLaws
-pub mod Union
+pub mod Parts
 pub mod BoundLaws
 pub mod Rows
 pub mod Seeking
 pub mod Covering
+pub mod Spanning
 pub mod Acceptance
 pub mod Laws
 pub mod Restoring

@@ -27,7 +27,7 @@ use Rattle.lattice.proofs.Every.{
 }
 use Rattle.lattice.proofs.WordLaws.{word-same, word-and, bits-part-of}
 use Rattle.lattice.proofs.Bits.{no-bit, part-bit, part-from}
-use Rattle.lattice.proofs.Union.{or-part, cleared-part}
+use Rattle.lattice.proofs.Parts.{or-part, cleared-part}
 use Rattle.lattice.proofs.OrderLaws.{row-bit}
 use Rattle.lattice.proofs.Laws.{
   Meet,

@@ -107,9 +107,9 @@ word-least (suc k) j p l h =
     (λ s. omega (arith, word-least k j p s h))
     (eq-or-lt-of-le (le-of-suc-le-suc l))
 
-twice : (n : ℕ) → 0 < n → 2 ^ n ≡ 2 * 2 ^ (n - 1)
-twice zero l = absurd (not-suc-le-zero l)
-twice (suc n) l =
+pub pow-twice : (n : ℕ) → 0 < n → 2 ^ n ≡ 2 * 2 ^ (n - 1)
+pow-twice zero l = absurd (not-suc-le-zero l)
+pow-twice (suc n) l =
     let e : suc n - 1 ≡ n = omega arith in
     rw (e, two-pow-succ) (omega arith)
 
@@ -121,14 +121,14 @@ short-bits n k p l h j s e =
     let a : 2 ^ n ≤ 2 ^ j = pow-mono r in
     let b : word k p / 2 ^ (n - 1) ≤ 1 = leb-true _ _ h in
     let c : word k p < 2 * 2 ^ (n - 1) = div-lt-iff-lt-mul (pow-pos (n - 1)) .0 (omega arith) in
-    absurd (omega (arith, twice n l, word-least k j p s e)))
+    absurd (omega (arith, pow-twice n l, word-least k j p s e)))
     (below-or-not j n)
 
 pub bits-short : (n k : ℕ) (p : ℕ → Bool) → 0 < n → n ≤ k → ((j : ℕ) → j < k → p j ≡ true → j < n) → leb (word k p / 2 ^ (n - 1)) 1 ≡ true
 bits-short n k p l s h =
     let cut : word k p ≡ word n p =
     word-cut n k p s λ j a b. not-true-false (p j) λ e. absurd (omega (arith, h j b e)) in
-    let c : word k p < 2 * 2 ^ (n - 1) = omega (arith, twice n l, word-below n p) in
+    let c : word k p < 2 * 2 ^ (n - 1) = omega (arith, pow-twice n l, word-below n p) in
     let d : word k p / 2 ^ (n - 1) < 2 = div-lt-iff-lt-mul (pow-pos (n - 1)) .1 c in
     le-leb (word k p / 2 ^ (n - 1)) 1 (omega arith)
 

@@ -46,18 +46,25 @@ turned n ws i = word n λ j. bit (getD ws j 0) i
 abbrev pub partOf : ℕ → ℕ → Bool
 partOf a b = eqb (bitAnd a b) a
 
--- u is the union of the words of w's types: it is part of a word exactly where each of these words is.
-abbrev pub Union : List ℕ → ℕ → ℕ → Type 0
-Union ws w u = (m : ℕ) → partOf u m ≡ every 64 λ j. implies (bit w j) (partOf (getD ws j 0) m)
-
--- The pair of i and a type j below it is ordered: all that is below j is below i, and i is below j only where they are one type.
+-- of a type j below i: all that is below j is below i, and i is below j only where they are one type
 unfoldable pub pairOrdered : List ℕ → ℕ → ℕ → Bool
 pairOrdered ws i j = partOf (getD ws j 0) (getD ws i 0) && implies (bit (getD ws j 0) i) (eqb i j)
 
--- whether row i passes the tests of refusal 2
+-- row i has no bit at n or above, its own bit and that of 0, and bit i of row n - 1 is set
+abbrev pub rowSet : ℕ → List ℕ → ℕ → Bool
+rowSet n ws i = leb (getD ws i 0 / 2 ^ (n - 1)) 1 && bit (getD ws i 0) i && bit (getD ws i 0) 0 && bit (getD ws (n - 1) 0) i
+
+-- a row lies inside `all` and has bit i and bit 0
+abbrev pub rowInside : ℕ → ℕ → ℕ → Bool
+rowInside all row i = partOf row all && bit row i && bit row 0
+
+-- the pairs of type i with every type below it are ordered
+abbrev pub pairsOrdered : List ℕ → ℕ → Bool
+pairsOrdered ws i = every 64 λ j. implies (bit (getD ws i 0) j) (pairOrdered ws i j)
+
+-- row i passes the tests of refusal 2
 unfoldable pub rowOrdered : ℕ → List ℕ → ℕ → Bool
-rowOrdered n ws i = leb (getD ws i 0 / 2 ^ (n - 1)) 1 && bit (getD ws i 0) i && bit (getD ws i 0) 0 && bit (getD ws (n - 1) 0) i
-    && every 64 λ j. implies (bit (getD ws i 0) j) (pairOrdered ws i j)
+rowOrdered n ws i = rowSet n ws i && pairsOrdered ws i
 
 -- The words ws hold the types below each type of a table that passes the tests of refusals 1 and 2.
 pub record OrderWords (n : ℕ) (t ws : List ℕ) : Type 0 where
@@ -124,6 +131,33 @@ pub record Under (ws : List ℕ) (i j : ℕ) : Type 0 where
 pub record Covered (n : ℕ) (ws : List ℕ) (i w : ℕ) : Type 0 where
   pub part : (j : ℕ) → j < 64 → bit w j ≡ true → Under ws i j
   pub over : (x : ℕ) → x < n → Under ws i x → (c : ℕ) × (c < n) × (bit w c ≡ true) × (bit (getD ws c 0) x ≡ true)
+
+-- the word of type i without its own bit
+abbrev pub strictly : List ℕ → ℕ → ℕ
+strictly ws i = without (getD ws i 0) (2 ^ i)
+
+-- each type's word has the type's own bit and none at n or above
+pub record Owned (n : ℕ) (ws : List ℕ) : Type 0 where
+  pub own : (i : ℕ) → i < n → bit (getD ws i 0) i ≡ true
+  pub inside : (i j : ℕ) → i < n → j < 64 → bit (getD ws i 0) j ≡ true → j < n
+
+-- c is strictly below i, all that is below c is strictly below i, and x is below c
+pub record Spans (ws : List ℕ) (i x c : ℕ) : Type 0 where
+  pub small : c < 64
+  pub under : bit (strictly ws i) c ≡ true
+  pub part : partOf (getD ws c 0) (strictly ws i) ≡ true
+  pub over : bit (getD ws c 0) x ≡ true
+
+-- every type strictly below i is below such a type
+abbrev pub Spanned : List ℕ → ℕ → Type 0
+Spanned ws i = (x : ℕ) → bit (strictly ws i) x ≡ true → (c : ℕ) × Spans ws i x c
+
+-- an answer and a word for type i: for true, i is spanned; for false, a pair of i is not ordered; in an order, the word has the types
+-- that i covers
+pub record CoversOf (n : ℕ) (ws : List ℕ) (i : ℕ) (answer : Bool) (w : ℕ) : Type 0 where
+  pub yes-stands : answer ≡ true → Spanned ws i
+  pub no-stands : answer ≡ false → pairsOrdered ws i ≡ false
+  pub covers : Lower n ws → Covered n ws i w
 
 module _ (n : ℕ) (ws : List ℕ) where
   -- An answer to whether type a has a bound with each type of w. A no says only that not every two types of the table have a bound.

@@ -1,29 +1,12 @@
 // Tests whether every two types of an order have a meet. It is enough to test every two types that one type covers.
 ghost use mathlib.Core.Path.{_≡_};
-ghost use Prim.Native.Nat.{_<_, _≤_};
-ghost use Rattle.lattice.specs.Words.{allFound, wordBound, Sided, Inside, Lower, Covered, BoundsWith, BoundsWithin};
-
-// The types that type i covers: the types strictly below i that lie below no other such type. The highest numbered type left is taken,
-// and all types below it are put aside. If the table is not numbered along its order, a type taken later may lie above one taken earlier;
-// the earlier one is then dropped.
-fn covered(n: usize, down: &[u64; 64], i: usize) -> u64
-    requires { ⌜ (i < n) × (n ≤ 64) × Lower n (now down) ⌝ }
-    ensures { λ r. ⌜ Covered n (now (down .entry)) i r ⌝ }
-{
-    let mut left = super::words::cleared(down[i], i);
-    let mut word = 0u64;
-    while left != 0 {
-        let c = super::words::end_bit(left, false);
-        word = super::words::without(word, down[c]) | (1u64 << c);
-        left = super::words::without(left, down[c]);
-    }
-    word
-}
+ghost use Prim.Native.Nat.{ℕ, _<_, _≤_};
+ghost use Rattle.lattice.specs.Words.{allFound, wordBound, Sided, Inside, Lower, BoundsWith, BoundsWithin};
 
 // Whether type a has a meet with every type of a word.
-fn is_bounded_with(n: usize, down: &[u64; 64], a: usize, word: u64) -> bool
-    requires { ⌜ (a < n) × (n ≤ 64) × Sided n (now down) × Inside n word ⌝ }
-    ensures { λ r. ⌜ BoundsWith n (now (down .entry)) a word r ⌝ }
+fn is_bounded_with(down: &[u64; 64], a: usize, word: u64) -> bool
+    requires { ⌜ a < 64 ⌝ }
+    ensures { λ r. ⌜ ((n : ℕ) → a < n → n ≤ 64 → Sided n (now (down .entry)) → Inside n word → BoundsWith n (now (down .entry)) a word r) ⌝ }
 {
     let mut left = word;
     while left != 0 {
@@ -37,15 +20,14 @@ fn is_bounded_with(n: usize, down: &[u64; 64], a: usize, word: u64) -> bool
 }
 
 // Whether every two types of a word have a meet; each pair is tested once.
-fn are_bounded_within(n: usize, down: &[u64; 64], word: u64) -> bool
-    requires { ⌜ (n ≤ 64) × Sided n (now down) × Inside n word ⌝ }
-    ensures { λ r. ⌜ BoundsWithin n (now (down .entry)) word r ⌝ }
+pub fn are_bounded_within(down: &[u64; 64], word: u64) -> bool
+    ensures { λ r. ⌜ ((n : ℕ) → n ≤ 64 → Sided n (now (down .entry)) → Inside n word → BoundsWithin n (now (down .entry)) word r) ⌝ }
 {
     let mut left = word;
     while left != 0 {
         let a = super::words::end_bit(left, true);
         left = super::words::without_lowest(left);
-        if !is_bounded_with(n, down, a, left) {
+        if !is_bounded_with(down, a, left) {
             return false;
         }
     }
@@ -59,8 +41,8 @@ pub fn are_bounded(n: usize, down: &[u64; 64]) -> bool
 {
     let mut i = 0;
     while i < n {
-        let word = covered(n, down, i);
-        if !are_bounded_within(n, down, word) {
+        let found = super::order::covers_of(n, down, i);
+        if !are_bounded_within(down, found.word) {
             return false;
         }
         i += 1;

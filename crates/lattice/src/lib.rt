@@ -2,10 +2,14 @@
 // type of a node. The order is kept as words: bit j of word i is set where type j is on one side of type i, below it or above it. Crate
 // `bounds` opens a table for meets or joins. This crate knows a table's bytes, and nothing of records.
 ghost use mathlib.Core.Path.{_≡_};
-ghost use mathlib.Core.Bool.{cond};
+ghost use mathlib.Core.Bool.{true, false, cond};
+ghost use mathlib.Core.List.{List};
+ghost use Prim.Native.Nat.{ℕ, _≤_};
 ghost use Rattle.lattice.specs.declared.TableFault.the-variants.{Bounds};
 ghost use Rattle.lattice.specs.declared.Opened.the-variants.{Accepted, Refused};
 ghost use Rattle.lattice.specs.Reply.{opened};
+ghost use Rattle.lattice.specs.Table.{sized};
+ghost use Rattle.lattice.specs.Words.{Words};
 
 pub mod covers;
 pub mod order;
@@ -35,10 +39,31 @@ pub fn accept(n: usize, table: &[u8]) -> Opened
         return Opened::Refused(TableFault::Size);
     }
     let down = words::read_words(n, table);
-    if !order::is_ordered(n, &down) {
+    judge(n, &down)
+}
+
+// What document 01 returns for a table of the right size, from its words. One pass over the types serves both tests. A row that is
+// not ordered is refused at once. A missing meet is refused after the last row, since 2 goes before 3.
+fn judge(n: usize, down: &[u64; 64]) -> Opened
+    requires { ⌜ n ≤ 64 ⌝ }
+    ensures { λ r. ⌜ ((t : List ℕ) → sized n t ≡ true → Words n t false (now (down .entry)) → r ≡ opened n t) ⌝ }
+{
+    if !order::are_rows_set(n, down) {
         return Opened::Refused(TableFault::Order);
     }
-    bounded(covers::are_bounded(n, &down))
+    let mut all = true;
+    let mut i = 0;
+    while i < n {
+        let found = order::covers_of(n, down, i);
+        if !found.ordered {
+            return Opened::Refused(TableFault::Order);
+        }
+        if all {
+            all = covers::are_bounded_within(down, found.word);
+        }
+        i += 1;
+    }
+    bounded(all)
 }
 
 // The answer for a table that passes 1 and 2: accepted if every two types have a bound, which `all` tells, else refused by 3.

@@ -2,9 +2,8 @@
 // n - 1 the greatest.
 ghost use mathlib.Core.Path.{_≡_};
 ghost use Prim.Native.Nat.{_<_, _≤_};
-ghost use lib.ListN.{getD};
-ghost use Rattle.lattice.specs.Table.{every, implies, sized};
-ghost use Rattle.lattice.specs.Words.{bit, Union, pairOrdered, rowOrdered};
+ghost use Rattle.lattice.specs.Table.{every, sized};
+ghost use Rattle.lattice.specs.Words.{rowInside, rowSet, rowOrdered, Owned, CoversOf};
 
 // Whether n is 2 to 64 and the table has 8 bytes for each type.
 pub fn is_sized(n: usize, table: &[u8]) -> bool
@@ -19,50 +18,76 @@ pub fn is_sized(n: usize, table: &[u8]) -> bool
     table.len() == 8 * n
 }
 
-// The union of the rows of a word's types.
-pub fn unite_rows(down: &[u64; 64], word: u64) -> u64
-    ensures { λ r. ⌜ Union (now (down .entry)) word r ⌝ }
+// Whether a row lies inside `all` and has bit i and bit 0.
+fn is_row_inside(all: u64, row: u64, i: usize) -> bool
+    requires { ⌜ i < 64 ⌝ }
+    ensures { λ r. ⌜ r ≡ rowInside all row i ⌝ }
 {
-    let mut left = word;
-    let mut all = 0u64;
-    while left != 0 {
-        let j = super::words::end_bit(left, true);
-        all |= down[j];
-        left = super::words::without_lowest(left);
+    if row & all != row {
+        return false;
     }
-    all
+    if !super::words::has_bit(row, i) {
+        return false;
+    }
+    super::words::has_bit(row, 0)
 }
 
-// Whether the pairs of type i with every type below it are ordered: what is below a type strictly below i is strictly below i.
-pub fn are_pairs_ordered(down: &[u64; 64], i: usize) -> bool
-    requires { ⌜ i < 64 ⌝ }
-    ensures { λ r. ⌜ r ≡ every 64 (λ j. implies (bit (getD (now (down .entry)) i 0) j) (pairOrdered (now (down .entry)) i j)) ⌝ }
+// Whether each row i has no bit at n or above, its own bit and bit 0, and row n - 1 has bit i. It is enough that row n - 1 has no bit at
+// n or above and that every row lies inside row n - 1 and has its own bit and bit 0.
+pub fn are_rows_set(n: usize, down: &[u64; 64]) -> bool
+    requires { ⌜ n ≤ 64 ⌝ }
+    ensures { λ r. ⌜ r ≡ every n (rowSet n (now (down .entry))) ⌝ }
+{
+    if n == 0 {
+        return true;
+    }
+    let all = down[n - 1];
+    if 1 < all >> (n - 1) {
+        return false;
+    }
+    let mut i = 0;
+    while i < n {
+        if !is_row_inside(all, down[i], i) {
+            return false;
+        }
+        i += 1;
+    }
+    true
+}
+
+// `word`: the types that a type covers. `ordered`: whether all types below these are strictly below that type.
+pub struct Covers {
+    pub ordered: bool,
+    pub word: u64,
+}
+
+// The types that type i covers. Of the types strictly below i the loop takes the highest numbered, puts aside all types below that one, and
+// so on. It drops a taken type that lies below a later one, as in a table that is not numbered along its order. It ends at a taken type
+// with a type below it that is not strictly below i: then a pair of i is not ordered. Where no row ends so, all pairs are ordered.
+pub fn covers_of(n: usize, down: &[u64; 64], i: usize) -> Covers
+    requires { ⌜ (i < n) × (n ≤ 64) × Owned n (now down) ⌝ }
+    ensures { λ r. ⌜ CoversOf n (now (down .entry)) i (r .ordered) (r .word) ⌝ }
 {
     let row = down[i];
     let lower = super::words::cleared(row, i);
-    let all = unite_rows(down, lower);
-    all & lower == all
-}
-
-// Whether row i passes the tests of refusal 2: it has no bit at n or above, it has bit i and bit 0, row n - 1 has bit i, and the pairs
-// of i with the types below it are ordered.
-pub fn is_row_ordered(n: usize, down: &[u64; 64], i: usize) -> bool
-    requires { ⌜ (i < n) × (n ≤ 64) ⌝ }
-    ensures { λ r. ⌜ r ≡ rowOrdered n (now (down .entry)) i ⌝ }
-{
-    if 1 < down[i] >> (n - 1) {
-        return false;
+    let mut left = lower;
+    let mut word = 0u64;
+    while left != 0 {
+        let c = super::words::end_bit(left, false);
+        let below = down[c];
+        if below & lower != below {
+            return Covers {
+                ordered: false,
+                word,
+            };
+        }
+        word = super::words::without(word, below) | (1u64 << c);
+        left = super::words::without(left, below);
     }
-    if !super::words::has_bit(down[i], i) {
-        return false;
+    Covers {
+        ordered: true,
+        word,
     }
-    if !super::words::has_bit(down[i], 0) {
-        return false;
-    }
-    if !super::words::has_bit(down[n - 1], i) {
-        return false;
-    }
-    are_pairs_ordered(down, i)
 }
 
 // Whether the rows pass all the tests of refusal 2.
@@ -70,9 +95,13 @@ pub fn is_ordered(n: usize, down: &[u64; 64]) -> bool
     requires { ⌜ n ≤ 64 ⌝ }
     ensures { λ r. ⌜ r ≡ every n (rowOrdered n (now (down .entry))) ⌝ }
 {
+    if !are_rows_set(n, down) {
+        return false;
+    }
     let mut i = 0;
     while i < n {
-        if !is_row_ordered(n, down, i) {
+        let found = covers_of(n, down, i);
+        if !found.ordered {
             return false;
         }
         i += 1;

@@ -4,7 +4,7 @@ ghost use mathlib.Core.Path.{_≡_};
 ghost use mathlib.Core.Bool.{true, false};
 ghost use Prim.Native.Nat.{ℕ, _+_, _*_, _^_, _<_, _≤_};
 ghost use lib.Count.{trailingZeros};
-ghost use lib.ListN.{getD};
+ghost use lib.ListN.{length, getD};
 ghost use Rattle.lattice.specs.Table.{below};
 ghost use Rattle.lattice.specs.Words.{digit, word, related, Words, bit, without as withoutOf, turned};
 
@@ -83,8 +83,23 @@ pub fn byte_at(table: &[u8], at: usize) -> u64
     }
 }
 
-// The word of the types below type i.
-pub fn read_word(table: &[u8], i: usize) -> u64
+// The word of the types below type i, whose eight bytes are all in the table.
+fn read_whole(table: &[u8], i: usize) -> u64
+    requires { ⌜ (i < 64) × (8 * i + 8 ≤ length (now table)) ⌝ }
+    ensures { λ r. ⌜ r ≡ word 64 (related (now (table .entry)) false i) ⌝ }
+{
+    let mut word = 0u64;
+    let mut k = 0;
+    while k < 8 {
+        let byte = table[8 * i + k] as u64;
+        word += byte << (8 * k);
+        k += 1;
+    }
+    word
+}
+
+// The same for a table that may end before the eight bytes do.
+fn read_cut(table: &[u8], i: usize) -> u64
     requires { ⌜ i < 64 ⌝ }
     ensures { λ r. ⌜ r ≡ word 64 (related (now (table .entry)) false i) ⌝ }
 {
@@ -98,7 +113,18 @@ pub fn read_word(table: &[u8], i: usize) -> u64
     word
 }
 
-// The words of the types below each of the n types.
+// The word of the types below type i.
+pub fn read_word(table: &[u8], i: usize) -> u64
+    requires { ⌜ i < 64 ⌝ }
+    ensures { λ r. ⌜ r ≡ word 64 (related (now (table .entry)) false i) ⌝ }
+{
+    if 8 * i + 8 <= table.len() {
+        return read_whole(table, i);
+    }
+    read_cut(table, i)
+}
+
+// The words of the types below each type below n.
 pub fn read_words(n: usize, table: &[u8]) -> [u64; 64]
     requires { ⌜ n ≤ 64 ⌝ }
     ensures { λ r. ⌜ Words n (now (table .entry)) false r ⌝ }

@@ -18,19 +18,22 @@ abbrev μ-loop : tie.MeasureT-loop
 loop-holds : tie.Need-loop-holds Inv-loop μ-loop
 loop-holds c = (search needs, λ z l. absurd (not-suc-le-zero l))
 
-covered-requires : tie.Need-covered-requires Inv-loop μ-loop
-covered-requires c κs = search needs
+covers-of-requires : tie.Need-covers-of-requires Inv-loop μ-loop
+covers-of-requires c κs =
+    let side = c .before .before .pre .1 .sided in
+    (search needs, search needs, record { own = side .own; inside = side .inside })
 
 are-bounded-within-requires : tie.Need-are-bounded-within-requires Inv-loop μ-loop
-are-bounded-within-requires c κs =
-    let start = c .before .before .before in
-    let turn = c .before .before .loop in
-    let side = start .pre .1 .sided in
-    (start .pre .0, side, covered-inside (start .args .n) (start .args .down .now) (turn .i) _ (search needs) side (c .covered .ensures))
+are-bounded-within-requires c κs = search needs
 
 returns : tie.Need-returns Inv-loop μ-loop
 returns c =
-    sym (c .before .are-bounded-within .ensures .no-stands (not-true _ (c .if1 .taken)))
+    let turn = c .before .before .before .before .loop in
+    let start = c .before .before .before .before .before in
+    let covers = c .before .before .covers-of .ensures .covers (start .pre .1) in
+    let inside = covered-inside (start .args .n) (start .args .down .now) (turn .i) _ (search needs) (start .pre .1 .sided) covers in
+    let told = c .before .are-bounded-within .ensures (start .args .n) (start .pre .0) (start .pre .1 .sided) inside in
+    sym (told .no-stands (not-true _ (c .if1 .taken)))
 
 add-i : tie.Need-add-i Inv-loop μ-loop
 add-i c = search needs
@@ -41,10 +44,13 @@ loop-less c = search needs
 loop-again : tie.Need-loop-again Inv-loop μ-loop
 loop-again c =
     let turn = c .before .before .before .before .loop in
-    let start = c .before .before .before .before .before in (
+    let start = c .before .before .before .before .before in
+    let covers = c .before .before .covers-of .ensures .covers (start .pre .1) in
+    let inside = covered-inside (start .args .n) (start .args .down .now) (turn .i) _ (search needs) (start .pre .1 .sided) covers in
+    let told = c .before .are-bounded-within .ensures (start .args .n) (start .pre .0) (start .pre .1 .sided) inside in (
       search needs,
-      covers-more (start .args .n) (start .args .down .now) (turn .i) _ (turn .inv .1) (c .before .before .covered .ensures)
-          (subst (BoundsWithin (start .args .n) (start .args .down .now) _) (not-false _ (c .if1 .left)) (c .before .are-bounded-within .ensures)),
+      covers-more (start .args .n) (start .args .down .now) (turn .i) _ (turn .inv .1) covers
+          (subst (BoundsWithin (start .args .n) (start .args .down .now) _) (not-false _ (c .if1 .left)) told),
     )
 
 returns-2 : tie.Need-returns-2 Inv-loop μ-loop
@@ -60,7 +66,7 @@ are-bounded-spec =
     Inv-loop
     μ-loop
     loop-holds
-    covered-requires
+    covers-of-requires
     are-bounded-within-requires
     returns
     add-i

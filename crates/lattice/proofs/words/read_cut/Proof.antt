@@ -1,4 +1,4 @@
--- `read_word` meets its contract. The loop's invariant: the word has the bits of the bytes before k.
+-- `read_cut` meets its contract: the word has the bits of the bytes before k.
 use Prim.Native.Nat.{_≤_, _-_, _*_}
 use mathlib.Core.Path.{_≡_, sym}
 use mathlib.Core.Bool.{false}
@@ -7,8 +7,8 @@ use Rattle.lattice.specs.Words.{word as wordOf, related}
 use Rattle.lattice.proofs.WordLaws.{word-none, word-done}
 use Rattle.lattice.proofs.Bits.{next-byte, byte-fits}
 use borrow.Author.Needs.{needs}
-use Rattle.lattice.proofs.words.read_word.Statement.{statement}
-use Rattle.lattice.proofs.words.read_word.Tie as tie
+use Rattle.lattice.proofs.words.read_cut.Statement.{statement}
+use Rattle.lattice.proofs.words.read_cut.Tie as tie
 
 abbrev Inv-loop : tie.InvT-loop
 Inv-loop table i word₀ k₀ word k = (k ≤ 8) × (word ≡ wordOf (8 * k) (related table false i))
@@ -63,8 +63,8 @@ returns c =
     let turn = c .before .loop in
     word-done _ (8 * turn .k) 64 _ (omega (arith, turn .inv .0)) (omega arith) (turn .inv .1)
 
-pub read-word-spec : {M : Type 1} → statement M
-read-word-spec =
+pub read-cut-spec : {M : Type 1} → statement M
+read-cut-spec =
     tie.close
     (tie.spec
     Inv-loop
