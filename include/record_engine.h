@@ -1,172 +1,180 @@
-/* The record engine for C: thirteen calls on bytes, two on the planning tool's rows, four on
- * a gathering, three on a store, and the table of the house types, in the static library
- * librecord_engine.a, which `rt staticlib record_engine` writes to target/staticlib.
- * examples/difference.c, examples/rows.c, examples/table.c, examples/export.c and
- * examples/thread.c are whole programs.
+/* The record engine for C. The static library librecord_engine.a has 23 calls: thirteen on type
+ * tables and records, two on planning tables, four on a gathering, three on a store, and one
+ * that writes the table of the house types. `rt staticlib record_engine` writes the library to
+ * target/staticlib. In the repository, docs/CALLS.md describes each call with examples, and
+ * docs/FORMATS.md describes each byte. examples/difference.c, examples/rows.c, examples/table.c,
+ * examples/export.c and examples/thread.c are whole programs.
  *
- * A type table orders n types, 2 to 64, by a row of 8 bytes for each. In row i, bit
- * j % 8 of byte j / 8 is set exactly when type j is below type i or is type i; bit 0
- * has the value 1, and bits for j from n on are 0. Type 0 is the contradiction and is
- * below every type; type n - 1 is top, which says nothing, and every type is below it.
- * The rows are an order, and every two types have a meet (the greatest type below
- * both) and a join (the least above both). The diamond has n = 4: between 0 and 3 are 1
- * and 2, neither below the other. The first bytes of its rows are 0x01, 0x03, 0x05 and
- * 0x0F, and its other 28 bytes are 0.
+ * A type table orders n types, 2 to 64. It has a row of 8 bytes for each type. In row i, bit
+ * j % 8 of byte j / 8 is set exactly when type j is below type i or is type i. Bit 0 has the
+ * value 1, and bits for j from n on are 0. Type 0 is the contradiction: it is below every other
+ * type. Type n - 1 is top: it says nothing, and every other type is below it. The rows are an
+ * order. Every two types have a meet, which is the greatest type below or equal to both, and a
+ * join, which is the least type above or equal to both. For example, the diamond has n = 4: its
+ * types 1 and 2 lie between 0 and 3, and neither is below the other. The first bytes of its
+ * rows are 0x01, 0x03, 0x05 and 0x0F, and its other 28 bytes are 0.
  *
- * A record is a graph of up to 255 nodes. Byte 0 is the number of nodes; node 0, the
- * root, and the others follow, each as
- *    1 byte   its type, 1 to n - 1, in bits 0 to 6; bit 7 is set when it has a range
- *    2 bytes  where bit 7 is set, its range: the lowest level and the highest, each 0 to
- *             255 and the lowest not above the highest; without the bit it is 0 to 255,
- *             the full range, which says nothing
- *    8 bytes  its features, of 0 to 63: bit f % 8 of byte f / 8 is set when it has f
- *    1 byte   for each feature that it has, the lowest first: the number of the node
- *             that the feature's link leads to
- * and nothing follows the last. There are at most 2,048 links, no node reaches itself,
- * and the root reaches every node. Links may share a target. Input may number the other
- * nodes in any way and spell out a full range; a record that is written numbers them as
- * they are first met from the root, lowest feature first, all below one link before the
- * next link, and spells out no full range. Over the diamond
+ * A record is a graph in bytes. Byte 0 is the number of nodes, 1 to 255. The nodes follow, from
+ * node 0, the root, on. Each node has these parts:
+ *    1 byte   the node's type, 1 to n - 1, in bits 0 to 6; bit 7 is set when a range follows
+ *    2 bytes  only where bit 7 is set, the range: the lowest level and the highest level, 0 to
+ *             255 each, the lowest not above the highest
+ *    8 bytes  the node's features, 0 to 63: bit f % 8 of byte f / 8 is set when the node has
+ *             feature f
+ *    1 byte   for each feature of the node, lowest feature first: the target, which is the
+ *             number of the node that the feature's link leads to
+ * Nothing follows the last node. A node without bit 7 has the full range, 0 to 255, which says
+ * nothing. There are at most 2,048 links, and links may share a target. No node reaches itself,
+ * and the root reaches every node. Over the diamond,
  * {2, 3, 1, 0, 0, 0, 0, 0, 0, 0, 1, 1, 0, 0, 0, 0, 0, 0, 0, 0} is a root of type 3 whose
  * feature 0 leads to a node of type 1, and
  * {1, 0x83, 10, 200, 0, 0, 0, 0, 0, 0, 0, 0} is a lone node of type 3 with the levels 10
  * to 200.
  *
- * An appropriateness list says which features belong to which types. It has 64 bytes;
- * byte f is the broadest type, 0 to n - 1, that may have feature f. A node may have it
- * when its type is below or equal to that one, so 0 forbids the feature and n - 1 allows
- * it to all. Common parts and combinations of records that obey a list obey it. A
- * difference need not obey it and is combined by `record_unify`: with the general record
- * it gives the specific one, which obeys the list if it did.
+ * A record that is read may number the nodes but the root in any way, and may spell out a full
+ * range. Every record that a call writes is a written record, which has one form for one
+ * meaning. A written record numbers its nodes in the order in which they are first met from the
+ * root. Links are followed lowest feature first, and all that lies below one link is numbered
+ * before the next link of the same node is followed. A written record spells out no full range.
  *
- * A reading order is a list of all 64 features, each once, in 64 bytes: the feature that
- * is read first stands first. Where links say the same, a difference keeps the least of
- * them. Without a list, links are ordered by the number of the node that they leave, as
- * the specific record is written, then by feature; with one by the feature's place in the
- * list, then by that number. How records are written does not follow the list.
+ * A list of types for features says which nodes may have which features. It has 64 bytes. Byte f
+ * is the broadest type, 0 to n - 1, that may have feature f: a node may have the feature when
+ * its type is below or equal to byte f. So 0 forbids the feature, and n - 1 allows it to all
+ * nodes. Another name of the list is appropriateness list, and the calls that take one are
+ * called `.._appropriate`. The common part and the combination of records that obey a list obey
+ * the list too. A difference need not obey it: combine a difference with `record_unify`. The
+ * result is the specific record, so it obeys the list if the specific record does.
  *
- * The listed records over a table and a number of features, 1 or 2, are the records in
- * written form of at most 3 nodes that have no range and use features below that number.
- * They stand in the order of their bytes: of two, the one that has the lesser byte where
- * they first differ comes first. Every graph with so few nodes and features and without
- * ranges is the meaning of one of them. With k types that are not 0 there are
- * k + k * k + k * k * k of them for one feature and k + 3 * k * k + 16 * k * k * k for two.
+ * A reading order is a list of all 64 features, each once, in 64 bytes. The feature that is read
+ * first stands first. Where several links say the same, a difference keeps the least of them.
+ * Without a reading order, links are ordered by the number of the node that they leave, as in
+ * the written specific record, then by feature. With a reading order, links are ordered by the
+ * place of their feature in it, then by the number of the node that they leave. The numbers of
+ * nodes in written records do not follow the reading order.
  *
- * A planning table is a graph as the planning tool holds it: rows, and three bytes for
- * each node. A row is one link, by the number of its parent, which is the node that the
- * link leaves, its feature, 0 to 63, and the number of its target, which is the node that
- * it leads to. No two rows have one parent and feature, and there are at most 2,048. The
- * node bytes follow each other from node 0, the root, on:
+ * The listed records over a table and a number F of features, 1 or 2, are the written records
+ * that have at most 3 nodes, no range, and only features below F. Of two listed records, the one
+ * with the lesser byte where they first differ comes first. Every graph with so few nodes and
+ * features, and without a range, is the meaning of exactly one listed record. With k types
+ * besides type 0, there are k + k * k + k * k * k listed records for F = 1, and
+ * k + 3 * k * k + 16 * k * k * k for F = 2.
+ *
+ * A planning table is a graph as the planning tool holds it, in rows and node bytes. A row is one
+ * link: its parent, which is the number of the node that the link leaves, its feature, 0 to 63,
+ * and its target, which is the number of the node that the link leads to. No two rows have one
+ * parent and feature, and there are at most 2,048 rows. The node bytes are three for each node,
+ * from node 0, the root, on:
  *    1 byte   the node's type, 1 to n - 1, without bit 7
  *    1 byte   its lowest level
  *    1 byte   its highest level, not below the lowest; 0 and 255 are the full range
- * The number of nodes, 1 to 255, is that of the node bytes divided by 3. As in a record, no
+ * The number of nodes, 1 to 255, is the number of node bytes divided by 3. As in a record, no
  * node reaches itself, and the root reaches every node. Rows may stand in any order, and the
- * nodes but the root may have any numbers. {0, 9, 1}, {0, 0, 2} and {1, 0, 2} beside
- * {3, 0, 255, 3, 0, 255, 1, 10, 200} are three nodes: the root's feature 9 leads to node 1,
- * and its feature 0 and that of node 1 lead to node 2, which has type 1 and the levels 10 to
- * 200.
+ * nodes but the root may have any numbers. For example, the rows {0, 9, 1}, {0, 0, 2} and
+ * {1, 0, 2} with the node bytes {3, 0, 255, 3, 0, 255, 1, 10, 200} are a graph of three nodes:
+ * feature 9 of the root leads to node 1, and feature 0 of the root and feature 0 of node 1 lead
+ * to node 2, which has type 1 and the levels 10 to 200.
  *
- * A gathering keeps the common part of the records that were added to it so far, over one
- * table. It is bytes that the caller lends:
+ * A gathering keeps a type table and the common part of the records that were added so far. It
+ * is a buffer that the caller lends:
  *    1 byte       n
  *    8 * n bytes  the table
  *    2 bytes      the length of the common part, low byte first; 0 before the first addition
- *    the rest     the common part in written form, then room; together at least
- *                 RECORD_LONGEST bytes, so that an addition never lacks room
- * The bytes behind the common part hold anything. Whatever calls are made on a gathering,
- * its bytes are those that the accepted additions alone give, in their order, and the
- * common part is the least graph above all of them; where the same records are all
- * accepted in another order, it is the same record. Bytes that hold no gathering are
- * refused by what is wrong with them: by 1 to 3 for the table, 1 where they end before it
- * does; then, where the call takes a record, by its 4 to 7, as the first; then by 4 to 7
- * for the common part, as the second, which ends with the bytes where they are fewer than
- * its length; a byte of the length that is missing counts as 0. Adding is then refused by
- * 8 where the common part has no room.
+ *    the rest     the common part, a written record, and then room; the two have at least
+ *                 RECORD_LONGEST bytes together, so that an addition never lacks room
+ * The room may hold anything. Whatever calls are made on a gathering, its bytes are those that
+ * the accepted additions alone give, in their order. The common part is the least graph above
+ * all accepted records. Where the same records are all accepted in another order, the common
+ * part is the same record.
+ * A call refuses bytes that hold no gathering by the first fault that it finds. It refuses by 1
+ * to 3 for the table, and by 1 where the bytes end before the table does; then by 4 to 7 of the
+ * record, as the first, if the call takes a record; then by 4 to 7 of the common part, as the
+ * second. A missing byte of the length counts as 0. A common part that is cut off ends where the
+ * bytes end. An addition is last refused by 8 where the common part has no room.
  *
- * A store keeps up to 16 versions of a program over one table: what the programs have in
- * common once, and for each program its difference from that. It is bytes that the caller
- * lends, 2 to RECORD_STORE of them:
+ * A store keeps up to 16 versions of a program over one type table. A program is a record, and a
+ * version is its number, 0 to 15. The store holds the common part of all programs once, and for
+ * each program its difference from the common part. It is a buffer of 2 to RECORD_STORE bytes
+ * that the caller lends:
  *    2 bytes   the map, low byte first: bit v is set when version v exists, v being 0 to 15
  *    and where some version exists
  *    2 bytes   the length of the common part, low byte first
- *    so many   the common part in written form
- *    and for each version that exists, the lowest first
+ *    so many   the common part, a written record
+ *    and for each version that exists, lowest first
  *    2 bytes   the length of its difference from the common part, low byte first
- *    so many   the difference in written form
- * The bytes behind hold anything. An empty store is two zero bytes. A put names a version
- * that is absent, a read gives back the written record that was put, and a drop removes a
- * version. Two versions read as equal bytes exactly when what was put means the same: no
- * program opens as another.
- * The way of some programs begins with an empty store and puts them in the order of their
- * numbers. A step of the way stores the common part of the programs so far, and the
- * difference of each from it; it is refused by 11 where the common part is too large, then
- * by 13 where a program has no difference from it, then by 21 where the bytes are fewer
- * than it takes. Bytes hold a store when the way of some programs, in as many bytes, ends in
- * the first of them; there is at most one such list of programs. Every call goes that way to
- * know it, and a put or a drop then goes the way of the programs that are to be there after
- * it. So with one table, and with nobody else writing the bytes, the used bytes after any
- * calls are those of an empty store of that length into which the programs that were put
- * and not dropped are put in the order of their numbers. A way may take more room than its
- * end: used bytes that are saved are put back at the beginning of as many bytes as before or
- * more. A drop may be refused, and fewer programs may need more room: their common part may
- * be larger. A store that somebody else changed may hold other programs; with another
- * map it may hold other versions.
+ *    so many   that difference, a written record
+ * The bytes behind these used bytes may hold anything. An empty store is two zero bytes. A put
+ * stores a record under a version that is absent, a read gives the written record of what was
+ * put, and a drop removes a version. Two versions read as equal bytes exactly when the records
+ * that were put mean the same: no program opens as another.
+ * The way of some programs begins with an empty store and puts the programs in the order of
+ * their versions. Each step of the way stores the common part of the programs so far, and the
+ * difference of each of them from that common part. A step is refused by 11 where the common
+ * part is too large, then by 13 where a program has no difference from it, then by 21 where the
+ * buffer has fewer bytes than the step takes. A buffer holds a store exactly when there are
+ * programs whose way, in a buffer of this length, ends in the buffer's first bytes. There is at
+ * most one such list of programs, and every call goes its way to find the programs. A put or a
+ * drop then goes the way of the programs that are to be in the store after it.
+ * So, with one table and with nobody else writing the bytes, the used bytes depend only on the
+ * programs and their versions, whichever calls were made. A way may take more bytes than its end
+ * uses: put saved bytes back at the beginning of a buffer that is as long as the old one or
+ * longer. A drop may be refused, and fewer programs may need more room, for their common part
+ * may be larger. Bytes that somebody else changed may hold other programs or other versions.
  *
- * A record, a list, a gathering, a store or an output is handed in as a pointer to its first
- * byte and a length; rows are handed in as a pointer to the first row and the number of
- * rows. A pointer is not null, also where the length is 0. An output, a gathering that is
- * begun or added to, or a store that is put into or dropped from, overlaps nothing else that
- * is handed in. The calls keep no pointer, share no state and may run side by side.
+ * A table, a record, a list, a gathering, a store or an output is handed in as a pointer to its
+ * first byte and a length. Rows are handed in as a pointer to the first row and the number of
+ * rows. A pointer is never null, not even where the length is 0. An output overlaps nothing else
+ * that is handed in; nor does a gathering that is begun or added to, or a store that is put into
+ * or dropped from. The calls keep no pointer, share no state and may run side by side.
  *
- * The comment of a call ends with the stack that it takes, as measured on the largest
+ * The comment of a call ends with the stack that the call takes, as measured on the largest
  * records, with 4 KiB to spare and rounded up. A thread that makes calls needs RECORD_STACK
- * bytes of stack; nothing tests for room, and a call that has less overruns the stack.
+ * bytes of stack. Nothing tests for room: a call on a smaller stack may overrun it.
  *
- * A call that writes a record answers its length, which is at most RECORD_LONGEST; the
- * output's first bytes are then the record and its other bytes are unchanged. On a
- * refusal, and at the end of a listing, no byte and no row of an output and no byte of a
- * gathering or a store is changed. Refusals have the numbers of documents 01 and 02:
+ * A call that writes a record answers the record's length, which is at most RECORD_LONGEST. The
+ * first bytes of the output are then the record, and its other bytes are unchanged. A refusal
+ * changes no byte and no row of an output, and no byte of a gathering or a store; nor does the
+ * end of a listing. Refusals have the numbers of documents 01 and 02:
  *
  *    1  n is not 2 to 64, or the table's length is not 8 times n
- *    2  a bit at n or above, no order, 0 not least, or n - 1 not greatest
- *    3  two types without a meet or a join
- *    4  a record with no nodes, too short, with bytes left over, or with more than 2,048
- *       links; a planning table with a number of node bytes that is not divisible by 3,
- *       with nodes that are not 1 to 255, or with more than 2,048 rows; bytes that hold no
- *       store, fewer than 2 or more than 16,384
- *    5  a type that is 0 or at least n, a target that is no node, or a lowest level above
- *       the highest; a planning table's type with bit 7, while its target that is no node
- *       is 14
+ *    2  the table has a bit at n or above, is no order, or 0 is not its least type, or n - 1 is
+ *       not its greatest type
+ *    3  two types have no meet or no join
+ *    4  a record has no nodes, ends early, has bytes left over, or has more than 2,048 links; a
+ *       planning table has a number of node bytes that is not divisible by 3, has no nodes,
+ *       more than 255 nodes, or more than 2,048 rows; a buffer holds no store, or has fewer
+ *       than 2 or more than 16,384 bytes
+ *    5  a type is 0 or at least n, a target is no node, or a lowest level is above the highest;
+ *       in a planning table a type has bit 7, while a target that is no node gives 14
  *    6  a node reaches itself
- *    7  a node that the root does not reach
+ *    7  the root does not reach a node
  *    8  the result exists and the output is shorter
  *    9  combination: a class of shared paths reaches itself
- *   10  combination: a class of shared paths has no type or no level in common, and none
+ *   10  combination: a class of shared paths has no type or no level in common, and no class
  *       reaches itself
- *   11  the result, or a store's common part at a step of the way, has more than 255 nodes
- *       or 2,048 links
+ *   11  the result, or a store's common part at a step of the way, has more than 255 nodes or
+ *       2,048 links
  *   12  difference: the second record is not below the first
- *   13  difference: some node of the second record has no wanted type: among the types
- *       whose meet with the first record's types over it is its own, none is the greatest;
- *       store: a program on the way has no difference from the common part for that reason
- *   14  planning table: a row with a feature above 63 or a node number outside the count
- *   15  planning table: two rows with one parent and feature
- *   16  gathering: an order or a finish before the first addition
- *   17  an appropriateness list that is not of 64 bytes, or with an entry of n or more
- *   18  a record with a link that the appropriateness list forbids
- *   19  a reading order that is not a list of all 64 features, each once
- *   20  store: a version above 15, or absent for a read or a drop, or present for a put
- *   21  store: fewer bytes than a step of the way takes
+ *   13  difference: a node of the second record has no wanted type: there is no greatest type
+ *       whose meet with the first record's types over the node is the node's own type; store: a
+ *       program on the way has no difference from the common part for that reason
+ *   14  planning table: a row has a feature above 63, or a parent or a target that is no node
+ *   15  planning table: two rows have one parent and feature
+ *   16  gathering: an order or a finish comes before the first addition
+ *   17  the list of types for features has not 64 bytes, or has an entry of n or more
+ *   18  a record has a link that the list of types for features forbids
+ *   19  the reading order is not a list of all 64 features, each once
+ *   20  store: the version is above 15, or absent for a read or a drop, or present for a put
+ *   21  store: the buffer has fewer bytes than a step of the way takes
  *   22  difference with reasons: it has more links than bytes are lent for the reasons
  *   23  listing: the number of features is not 1 or 2
- *   24  listing: the record is read but not listed
+ *   24  listing: the record is accepted but not listed
  *
- * Checks run in the order 1, 2, 3; 17 or 19; the first record's 4 to 7 and 18, or a
- * planning table's 4, 14, 15, 5, 6, 7, or a store's 4; the second's 4 to 7 and 18; then 16,
- * 12, 13, 9, 10, 11, 23, 24, 8, 22. Each is looked for in the whole record or table before
- * the next. On a store, 20 comes after the second's 7; then at each step of the way 11, 13
- * and 21; and for a read 8.
+ * A call makes its checks in this order: 1, 2 and 3 of the type table; 17 or 19 of the list; 4
+ * to 7 and then 18 of the first record, or 4, 14, 15, 5, 6 and 7 of a planning table, or 4 of a
+ * store; 4 to 7 and then 18 of the second record; then 16, 12, 13, 9, 10, 11, 23, 24, 8 and 22.
+ * The first check that fails gives the answer. Each check is made on the whole table or record
+ * before the next one. A call on a store checks 20 after the second record's 7. A put or a drop
+ * then checks 11, 13 and 21 at each step of the way, and a read checks 8.
  */
 #ifndef RECORD_ENGINE_H
 #define RECORD_ENGINE_H
@@ -178,79 +186,83 @@
 extern "C" {
 #endif
 
-/* The version of this header and of its library, as a number and as a text. The number is
- * 1,000,000 times the first number of the text, 1,000 times the second and the third. */
+/* The version of this header and of its library, as a number and as a text. The version a.b.c
+ * has the number 1,000,000 * a + 1,000 * b + c. */
 #define RECORD_VERSION 1000
 #define RECORD_VERSION_TEXT "0.1.0"
 
-/* A thread with a stack of so many bytes has room for every call. */
+/* A stack of this many bytes has room for every call. */
 #define RECORD_STACK 393216
 
-/* An output of so many bytes is never too short. */
+/* The length of the longest record. An output of this many bytes always has room for a record. */
 #define RECORD_LONGEST 4854
 
-/* So many bytes are enough for a gathering over every table; 1 + 8 * n + 2 +
- * RECORD_LONGEST are for a table of n types. */
+/* This many bytes are enough for a gathering over every table. A gathering over a table of n
+ * types needs 1 + 8 * n + 2 + RECORD_LONGEST bytes. */
 #define RECORD_GATHERING (1 + 8 * 64 + 2 + RECORD_LONGEST)
 
-/* The most bytes of a store, and the number of versions that it can keep. */
+/* The most bytes that a store has, and the most versions that it keeps. */
 #define RECORD_STORE 16384
 #define RECORD_VERSIONS 16
 
-/* The number of features, and so the length of a list. */
+/* The number of features, which is also the length of a list of types for features and of a
+ * reading order. */
 #define RECORD_FEATURES 64
 
-/* A record has at most so many links: so many bytes are never too few for the reasons
- * of `record_difference_explained`, nor so many rows for `record_export`. */
+/* The most links that a record has. This many bytes are always enough for the reasons of
+ * `record_difference_explained`, and this many rows for `record_export`. */
 #define RECORD_MOST_LINKS 2048
 
-/* A record has at most so many nodes: three bytes for each are never too few for the nodes
- * of `record_export`. */
+/* The most nodes that a record has. Three times this many bytes are always enough for the node
+ * bytes of `record_export`. */
 #define RECORD_MOST_NODES 255
 
 /* The number of the house types, and the length of their table. */
 #define RECORD_HOUSE_TYPES 64
 #define RECORD_HOUSE_TABLE 512
 
-/* What `record_order` answers, seen from the first graph: each is below the other, so
- * that they mean the same; only the first is below the second; only the second is below
- * the first; neither is below the other. */
+/* The answers of `record_order`. RECORD_SAME: each record is below the other, so they mean the
+ * same. RECORD_UNDER: only the first is below the second. RECORD_ABOVE: only the second is below
+ * the first. RECORD_NEITHER: neither is below the other. */
 #define RECORD_SAME (UINT64_C(1) << 33)
 #define RECORD_UNDER (RECORD_SAME + 1)
 #define RECORD_ABOVE (RECORD_SAME + 2)
 #define RECORD_NEITHER (RECORD_SAME + 3)
 
-/* The end of a listing, answered by `record_next`: no record follows the one that was
+/* The answer of `record_next` at the end of a listing: no record follows the one that was
  * handed in. */
 #define RECORD_END (RECORD_SAME + 4)
 
-/* An output of so many bytes is never too short for `record_next`. */
+/* An output of this many bytes always has room for `record_next`. */
 #define RECORD_LONGEST_LISTED 32
 
-/* Whether an answer is the counts of nodes and rows that `record_export` filled; the count
- * of nodes, 1 to RECORD_MOST_NODES; and the count of rows, at most RECORD_MOST_LINKS. */
+/* Whether an answer is the counts of `record_export`; the number of nodes that it filled, 1 to
+ * RECORD_MOST_NODES; and the number of rows that it filled, at most RECORD_MOST_LINKS. */
 #define RECORD_IS_COUNTS(answer) ((answer) >> 34 == 1)
 #define RECORD_NODES(answer) ((int)((answer) >> 16 & 65535))
 #define RECORD_ROWS(answer) ((int)((answer) & 65535))
 
-/* Why a difference keeps a link, the first of these that holds: nothing of the general
- * graph lies over the link; the links that enter its node in the specific graph are in
- * two or more groups; the node has a type or a range that the general graph does not
- * give, or a link that leaves it is kept. A link of the general graph lies over one of
- * the specific graph when a path of the general graph that ends with the one ends with
- * the other in the specific graph. Two links are in one group when links of the general
- * graph that enter one node lie over them, or when both are in one with a third. */
+/* Why a difference keeps a link: the first of these three reasons that holds.
+ *    RECORD_REASON_BARE    nothing of the general record lies over the link
+ *    RECORD_REASON_GROUPS  the links that enter its node in the specific record are in two or
+ *                          more groups
+ *    RECORD_REASON_WANTED  its node has a type or a range that the general record does not give,
+ *                          or a link that leaves its node is kept
+ * A link of the general record lies over a link of the specific record when some path of the
+ * general record ends with the former, and the same path of the specific record ends with the
+ * latter. Two links are in one group when links of the general record that enter one node lie
+ * over them, or when both are in one group with a third link. */
 #define RECORD_REASON_BARE 1
 #define RECORD_REASON_GROUPS 2
 #define RECORD_REASON_WANTED 3
 
-/* Whether an answer is a refusal; its number; and the record that a refusal by 4 to
- * 7 or 18 tells of, 1 or 2, and 0 for the other refusals. */
+/* Whether an answer is a refusal; the number of the refusal; and the record that it tells of: 1
+ * for the first and 2 for the second in a refusal by 4 to 7 or 18, and 0 in every other. */
 #define RECORD_IS_REFUSED(answer) ((answer) >> 32 == 1)
 #define RECORD_REFUSAL(answer) ((int)((answer) & 255))
 #define RECORD_SIDE(answer) ((int)((answer) >> 8 & 255))
 
-/* C89 has no word `inline`. */
+/* C89 has no keyword `inline`. */
 #if defined(__cplusplus) || (defined(__STDC_VERSION__) && __STDC_VERSION__ >= 199901L)
 #define RECORD_INLINE static inline
 #elif defined(__GNUC__)
@@ -259,8 +271,8 @@ extern "C" {
 #define RECORD_INLINE static
 #endif
 
-/* The refusal as a sentence, which has neither its number nor its side; "no refusal" for
- * an answer that is none:
+/* The sentence of a refusal. The sentence tells neither the number nor the record. An answer
+ * that is no refusal gives "no refusal". For example:
  *
  *    if (RECORD_IS_REFUSED(answer))
  *        printf("refused %d: %s\n", RECORD_REFUSAL(answer), record_refusal_text(answer));
@@ -299,93 +311,97 @@ RECORD_INLINE const char *record_refusal_text(uint64_t answer) {
 
 #undef RECORD_INLINE
 
-/* Whether a table is accepted, so that no call over it is refused by 1 to 3. Answers 0, or
- * refuses by 1 to 3. Takes 8 KiB of stack. */
+/* Tells whether a type table is accepted. No call over an accepted table is refused by 1 to 3.
+ * Answers 0, or refuses by 1 to 3. Takes 8 KiB of stack. */
 uint64_t record_check_table(size_t n, const uint8_t *table, size_t table_length);
 
-/* Writes a record in its one written form: records of equal meaning, and no others,
- * give equal bytes. Answers the length, or refuses by 1 to 8; the record counts as
- * the first. Takes 36 KiB of stack. */
+/* Writes the written record of a record. Two records give equal bytes exactly when they mean
+ * the same. Answers the length, or refuses by 1 to 8; the record counts as the first. Takes 36
+ * KiB of stack. */
 uint64_t record_rewrite(size_t n, const uint8_t *table, size_t table_length,
                         const uint8_t *record, size_t record_length,
                         uint8_t *output, size_t output_length);
 
-/* Which of two records is the broader. A graph is below another when every path of the
- * other is one of its own, with a type below or equal and a range inside, and paths that
- * share in the other share in it. Answers RECORD_SAME, RECORD_UNDER, RECORD_ABOVE or
- * RECORD_NEITHER, or refuses by 1 to 7. Takes 24 KiB of stack. */
+/* Tells which of two records is the broader. A path is a list of features, followed from the
+ * root. Two paths share when they lead to one node. A record s is below a record g when every
+ * path of g is a path of s, its type in s is below or equal to its type in g, its range in s
+ * lies inside its range in g, and paths that share in g share in s. Answers RECORD_SAME,
+ * RECORD_UNDER, RECORD_ABOVE or RECORD_NEITHER, or refuses by 1 to 7. Takes 24 KiB of stack. */
 uint64_t record_order(size_t n, const uint8_t *table, size_t table_length,
                       const uint8_t *first, size_t first_length,
                       const uint8_t *second, size_t second_length);
 
-/* Writes the common part of two records: the paths in both, each with the join of
- * its two types and the smallest range holding both its ranges, two sharing exactly
- * when they share in both. It is the least graph above both. Answers the length, or
- * refuses by 1 to 7, 11 and 8. Takes 124 KiB of stack. */
+/* Writes the common part of two records, which is the least graph above both. The common part
+ * has the paths that both records have. A path has the join of its two types and the smallest
+ * range that holds both its ranges. Two paths share in the common part exactly when they share
+ * in both records. Answers the length, or refuses by 1 to 7, 11 and 8. Takes 124 KiB of stack. */
 uint64_t record_generalize(size_t n, const uint8_t *table, size_t table_length,
                            const uint8_t *first, size_t first_length,
                            const uint8_t *second, size_t second_length,
                            uint8_t *output, size_t output_length);
 
-/* Writes the combination of two records, the greatest graph below both. Answers the
- * length, or refuses by 1 to 7, by 9 or 10 where no graph is below both, then by 11
- * and 8. Takes 128 KiB of stack. */
+/* Writes the combination of two records, which is the greatest graph below both. Paths that
+ * share in one of the records share in the combination, and so do their continuations by equal
+ * features. The paths that share form a class. A class has the meet of all its types and the
+ * overlap of all its ranges. Answers the length, or refuses by 1 to 7, by 9 or 10 where no graph
+ * is below both, then by 11 and 8. Takes 128 KiB of stack. */
 uint64_t record_unify(size_t n, const uint8_t *table, size_t table_length,
                       const uint8_t *first, size_t first_length,
                       const uint8_t *second, size_t second_length,
                       uint8_t *output, size_t output_length);
 
-/* Writes the difference of a general record, the first, and a specific one below it,
- * the second: combined with the general one it gives the specific one again, byte
- * for byte in written form, and nothing strictly more general does. Answers the
- * length, or refuses by 1 to 7, 12, 13 and 8. Takes 72 KiB of stack. */
+/* Writes the difference of a general record, the first, and a specific record below it, the
+ * second. The combination of the general record and the difference is the written specific
+ * record, byte for byte. No graph strictly above the difference gives the specific record.
+ * Answers the length, or refuses by 1 to 7, 12, 13 and 8. Takes 72 KiB of stack. */
 uint64_t record_difference(size_t n, const uint8_t *table, size_t table_length,
                            const uint8_t *general, size_t general_length,
                            const uint8_t *specific, size_t specific_length,
                            uint8_t *output, size_t output_length);
 
-/* As `record_rewrite`, of a record that obeys an appropriateness list. Answers the
- * length, or refuses by 1 to 3, by 17, by 4 to 7 and 18, then by 8; the record counts as
- * the first. Takes 36 KiB of stack. */
+/* Does the same as `record_rewrite`, for a record that obeys a list of types for features.
+ * Answers the length, or refuses by 1 to 3, by 17, by 4 to 7 and 18, then by 8; the record
+ * counts as the first. Takes 36 KiB of stack. */
 uint64_t record_rewrite_appropriate(size_t n, const uint8_t *table, size_t table_length,
                                     const uint8_t *list, size_t list_length,
                                     const uint8_t *record, size_t record_length,
                                     uint8_t *output, size_t output_length);
 
-/* As `record_generalize`, of two records that obey an appropriateness list. The common
- * part obeys it too. Answers the length, or refuses by 1 to 3, by 17, by the first
- * record's 4 to 7 and 18, by the second's, then by 11 and 8. Takes 124 KiB of stack. */
+/* Does the same as `record_generalize`, for two records that obey a list of types for features.
+ * The common part obeys the list too. Answers the length, or refuses by 1 to 3, by 17, by the
+ * first record's 4 to 7 and 18, by the second record's, then by 11 and 8. Takes 124 KiB of
+ * stack. */
 uint64_t record_generalize_appropriate(size_t n, const uint8_t *table, size_t table_length,
                                        const uint8_t *list, size_t list_length,
                                        const uint8_t *first, size_t first_length,
                                        const uint8_t *second, size_t second_length,
                                        uint8_t *output, size_t output_length);
 
-/* As `record_unify`, of two records that obey an appropriateness list. The combination
- * obeys it too. Answers the length, or refuses by 1 to 3, by 17, by the first record's 4
- * to 7 and 18, by the second's, then by 9, 10, 11 and 8. Takes 128 KiB of stack. */
+/* Does the same as `record_unify`, for two records that obey a list of types for features. The
+ * combination obeys the list too. Answers the length, or refuses by 1 to 3, by 17, by the first
+ * record's 4 to 7 and 18, by the second record's, then by 9, 10, 11 and 8. Takes 128 KiB of
+ * stack. */
 uint64_t record_unify_appropriate(size_t n, const uint8_t *table, size_t table_length,
                                   const uint8_t *list, size_t list_length,
                                   const uint8_t *first, size_t first_length,
                                   const uint8_t *second, size_t second_length,
                                   uint8_t *output, size_t output_length);
 
-/* Writes the difference as `record_difference` does, and into the first bytes of the
- * reasons one byte for each of its links, RECORD_REASON_BARE, RECORD_REASON_GROUPS or
- * RECORD_REASON_WANTED, in the order of the links in the written record: node by node,
- * and for each node by feature. The other bytes of the reasons are unchanged. Answers
- * the record's length, or refuses by 1 to 7, 12, 13, 8 and 22. Takes 72 KiB of stack. */
+/* Writes the difference as `record_difference` does, and a reason for each of its links into a
+ * second output. A reason is one byte: RECORD_REASON_BARE, RECORD_REASON_GROUPS or
+ * RECORD_REASON_WANTED. The reasons stand in the order of the links in the written difference:
+ * node by node, and for each node by feature. The bytes behind the last reason are unchanged.
+ * Answers the record's length, or refuses by 1 to 7, 12, 13, 8 and 22. Takes 72 KiB of stack. */
 uint64_t record_difference_explained(size_t n, const uint8_t *table, size_t table_length,
                                      const uint8_t *general, size_t general_length,
                                      const uint8_t *specific, size_t specific_length,
                                      uint8_t *output, size_t output_length,
                                      uint8_t *reasons, size_t reasons_length);
 
-/* Writes the difference as `record_difference` does, where links are ordered by their
- * feature's place in a reading order, then by the number of the node that they leave.
- * Whichever list is given, it restores the specific record, and nothing strictly more
- * general does. Answers the length, or refuses by 1 to 3, by 19, by 4 to 7, then by 12,
- * 13 and 8. Takes 72 KiB of stack. */
+/* Writes the difference as `record_difference` does, but orders the links by a reading order,
+ * which is the list. Whichever reading order is given, the difference restores the specific
+ * record, and no graph strictly above the difference does. Answers the length, or refuses by 1
+ * to 3, by 19, by 4 to 7, then by 12, 13 and 8. Takes 72 KiB of stack. */
 uint64_t record_difference_by(size_t n, const uint8_t *table, size_t table_length,
                               const uint8_t *list, size_t list_length,
                               const uint8_t *general, size_t general_length,
@@ -402,57 +418,57 @@ uint64_t record_difference_explained_by(size_t n, const uint8_t *table, size_t t
                                         uint8_t *output, size_t output_length,
                                         uint8_t *reasons, size_t reasons_length);
 
-/* Writes the listed record after the one that is handed in, over the table and a number
- * of features, 1 or 2; the first where the record has length 0. From the first on, each
- * call with the record that the last one wrote, it goes through all listed records, each
- * once. Answers the length, or RECORD_END where the record is the last; or refuses by 1
- * to 3, by 4 to 7 where the record has bytes, which counts as the first, then by 23, by
- * 24 where the record is read but not listed, and by 8. The cost of a call does not grow
- * with the number of listed records. Takes 12 KiB of stack. */
+/* Writes the listed record that follows the one that is handed in, over a table and a number of
+ * features, 1 or 2. A record of length 0 asks for the first listed record. To go through all
+ * listed records, each once, hand in at each call the record that the last call wrote. The
+ * number of listed records does not slow a call down. Answers the length, or RECORD_END where
+ * the record is the last one; or refuses by 1 to 3, by 4 to 7 unless the record has no bytes,
+ * then by 23, by 24 where the record is accepted but not listed, and by 8. The record counts as
+ * the first. Takes 12 KiB of stack. */
 uint64_t record_next(size_t n, const uint8_t *table, size_t table_length,
                      size_t features,
                      const uint8_t *record, size_t record_length,
                      uint8_t *output, size_t output_length);
 
-/* One link of a planning table. */
+/* A row of a planning table: one link. */
 typedef struct { uint8_t parent, feature, target; } record_row;
 
-/* Writes the record of a planning table in its one written form, as `record_rewrite` does:
- * tables of equal meaning, and no others, give equal bytes, whatever the order of their
- * rows. Answers the length, or refuses by 1 to 3, by 4, by 14, by 15, by 5, 6 and 7, then
- * by 8; the planning table counts as the first record. Takes 76 KiB of stack. */
+/* Writes the written record of a planning table. Two planning tables give equal bytes exactly
+ * when they mean the same, whatever the order of their rows. Answers the length, or refuses by 1
+ * to 3, by 4, by 14, by 15, by 5, 6 and 7, then by 8; the planning table counts as the first
+ * record. Takes 76 KiB of stack. */
 uint64_t record_import(size_t n, const uint8_t *table, size_t table_length,
                        const record_row *rows, size_t row_count,
                        const uint8_t *nodes, size_t nodes_length,
                        uint8_t *output, size_t output_length);
 
-/* Fills the first rows and the first node bytes with the planning table of a record. The
- * nodes have their numbers in the written record, and the rows are sorted by parent, then
- * by feature. The other rows and bytes are unchanged. Importing what was exported gives
- * the written record; exporting what was imported gives the rows sorted, with the written
- * numbers. Answers the counts of nodes and rows, or refuses by 1 to 7, where the record
- * counts as the first, then by 8 where the rows are fewer than the links or the node bytes
- * fewer than three for each node. Takes 48 KiB of stack. */
+/* Fills a planning table from a record. The nodes have the numbers of the written record, and
+ * the rows are sorted by parent, then by feature. The rows and node bytes behind those that are
+ * filled are unchanged. Importing what was exported gives the written record. Exporting what was
+ * imported gives the rows sorted, with the numbers of the written record. Answers the counts of
+ * nodes and rows, or refuses by 1 to 7, then by 8 where the rows are fewer than the links or the
+ * node bytes fewer than three for each node. The record counts as the first. Takes 48 KiB of
+ * stack. */
 uint64_t record_export(size_t n, const uint8_t *table, size_t table_length,
                        const uint8_t *record, size_t record_length,
                        record_row *rows, size_t row_count,
                        uint8_t *nodes, size_t nodes_length);
 
-/* Begins a gathering over a table, with nothing added yet. Answers how many bytes it uses
- * so far, 3 + 8 * n, or refuses by 1 to 3, then by 8; the other bytes are unchanged. It
- * asks for at least 1 + 8 * n + 2 + RECORD_LONGEST bytes. Takes 8 KiB of stack. */
+/* Begins a gathering over a table, with nothing added yet. Answers how many bytes the gathering
+ * uses so far, 3 + 8 * n, or refuses by 1 to 3, then by 8; the caller lends at least
+ * 1 + 8 * n + 2 + RECORD_LONGEST bytes. The other bytes are unchanged. Takes 8 KiB of stack. */
 uint64_t record_gathering_begin(size_t n, const uint8_t *table, size_t table_length,
                                 uint8_t *gathering, size_t gathering_length);
 
-/* Adds a record. Answers the length of the common part, or refuses by 4 to 7 of the
- * record, which counts as the first, and by 11, and by nothing else on bytes that hold a
- * gathering; a refused addition changes nothing. Takes 120 KiB of stack. */
+/* Adds a record to a gathering. Answers the length of the new common part, or refuses by 4 to 7
+ * of the record, which counts as the first, then by 11; by nothing else if the bytes hold a
+ * gathering. A refused addition changes no byte. Takes 120 KiB of stack. */
 uint64_t record_gathering_add(uint8_t *gathering, size_t gathering_length,
                               const uint8_t *record, size_t record_length);
 
-/* Which is the broader, seen from the record: the order, as `record_order` gives it, of
- * the record and the common part so far. Answers one of its four, or refuses by 4 to 7 of
- * the record, which counts as the first, then by 16. Takes 24 KiB of stack. */
+/* Tells the order of a record, as the first, and of the common part so far, as the second.
+ * Answers as `record_order` does, or refuses by 4 to 7 of the record, then by 16. Takes 24 KiB
+ * of stack. */
 uint64_t record_gathering_order(const uint8_t *gathering, size_t gathering_length,
                                 const uint8_t *record, size_t record_length);
 
@@ -461,37 +477,38 @@ uint64_t record_gathering_order(const uint8_t *gathering, size_t gathering_lengt
 uint64_t record_gathering_finish(const uint8_t *gathering, size_t gathering_length,
                                  uint8_t *output, size_t output_length);
 
-/* Puts a record into a store as the version of a number, 0 to 15, that is absent. Answers how
- * many bytes the store uses; the others are unchanged. Refuses by 1 to 3, by 4 as the first
- * where the bytes hold no store, by 4 to 7 of the record, which counts as the second, by 20
- * for the version, then on the way of all programs by the first of 11, 13 and 21. Where the
- * version is the last, what was gone to know the store is the beginning of that way and is
- * gone once. Takes 256 KiB of stack. */
+/* Puts a record into a store under a version, 0 to 15, that is absent. Answers how many bytes the
+ * store uses. The bytes behind them are unchanged. Refuses by 1 to 3, by 4 of the store, as the
+ * first, where the bytes hold no store, by 4 to 7 of the record, which counts as the second, by
+ * 20 for the version, then by the first of 11, 13 and 21 on the way of all programs, the new one
+ * included. If the version is above all present ones, the call adds one step to the way that it
+ * went to find the programs, and does not go the way again. Takes 256 KiB of stack. */
 uint64_t record_store_put(size_t n, const uint8_t *table, size_t table_length,
                           uint8_t *store, size_t store_length,
                           size_t version,
                           const uint8_t *record, size_t record_length);
 
-/* Writes the written record that was put as a version. Answers the record's length, or refuses
- * by 1 to 3, by 4 as the first where the bytes hold no store, by 20 for the version, then by
- * 8. Takes 244 KiB of stack. */
+/* Writes the written record of what was put under a version. Answers the record's length, or
+ * refuses by 1 to 3, by 4 of the store, as the first, where the bytes hold no store, by 20 for
+ * the version, then by 8. Takes 244 KiB of stack. */
 uint64_t record_store_read(size_t n, const uint8_t *table, size_t table_length,
                            const uint8_t *store, size_t store_length,
                            size_t version,
                            uint8_t *output, size_t output_length);
 
-/* Drops a version. Answers how many bytes the store uses then; the others are unchanged.
- * Refuses by 1 to 3, by 4 as the first where the bytes hold no store, by 20 for the version,
- * then on the way of the others by the first of 11, 13 and 21. Takes 244 KiB of stack. */
+/* Removes a version from a store. Answers how many bytes the store uses then. The bytes behind
+ * them are unchanged. Refuses by 1 to 3, by 4 of the store, as the first, where the bytes hold no
+ * store, by 20 for the version, then by the first of 11, 13 and 21 on the way of the other
+ * programs. Takes 244 KiB of stack. */
 uint64_t record_store_drop(size_t n, const uint8_t *table, size_t table_length,
                            uint8_t *store, size_t store_length,
                            size_t version);
 
-/* Writes the type table of the house types, for n = RECORD_HOUSE_TYPES, into the
- * output's first RECORD_HOUSE_TABLE bytes; its other bytes are unchanged. A house
- * type has three grades of 0 to 3 and is numbered 16 * first + 4 * second + third; it
- * is below another when each grade is at most the other's, and 3 tells nothing.
- * Answers RECORD_HOUSE_TABLE, or refuses by 8. Takes 8 KiB of stack. */
+/* Writes the type table of the house types, for n = RECORD_HOUSE_TYPES, into the first
+ * RECORD_HOUSE_TABLE bytes of the output. The other bytes are unchanged. A house type has three
+ * grades of 0 to 3. Its number is 16 * first + 4 * second + third. A house type is below another
+ * when each of its grades is at most the other's, and a grade of 3 says nothing. Answers
+ * RECORD_HOUSE_TABLE, or refuses by 8. Takes 8 KiB of stack. */
 uint64_t record_house_table(uint8_t *output, size_t output_length);
 
 #ifdef __cplusplus

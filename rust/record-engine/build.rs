@@ -1,7 +1,7 @@
-//! Links the engine's static library, `librecord_engine.a`, which `rt staticlib
-//! record_engine` writes to the repository's `target/staticlib`. The environment
-//! variable `RECORD_ENGINE_LIB_DIR` has the absolute path of another folder with it. Where
-//! it is missing, `src/missing.rs` stops what would be linked.
+//! Links the static library of the engine, `librecord_engine.a`. `rt staticlib record_engine`
+//! writes the library to the repository's `target/staticlib`. If the library is in another
+//! folder, the environment variable `RECORD_ENGINE_LIB_DIR` has the absolute path of that
+//! folder. If the library is missing, `src/missing.rs` stops the compiler before it links.
 
 use std::env;
 use std::path::{Path, PathBuf};

@@ -1,13 +1,14 @@
-//! Four programs over the diamond in one store, where what they have in common stands once:
-//! puts them, saves the used bytes, and reads every program back from what was saved; then a
-//! put that is refused. Prints what examples/export.stdout has.
+//! Keeps four programs over the diamond in one store. The program puts them, saves the used
+//! bytes, and reads every program back from the saved bytes. Then it shows a put that is
+//! refused. It prints what `examples/export.stdout` of the repository has.
 
 use record_engine::{Refusal, Store, Table};
 
 fn main() -> Result<(), Refusal> {
     let diamond = Table::from_order(4, &[(0, 1), (0, 2), (1, 3), (2, 3)])?;
-    // Features 0 and 1 of the root lead to one node, and feature 9 to another, each with its
-    // type, and with its levels where it has some.
+    // Features 0 and 1 of the root lead to one node, and feature 9 leads to another. `one` is
+    // the type of the first node, with its levels if it has a range. `other` is the type of the
+    // second node.
     let program = |one: &[u8], other: u8| {
         let root = [3, 3, 3, 2, 0, 0, 0, 0, 0, 0, 1, 1, 2];
         [&root, one, &[0; 8], &[other], &[0; 8]].concat()

@@ -1,10 +1,11 @@
-//! The calls with an appropriateness list, which says which features belong to which types.
+//! The calls with a list of types for features, which says which nodes may have which features.
+//! A record that obeys the list is appropriate: hence the names of the calls.
 
 use crate::code::length;
 use crate::{Refusal, foreign};
 
-/// Writes a record that obeys an appropriateness list in its one written form, as
-/// [`rewrite`](crate::rewrite) does. Takes 36 KiB of stack.
+/// Writes the written record of a record, as [`rewrite`](crate::rewrite) does, if the record
+/// obeys a list of types for features. Takes 36 KiB of stack.
 ///
 /// ```
 /// use record_engine::{FEATURES, GraphFault, Refusal, Side, rewrite_appropriate};
@@ -43,8 +44,9 @@ pub fn rewrite_appropriate(
     ))
 }
 
-/// Writes the common part of two records that obey an appropriateness list, as
-/// [`generalize`](crate::generalize) does. It obeys the list too. Takes 124 KiB of stack.
+/// Writes the common part of two records, as [`generalize`](crate::generalize) does, if the
+/// records obey a list of types for features. The common part obeys the list too. Takes 124
+/// KiB of stack.
 ///
 /// ```
 /// use record_engine::{FEATURES, GraphFault, Refusal, Side, generalize_appropriate};
@@ -82,10 +84,10 @@ pub fn generalize_appropriate(
     ))
 }
 
-/// Writes the combination of two records that obey an appropriateness list, as
-/// [`unify`](crate::unify) does. It obeys the list too. Takes 128 KiB of stack.
+/// Writes the combination of two records, as [`unify`](crate::unify) does, if the records obey
+/// a list of types for features. The combination obeys the list too. Takes 128 KiB of stack.
 ///
-/// A difference need not obey the list and is combined by [`unify`](crate::unify):
+/// A difference need not obey the list. Combine a difference with [`unify`](crate::unify):
 ///
 /// ```
 /// use record_engine::{FEATURES, GraphFault, Refusal, Side};

@@ -3,12 +3,12 @@
 use crate::code::{length, order_of};
 use crate::{Order, Refusal, foreign};
 
-/// Writes a record in its one written form: equal meaning gives equal bytes. Takes 36 KiB of
-/// stack.
+/// Writes the written record of a record. Two records give equal bytes exactly when they mean
+/// the same. Takes 36 KiB of stack.
 ///
 /// ```
 /// let diamond = record_engine::table(&[0x01, 0x03, 0x05, 0x0F]).expect("at most 8 types");
-/// // A lone top, node 0 with no links.
+/// // A lone node of type 3, top.
 /// let record = [1, 3, 0, 0, 0, 0, 0, 0, 0, 0];
 /// let mut output = [0; record_engine::LONGEST_RECORD];
 /// let length = record_engine::rewrite(4, &diamond, &record, &mut output)?;
@@ -24,10 +24,11 @@ pub fn rewrite(n: usize, table: &[u8], record: &[u8], output: &mut [u8]) -> Resu
     length(foreign::record_rewrite(n, table, record, output))
 }
 
-/// Which of two records is the broader, seen from the first. A graph is below
-/// another when every path of the other is a path of it, with a type below or
-/// equal and a range inside, and paths that share in the other share in it. Takes 24 KiB of
-/// stack.
+/// Tells which of two records is the broader, seen from the first. A path is a list of
+/// features, followed from the root. Two paths share when they lead to one node. A record s is
+/// below a record g when every path of g is a path of s, its type in s is below or equal to its
+/// type in g, its range in s lies inside its range in g, and paths that share in g share in s.
+/// Takes 24 KiB of stack.
 ///
 /// ```
 /// use record_engine::Order;
@@ -50,10 +51,10 @@ pub fn order(n: usize, table: &[u8], first: &[u8], second: &[u8]) -> Result<Orde
     order_of(foreign::record_order(n, table, first, second))
 }
 
-/// Writes the common part of two records, their generalization: the paths in
-/// both, each with the join of its two types and the smallest range holding both
-/// its ranges, two sharing exactly when they share in both. It is the least graph above
-/// both. Takes 124 KiB of stack.
+/// Writes the common part of two records, their generalization. The common part is the least
+/// graph above both. It has the paths that both records have. A path has the join of its two
+/// types and the smallest range that holds both its ranges. Two paths share in the common part
+/// exactly when they share in both records. Takes 124 KiB of stack.
 ///
 /// ```
 /// let diamond = record_engine::table(&[0x01, 0x03, 0x05, 0x0F]).expect("at most 8 types");
@@ -80,10 +81,10 @@ pub fn generalize(
     length(foreign::record_generalize(n, table, first, second, output))
 }
 
-/// Writes the combination of two records, their unification: sharing is the
-/// smallest equivalence that holds both records' sharing and passes down equal
-/// features, and each class has the meet of its types and the overlap of its
-/// ranges. It is the greatest graph below both. Takes 128 KiB of stack.
+/// Writes the combination of two records, their unification. The combination is the greatest
+/// graph below both. Paths that share in one of the records share in the combination, and so do
+/// their continuations by equal features. The paths that share form a class. A class has the
+/// meet of all its types and the overlap of all its ranges. Takes 128 KiB of stack.
 ///
 /// ```
 /// use record_engine::Refusal;
@@ -100,7 +101,7 @@ pub fn generalize(
 /// # Ok::<(), record_engine::Refusal>(())
 /// ```
 ///
-/// Ranges that overlap, and two that do not:
+/// The first two ranges overlap, and the last two do not:
 ///
 /// ```
 /// use record_engine::Refusal;
@@ -130,14 +131,14 @@ pub fn unify(
     length(foreign::record_unify(n, table, first, second, output))
 }
 
-/// Writes the difference of a general record and a specific one below it: combined
-/// with the general record it gives the specific one again, byte for byte in written
-/// form, and nothing strictly more general does. Takes 72 KiB of stack.
+/// Writes the difference of a general record and a specific record below it. The combination of
+/// the general record and the difference is the written specific record, byte for byte. No
+/// graph strictly above the difference gives the specific record. Takes 72 KiB of stack.
 ///
 /// ```
 /// let diamond = record_engine::table(&[0x01, 0x03, 0x05, 0x0F]).expect("at most 8 types");
-/// // Both lead by 0 and 1 to one node, which is top in the general one and 1 in
-/// // the specific one; one of the two links is enough to say so.
+/// // In both records the features 0 and 1 of the root lead to one node. The node has type 3 in
+/// // the general record and type 1 in the specific one. One of the two links says enough.
 /// let general = [2, 3, 3, 0, 0, 0, 0, 0, 0, 0, 1, 1, 3, 0, 0, 0, 0, 0, 0, 0, 0];
 /// let specific = [2, 3, 3, 0, 0, 0, 0, 0, 0, 0, 1, 1, 1, 0, 0, 0, 0, 0, 0, 0, 0];
 /// let rest = [2, 3, 1, 0, 0, 0, 0, 0, 0, 0, 1, 1, 0, 0, 0, 0, 0, 0, 0, 0];

@@ -1,5 +1,5 @@
-//! The number that the static library answers (`crates/record_engine/specs/Code.antt`),
-//! read as an answer.
+//! Turns the number that a call of the static library gives into an answer. The definition of
+//! these numbers is `crates/record_engine/specs/Code.antt`.
 
 use crate::refusal::{Refusal, Side};
 use crate::{Counts, Order};
@@ -14,7 +14,7 @@ pub enum Answer {
     Refused(Refusal),
 }
 
-/// A number below this is a length; a refusal's is this or more.
+/// A number below this one is a length. A refusal has this number or a greater one.
 const FIRST_REFUSAL: u64 = 1 << 32;
 
 /// The order's answers.
@@ -26,11 +26,12 @@ const NEITHER: u64 = SAME + 3;
 /// The end of a listing.
 const END: u64 = SAME + 4;
 
-/// From this number on are counts: the nodes in 16 bits, and below them the rows in 16.
+/// The first and the last number that is counts. Bits 16 to 31 are the number of nodes, and
+/// bits 0 to 15 are the number of rows.
 const FIRST_COUNTS: u64 = 1 << 34;
 const LAST_COUNTS: u64 = FIRST_COUNTS + (1 << 32) - 1;
 
-/// The answer that a number stands for; stops the program where there is none.
+/// The answer that a number stands for. Panics if the number stands for no answer.
 pub fn answer(code: u64) -> Answer {
     match code {
         length @ 0..FIRST_REFUSAL => Answer::Length(length as usize),
@@ -71,7 +72,7 @@ pub fn length(code: u64) -> Result<usize, Refusal> {
     }
 }
 
-/// The answer of a step through a listing; none is its end.
+/// The answer of a step through a listing. At the end of the listing it is none.
 pub fn length_or_end(code: u64) -> Result<Option<usize>, Refusal> {
     match answer(code) {
         Answer::End => Ok(None),

@@ -1,13 +1,14 @@
-//! The difference with the reason beside each of its links, by a reading order, and both.
+//! The difference with a reason for each of its links, the difference by a reading order, and
+//! both together.
 
 use crate::code::length;
 use crate::{Refusal, foreign};
 
-/// Writes the difference of two records as [`difference`](crate::difference) does, and
-/// beside it one byte for each of its links: the [`Reason`](crate::Reason) for which it is
-/// kept. The bytes stand first in `reasons`, in the order of the links in the written
-/// record, node by node and for each node by feature; the others are unchanged. Gives the
-/// length of the record. Takes 72 KiB of stack.
+/// Writes the difference of two records as [`difference`](crate::difference) does, and into
+/// `reasons` one byte for each of its links: the [`Reason`](crate::Reason) why the link is kept.
+/// The reasons stand in the order of the links in the written difference: node by node, and for
+/// each node by feature. The bytes behind the last reason are unchanged. Gives the length of
+/// the difference. Takes 72 KiB of stack.
 ///
 /// ```
 /// use record_engine::{LONGEST_RECORD, MOST_LINKS, Reason};
@@ -22,7 +23,7 @@ use crate::{Refusal, foreign};
 /// let length = record_engine::difference_explained(
 ///     4, &diamond, &general, &specific, &mut output, &mut reasons,
 /// )?;
-/// // Why does the shared node stand in the difference? Its two links are the only ones.
+/// // The difference is the specific record: it keeps both links to the shared node.
 /// assert_eq!(output[..length], specific);
 /// for (feature, &byte) in reasons[..2].iter().enumerate() {
 ///     let reason = Reason::try_from(byte).expect("a reason for each link");
@@ -50,9 +51,9 @@ pub fn difference_explained(
     ))
 }
 
-/// Writes the difference of two records as [`difference`](crate::difference) does, where
-/// links are ordered by their feature's place in a reading order, then by the number of the
-/// node that they leave. Takes 72 KiB of stack.
+/// Writes the difference of two records as [`difference`](crate::difference) does, but orders
+/// the links by a reading order: by the place of their feature in `list`, then by the number of
+/// the node that they leave. Takes 72 KiB of stack.
 ///
 /// ```
 /// use record_engine::{FEATURES, LONGEST_RECORD, Refusal, difference_by, unify};
@@ -60,9 +61,9 @@ pub fn difference_explained(
 /// // The features 0 and 1 of the root lead to one node, of the type given.
 /// let both = |leaf| [2, 3, 3, 0, 0, 0, 0, 0, 0, 0, 1, 1, leaf, 0, 0, 0, 0, 0, 0, 0, 0];
 /// let [general, specific] = [both(3), both(1)];
-/// // The same with one of the two features alone.
+/// // A record with one of the two features alone, by its bit in the map.
 /// let alone = |map| [2, 3, map, 0, 0, 0, 0, 0, 0, 0, 1, 1, 0, 0, 0, 0, 0, 0, 0, 0];
-/// // All features, and 0 is read first; and with 1 before it.
+/// // Feature 0 is read first. Then the list is changed: feature 1 is read before feature 0.
 /// let mut list: Vec<u8> = (0..FEATURES as u8).collect();
 /// let mut output = [0; LONGEST_RECORD];
 /// let length = difference_by(4, &diamond, &list, &general, &specific, &mut output)?;
@@ -72,7 +73,7 @@ pub fn difference_explained(
 /// assert_eq!(output[..length], alone(0b10));
 /// let length = unify(4, &diamond, &general, &alone(0b10), &mut output)?;
 /// assert_eq!(output[..length], specific);
-/// // Feature 0 twice, and feature 1 not at all.
+/// // This list has feature 0 twice and no feature 1.
 /// list[0] = 0;
 /// let refused = difference_by(4, &diamond, &list, &general, &specific, &mut output);
 /// assert_eq!(refused, Err(Refusal::ReadingOrder));
@@ -97,8 +98,8 @@ pub fn difference_by(
     ))
 }
 
-/// Writes the difference of two records as [`difference_by`] does, and beside it the
-/// [`Reason`](crate::Reason) of each of its links, as [`difference_explained`] does. Takes
+/// Writes the difference of two records as [`difference_by`] does, and the
+/// [`Reason`](crate::Reason) for each of its links as [`difference_explained`] does. Takes
 /// 72 KiB of stack.
 ///
 /// ```
@@ -112,7 +113,7 @@ pub fn difference_by(
 /// let length = difference_explained_by(
 ///     4, &diamond, &list, &both(3), &both(1), &mut output, &mut reasons,
 /// )?;
-/// // Feature 1 alone, which is kept for the type of its node.
+/// // The difference keeps only feature 1, for the type of its node.
 /// assert_eq!(output[..length], [2, 3, 2, 0, 0, 0, 0, 0, 0, 0, 1, 1, 0, 0, 0, 0, 0, 0, 0, 0]);
 /// assert_eq!(Reason::try_from(reasons[0]), Ok(Reason::Wanted));
 /// # Ok::<(), record_engine::Refusal>(())

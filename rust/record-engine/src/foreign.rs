@@ -1,9 +1,9 @@
-//! The functions of the static library (`include/record_engine.h`), each behind a safe one of
-//! the same name that takes slices. Only this file has `unsafe` code.
+//! The functions of the static library (`include/record_engine.h`). Each is behind a safe
+//! function of the same name, which takes slices. Only this file has `unsafe` code.
 
 use crate::rows::Row;
 
-/// What a slice holds: bytes where nothing is said.
+/// The type of a slice's elements: `u8` unless another type is named.
 macro_rules! element {
     () => {
         u8
@@ -13,9 +13,10 @@ macro_rules! element {
     };
 }
 
-/// Declares functions of the library by their parameters in C's order, each a number, a slice
-/// that is read or a slice that is written. A slice holds bytes, or what its name is followed
-/// by. In C it is a pointer to its first element and the number of its elements.
+/// Declares functions of the library by their parameters, in the order of C. A parameter is a
+/// number, a slice that is read, or a slice that is written. A slice holds bytes, or elements of
+/// the type behind `as`. In C a slice is a pointer to its first element and the number of its
+/// elements.
 macro_rules! functions {
     ($($name:ident($(
         $(number $number:ident)?
@@ -39,9 +40,9 @@ macro_rules! functions {
             $($input: &[element!($($read)?)],)?
             $($output: &mut [element!($($written)?)],)?
         )*) -> u64 {
-            // SAFETY: the pointers and lengths are those of slices that live through the
-            // call, those that are written are borrowed apart from all else, and the function is
-            // proved to stay inside the slices and to keep none. Rows have the layout of C.
+            // SAFETY: the pointers and lengths are those of slices that live through the call.
+            // A slice that is written is borrowed mutably, so it overlaps no other. The function
+            // is proved to stay inside the slices and to keep none. `Row` has the layout of C.
             unsafe {
                 library::$name($(
                     $($number,)?

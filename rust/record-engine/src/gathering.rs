@@ -1,16 +1,17 @@
-//! Gathering: programs are added one after another, and their common part is kept.
+//! A gathering: records are added one after another, and the gathering keeps their common part.
 
 use crate::code::{length, order_of};
 use crate::options::written;
 use crate::{LONGEST_RECORD, Order, Refusal, foreign};
 
-/// So many bytes are enough for a gathering over every table: the number of types, the
-/// longest table, the length of the common part, and the longest record.
+/// This many bytes are enough for a gathering over every table. They hold the number of types,
+/// the longest table, the length of the common part, and the longest record.
 pub const GATHERING_LENGTH: usize = 1 + 8 * 64 + 2 + LONGEST_RECORD;
 
-/// The common part of the records that were added so far, over one table, in bytes of its
-/// own. What it holds after any calls is what the accepted additions alone give, in their
-/// order: the least graph above all of them.
+/// A gathering over one table, in bytes of its own. It keeps the common part of the records
+/// that were added so far, which is the least graph above all accepted records. Whatever calls
+/// are made, the bytes of a gathering are those that the accepted additions alone give, in
+/// their order.
 ///
 /// ```
 /// use record_engine::{Gathering, LONGEST_RECORD, Order, Refusal};
@@ -25,14 +26,14 @@ pub const GATHERING_LENGTH: usize = 1 + 8 * 64 + 2 + LONGEST_RECORD;
 /// // The first record is its own common part.
 /// assert_eq!(gathering.add(&record(1))?, 20);
 /// assert_eq!(gathering.order(&record(2))?, Order::Neither);
-/// // The types 1 and 2 have top in common, so both records are now below what is gathered.
+/// // The join of the types 1 and 2 is top, so both records are below the new common part.
 /// gathering.add(&record(2))?;
 /// assert_eq!(gathering.order(&record(2))?, Order::Under);
-/// // A record that is refused is not added; one without bytes is malformed.
+/// // A refused record is not added. A record without bytes is malformed.
 /// assert!(gathering.add(&[]).is_err());
 /// let length = gathering.finish(&mut output)?;
 /// assert_eq!(output[..length], record(3));
-/// // It stays open: a lone node of type 3 has less in common with them.
+/// // The gathering stays open. With a lone node of type 3, only the root is in common.
 /// let lone = [1, 3, 0, 0, 0, 0, 0, 0, 0, 0];
 /// gathering.add(&lone)?;
 /// let length = gathering.finish(&mut output)?;
@@ -66,7 +67,7 @@ impl Gathering {
         gathering_add(&mut self.bytes, record)
     }
 
-    /// Which is the broader, seen from the record, beside the common part so far.
+    /// The order of the record, as the first, and of the common part so far, as the second.
     ///
     /// # Errors
     ///
@@ -76,7 +77,7 @@ impl Gathering {
         gathering_order(&self.bytes, record)
     }
 
-    /// The common part so far in written form. The gathering stays open.
+    /// The common part so far, as a written record. The gathering stays open.
     ///
     /// ```
     /// use record_engine::{Refusal, Table};
@@ -96,7 +97,8 @@ impl Gathering {
         written(|output| self.finish(output))
     }
 
-    /// Writes the common part so far in written form. The gathering stays open.
+    /// Writes the common part so far, as a written record, and gives its length. The gathering
+    /// stays open.
     ///
     /// # Errors
     ///
@@ -107,11 +109,13 @@ impl Gathering {
     }
 }
 
-/// Begins a gathering over a table in bytes that the caller lends, and gives the number of
-/// bytes that it uses so far, 3 + 8 × n; the others are unchanged. The bytes are n (1), the
-/// table (8 × n), the length of the common part (2, low byte first, 0 before the first
-/// addition), its record in written form, and room up to [`LONGEST_RECORD`]. Takes 8 KiB of
+/// Begins a gathering over a table in a buffer that the caller lends. Gives the number of bytes
+/// that the gathering uses so far, 3 + 8 × n. The other bytes are unchanged. Takes 8 KiB of
 /// stack.
+///
+/// The parts of a gathering are: n, 1 byte; the table, 8 × n bytes; the length of the common
+/// part, 2 bytes, low byte first, 0 before the first addition; the common part as a written
+/// record; and room. Common part and room have at least [`LONGEST_RECORD`] bytes together.
 ///
 /// ```
 /// use record_engine::{GATHERING_LENGTH, gathering_add, gathering_begin, gathering_finish};
@@ -136,22 +140,22 @@ pub fn gathering_begin(n: usize, table: &[u8], gathering: &mut [u8]) -> Result<u
     length(foreign::record_gathering_begin(n, table, gathering))
 }
 
-/// Adds a record to a gathering in lent bytes, and gives the length of the common part.
+/// Adds a record to a gathering in a lent buffer, and gives the length of the new common part.
 /// Takes 120 KiB of stack.
 ///
 /// # Errors
 ///
 /// Refused by [`Refusal::Graph`] (4 to 7), the record counting as the first, and
-/// [`Refusal::TooLarge`] (11); no byte is then changed. Bytes that hold no gathering are
-/// refused by what is wrong with them: by [`Refusal::Table`] for the table, after the
-/// record's [`Refusal::Graph`] by that of what was gathered, which counts as the second, and
-/// by [`Refusal::NoRoom`] where the common part has no room.
+/// [`Refusal::TooLarge`] (11). A refusal changes no byte. Bytes that hold no gathering are
+/// refused by the first fault that is found: by [`Refusal::Table`] for the table; by
+/// [`Refusal::Graph`] for the record, then for the common part, which counts as the second; and
+/// last by [`Refusal::NoRoom`] where the common part has no room.
 pub fn gathering_add(gathering: &mut [u8], record: &[u8]) -> Result<usize, Refusal> {
     length(foreign::record_gathering_add(gathering, record))
 }
 
-/// Which is the broader, seen from a record, beside what is gathered in lent bytes. Takes
-/// 24 KiB of stack.
+/// Tells the order of a record, as the first, and of the common part of a gathering in a lent
+/// buffer, as the second. Takes 24 KiB of stack.
 ///
 /// # Errors
 ///
@@ -162,15 +166,14 @@ pub fn gathering_order(gathering: &[u8], record: &[u8]) -> Result<Order, Refusal
     order_of(foreign::record_gathering_order(gathering, record))
 }
 
-/// Writes what is gathered in lent bytes in written form. The gathering stays open. Takes
-/// 36 KiB of stack.
+/// Writes the common part of a gathering in a lent buffer, as a written record, and gives its
+/// length. The gathering stays open. Takes 36 KiB of stack.
 ///
 /// # Errors
 ///
 /// Refused by [`Refusal::NothingGathered`] (16) before the first addition, and by
 /// [`Refusal::NoRoom`] (8). Bytes that hold no gathering are refused by [`Refusal::Table`]
-/// for the table, and by [`Refusal::Graph`] for what was gathered, which counts as the
-/// second.
+/// for the table, and by [`Refusal::Graph`] for the common part, which counts as the second.
 pub fn gathering_finish(gathering: &[u8], output: &mut [u8]) -> Result<usize, Refusal> {
     length(foreign::record_gathering_finish(gathering, output))
 }

@@ -1,5 +1,6 @@
-//! The header for C beside this wrapper: both tell the same facts in the same words. The
-//! header is read as text, and so is the documentation of this package.
+//! Tests that the header for C and the documentation of this package agree: in the constants,
+//! in the words about each refusal, and in the refusals and the stack of each call. The tests
+//! read both as text.
 
 use crate::code::{Answer, answer};
 use crate::{Order, Reason, Refusal};
@@ -10,12 +11,12 @@ use std::path::Path;
 /// The header.
 const HEADER: &str = include_str!("../../../include/record_engine.h");
 
-/// What the comment of a call tells.
+/// What the comment of a call states.
 #[derive(Debug, PartialEq, Eq)]
 struct Comment {
-    /// The refusals, in the order in which they are looked for.
+    /// The refusals, in the order of the checks.
     refusals: Vec<u8>,
-    /// The stack that it takes, in KiB.
+    /// The stack that the call takes, in KiB.
     stack: usize,
 }
 
@@ -144,7 +145,7 @@ fn constants() -> BTreeMap<&'static str, u64> {
     constants
 }
 
-/// An expression of C, of which the rest is still to be read.
+/// An expression of C, and the part of it that is still to be read.
 struct Expression<'a> {
     rest: &'a str,
     known: &'a BTreeMap<&'static str, u64>,
@@ -208,8 +209,9 @@ impl Expression<'_> {
     }
 }
 
-/// The words behind each number in a list of refusals, whose lines have a prefix; the number
-/// stands first in a line, and a sign parts it from the words. Lines of words alone go on.
+/// The words behind each number in a list of refusals. The lines of the list begin with
+/// `prefix`. A number stands first in its line, and `parts` stands between the number and the
+/// words. A line without a number continues the words of the last number.
 fn refusals(text: &str, prefix: &str, parts: &str) -> BTreeMap<u8, String> {
     let mut explained: BTreeMap<u8, String> = BTreeMap::new();
     let mut current = None;
@@ -236,7 +238,7 @@ fn refusals(text: &str, prefix: &str, parts: &str) -> BTreeMap<u8, String> {
     explained
 }
 
-/// What the header's comments tell of the calls.
+/// What the comments of the header state about each call.
 fn header_calls() -> BTreeMap<String, Comment> {
     let mut calls = BTreeMap::new();
     let parts: Vec<&str> = HEADER.split("uint64_t record_").collect();
@@ -250,8 +252,8 @@ fn header_calls() -> BTreeMap<String, Comment> {
     calls
 }
 
-/// What this package's documentation tells of its functions on lent outputs, which alone
-/// begin a line and are refused something.
+/// What the documentation of this package states about each function on lent buffers. Only
+/// these functions begin a line and have a documentation with "Refused by".
 fn wrapper_calls() -> BTreeMap<String, Comment> {
     let mut calls = BTreeMap::new();
     let source = Path::new(env!("CARGO_MANIFEST_DIR")).join("src");
@@ -284,13 +286,13 @@ fn plain(text: &str) -> String {
     text.split_whitespace().collect::<Vec<&str>>().join(" ")
 }
 
-/// A sentence, or the part of it before a semicolon.
+/// The first sentence, or its part before a semicolon.
 fn first_clause(text: &str) -> &str {
     text.split(['.', ';']).next().unwrap_or("")
 }
 
-/// The stack that a comment tells, and the refusals by the numbers in a part of it, where
-/// two may be the ends of a range.
+/// The stack that a comment states, and the refusals that a part of the comment names. Two
+/// numbers with "to" between them are the ends of a range.
 fn told(comment: &str, refused: &str) -> Comment {
     let mut refusals: Vec<u8> = Vec::new();
     let mut before = "";

@@ -1,11 +1,11 @@
-//! The record engine for Rust programs. It compares and combines records, small graphs in
-//! bytes, over a table of types.
+//! The record engine for Rust programs. It compares and combines records, which are small
+//! graphs in bytes, over a table of types.
 //!
-//! A [`Table`] is accepted when it is made. Its methods are the calls over it: they take
-//! records and give records, an [`Order`], or a [`Refusal`] that tells why there is no
-//! result. [`Options`] adds a reading order or an appropriateness list, [`Gathering`] keeps
-//! the common part of records that come one after another, [`Listing`] goes through all
-//! small graphs over a table, and a [`Store`] keeps the versions of a program in one buffer.
+//! A [`Table`] is accepted when it is made. Its methods are the calls over the table: they
+//! take records and give records, an [`Order`], or a [`Refusal`] that tells why there is no
+//! result. [`Options`] adds a reading order or a list of types for features. A [`Gathering`]
+//! keeps the common part of records that come one after another. A [`Listing`] goes through
+//! all small graphs over a table. A [`Store`] keeps the versions of a program in one buffer.
 //!
 //! ```
 //! use record_engine::{Order, Refusal, Table};
@@ -19,48 +19,58 @@
 //! # Ok::<(), Refusal>(())
 //! ```
 //!
-//! The functions of this package are the same calls on bytes that the caller lends: a type
-//! table, one or two records, some a list, and, where a record is written, an output. They
-//! give the length of what they wrote. On a refusal no byte of an output is changed; on
-//! success the output's first bytes are the record and its other bytes are unchanged. The
-//! calls for C, in `include/record_engine.h`, have the same names behind `record_`.
+//! The functions of this package are the same calls on buffers that the caller lends. A
+//! function takes a type table, one or two records, for some calls a list, and an output if
+//! the call writes a record. The function gives the length of what it wrote. A refusal
+//! changes no byte of an output. Otherwise the first bytes of the output are the record, and
+//! its other bytes are unchanged. The calls for C, in `include/record_engine.h`, have the
+//! same names behind `record_`. `docs/CALLS.md` describes each call, and `docs/FORMATS.md`
+//! each byte.
 //!
-//! The functions behind these calls are proved (`crates/engine`); here is only
-//! the passage to them, by the static library `librecord_engine.a`, which
-//! `rt staticlib record_engine` writes to the repository's `target/staticlib`. The
-//! environment variable `RECORD_ENGINE_LIB_DIR` has the absolute path of another
-//! folder with it.
+//! The functions behind these calls are proved (`crates/engine`). This package only passes
+//! each call on to the static library `librecord_engine.a`. `rt staticlib record_engine`
+//! writes the library to the repository's `target/staticlib`. If the library is in another
+//! folder, the environment variable `RECORD_ENGINE_LIB_DIR` has the absolute path of that
+//! folder.
 //!
 //! # Type table
 //!
-//! A table orders n types, 2 to 64, by a row of 8 bytes for each. In row i, bit j % 8 of
-//! byte j / 8 is set exactly when type j is below type i or is type i; bit 0 has the
-//! value 1, and bits for j from n on are 0. Type 0 is the contradiction and is below
-//! every type; type n − 1 is top, which says nothing, and every type is below it. The
-//! rows are an order, and every two types have a meet (the greatest type below both) and
-//! a join (the least above both). [`Table::from_order`] makes one from pairs of types and
-//! [`Table::house`] that of the house types; [`table`] and [`house_table`] give bytes. The
-//! examples use the diamond: n = 4, and between 0 and 3 are 1 and 2, neither below the
-//! other; the first bytes of its rows are 0x01, 0x03, 0x05 and 0x0F, and the others are 0.
+//! A type table orders n types, 2 to 64. It has a row of 8 bytes for each type. In row i,
+//! bit j % 8 of byte j / 8 is set exactly when type j is below type i or is type i. Bit 0
+//! has the value 1, and bits for j from n on are 0. Type 0 is the contradiction: it is below
+//! every other type. Type n − 1 is top: it says nothing, and every other type is below it.
+//! The rows are an order. Every two types have a meet, which is the greatest type below or
+//! equal to both, and a join, which is the least type above or equal to both.
+//!
+//! [`Table::from_order`] makes a table from pairs of types, and [`Table::house`] makes the
+//! table of the house types. [`table`] and [`house_table`] give the bytes of a table. The
+//! examples use the diamond, which has n = 4: its types 1 and 2 lie between 0 and 3, and
+//! neither is below the other. The first bytes of its rows are 0x01, 0x03, 0x05 and 0x0F, and
+//! its other bytes are 0.
 //!
 //! # Record
 //!
-//! A record is a graph of up to 255 nodes. Byte 0 is the number of nodes; node 0, the
-//! root, and the others follow, each as
+//! A record is a graph in bytes. Byte 0 is the number of nodes, 1 to 255. The nodes follow,
+//! from node 0, the root, on. Each node has these parts:
 //!
-//! - 1 byte: its type, 1 to n − 1, in bits 0 to 6; bit 7 is set when it has a range;
-//! - 2 bytes, where bit 7 is set: its range, the lowest level and the highest, each 0 to
-//!   255 and the lowest not above the highest; without the bit it is 0 to 255, the full
-//!   range, which says nothing;
-//! - 8 bytes: its features, of 0 to 63; bit f % 8 of byte f / 8 is set when it has f;
-//! - 1 byte for each feature that it has, the lowest first: the number of the node
-//!   that the feature's link leads to;
+//! - 1 byte: the node's type, 1 to n − 1, in bits 0 to 6; bit 7 is set when a range follows;
+//! - 2 bytes, only where bit 7 is set: the range, which is the lowest level and the highest
+//!   level, 0 to 255 each, the lowest not above the highest;
+//! - 8 bytes: the node's features, 0 to 63; bit f % 8 of byte f / 8 is set when the node has
+//!   feature f;
+//! - 1 byte for each feature of the node, lowest feature first: the target, which is the
+//!   number of the node that the feature's link leads to.
 //!
-//! and nothing follows the last. There are at most 2,048 links, no node reaches itself,
-//! and the root reaches every node. Links may share a target. Input may number the other
-//! nodes in any way and spell out a full range; a record that is written numbers them as
-//! they are first met from the root, lowest feature first, all below one link before the
-//! next link, and spells out no full range.
+//! Nothing follows the last node. A node without bit 7 has the full range, 0 to 255, which
+//! says nothing. There are at most 2,048 links, and links may share a target. No node reaches
+//! itself, and the root reaches every node.
+//!
+//! A record that is read may number the nodes but the root in any way, and may spell out a
+//! full range. Every record that a call writes is a written record, which has one form for
+//! one meaning. A written record numbers its nodes in the order in which they are first met
+//! from the root. Links are followed lowest feature first, and all that lies below one link
+//! is numbered before the next link of the same node is followed. A written record spells out
+//! no full range.
 //!
 //! ```
 //! let diamond = record_engine::Table::from_order(4, &[(1, 3), (2, 3)])?;
@@ -70,7 +80,8 @@
 //! # Ok::<(), record_engine::Refusal>(())
 //! ```
 //!
-//! The same with the levels 10 to 200 at the root, and a full range spelled out:
+//! The next record has the levels 10 to 200 at the root, and spells out the full range of the
+//! other node:
 //!
 //! ```
 //! let diamond = record_engine::Table::from_order(4, &[(1, 3), (2, 3)])?;
@@ -82,93 +93,101 @@
 //! # Ok::<(), record_engine::Refusal>(())
 //! ```
 //!
-//! # Appropriateness list
+//! # List of types for features
 //!
-//! [`Options::appropriateness`], and [`rewrite_appropriate`], [`generalize_appropriate`] and
-//! [`unify_appropriate`], go by a list of 64 bytes that says which features belong to which
-//! types. Byte f is the broadest type, 0 to n − 1, that may have feature f: a node may have
-//! it when its type is below or equal to that one. So 0 forbids the feature and n − 1 allows
-//! it to all. A record with a link that the list forbids is refused by
-//! [`GraphFault::Inappropriate`] (18); otherwise these calls reply as [`rewrite`],
-//! [`generalize`] and [`unify`] do.
+//! A list of types for features says which nodes may have which features. It has 64 bytes.
+//! Byte f is the broadest type, 0 to n − 1, that may have feature f: a node may have the
+//! feature when its type is below or equal to byte f. So 0 forbids the feature, and n − 1
+//! allows it to all nodes. Another name of the list is appropriateness list: hence the names
+//! [`Options::appropriateness`], [`rewrite_appropriate`], [`generalize_appropriate`] and
+//! [`unify_appropriate`]. These calls refuse a record with a link that the list forbids, by
+//! [`GraphFault::Inappropriate`] (18), and a list of another form, by [`Refusal::TypeList`]
+//! (17). Otherwise they reply as [`rewrite`], [`generalize`] and [`unify`] do.
 //!
-//! Common parts and combinations of records that obey a list obey it. A difference need
-//! not obey it and is combined by [`unify`]: the general record and the difference give
-//! the specific record, which obeys the list if it did.
+//! The common part and the combination of records that obey a list obey the list too. A
+//! difference need not obey it: combine a difference with [`unify`]. The result is the
+//! specific record, so it obeys the list if the specific record does.
 //!
 //! # Reading order
 //!
-//! [`Options::reading_order`], and [`difference_by`] and [`difference_explained_by`], go by a
-//! list of all 64 features, each once, in the order in which they are read: 64 bytes, the
-//! feature that is read first before the others. Where links say the same, a difference
-//! keeps the least of them. Without a list, links are ordered by the number of the node that
-//! they leave, as the specific record is written, then by feature; with a list by the
-//! feature's place in it, then by that number. Whichever list is given, the difference
-//! restores the specific record and nothing strictly more general does. How records are
-//! written does not follow the list. A list that is anything else is refused by
+//! A reading order is a list of all 64 features, each once, in 64 bytes. The feature that is
+//! read first stands first. [`Options::reading_order`], [`difference_by`] and
+//! [`difference_explained_by`] take one, and refuse any other list by
 //! [`Refusal::ReadingOrder`] (19).
+//!
+//! Where several links say the same, a difference keeps the least of them. Without a reading
+//! order, links are ordered by the number of the node that they leave, as in the written
+//! specific record, then by feature. With a reading order, links are ordered by the place of
+//! their feature in it, then by the number of the node that they leave. Whichever reading
+//! order is given, the difference restores the specific record, and no graph strictly above
+//! the difference does. The numbers of nodes in written records do not follow the reading
+//! order.
 //!
 //! # Planning table
 //!
-//! The planning tool holds a graph as a table of rows and three bytes for each node. A
-//! [`Row`] is one link: its parent, which is the number of the node that it leaves, its
-//! feature and its target. No two rows have one parent and feature, and there are at most
-//! 2,048. The node bytes are, from node 0 on, the node's type, 1 to n − 1, its lowest level
-//! and its highest; 0 and 255 are the full range. Node 0 is the root, and the number of
-//! nodes, 1 to 255, is that of the node bytes divided by 3. As in a record, no node reaches
+//! A planning table is a graph as the planning tool holds it, in rows and node bytes. A
+//! [`Row`] is one link: its parent, which is the number of the node that the link leaves, its
+//! feature, and its target, which is the number of the node that the link leads to. No two
+//! rows have one parent and feature, and there are at most 2,048 rows. The node bytes are
+//! three for each node, from node 0, the root, on: the node's type, 1 to n − 1, its lowest
+//! level and its highest level. The levels 0 and 255 are the full range. The number of nodes,
+//! 1 to 255, is the number of node bytes divided by 3. As in a record, no node reaches
 //! itself, and the root reaches every node.
 //!
-//! [`import`] writes the record of such a table in written form; the rows may stand in any
-//! order. [`export`] fills such a table: the nodes are numbered as in the written record,
-//! and the rows are sorted by parent and then feature. Importing what was exported gives
-//! the written record. Exporting what was imported gives the rows sorted, with the written
-//! numbers.
+//! [`import`] writes the written record of a planning table. The rows may stand in any order.
+//! [`export`] fills a planning table from a record: the nodes are numbered as in the written
+//! record, and the rows are sorted by parent, then by feature. Importing what was exported
+//! gives the written record. Exporting what was imported gives the rows sorted, with the
+//! numbers of the written record.
 //!
 //! # Gathering
 //!
-//! A [`Gathering`] is begun over one table; records are added to it one after another, and
-//! it keeps their common part. A record may be put beside what is gathered so far and its
-//! order learned; this changes nothing, and a refused addition changes nothing. Finishing
-//! writes the common part and leaves the gathering open. The calls [`gathering_begin`],
-//! [`gathering_add`], [`gathering_order`] and [`gathering_finish`] do the same in bytes that
-//! the caller lends. An order or a finish before the first addition is refused by
-//! [`Refusal::NothingGathered`] (16).
+//! A [`Gathering`] is begun over one table. It keeps the common part of the records that are
+//! added one after another. A refused addition changes nothing. An order compares a record
+//! with the common part so far. A finish writes the common part and leaves the gathering
+//! open. An order or a finish before the first addition is refused by
+//! [`Refusal::NothingGathered`] (16). The calls [`gathering_begin`], [`gathering_add`],
+//! [`gathering_order`] and [`gathering_finish`] do the same in a buffer that the caller lends.
 //!
 //! # Store
 //!
-//! A [`Store`] keeps up to 16 versions of a program over one table in at most
-//! [`STORE_LENGTH`] bytes: what the programs have in common once, and for each program its
-//! difference from that. Its bytes are
+//! A [`Store`] keeps up to 16 versions of a program over one type table. A program is a
+//! record, and a version is its number, 0 to 15. The store holds the common part of all
+//! programs once, and for each program its difference from the common part. It has 2 to
+//! [`STORE_LENGTH`] bytes:
 //!
 //! - 2 bytes: the map, low byte first; bit v is set when version v exists, v being 0 to 15;
 //! - where some version exists, the length of the common part, 2 bytes, low byte first, and
 //!   the common part as a written record;
-//! - for each version that exists, the lowest first: the length of its difference from the
-//!   common part, 2 bytes, low byte first, and the difference as a written record;
+//! - for each version that exists, lowest first: the length of its difference from the
+//!   common part, 2 bytes, low byte first, and the difference as a written record.
 //!
-//! and then bytes that hold anything. An empty store is two zero bytes. [`Store::put`] names
-//! a version that is absent, [`Store::read`] gives back the written record that was put, and
-//! [`Store::drop`] removes a version. Two versions read as equal bytes exactly when what was
-//! put means the same: no program opens as another.
+//! The bytes behind these used bytes may hold anything. An empty store is two zero bytes.
+//! [`Store::put`] stores a record under a version that is absent, [`Store::read`] gives the
+//! written record of what was put, and [`Store::drop`] removes a version. Two versions read
+//! as equal bytes exactly when the records that were put mean the same: no program opens as
+//! another.
 //!
-//! The way of some programs begins with an empty store and puts them in the order of their
-//! numbers. A step of the way stores the common part of the programs so far and the
-//! difference of each from it. Where the common part has more than 255 nodes or 2,048 links
-//! it is refused by 11, where a program has no difference from it by 13, and where there are
-//! fewer bytes than the step takes by 21. Bytes hold a store when the way of some programs, in
-//! as many bytes, ends in the first of them. Every call goes that way to know it, and bytes
-//! that hold no store are refused by 4 of the first graph; so are fewer than 2 bytes and
-//! more than [`STORE_LENGTH`]. A put or a drop then goes the way of the programs that are to
-//! be there after it, and is refused by the first number met on it. All this holds while
-//! nobody else writes the bytes: with another map they may hold other versions.
+//! The way of some programs begins with an empty store and puts the programs in the order of
+//! their versions. Each step of the way stores the common part of the programs so far, and
+//! the difference of each of them from that common part. A step is refused by 11 where the
+//! common part has more than 255 nodes or 2,048 links, then by 13 where a program has no
+//! difference from it, then by 21 where the buffer has fewer bytes than the step takes. A
+//! buffer holds a store exactly when there are programs whose way, in a buffer of this
+//! length, ends in the buffer's first bytes. Every call goes this way to find the programs,
+//! and refuses a buffer that holds no store by 4 of the first graph. A buffer of fewer than 2
+//! bytes or more than [`STORE_LENGTH`] bytes holds no store. A put or a drop then goes the way
+//! of the programs that are to be in the store after it, and is refused by the first number
+//! that this way meets. All this holds while nobody else writes the bytes: changed bytes may
+//! hold other programs or other versions.
 //!
 //! # Stack
 //!
-//! The documentation of a call tells the stack that it takes, as measured on the largest
+//! The documentation of a call tells the stack that the call takes, as measured on the largest
 //! records, with 4 KiB to spare and rounded up. A thread that makes calls needs [`STACK`]
-//! bytes of stack; nothing tests for room, and a call that has less overruns the stack. The
+//! bytes of stack. Nothing tests for room: a call on a smaller stack may overrun it. The
 //! methods of [`Table`], [`Options`], [`Gathering`] and [`Store`] take up to 8 KiB more than
-//! the calls behind them. A thread of the standard library has 2 MiB unless it is told otherwise.
+//! the calls behind them. By default a thread of the standard library has 2 MiB of stack.
 
 #![deny(unsafe_code)]
 #![warn(missing_docs)]
@@ -207,7 +226,7 @@ pub use store::{STORE_LENGTH, Store, VERSIONS, store_drop, store_put, store_read
 pub use table::Table;
 pub use tables::{HOUSE_TABLE_LENGTH, HOUSE_TYPES, check_table, house_table, table};
 
-/// The version of this package and of its library as a text; [`VERSION`] is the number.
+/// The version of this package and of its library as a text. [`VERSION`] is its number.
 ///
 /// ```
 /// println!("record_engine {}", record_engine::VERSION_TEXT);
@@ -215,11 +234,10 @@ pub use tables::{HOUSE_TABLE_LENGTH, HOUSE_TYPES, check_table, house_table, tabl
 /// ```
 pub const VERSION_TEXT: &str = env!("CARGO_PKG_VERSION");
 
-/// The version as a number: 1,000,000 times the first number of [`VERSION_TEXT`], 1,000 times
-/// the second and the third.
+/// The version as a number: version a.b.c has the number 1,000,000 × a + 1,000 × b + c.
 pub const VERSION: u64 = 1_000;
 
-/// A thread with a stack of so many bytes has room for every call.
+/// A stack of this many bytes has room for every call.
 ///
 /// ```
 /// use std::thread;
@@ -233,21 +251,23 @@ pub const VERSION: u64 = 1_000;
 /// ```
 pub const STACK: usize = 393_216;
 
-/// The length of the longest record: an output of so many bytes is never too short.
+/// The length of the longest record. An output of this many bytes always has room for a
+/// record.
 pub const LONGEST_RECORD: usize = 4854;
 
-/// The most links that a record has: so many bytes are never too few for the reasons of
-/// [`difference_explained`], nor so many rows for [`export`].
+/// The most links that a record has. This many bytes are always enough for the reasons of
+/// [`difference_explained`], and this many rows for [`export`].
 pub const MOST_LINKS: usize = 2048;
 
-/// The most nodes that a record has: three bytes for each are never too few for the nodes
-/// of [`export`].
+/// The most nodes that a record has. Three times this many bytes are always enough for the
+/// node bytes of [`export`].
 pub const MOST_NODES: usize = 255;
 
-/// The number of features: the length of a list.
+/// The number of features, which is also the length of a list of types for features and of a
+/// reading order.
 pub const FEATURES: usize = 64;
 
-/// Which of two graphs is the broader, seen from the first.
+/// Which of two records is the broader, seen from the first.
 #[derive(Clone, Copy, Debug, PartialEq, Eq, Hash)]
 pub enum Order {
     /// Each is below the other: they mean the same.

@@ -1,19 +1,19 @@
-//! All small graphs over a table, in the order of their records' bytes: the call that
-//! gives the next one, and an iterator by it.
+//! All small graphs over a table, in the order of the bytes of their records: the call that
+//! gives the next record, and an iterator over all records.
 
 use crate::code::length_or_end;
 use crate::{Refusal, foreign};
 
-/// The length of the longest listed record: an output of so many bytes is never too short
-/// for [`next`].
+/// The length of the longest listed record. An output of this many bytes always has room for
+/// [`next`].
 pub const LONGEST_LISTED: usize = 32;
 
-/// Writes the listed record after the given one, and gives its length, or nothing where the
-/// given one is the last; the output is then unchanged. A record of no bytes asks for the
-/// first. Listed are the written records of at most 3 nodes that have no range and use
-/// features below `features`, which is 1 or 2, in the order of their bytes: by the first
-/// byte in which two differ. The cost of a call does not grow with the number of listed
-/// records. Takes 12 KiB of stack.
+/// Writes the listed record that follows the given one, and gives its length. After the last
+/// listed record it gives none and leaves the output unchanged. A record of no bytes asks for
+/// the first listed record. The listed records are the written records that have at most 3
+/// nodes, no range, and only features below `features`, which is 1 or 2. Of two listed records,
+/// the one with the lesser byte where they first differ comes first. The number of listed
+/// records does not slow a call down. Takes 12 KiB of stack.
 ///
 /// ```
 /// use record_engine::Refusal;
@@ -22,20 +22,21 @@ pub const LONGEST_LISTED: usize = 32;
 /// let length = record_engine::next(4, &diamond, 2, &[], &mut output)?;
 /// assert_eq!(length, Some(10));
 /// assert_eq!(output[..10], [1, 1, 0, 0, 0, 0, 0, 0, 0, 0]);
-/// // After the greatest lone node comes the least graph of two nodes.
+/// // The first record of two nodes follows the last record of one node.
 /// let top = [1, 3, 0, 0, 0, 0, 0, 0, 0, 0];
 /// let length = record_engine::next(4, &diamond, 2, &top, &mut output)?;
 /// assert_eq!(length, Some(20));
 /// let two = [2, 1, 1, 0, 0, 0, 0, 0, 0, 0, 1, 1, 0, 0, 0, 0, 0, 0, 0, 0];
 /// assert_eq!(output[..20], two);
-/// // A node whose feature 2 leads to another is read and not listed.
+/// // A record with feature 2 is accepted but not listed.
 /// let other = [2, 1, 4, 0, 0, 0, 0, 0, 0, 0, 1, 1, 0, 0, 0, 0, 0, 0, 0, 0];
 /// let refused = record_engine::next(4, &diamond, 2, &other, &mut output);
 /// assert_eq!(refused, Err(Refusal::NotListed));
 /// # Ok::<(), Refusal>(())
 /// ```
 ///
-/// Over two types and one feature there are three: chains of one, two and three nodes.
+/// Over two types and one feature there are three listed records: chains of one, two and three
+/// nodes.
 ///
 /// ```
 /// let two = record_engine::table(&[0x01, 0x03]).expect("at most 8 types");
@@ -62,8 +63,8 @@ pub fn next(
     length_or_end(foreign::record_next(n, table, features, record, output))
 }
 
-/// The listed records of a table and a number of features, from the first to the last, by
-/// [`next`].
+/// An iterator over the listed records of a table and a number of features, from the first to
+/// the last. It makes a call of [`next`] for each record.
 ///
 /// ```
 /// use record_engine::Listing;
@@ -80,13 +81,12 @@ pub struct Listing<'a> {
     n: usize,
     table: &'a [u8],
     features: usize,
-    /// The record that is given next; none at the end.
+    /// The record that the iterator gives next; none at the end.
     upcoming: Option<Vec<u8>>,
 }
 
 impl<'a> Listing<'a> {
-    /// The listing over a table of n types and a number of features, before its first
-    /// record.
+    /// The listing over a table of n types and a number of features, which is 1 or 2.
     ///
     /// ```
     /// use record_engine::{Listing, Refusal};
@@ -122,7 +122,7 @@ impl Iterator for Listing<'_> {
 
 impl std::iter::FusedIterator for Listing<'_> {}
 
-/// The listed record after one, if there is one.
+/// The listed record that follows a record, if there is one.
 fn after(
     n: usize,
     table: &[u8],

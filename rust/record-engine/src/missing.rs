@@ -1,12 +1,12 @@
-//! The static library is missing, so that nothing can be linked: where this package is
-//! compiled to code, the compiler stops with what to do. Where types are checked or the
-//! documentation is made, the library is not asked for.
+//! This file is compiled only if the static library is missing, so that nothing can be linked.
+//! If this package is compiled to code, the compiler then stops and tells what to do. To check
+//! types or to make the documentation, the library is not needed.
 
-/// Its constant is worked out only where code is made of a use of this function.
+/// The compiler evaluates the constant only when it makes code for a use of this function.
 fn stop<T>(_: T) {
     const { panic!("{}", env!("ARCHIVE_MISSING")) }
 }
 
-/// Such a use.
+/// A use of the function.
 #[used]
 static STOP: fn(()) = stop::<()>;

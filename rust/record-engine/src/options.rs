@@ -1,16 +1,17 @@
-//! The calls over a table that go by a reading order or an appropriateness list.
+//! The calls over a table with a reading order or a list of types for features.
 
 use crate::{FEATURES, LONGEST_RECORD, MOST_LINKS, Reason, Refusal, Table};
 
-/// The calls over a table, with a reading order for differences, with an appropriateness list
-/// for the others, with both or with none. [`Table::options`] begins with none, and each of
-/// the two is accepted when it is added.
+/// The calls over a table, with a reading order, with a list of types for features, with both
+/// or with neither. The reading order is for the differences, and the list is for the other
+/// calls. [`Table::options`] gives options with neither. Each of the two is accepted when it is
+/// added.
 ///
 /// ```
 /// use record_engine::{FEATURES, Table};
 /// let diamond = Table::from_order(4, &[])?;
-/// // Feature 63 is read first and feature 0 last; feature 0 is for type 1 alone, and the
-/// // others are for all types.
+/// // Feature 63 is read first and feature 0 last. Only nodes of type 1 may have feature 0, and
+/// // all nodes may have the other features.
 /// let reading: Vec<u8> = (0..FEATURES as u8).rev().collect();
 /// let mut types = [3; FEATURES];
 /// types[0] = 1;
@@ -19,10 +20,10 @@ use crate::{FEATURES, LONGEST_RECORD, MOST_LINKS, Reason, Refusal, Table};
 /// let record = |leaf| [2, 1, 3, 0, 0, 0, 0, 0, 0, 0, 1, 1, leaf, 0, 0, 0, 0, 0, 0, 0, 0];
 /// let common = clinic.generalize(&record(1), &record(2))?;
 /// assert_eq!(common, record(3));
-/// // Of the two links, which say the same, the difference keeps that of feature 1.
+/// // The two links say the same. The difference keeps the link of feature 1.
 /// let rest = clinic.difference(&common, &record(1))?;
 /// assert_eq!(rest, [2, 3, 2, 0, 0, 0, 0, 0, 0, 0, 1, 1, 0, 0, 0, 0, 0, 0, 0, 0]);
-/// // A difference need not obey the list: it is combined without one.
+/// // A difference need not obey the list, so it is combined without the list.
 /// assert_eq!(diamond.unify(&common, &rest)?, record(1));
 /// # Ok::<(), record_engine::Refusal>(())
 /// ```
@@ -35,7 +36,7 @@ pub struct Options<'a> {
 }
 
 impl<'a> Options<'a> {
-    /// Neither of the two.
+    /// Options with neither of the two.
     pub(crate) fn new(table: &'a Table) -> Options<'a> {
         Options {
             table,
@@ -44,8 +45,8 @@ impl<'a> Options<'a> {
         }
     }
 
-    /// The same with a reading order, a list of all 64 features, each once; it is in the
-    /// place of one that was added before.
+    /// The same options with a reading order, which is a list of all 64 features, each once. It
+    /// replaces a reading order that was added before.
     ///
     /// ```
     /// use record_engine::{Refusal, Table};
@@ -69,8 +70,9 @@ impl<'a> Options<'a> {
         })
     }
 
-    /// The same with an appropriateness list, which has for each of the 64 features the
-    /// broadest type that may have it; it is in the place of one that was added before.
+    /// The same options with a list of types for features, also called an appropriateness list.
+    /// For each of the 64 features it has the broadest type that may have the feature. It
+    /// replaces a list that was added before.
     ///
     /// ```
     /// use record_engine::{FEATURES, GraphFault, Refusal, Side, Table};
@@ -100,8 +102,8 @@ impl<'a> Options<'a> {
         })
     }
 
-    /// A record in its one written form, as [`Table::rewrite`] gives it; it obeys the
-    /// appropriateness list.
+    /// The written record of a record that obeys the list of types for features, as
+    /// [`Table::rewrite`] gives it.
     ///
     /// ```
     /// use record_engine::{FEATURES, GraphFault, Refusal, Side, Table};
@@ -135,8 +137,8 @@ impl<'a> Options<'a> {
         })
     }
 
-    /// The common part of two records that obey the appropriateness list, as
-    /// [`Table::generalize`] gives it; it obeys the list too.
+    /// The common part of two records that obey the list of types for features, as
+    /// [`Table::generalize`] gives it. The common part obeys the list too.
     ///
     /// ```
     /// use record_engine::{FEATURES, GraphFault, Refusal, Side, Table};
@@ -169,8 +171,8 @@ impl<'a> Options<'a> {
         })
     }
 
-    /// The combination of two records that obey the appropriateness list, as
-    /// [`Table::unify`] gives it; it obeys the list too.
+    /// The combination of two records that obey the list of types for features, as
+    /// [`Table::unify`] gives it. The combination obeys the list too.
     ///
     /// ```
     /// use record_engine::{FEATURES, GraphFault, Refusal, Side, Table};
@@ -186,7 +188,7 @@ impl<'a> Options<'a> {
     /// assert_eq!(clinic.unify(&record(1, 3), &record(1, 2))?, record(1, 2));
     /// let refused = Refusal::Graph(GraphFault::Inappropriate, Side::Second);
     /// assert_eq!(clinic.unify(&record(1, 3), &record(3, 2)), Err(refused));
-    /// // The table itself goes by no list.
+    /// // The method of the table itself has no list.
     /// assert_eq!(diamond.unify(&record(1, 3), &record(3, 2))?, record(1, 2));
     /// # Ok::<(), Refusal>(())
     /// ```
@@ -205,15 +207,15 @@ impl<'a> Options<'a> {
         })
     }
 
-    /// The difference of a general record and a specific one below it, as
-    /// [`Table::difference`] gives it, by the reading order. The appropriateness list plays
-    /// no part in it.
+    /// The difference of a general record and a specific record below it, by the reading order.
+    /// Without a reading order it is that of [`Table::difference`]. The list of types for
+    /// features plays no part in it.
     ///
     /// ```
     /// use record_engine::{FEATURES, Table};
     /// let diamond = Table::from_order(4, &[])?;
-    /// // The features 0 and 1 of the root lead to one node, of the type given; and one of the
-    /// // two alone, by its bit.
+    /// // In `both`, the features 0 and 1 of the root lead to one node, of the type given. In
+    /// // `alone`, the root has one of the two features, given by its bit.
     /// let both = |leaf| [2, 3, 3, 0, 0, 0, 0, 0, 0, 0, 1, 1, leaf, 0, 0, 0, 0, 0, 0, 0, 0];
     /// let alone = |bit| [2, 3, bit, 0, 0, 0, 0, 0, 0, 0, 1, 1, 0, 0, 0, 0, 0, 0, 0, 0];
     /// assert_eq!(diamond.difference(&both(3), &both(1))?, alone(0b01));
@@ -236,8 +238,8 @@ impl<'a> Options<'a> {
         })
     }
 
-    /// The difference, and for each of its links the reason for which it is kept, as
-    /// [`Table::explained`] gives them, by the reading order.
+    /// The difference by the reading order, and for each of its links the reason why the link is
+    /// kept. The reasons stand in the order of [`Table::explained`].
     ///
     /// ```
     /// use record_engine::{FEATURES, Reason, Table};
@@ -269,7 +271,7 @@ impl<'a> Options<'a> {
                 crate::difference_explained_by(n, table, list, general, specific, output, lent)
             }
         })?;
-        // Behind the last link's the bytes are as they were lent, and 0 is no reason.
+        // The bytes behind the last reason are still 0, and 0 is no reason.
         let reasons = reasons
             .iter()
             .map_while(|&byte| Reason::try_from(byte).ok());
@@ -277,12 +279,12 @@ impl<'a> Options<'a> {
     }
 }
 
-/// The record of a lone node of the greatest type, which obeys every list.
+/// The record of a lone node of type top. It has no features, so it obeys every list.
 fn lone_top(table: &Table) -> [u8; 10] {
     [1, (table.n() - 1) as u8, 0, 0, 0, 0, 0, 0, 0, 0]
 }
 
-/// What a call writes, of any length that a record has.
+/// The record that a call writes. The output that the call gets has room for every record.
 pub(crate) fn written(
     call: impl FnOnce(&mut [u8]) -> Result<usize, Refusal>,
 ) -> Result<Vec<u8>, Refusal> {

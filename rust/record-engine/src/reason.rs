@@ -1,22 +1,22 @@
-//! Why a difference keeps a link, as the byte that stands beside it.
+//! The reason why a difference keeps a link, and the byte that stands for it.
 
 use std::error::Error;
 use std::fmt;
 
-/// Why a difference keeps a link: the first of the three that holds. A link of the
-/// general record lies over one of the specific record when a path of the general record
-/// that ends with the one ends with the other in the specific record.
+/// Why a difference keeps a link: the first of the three reasons that holds. A link of the
+/// general record lies over a link of the specific record when some path of the general record
+/// ends with the former, and the same path of the specific record ends with the latter.
 #[derive(Clone, Copy, Debug, PartialEq, Eq, Hash)]
 pub enum Reason {
     /// 1: nothing of the general record lies over the link.
     Bare,
     /// 2: the links that enter its node in the specific record are in two or more groups.
-    /// Two are in one group when links of the general record that enter one node lie over
-    /// them, or when both are in one group with a third; so the general record does not
-    /// say of all of them that they lead to one node.
+    /// Two links are in one group when links of the general record that enter one node lie over
+    /// them, or when both are in one group with a third link. So with two groups, the general
+    /// record does not say that all these links lead to one node.
     Groups,
-    /// 3: the node that it enters has a type or a range that the general record does not
-    /// give, or a link that leaves this node is kept.
+    /// 3: its node has a type or a range that the general record does not give, or a link that
+    /// leaves its node is kept.
     Wanted,
 }
 

@@ -1,4 +1,4 @@
-//! Why a call has no result.
+//! The refusals: why a call has no result.
 
 use std::error::Error;
 use std::fmt;
@@ -9,9 +9,10 @@ use std::fmt;
 pub enum TableFault {
     /// 1: n is not 2 to 64, or the table's length is not 8 times n.
     Size,
-    /// 2: a bit at n or above, no order, 0 not least, or n − 1 not greatest.
+    /// 2: the table has a bit at n or above, is no order, or 0 is not its least type, or
+    /// n − 1 is not its greatest type.
     Order,
-    /// 3: two types without a meet or a join.
+    /// 3: two types have no meet or no join.
     Bounds,
 }
 
@@ -19,24 +20,24 @@ pub enum TableFault {
 #[derive(Clone, Copy, Debug, PartialEq, Eq, Hash)]
 #[non_exhaustive]
 pub enum GraphFault {
-    /// 4: a record with no nodes, too short, with bytes left over, or with more than 2,048
-    /// links; a planning table with a number of node bytes that is not divisible by 3, with
-    /// nodes that are not 1 to 255, or with more than 2,048 rows; bytes that hold no store,
-    /// fewer than 2 or more than 16,384.
+    /// 4: a record has no nodes, ends early, has bytes left over, or has more than 2,048
+    /// links; a planning table has a number of node bytes that is not divisible by 3, has no
+    /// nodes, more than 255 nodes, or more than 2,048 rows; a buffer holds no store, or has
+    /// fewer than 2 or more than 16,384 bytes.
     Malformed,
-    /// 5: a type that is 0 or at least n, a target that is no node, or a lowest level above
-    /// the highest; a planning table's type with bit 7, while its target that is no node
-    /// is 14.
+    /// 5: a type is 0 or at least n, a target is no node, or a lowest level is above the
+    /// highest; in a planning table a type has bit 7, while a target that is no node gives
+    /// 14.
     OutOfRange,
     /// 6: a node reaches itself.
     Cyclic,
-    /// 7: a node that the root does not reach.
+    /// 7: the root does not reach a node.
     Unreached,
-    /// 18: a record with a link that the appropriateness list forbids.
+    /// 18: a record has a link that the list of types for features forbids.
     Inappropriate,
 }
 
-/// Which of two records; a lone record counts as the first.
+/// Which of two records a refusal tells of. If a call takes one record, it counts as the first.
 #[derive(Clone, Copy, Debug, PartialEq, Eq, Hash)]
 pub enum Side {
     /// The first record.
@@ -45,10 +46,11 @@ pub enum Side {
     Second,
 }
 
-/// Why a call has no result. Each output is then as it was.
+/// Why a call has no result. A refusal changes no output.
 ///
-/// A refusal has the number of documents 01 and 02, for 4 to 7 and 18 the record that it
-/// tells of, and a sentence. The calls in C have the same numbers and sentences.
+/// A refusal has a number, which is that of documents 01 and 02, and a sentence. The refusals 4
+/// to 7 and 18 also tell of which record they are. The calls in C have the same numbers and
+/// sentences.
 ///
 /// ```
 /// use record_engine::{GraphFault, Refusal, Side, Table};
@@ -58,7 +60,7 @@ pub enum Side {
 /// let refusal = diamond.unify(&lone(1), &lone(4)).unwrap_err();
 /// assert_eq!(refusal, Refusal::Graph(GraphFault::OutOfRange, Side::Second));
 /// assert_eq!((refusal.number(), refusal.side()), (5, Some(Side::Second)));
-/// // Whichever refusals come later, the last arm tells their number and sentence.
+/// // The last arm prints the number and the sentence of every other refusal.
 /// match diamond.unify(&lone(1), &lone(2)) {
 ///     Ok(record) => println!("{record:?}"),
 ///     Err(Refusal::Clash) => println!("nothing is below both"),
@@ -71,44 +73,45 @@ pub enum Side {
 pub enum Refusal {
     /// 1 to 3: the table.
     Table(TableFault),
-    /// 4 to 7 and 18: one of the records; 4 of the first: a store.
+    /// 4 to 7 and 18: one of the records. For a call on a store, the first record is the store.
     Graph(GraphFault, Side),
     /// 8: the result exists and the output is shorter.
     NoRoom,
     /// 9: combination: a class of shared paths reaches itself.
     Cycle,
-    /// 10: combination: a class of shared paths has no type or no level in common, and none
-    /// reaches itself.
+    /// 10: combination: a class of shared paths has no type or no level in common, and no
+    /// class reaches itself.
     Clash,
     /// 11: the result, or a store's common part at a step of the way, has more than 255 nodes
     /// or 2,048 links.
     TooLarge,
     /// 12: difference: the second record is not below the first.
     NotBelow,
-    /// 13: difference: some node of the second record has no wanted type: among the types
-    /// whose meet with the first record's types over it is its own, none is the greatest;
+    /// 13: difference: a node of the second record has no wanted type: there is no greatest
+    /// type whose meet with the first record's types over the node is the node's own type;
     /// store: a program on the way has no difference from the common part for that reason.
     NoWantedType,
-    /// 14: planning table: a row with a feature above 63 or a node number outside the
-    /// count.
+    /// 14: planning table: a row has a feature above 63, or a parent or a target that is no
+    /// node.
     RowOutOfRange,
-    /// 15: planning table: two rows with one parent and feature.
+    /// 15: planning table: two rows have one parent and feature.
     RowTwice,
-    /// 16: gathering: an order or a finish before the first addition.
+    /// 16: gathering: an order or a finish comes before the first addition.
     NothingGathered,
-    /// 17: an appropriateness list that is not of 64 bytes, or with an entry of n or more.
+    /// 17: the list of types for features has not 64 bytes, or has an entry of n or more.
     TypeList,
-    /// 19: a reading order that is not a list of all 64 features, each once.
+    /// 19: the reading order is not a list of all 64 features, each once.
     ReadingOrder,
-    /// 20: store: a version above 15, or absent for a read or a drop, or present for a put.
+    /// 20: store: the version is above 15, or absent for a read or a drop, or present for a
+    /// put.
     WrongVersion,
-    /// 21: store: fewer bytes than a step of the way takes.
+    /// 21: store: the buffer has fewer bytes than a step of the way takes.
     NoStoreRoom,
     /// 22: difference with reasons: it has more links than bytes are lent for the reasons.
     NoReasonRoom,
     /// 23: listing: the number of features is not 1 or 2.
     FeatureCount,
-    /// 24: listing: the record is read but not listed.
+    /// 24: listing: the record is accepted but not listed.
     NotListed,
 }
 
@@ -181,7 +184,7 @@ impl Refusal {
         }
     }
 
-    /// The record that the refusal tells of, for 4 to 7 and 18.
+    /// The record that the refusal tells of, for 4 to 7 and 18; none for the other refusals.
     ///
     /// ```
     /// use record_engine::{GraphFault, Refusal, Side};
@@ -196,8 +199,8 @@ impl Refusal {
         }
     }
 
-    /// The refusal as a sentence, which has neither its number nor its side:
-    /// `record_refusal_text` in C.
+    /// The sentence of the refusal. The sentence tells neither the number nor the record. In C,
+    /// `record_refusal_text` gives the same sentence.
     ///
     /// ```
     /// use record_engine::Refusal;
@@ -240,7 +243,8 @@ impl Refusal {
     }
 }
 
-/// The number, for 4 to 7 and 18 the record, and the sentence.
+/// Prints the number of the refusal, the record that it tells of, if there is one, and the
+/// sentence.
 ///
 /// ```
 /// use record_engine::{GraphFault, Refusal, Side};

@@ -1,5 +1,5 @@
-//! A store: up to 16 versions of a program in one buffer, kept as their common part and each
-//! version's difference from it.
+//! A store: up to 16 versions of a program in one buffer. It keeps the common part of the
+//! versions, and the difference of each version from the common part.
 
 use crate::code::length;
 use crate::options::written;
@@ -8,17 +8,17 @@ use crate::{Refusal, Table, foreign};
 /// The most bytes that a store has.
 pub const STORE_LENGTH: usize = 16_384;
 
-/// The number of versions that a store has room to number: 0 to 15.
+/// The most versions that a store keeps. Their numbers are 0 to 15.
 pub const VERSIONS: usize = 16;
 
-/// Up to [`VERSIONS`] versions of a program over one table, in bytes that it owns or borrows.
-/// What their programs have in common stands there once, and of each program its difference
-/// from that.
+/// A store of up to [`VERSIONS`] versions of a program over one table, in bytes that it owns or
+/// borrows. The common part of the programs stands in it once, and each program stands in it as
+/// its difference from the common part.
 ///
-/// Every call takes the [`Table`] again, and a store is used with one table alone. After any
-/// calls the used bytes are those of an empty store of the same length into which the
-/// programs that were put and not dropped are put in the order of their numbers. A refused
-/// call changes no byte.
+/// A store does not hold its [`Table`]: hand in the same table at every call. The used bytes
+/// depend only on the programs and their versions, whichever calls were made. They are those of
+/// an empty store of the same length into which the programs are put in the order of their
+/// versions. A refused call changes no byte.
 ///
 /// ```
 /// use record_engine::{Refusal, Store, Table};
@@ -29,11 +29,11 @@ pub const VERSIONS: usize = 16;
 /// assert_eq!(store.used(), [0, 0]);
 /// // A put and a drop give the number of used bytes.
 /// assert_eq!(store.put(&diamond, 0, &program(3))?, 37);
-/// // The second program costs what it says beyond the first, and its length.
+/// // The second program takes 20 bytes for its difference and 2 bytes for the length of it.
 /// assert_eq!(store.put(&diamond, 7, &program(1))?, 37 + 22);
 /// assert!(store.versions().eq([0, 7]));
 /// assert_eq!(store.read(&diamond, 7)?, program(1));
-/// // Version 7 is there, and version 1 is not.
+/// // Version 7 is present, and version 1 is absent.
 /// let present = store.put(&diamond, 7, &program(2));
 /// assert_eq!(present, Err(Refusal::WrongVersion));
 /// assert_eq!(store.drop(&diamond, 1), Err(Refusal::WrongVersion));
@@ -45,7 +45,7 @@ pub const VERSIONS: usize = 16;
 /// # Ok::<(), Refusal>(())
 /// ```
 ///
-/// Over bytes that the caller lends:
+/// A store may also use bytes that the caller lends:
 ///
 /// ```
 /// use record_engine::{Refusal, Store, Table};
@@ -73,9 +73,9 @@ impl Store {
         Store::holding(&[])
     }
 
-    /// A store in [`STORE_LENGTH`] bytes of its own that begins with the bytes given, which
-    /// were saved. A store that holds programs holds them in more bytes too, but need not in
-    /// fewer: on the way to its state it may have taken more than it uses.
+    /// A store in [`STORE_LENGTH`] bytes of its own that begins with saved bytes. Saved bytes
+    /// that hold programs hold the same programs in a longer buffer, but perhaps not in a
+    /// shorter one: the way of the programs may take more bytes than its end uses.
     pub fn holding(saved: &[u8]) -> Store {
         let mut bytes = saved.to_vec();
         bytes.resize(STORE_LENGTH.max(saved.len()), 0);
@@ -90,20 +90,20 @@ impl Default for Store {
 }
 
 impl<B> Store<B> {
-    /// A store over bytes as they are. Whether they hold one is for the calls to say: where
-    /// they do not, each is refused by 4 of the first graph.
+    /// A store over bytes as they are. If the bytes hold no store, each call is refused by 4 of
+    /// the first graph.
     pub fn over(bytes: B) -> Store<B> {
         Store { bytes }
     }
 
-    /// The bytes that it was made over.
+    /// The bytes that the store uses as its buffer.
     pub fn into_bytes(self) -> B {
         self.bytes
     }
 }
 
 impl<B: AsRef<[u8]>> Store<B> {
-    /// A version's program, as the written record that was put.
+    /// The written record of the program that was put under a version.
     ///
     /// ```
     /// use record_engine::{Refusal, Store, Table};
@@ -118,26 +118,26 @@ impl<B: AsRef<[u8]>> Store<B> {
     ///
     /// # Errors
     ///
-    /// Refused as by [`store_read`], but for 1 to 3 and 8.
+    /// Refused as by [`store_read`], except for 1 to 3 and 8.
     pub fn read(&self, table: &Table, version: usize) -> Result<Vec<u8>, Refusal> {
         let (n, table) = (table.n(), table.as_bytes());
         written(|output| store_read(n, table, self.bytes(), version, output))
     }
 
-    /// The versions that exist, as the map says: the first two bytes. A byte that is missing
-    /// has none.
+    /// The versions that exist, by the map, which is the first two bytes. A missing byte of the
+    /// map counts as 0.
     pub fn versions(&self) -> impl Iterator<Item = usize> + use<B> {
         let map = self.map();
         (0..VERSIONS).filter(move |version| map >> version & 1 == 1)
     }
 
-    /// All bytes.
+    /// All bytes of the buffer.
     pub fn bytes(&self) -> &[u8] {
         self.bytes.as_ref()
     }
 
-    /// The bytes to save: those that the store uses, by the lengths in it. What stands behind
-    /// them does not matter. Bytes that hold no store are given as far as they go.
+    /// The used bytes, which are all that has to be saved. The lengths in the store tell where
+    /// they end. If the lengths lead beyond the buffer, the used bytes end with the buffer.
     pub fn used(&self) -> &[u8] {
         let bytes = self.bytes();
         let parts = match self.map().count_ones() {
@@ -155,15 +155,14 @@ impl<B: AsRef<[u8]>> Store<B> {
 }
 
 impl<B: AsRef<[u8]> + AsMut<[u8]>> Store<B> {
-    /// An empty store in the bytes given; those behind the first two stay. Fewer than two
-    /// bytes and more than [`STORE_LENGTH`] hold no store.
+    /// An empty store in the given bytes. It changes the first two bytes alone. Fewer than two
+    /// bytes, or more than [`STORE_LENGTH`], hold no store.
     pub fn empty_in(mut bytes: B) -> Store<B> {
         bytes.as_mut().iter_mut().take(2).for_each(|byte| *byte = 0);
         Store { bytes }
     }
 
-    /// Stores a program under the number of a version that is absent, and gives the number
-    /// of used bytes.
+    /// Stores a program under a version that is absent, and gives the number of used bytes.
     ///
     /// ```
     /// use record_engine::{Refusal, Store, Table};
@@ -179,7 +178,7 @@ impl<B: AsRef<[u8]> + AsMut<[u8]>> Store<B> {
     ///
     /// # Errors
     ///
-    /// Refused as by [`store_put`], but for 1 to 3.
+    /// Refused as by [`store_put`], except for 1 to 3.
     pub fn put(&mut self, table: &Table, version: usize, record: &[u8]) -> Result<usize, Refusal> {
         let (n, table) = (table.n(), table.as_bytes());
         store_put(n, table, self.bytes.as_mut(), version, record)
@@ -200,29 +199,29 @@ impl<B: AsRef<[u8]> + AsMut<[u8]>> Store<B> {
     ///
     /// # Errors
     ///
-    /// Refused as by [`store_drop`], but for 1 to 3.
+    /// Refused as by [`store_drop`], except for 1 to 3.
     pub fn drop(&mut self, table: &Table, version: usize) -> Result<usize, Refusal> {
         let (n, table) = (table.n(), table.as_bytes());
         store_drop(n, table, self.bytes.as_mut(), version)
     }
 }
 
-/// The number that the first two bytes state, low byte first; a byte that is missing is 0.
+/// The number in the first two bytes, low byte first. A missing byte counts as 0.
 fn number(bytes: &[u8]) -> usize {
     let byte = |place: usize| bytes.get(place).map_or(0, |&byte| usize::from(byte));
     byte(0) + 256 * byte(1)
 }
 
-/// Stores a program under the number of a version, 0 to 15, that is absent, in bytes that the
-/// caller lends, and gives the number of used bytes; the others are unchanged. Two zero bytes
-/// are an empty store. Takes 256 KiB of stack.
+/// Puts a record into a store in a lent buffer, under a version, 0 to 15, that is absent. Gives
+/// the number of used bytes. The bytes behind them are unchanged. Two zero bytes are an empty
+/// store. Takes 256 KiB of stack.
 ///
 /// ```
 /// use record_engine::{LONGEST_RECORD, Refusal, STORE_LENGTH, store_drop, store_put, store_read};
 /// let diamond = record_engine::table(&[0x01, 0x03, 0x05, 0x0F]).expect("at most 8 types");
 /// let lone = |node_type| [1, node_type, 0, 0, 0, 0, 0, 0, 0, 0];
 /// let mut store = [0; STORE_LENGTH];
-/// // The map, and the common part and the difference with their lengths.
+/// // The map has 2 bytes. The common part and the difference have 2 + 10 bytes each.
 /// assert_eq!(store_put(4, &diamond, &mut store, 15, &lone(1))?, 26);
 /// assert_eq!(store[..4], [0, 0x80, 10, 0]);
 /// assert_eq!(store[4..14], lone(1));
@@ -240,8 +239,9 @@ fn number(bytes: &[u8]) -> usize {
 /// Refused by [`Refusal::Table`] (1 to 3), by [`GraphFault::Malformed`] (4), as the first,
 /// where the bytes hold no store, by [`Refusal::Graph`] (4 to 7) of the record, which counts
 /// as the second, by [`Refusal::WrongVersion`] (20) where the version is above 15 or present,
-/// then on the way of all programs by the first of [`Refusal::TooLarge`] (11),
-/// [`Refusal::NoWantedType`] (13) and [`Refusal::NoStoreRoom`] (21). No byte is then changed.
+/// then by the first of [`Refusal::TooLarge`] (11), [`Refusal::NoWantedType`] (13) and
+/// [`Refusal::NoStoreRoom`] (21) on the [way](crate#store) of all programs. A refusal changes
+/// no byte.
 ///
 /// [`GraphFault::Malformed`]: crate::GraphFault::Malformed
 pub fn store_put(
@@ -254,8 +254,8 @@ pub fn store_put(
     length(foreign::record_store_put(n, table, store, version, record))
 }
 
-/// Writes the program of a version in lent bytes as the written record that was put, and
-/// gives its length. Takes 244 KiB of stack.
+/// Writes the written record of the program that was put under a version into a store in a lent
+/// buffer, and gives its length. Takes 244 KiB of stack.
 ///
 /// # Errors
 ///
@@ -274,17 +274,17 @@ pub fn store_read(
     length(foreign::record_store_read(n, table, store, version, output))
 }
 
-/// Removes a version from lent bytes, and gives the number of used bytes; the others are
-/// unchanged. Takes 244 KiB of stack.
+/// Removes a version from a store in a lent buffer, and gives the number of used bytes. The
+/// bytes behind them are unchanged. Takes 244 KiB of stack.
 ///
 /// # Errors
 ///
 /// Refused by [`Refusal::Table`] (1 to 3), by [`GraphFault::Malformed`] (4), as the first,
 /// where the bytes hold no store, by [`Refusal::WrongVersion`] (20) where the version is above
-/// 15 or absent, then on the way of the other programs by the first of [`Refusal::TooLarge`]
-/// (11), [`Refusal::NoWantedType`] (13) and [`Refusal::NoStoreRoom`] (21). No byte is then
-/// changed. So a drop may be refused: what remains may have a common part that is larger, or
-/// programs without a difference from it.
+/// 15 or absent, then by the first of [`Refusal::TooLarge`] (11), [`Refusal::NoWantedType`]
+/// (13) and [`Refusal::NoStoreRoom`] (21) on the [way](crate#store) of the other programs. A
+/// refusal changes no byte. A drop may be refused because the other programs have a larger
+/// common part, or because one of them has no difference from it.
 ///
 /// [`GraphFault::Malformed`]: crate::GraphFault::Malformed
 pub fn store_drop(

@@ -1,5 +1,5 @@
-//! A type table that was accepted when it was made, and the calls over it: records in,
-//! records out.
+//! A type table that is accepted when it is made, and the calls over it, which take records and
+//! give records.
 
 use crate::options::{Options, written};
 use crate::{Gathering, HOUSE_TABLE_LENGTH, Listing, MOST_LINKS, MOST_NODES, Order, Reason};
@@ -8,14 +8,14 @@ use crate::{Refusal, Row, TableFault};
 /// A table has at most this many types.
 const MOST_TYPES: usize = 64;
 
-/// A type table that is accepted. It is made once, from pairs of types, from bytes or as that
-/// of the house types; its methods are the calls over it. They take records and give records,
-/// and nothing has to be lent. [`options`](Table::options) adds a reading order and an
-/// appropriateness list.
+/// An accepted type table. It is made once: from pairs of types, from bytes, or as the table of
+/// the house types. Its methods are the calls over the table. The methods take records and give
+/// records, and the caller lends no buffer. [`options`](Table::options) adds a reading order
+/// and a list of types for features.
 ///
 /// ```
 /// use record_engine::{Order, Table};
-/// // Between 0 and 3 are the types 1 and 2, neither below the other.
+/// // The types 1 and 2 lie between 0 and 3, and neither is below the other.
 /// let diamond = Table::from_order(4, &[(0, 1), (0, 2), (1, 3), (2, 3)])?;
 /// // A root of type 3 whose features 0 and 1 lead to one node, of the type given.
 /// let record = |leaf| [2, 3, 3, 0, 0, 0, 0, 0, 0, 0, 1, 1, leaf, 0, 0, 0, 0, 0, 0, 0, 0];
@@ -32,8 +32,8 @@ pub struct Table {
 }
 
 impl Table {
-    /// The table of some bytes: a row of 8 for each type, as the
-    /// [documentation of this package](crate#type-table) tells.
+    /// The table with the given bytes. They are a row of 8 bytes for each type, as the
+    /// [documentation of this package](crate#type-table) describes.
     ///
     /// ```
     /// use record_engine::{Refusal, Table, TableFault};
@@ -55,9 +55,9 @@ impl Table {
         })
     }
 
-    /// The table of n types in which, for each pair, the first type is below the second. What
-    /// follows is added: a type is below itself, below what is above a type that it is below,
-    /// above type 0 and below type n − 1.
+    /// The table of n types in which, for each pair, the first type is below the second. All
+    /// that follows from the pairs is added: if a is below b and b is below c, a is below c. Type
+    /// 0 is below every type, and every type is below type n − 1.
     ///
     /// ```
     /// use record_engine::{Order, Refusal, Table, TableFault};
@@ -65,7 +65,7 @@ impl Table {
     /// let chain = Table::from_order(5, &[(1, 2), (2, 3)])?;
     /// let lone = |node_type| [1, node_type, 0, 0, 0, 0, 0, 0, 0, 0];
     /// assert_eq!(chain.order(&lone(1), &lone(3))?, Order::Under);
-    /// // Without a pair, types are beside each other: this is the diamond.
+    /// // Without pairs, neither of the types 1 and 2 is below the other: this is the diamond.
     /// let first_bytes = [0x01, 0x03, 0x05, 0x0F];
     /// let diamond = record_engine::table(&first_bytes).expect("at most 8 types");
     /// assert_eq!(Table::from_order(4, &[])?.as_bytes(), diamond);
@@ -113,7 +113,7 @@ impl Table {
     /// use record_engine::Table;
     /// let house = Table::house();
     /// assert_eq!(house.n(), record_engine::HOUSE_TYPES);
-    /// // The grades 1, 2, 3 and the grades 3, 0, 3 have 1, 0, 3 in common.
+    /// // The meet of the grades 1, 2, 3 and the grades 3, 0, 3 is 1, 0, 3.
     /// let lone = |grades: [u8; 3]| {
     ///     let [first, second, third] = grades;
     ///     [1, 16 * first + 4 * second + third, 0, 0, 0, 0, 0, 0, 0, 0]
@@ -136,7 +136,8 @@ impl Table {
         self.bytes.len() / 8
     }
 
-    /// Its bytes, as the functions on lent outputs take them beside [`n`](Table::n).
+    /// The bytes of the table. The functions on lent buffers take them together with
+    /// [`n`](Table::n).
     ///
     /// ```
     /// use record_engine::{LONGEST_RECORD, Table};
@@ -151,8 +152,8 @@ impl Table {
         &self.bytes
     }
 
-    /// The calls over the table with a reading order or an appropriateness list: without
-    /// either until one is added.
+    /// The calls over the table, to which a reading order or a list of types for features can be
+    /// added.
     ///
     /// ```
     /// use record_engine::{FEATURES, Table};
@@ -167,12 +168,14 @@ impl Table {
         Options::new(self)
     }
 
-    /// A record in its one written form: equal meaning gives equal bytes.
+    /// The written record of a record. Two records give equal bytes exactly when they mean the
+    /// same.
     ///
     /// ```
     /// use record_engine::Table;
     /// let diamond = Table::from_order(4, &[])?;
-    /// // Feature 0 leads to node 2 and feature 1 to node 1; written, node 1 comes first.
+    /// // Here feature 0 leads to node 2 and feature 1 to node 1. In the written record the two
+    /// // nodes have changed their numbers.
     /// let record = |targets: [u8; 2], types: [u8; 2]| {
     ///     let leaf = |node_type| [node_type, 0, 0, 0, 0, 0, 0, 0, 0];
     ///     let root = [3, 3, 3, 0, 0, 0, 0, 0, 0, 0, targets[0], targets[1]];
@@ -226,8 +229,8 @@ impl Table {
         self.options().generalize(first, second)
     }
 
-    /// The common part of any number of records, by a [`Gathering`]: the least graph above
-    /// all of them. The order of the records does not matter where none is refused.
+    /// The common part of any number of records, which is the least graph above all of them. A
+    /// [`Gathering`] makes it. If no record is refused, the order of the records does not matter.
     ///
     /// ```
     /// use record_engine::{Refusal, Table};
@@ -236,7 +239,7 @@ impl Table {
     /// let programs = vec![lone(1), lone(1), lone(2)];
     /// assert_eq!(diamond.generalize_all(&programs)?, lone(3));
     /// assert_eq!(diamond.generalize_all(&programs[..1])?, lone(1));
-    /// // No records have no common part.
+    /// // Without a record there is no common part.
     /// let none = diamond.generalize_all(&programs[..0]);
     /// assert_eq!(none, Err(Refusal::NothingGathered));
     /// # Ok::<(), Refusal>(())
@@ -286,7 +289,7 @@ impl Table {
     /// let diamond = Table::from_order(4, &[])?;
     /// let lone = |node_type| [1, node_type, 0, 0, 0, 0, 0, 0, 0, 0];
     /// assert_eq!(diamond.difference(&lone(3), &lone(1))?, lone(1));
-    /// // A record says nothing beyond itself.
+    /// // The difference of a record and itself says nothing.
     /// assert_eq!(diamond.difference(&lone(1), &lone(1))?, lone(3));
     /// assert_eq!(diamond.difference(&lone(1), &lone(3)), Err(Refusal::NotBelow));
     /// # Ok::<(), Refusal>(())
@@ -301,8 +304,9 @@ impl Table {
         self.options().difference(general, specific)
     }
 
-    /// The difference, and for each of its links the reason for which it is kept, in the
-    /// order of the links in the record: node by node, and for each node by feature.
+    /// The difference, and for each of its links the reason why the link is kept. The reasons
+    /// stand in the order of the links in the difference: node by node, and for each node by
+    /// feature.
     ///
     /// ```
     /// use record_engine::{Reason, Table};
@@ -341,7 +345,7 @@ impl Table {
     ///
     /// # Errors
     ///
-    /// Refused as by [`import`](crate::import), but for 1 to 3 and 8.
+    /// Refused as by [`import`](crate::import), except for 1 to 3 and 8.
     pub fn import(&self, rows: &[Row], nodes: &[u8]) -> Result<Vec<u8>, Refusal> {
         written(|output| crate::import(self.n(), &self.bytes, rows, nodes, output))
     }

@@ -1,16 +1,17 @@
-//! Tables: whether one is accepted, that of the house types, and small ones by hand.
+//! Type tables in bytes: the check whether a table is accepted, the table of the house types,
+//! and small tables by hand.
 
 use crate::code::{length, nothing};
 use crate::{Refusal, foreign};
 
-/// Whether a table is accepted, so that no call over it is refused by [`Refusal::Table`].
-/// Takes 8 KiB of stack.
+/// Tells whether a type table is accepted. No call over an accepted table is refused by
+/// [`Refusal::Table`]. Takes 8 KiB of stack.
 ///
 /// ```
 /// use record_engine::{Refusal, TableFault, check_table};
 /// let diamond = record_engine::table(&[0x01, 0x03, 0x05, 0x0F]).expect("at most 8 types");
 /// assert_eq!(check_table(4, &diamond), Ok(()));
-/// // There are rows for four types.
+/// // The table has rows for four types, not for five.
 /// assert_eq!(check_table(5, &diamond), Err(Refusal::Table(TableFault::Size)));
 /// ```
 ///
@@ -24,20 +25,20 @@ pub fn check_table(n: usize, table: &[u8]) -> Result<(), Refusal> {
 /// The number of the house types.
 pub const HOUSE_TYPES: usize = 64;
 
-/// The length of their table.
+/// The length of the table of the house types.
 pub const HOUSE_TABLE_LENGTH: usize = 8 * HOUSE_TYPES;
 
-/// Fills the output's first [`HOUSE_TABLE_LENGTH`] bytes with the table of the house
-/// types, for n = [`HOUSE_TYPES`], and gives their number; its other bytes are
-/// unchanged. A house type has three grades of 0 to 3 and is numbered
-/// 16 × first + 4 × second + third; it is below another when each grade is at most
-/// the other's, and 3 tells nothing. Takes 8 KiB of stack.
+/// Writes the table of the house types, for n = [`HOUSE_TYPES`], into the first
+/// [`HOUSE_TABLE_LENGTH`] bytes of the output, and gives their number. The other bytes are
+/// unchanged. A house type has three grades of 0 to 3. Its number is
+/// 16 × first + 4 × second + third. A house type is below another when each of its grades is at
+/// most the other's, and a grade of 3 says nothing. Takes 8 KiB of stack.
 ///
 /// ```
 /// use record_engine::{HOUSE_TABLE_LENGTH, HOUSE_TYPES};
 /// let mut table = [0; HOUSE_TABLE_LENGTH];
 /// record_engine::house_table(&mut table)?;
-/// // The grades 1, 2, 3 and the grades 3, 0, 3 have 1, 0, 3 in common.
+/// // The meet of the grades 1, 2, 3 and the grades 3, 0, 3 is 1, 0, 3.
 /// let first = [1, 16 + 4 * 2 + 3, 0, 0, 0, 0, 0, 0, 0, 0];
 /// let second = [1, 16 * 3 + 3, 0, 0, 0, 0, 0, 0, 0, 0];
 /// let mut output = [0; record_engine::LONGEST_RECORD];
@@ -53,9 +54,9 @@ pub fn house_table(output: &mut [u8]) -> Result<usize, Refusal> {
     length(foreign::record_house_table(output))
 }
 
-/// The bytes of a table of at most 8 types, from the first byte of each row; none for
-/// more types, whose rows have bits beyond their first bytes. Whether they are an order
-/// with meets and joins is for the calls to say.
+/// The bytes of a table of at most 8 types, made from the first byte of each row. For more than
+/// 8 types it gives none, because their rows have bits beyond the first byte. It does not check
+/// the table: [`check_table`] does.
 ///
 /// ```
 /// let two = record_engine::table(&[0x01, 0x03]);

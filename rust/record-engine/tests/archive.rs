@@ -1,5 +1,5 @@
-//! Without the static library this package can be checked, and where it is to be linked the
-//! compiler tells the command to run.
+//! Without the static library this package can be checked. If the package is to be linked, the
+//! compiler stops and tells the command to run.
 
 use std::fs;
 use std::path::{Path, PathBuf};
@@ -12,7 +12,8 @@ fn empty() -> PathBuf {
     folder
 }
 
-/// Runs cargo on this package with the folder, and beside it a folder for what is built.
+/// Runs cargo on this package with the empty folder in place of the library's folder. What is
+/// built goes into a folder inside it.
 fn cargo(command: &str) -> Output {
     let told = Command::new(env!("CARGO"))
         .args([command, "--offline", "--locked", "--lib"])

@@ -1,4 +1,4 @@
-//! The header in C and in C++: every standard takes it without a warning, and
+//! The header in C and in C++: it compiles by every standard without a warning, and
 //! `record_refusal_text` gives the sentences of `Refusal`.
 
 use record_engine::Refusal;
@@ -13,8 +13,8 @@ const UNUSED: &str = r#"
 int main(void) { return 0; }
 "#;
 
-/// A program that prints a line for the refusal of each number, of either record, and one
-/// for answers that are none.
+/// A program that prints a line for the refusal of each number, and a line for each of four
+/// answers that are no refusals.
 const SENTENCES: &str = r#"
 #include "record_engine.h"
 #include <stdio.h>
@@ -62,7 +62,7 @@ fn build(compiler: &str, language: &str, standard: &str, program: &str) -> PathB
     built
 }
 
-/// What a program printed; stops where it failed.
+/// What a program printed. Panics if the program failed.
 fn succeeded(told: Output) -> String {
     assert!(
         told.status.success(),
@@ -72,7 +72,7 @@ fn succeeded(told: Output) -> String {
     String::from_utf8(told.stdout).expect("text")
 }
 
-/// What `record_refusal_text` is to give, line by line.
+/// The lines that the program has to print.
 fn sentences() -> String {
     let known = Refusal::ALL
         .iter()
@@ -86,7 +86,7 @@ fn sentences() -> String {
     lines.collect::<String>() + &"no refusal\n".repeat(4)
 }
 
-/// Standards of C++ too, on a machine that has a compiler for it.
+/// The standards of C++ are tried only on a machine that has a compiler for C++.
 #[test]
 fn every_standard_takes_the_header() {
     let c = ["c89", "c99", "c11", "c17", "c2x"].map(|standard| ("cc", "c", standard));

@@ -1,4 +1,5 @@
-//! The example that keeps four programs in a store prints what that in C prints.
+//! The example `export`, which keeps four programs in a store, prints what the example in C
+//! prints.
 
 use std::process::Command;
 

@@ -1,6 +1,6 @@
-//! `scripts/install`, into folders of this test: what it puts there, and that the README's
-//! example in C builds by what pkg-config tells. Where the machine has no pkg-config, the
-//! file for it is read here.
+//! Runs `scripts/install` into folders of this test. Tests which files it installs, and that the
+//! README's example in C builds with the flags that pkg-config gives. If the machine has no
+//! pkg-config, the test reads the file for pkg-config itself.
 
 use record_engine::VERSION_TEXT;
 use std::collections::{BTreeMap, BTreeSet};
