@@ -1,6 +1,7 @@
-/* Case 7 of document 01, over the diamond: the order of P and R, their difference, and
- * R restored from it; then a record that is refused. Prints what
- * examples/difference.stdout has. Build it, once librecord_engine.a is there, by
+/* Case 7 of document 01, over the diamond. The program tells the order of the records P and R,
+ * makes their difference, and restores R from P and the difference. Then it shows a record that
+ * is refused. It prints what examples/difference.stdout has. Make librecord_engine.a first, then
+ * build the program with
  *
  *   cc -std=c11 -I include -o difference examples/difference.c target/staticlib/librecord_engine.a
  */
@@ -8,16 +9,17 @@
 #include <stdio.h>
 #include <string.h>
 
-/* Least 0, then 1 and 2 beside each other, greatest 3, here called top. */
+/* The diamond: types 1 and 2 lie between 0 and 3, and neither is below the other. Type 3 is
+ * called top. */
 static const uint8_t diamond[32] = {[0] = 0x01, [8] = 0x03, [16] = 0x05, [24] = 0x0F};
 
-/* Two nodes. The root, of type 3, has the features 0 and 1, both to node 1, which has
- * type 3 in P and type 1 in R. */
+/* Two records of two nodes. The root has type 3, and its features 0 and 1 both lead to node 1.
+ * Node 1 has type 3 in P and type 1 in R. */
 static const uint8_t p[] = {2, 3, 3, 0, 0, 0, 0, 0, 0, 0, 1, 1, 3, 0, 0, 0, 0, 0, 0, 0, 0};
 static const uint8_t r[] = {2, 3, 3, 0, 0, 0, 0, 0, 0, 0, 1, 1, 1, 0, 0, 0, 0, 0, 0, 0, 0};
 
-/* Prints what a call answered: a length, the order's answer, or a refusal with the
- * record that it tells of and its sentence. */
+/* Prints what a call answered: a length, an answer of the order, or a refusal with its number,
+ * the record that it tells of, and its sentence. */
 static void print_answer(const char *call, uint64_t answer) {
     static const char *const side[] = {"", " first", " second"};
     static const char *const order[] = {"same", "under", "above", "neither"};

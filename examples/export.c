@@ -1,16 +1,21 @@
-/* Four programs over the diamond in one store, where what they have in common stands once: puts
- * them, saves the used bytes, and reads every program back from what was saved; then a put that is
- * refused. Prints what examples/export.stdout has. Build it, once librecord_engine.a is there, by
- *   cc -std=c11 -I include -o export examples/export.c target/staticlib/librecord_engine.a */
+/* Keeps four programs over the diamond in one store. The program puts them, saves the used bytes,
+ * and reads every program back from the saved bytes. Then it shows a put that is refused. It
+ * prints what examples/export.stdout has. Make librecord_engine.a first, then build the program
+ * with
+ *
+ *   cc -std=c11 -I include -o export examples/export.c target/staticlib/librecord_engine.a
+ */
 #include "record_engine.h"
 #include <stdio.h>
 #include <string.h>
 
-/* Least 0, then 1 and 2 beside each other, greatest 3, here called top. */
+/* The diamond: types 1 and 2 lie between 0 and 3, and neither is below the other. Type 3 is
+ * called top. */
 static const uint8_t diamond[32] = {[0] = 0x01, [8] = 0x03, [16] = 0x05, [24] = 0x0F};
 
-/* Features 0 and 1 of the root lead to one node, which is top, 1, 1, or 2 with the levels 9 to
- * 99; feature 9 leads to another, which is 2 in the third program, else top. */
+/* In each program the features 0 and 1 of the root lead to node 1, and feature 9 leads to node 2.
+ * Node 1 has type 3 in the first program, type 1 in the second and third, and type 2 with the
+ * levels 9 to 99 in the fourth. Node 2 has type 2 in the third program and type 3 in the others. */
 static const uint8_t programs[4][33] = {
     {3, 3, 3, 2, 0, 0, 0, 0, 0, 0, 1, 1, 2, 3, 0, 0, 0, 0, 0, 0, 0, 0, 3},
     {3, 3, 3, 2, 0, 0, 0, 0, 0, 0, 1, 1, 2, 1, 0, 0, 0, 0, 0, 0, 0, 0, 3},
@@ -27,7 +32,7 @@ int main(void) {
     }
     if (RECORD_IS_REFUSED(used))
         return 1;
-    memcpy(opened, store, used); /* saved, and opened again */
+    memcpy(opened, store, used); /* A program would write the used bytes to a file and read them. */
     for (size_t v = 0; v < 4; v++) {
         uint64_t length = record_store_read(4, diamond, sizeof diamond, opened, sizeof opened, v, record, sizeof record);
         int same = length == lengths[v] && memcmp(record, programs[v], length) == 0;

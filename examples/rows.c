@@ -1,6 +1,7 @@
-/* A planning table over the diamond: imported into a record, exported from it again, and
- * imported once more; then three tables that are refused, and an export that has one row
- * too few. Prints what examples/rows.stdout has. Build it, once librecord_engine.a is there, by
+/* Imports a planning table over the diamond, exports the record again, and imports the export.
+ * Then the program shows three planning tables that are refused, and an export with one row too
+ * few. It prints what examples/rows.stdout has. Make librecord_engine.a first, then build the
+ * program with
  *
  *   cc -std=c11 -I include -o rows examples/rows.c target/staticlib/librecord_engine.a
  */
@@ -8,18 +9,20 @@
 #include <stdio.h>
 #include <string.h>
 
-/* Least 0, then 1 and 2 beside each other, greatest 3, here called top. */
+/* The diamond: types 1 and 2 lie between 0 and 3, and neither is below the other. Type 3 is
+ * called top. */
 static const uint8_t diamond[32] = {[0] = 0x01, [8] = 0x03, [16] = 0x05, [24] = 0x0F};
 
-/* Three nodes. Feature 9 of the root leads to node 1, and feature 0 of both leads to node
- * 2, which has type 1 and the levels 10 to 200; the others are top with the full range. */
+/* A planning table of three nodes. Feature 9 of the root leads to node 1. Feature 0 of the root
+ * and feature 0 of node 1 lead to node 2. Node 2 has type 1 and the levels 10 to 200. The other
+ * nodes are top and have the full range. */
 static const record_row links[] = {{1, 0, 2}, {0, 9, 1}, {0, 0, 2}};
 static const uint8_t types[] = {3, 0, 255, 3, 0, 255, 1, 10, 200};
 
 enum { LINKS = sizeof links / sizeof links[0] };
 
-/* Prints what a call answered: a length, counts, or a refusal with the record that it
- * tells of and its sentence. */
+/* Prints what a call answered: a length, counts, or a refusal with its number, the record that
+ * it tells of, and its sentence. */
 static void print_answer(const char *call, uint64_t answer) {
     static const char *const side[] = {"", " first", " second"};
     if (RECORD_IS_REFUSED(answer))

@@ -1,15 +1,15 @@
-/* Tables that are accepted or refused, each with the sentence of its refusal. Prints what
- * examples/table.stdout has. Build it, once librecord_engine.a is there, by
+/* Checks four type tables and prints the sentence of each refusal. The program prints what
+ * examples/table.stdout has. Make librecord_engine.a first, then build the program with
  *
  *   cc -std=c11 -I include -o table examples/table.c target/staticlib/librecord_engine.a
  */
 #include "record_engine.h"
 #include <stdio.h>
 
-/* Least 0, then 1 and 2 beside each other, greatest 3. */
+/* The diamond: types 1 and 2 lie between 0 and 3, and neither is below the other. */
 static const uint8_t diamond[32] = {[0] = 0x01, [8] = 0x03, [16] = 0x05, [24] = 0x0F};
 
-/* The same without bit 0 of row 2, so that 0 is not below 2. */
+/* The diamond without bit 0 of row 2, so that 0 is not below 2. */
 static const uint8_t no_least[32] = {[0] = 0x01, [8] = 0x03, [16] = 0x04, [24] = 0x0F};
 
 /* Six types: 1 and 2 are both below 3 and below 4, and neither of these is the least type

@@ -1,6 +1,6 @@
-/* Calls on a thread that has a stack of RECORD_STACK bytes, which is room for every call:
- * the table of the house types, and over it the combination of two lone nodes. Prints what
- * examples/thread.stdout has. Build it, once librecord_engine.a is there, by
+/* Makes calls on a thread with a stack of RECORD_STACK bytes, which has room for every call. The
+ * thread gets the table of the house types and combines two lone nodes over it. The program
+ * prints what examples/thread.stdout has. Make librecord_engine.a first, then build it with
  *
  *   cc -std=c11 -pthread -I include -o thread examples/thread.c target/staticlib/librecord_engine.a
  */
@@ -12,11 +12,12 @@
 #error "this program needs record_engine.h of version 0.1.0 or later"
 #endif
 
-/* Lone nodes of the house types that have the grades 1, 2, 3 and the grades 3, 0, 3. */
+/* Two lone nodes. Their house types have the grades 1, 2, 3 and the grades 3, 0, 3. */
 static const uint8_t first[] = {1, 16 * 1 + 4 * 2 + 3, 0, 0, 0, 0, 0, 0, 0, 0};
 static const uint8_t second[] = {1, 16 * 3 + 4 * 0 + 3, 0, 0, 0, 0, 0, 0, 0, 0};
 
-/* Puts the answer to the combination where the argument points. */
+/* Combines the two nodes, prints the grades of the result, and writes the answer of the call to
+ * where the argument points. */
 static void *combine(void *answer) {
     uint8_t table[RECORD_HOUSE_TABLE], output[RECORD_LONGEST];
     uint64_t length = record_house_table(table, sizeof table);
