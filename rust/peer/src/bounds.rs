@@ -1,16 +1,17 @@
-//! The meets or the joins of types: as sets where the table is distributive, else looked up.
+//! The meets or the joins of types. If the table is distributive, types are held as sets;
+//! otherwise the bound of every two types is looked up.
 
 use crate::Refusal;
 use crate::table::{End, Table, bits, search, type_of};
 
-/// Meets or joins.
+/// Which bounds are asked for: meets or joins.
 #[derive(Clone, Copy)]
 pub enum Side {
     Meets,
     Joins,
 }
 
-/// The bounds of one side. They stay on the stack, as all buffers do.
+/// The meets or the joins. They stay on the stack, as all buffers do.
 #[allow(clippy::large_enum_variant)]
 pub enum Bounds {
     Sets(Sets),
@@ -18,12 +19,12 @@ pub enum Bounds {
     Cells([[u8; 64]; 64]),
 }
 
-/// A type is held as the set of the irreducible types below it. The meet of two types has the
-/// overlap of their sets, the join has the union.
+/// Types as sets: a type is held as the set of the irreducible types below or equal to it. The
+/// set of a meet is the overlap of the two sets, and the set of a join is their union.
 pub struct Sets {
     set: [u64; 64],
-    /// By which types are sought that have a set: for meets the types below each type, for joins
-    /// the types above each irreducible one.
+    /// The candidates when a set is turned back into a type: for meets the types below each
+    /// type, for joins the types above each irreducible type.
     near: [u64; 64],
 }
 
@@ -47,7 +48,7 @@ impl Bounds {
         bounds.ok_or(Refusal::of(3))
     }
 
-    /// The meet of two types; these are meets.
+    /// The meet of two types, if these bounds are meets.
     pub fn meet(&self, a: u8, b: u8) -> u8 {
         let [i, j] = [a, b].map(usize::from);
         match self {
@@ -63,7 +64,7 @@ impl Bounds {
         }
     }
 
-    /// The join of two types; these are joins.
+    /// The join of two types, if these bounds are joins.
     pub fn join(&self, a: u8, b: u8) -> u8 {
         let [i, j] = [a, b].map(usize::from);
         match self {
@@ -84,14 +85,14 @@ impl Bounds {
 }
 
 impl Sets {
-    /// The types as sets, if every irreducible type is prime: the types not above it are those
-    /// below some one type.
+    /// The types as sets, if every irreducible type is prime. An irreducible type is prime if
+    /// the types that are not above it are exactly those below some one type.
     fn of(table: &Table, side: Side) -> Option<Sets> {
         let (n, down) = (table.n, &table.down);
         let mut irreducible = 0;
         let mut above = [0; 64];
         for j in 0..n {
-            // The types strictly below an irreducible one are those below some one type.
+            // Type j is irreducible if the types strictly below it are those below one type.
             if type_of(down, down[j] & !(1 << j)).is_some() {
                 above[j] = upper(table, j);
                 type_of(down, down[n - 1] & !above[j])?;
@@ -107,7 +108,7 @@ impl Sets {
         })
     }
 
-    /// The type that has a set, among the types of a word; there is one.
+    /// The type with the given set, among the types of a word. There is such a type.
     fn type_of(&self, set: u64, among: u64, first: End) -> u8 {
         let (mut left, mut end) = (among, first);
         loop {
@@ -121,13 +122,13 @@ impl Sets {
     }
 }
 
-/// The word of the types above type j.
+/// The word of the types above or equal to type j.
 fn upper(table: &Table, j: usize) -> u64 {
     let rows = table.down[..table.n].iter().rev();
     rows.fold(0, |word, &row| 2 * word + (row >> j & 1))
 }
 
-/// The words of the types above each type.
+/// For each type the word of the types above or equal to it.
 fn turned(table: &Table) -> [u64; 64] {
     let mut up = [0; 64];
     for (i, &row) in table.down[..table.n].iter().enumerate() {
@@ -138,7 +139,8 @@ fn turned(table: &Table) -> [u64; 64] {
     up
 }
 
-/// Looks up the bound of every two types, if each two have one. It stands in two cells.
+/// A table with the bound of every two types; none if two types have no bound. Each bound
+/// stands in two cells.
 #[allow(clippy::needless_range_loop)]
 fn fill(n: usize, words: &[u64; 64], end: End) -> Option<Bounds> {
     let mut cells = [[0; 64]; 64];
@@ -152,9 +154,9 @@ fn fill(n: usize, words: &[u64; 64], end: End) -> Option<Bounds> {
     Some(Bounds::Cells(cells))
 }
 
-/// The bound of two types, if there is one: at once where it is at the end of the word that they
-/// have in common, or one of the two. The word is not 0, since the least type, or the greatest, is
-/// in both.
+/// The bound of two types, if there is one. The fast paths are the type at the end of the word
+/// that the two have in common, a, and b. The common word is not 0, since it has the least type or
+/// the greatest.
 #[inline(always)]
 fn bound(words: &[u64; 64], a: usize, b: usize, end: End) -> Option<u8> {
     let word = words[a] & words[b];

@@ -16,7 +16,7 @@ pub fn check_table(n: usize, table: &[u8]) -> Result<(), Refusal> {
 /// Fills the output's first 512 bytes with the table of the house types.
 pub fn house_table(output: &mut [u8]) -> Result<usize, Refusal> {
     let output = output.get_mut(..512).ok_or(Refusal::of(8))?;
-    // The grades up to one, each a place of so many bits.
+    // A word with one bit for each grade up to `grade`, `bits` places apart.
     let up_to =
         |grade: u64, bits: u64| (0..=grade).fold(0, |word, low| word | 1u64 << (bits * low));
     for (house_type, row) in (0..).zip(output.chunks_exact_mut(8)) {
@@ -27,13 +27,13 @@ pub fn house_table(output: &mut [u8]) -> Result<usize, Refusal> {
     Ok(512)
 }
 
-/// A record in written form.
+/// The written record of a record.
 pub fn rewrite(n: usize, table: &[u8], record: &[u8], output: &mut [u8]) -> Result<usize, Refusal> {
     let table = Table::open(n, table)?;
     rewrite_obeying(&table, None, record, output)
 }
 
-/// The same beside a list of types.
+/// The same call with a list of types for features.
 pub fn rewrite_appropriate(
     n: usize,
     table: &[u8],
@@ -45,7 +45,7 @@ pub fn rewrite_appropriate(
     rewrite_obeying(&table, Some(type_list(n, list)?), record, output)
 }
 
-/// Which of two is the broader, seen from the first.
+/// Which of two records is the broader, seen from the first.
 pub fn order(n: usize, table: &[u8], first: &[u8], second: &[u8]) -> Result<Order, Refusal> {
     let table = Table::open(n, table)?;
     let (mut a, mut b) = (Graph::empty(), Graph::empty());
@@ -65,7 +65,7 @@ pub fn generalize(
     generalize_obeying(&table, &joins, None, [first, second], output)
 }
 
-/// The same beside a list of types.
+/// The same call with a list of types for features.
 pub fn generalize_appropriate(
     n: usize,
     table: &[u8],
@@ -91,7 +91,7 @@ pub fn unify(
     unify_obeying(&table, &meets, None, [first, second], output)
 }
 
-/// The same beside a list of types.
+/// The same call with a list of types for features.
 pub fn unify_appropriate(
     n: usize,
     table: &[u8],
@@ -105,7 +105,7 @@ pub fn unify_appropriate(
     unify_obeying(&table, &meets, Some(list), [first, second], output)
 }
 
-/// The difference of g, the first, and s, the second.
+/// The difference of g, the first record, and s, the second.
 pub fn difference(
     n: usize,
     table: &[u8],
@@ -117,7 +117,7 @@ pub fn difference(
     difference_with(&table, BY_NUMBER, [g, s], output, None)
 }
 
-/// The same, and in a second output the reason for each link.
+/// The difference, and in a second output the reason for each of its links.
 pub fn difference_explained(
     n: usize,
     table: &[u8],
@@ -130,7 +130,7 @@ pub fn difference_explained(
     difference_with(&table, BY_NUMBER, [g, s], output, Some(reasons))
 }
 
-/// The difference whose least links go by a list of all features.
+/// The difference that keeps the least links by a reading order.
 pub fn difference_by(
     n: usize,
     table: &[u8],
@@ -143,7 +143,7 @@ pub fn difference_by(
     difference_with(&table, &reading_order(list)?, [g, s], output, None)
 }
 
-/// The same with reasons.
+/// The difference that keeps the least links by a reading order, with its reasons.
 pub fn difference_explained_by(
     n: usize,
     table: &[u8],
@@ -218,7 +218,7 @@ fn difference_with(
     write_marked(&rest, &whys, output, reasons)
 }
 
-/// Takes in a record's graph, or gives 4 to 7, or 18 by a list.
+/// Reads the graph of a record, or gives 4 to 7, or 18 if there is a list.
 fn read(
     table: &Table,
     list: Option<&TypeList>,
@@ -232,7 +232,7 @@ fn read(
     }
 }
 
-/// Takes in two, the first before the second.
+/// Reads the graphs of two records, the first before the second.
 pub fn read_both(
     table: &Table,
     list: Option<&TypeList>,

@@ -1,4 +1,5 @@
-//! Classes of numbers: union by lower number, with paths halved on the way up.
+//! Classes of numbers (union-find). The lower number leads a merged class, and `find` halves
+//! the paths that it goes up.
 
 /// Classes of the numbers below N, a power of two.
 pub struct Classes<const N: usize> {
@@ -34,7 +35,7 @@ impl<const N: usize> Classes<N> {
         self.parent[usize::from(number) % N]
     }
 
-    /// Puts a class under another with a lower least number.
+    /// Puts a class under another one, whose least number is lower.
     pub fn put_under(&mut self, lower: u16, higher: u16) {
         self.parent[usize::from(higher) % N] = lower;
     }

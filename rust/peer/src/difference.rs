@@ -1,5 +1,5 @@
-//! The difference of g and s, s in written numbering and below g by a map of nodes;
-//! 13 where a node has no wanted type.
+//! The difference of g and s. The nodes of s have their written numbers, and a map from the nodes
+//! of g to those of s shows that s is below g. If a node has no wanted type, the refusal is 13.
 
 use crate::Refusal;
 use crate::classes::Classes;
@@ -8,19 +8,19 @@ use crate::lists::Ranks;
 use crate::range::Range;
 use crate::table::Table;
 
-/// No node of g enters a link.
+/// No link of g lies over the link.
 const BARE: u8 = u8::MAX;
-/// A group without a link so far.
+/// The group has no link so far.
 const NONE: u16 = u16::MAX;
 
-/// Why a link is kept: nothing of g lies over it; else its node has two or more groups; else for
-/// a wanted label or for what hangs below.
+/// Why a link is kept: nothing of g lies over it; else its node has two or more groups; else its
+/// node has a wanted label, or a link that leaves its node is kept.
 const NOTHING_OVER: u8 = 1;
 const GROUPS_MEET: u8 = 2;
 const WANTED: u8 = 3;
 
-/// Makes the difference and, where they are asked for, the reasons for its links, by the places
-/// that these have in it. Links of s are known by their places, which go by parent and feature.
+/// Makes the difference and, if asked for, the reasons for its links, in the order of the links in
+/// `rest`. A link of s is known by its place in s; places are in the order of parent and feature.
 pub fn difference(
     table: &Table,
     ranks: &Ranks,
@@ -31,10 +31,12 @@ pub fn difference(
     mut reasons: Option<&mut [u8; 2048]>,
 ) -> Result<(), Refusal> {
     let top = (table.n - 1) as u8;
-    // For each link of s a node of g that a link over it enters, and classes of such nodes.
+    // For each link of s, a node of g that a link of g over it enters. Links whose nodes are in one
+    // class are in one group.
     let mut owner = [BARE; 2048];
     let mut groups = Classes::<256>::new();
-    // What is below all types of g over a node, and the overlap of their ranges.
+    // For each node of s, the types below all types of g over it, and the overlap of the ranges of
+    // g over it.
     let mut over = [table.down[usize::from(top)]; 256];
     let mut range_over = [Range::FULL; 256];
     for (node, &image) in map[..g.nodes].iter().enumerate() {

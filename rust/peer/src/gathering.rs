@@ -1,5 +1,6 @@
-//! A gathering in lent bytes: the number of types, the table, the length of the common part so
-//! far in two bytes, low byte first, the common part, and room for the longest record.
+//! A gathering in a lent buffer. Its parts are the number of types, the table, the length of the
+//! common part so far (two bytes, low byte first), the common part, and room for the longest
+//! record.
 
 use crate::bounds::{Bounds, Side};
 use crate::calls::read_both;
@@ -10,10 +11,10 @@ use crate::table::Table;
 use crate::write::write;
 use crate::{Refusal, rewrite};
 
-/// The bytes of the longest record.
+/// The length of the longest record.
 const LONGEST: usize = 4854;
 
-/// Begins a gathering over a table, and gives how many bytes are used.
+/// Begins a gathering over a table, and gives the number of used bytes.
 pub fn gathering_begin(n: usize, table: &[u8], gathering: &mut [u8]) -> Result<usize, Refusal> {
     Table::open(n, table)?;
     let head = 1 + table.len();
@@ -76,11 +77,11 @@ pub fn gathering_finish(gathering: &[u8], output: &mut [u8]) -> Result<usize, Re
     })
 }
 
-/// The parts of a gathering; one that is cut ends where the bytes do.
+/// The parts of a gathering. A part that is cut off ends where the bytes end.
 struct Parts<'a> {
     n: usize,
     table: &'a [u8],
-    /// The common part so far; nothing where its length is 0.
+    /// The common part so far; none if its length is 0.
     gathered: Option<&'a [u8]>,
 }
 
@@ -99,7 +100,7 @@ impl Parts<'_> {
     }
 }
 
-/// The first bytes, so many or as many as there are, and the others.
+/// The first `count` bytes, or all if there are fewer, and the other bytes.
 fn split(bytes: &[u8], count: usize) -> (&[u8], &[u8]) {
     bytes.split_at(bytes.len().min(count))
 }

@@ -26,8 +26,9 @@ impl Link {
     }
 }
 
-/// Node v's links are the places `first[v]` to `first[v + 1]`, features ascending. A byte is a
-/// place in the arrays that go by nodes, though there are at most 255.
+/// A graph. The links of node v stand at the places `first[v]` to `first[v + 1] - 1`, by ascending
+/// features. The arrays for nodes have 256 places, so that every byte is a place; a graph has at
+/// most 255 nodes.
 #[derive(Clone)]
 pub struct Graph {
     pub nodes: usize,
@@ -63,13 +64,13 @@ impl Graph {
         &self.links[..usize::from(self.first[self.nodes])]
     }
 
-    /// Takes in a record's graph over n types, or gives 4 to 7; this one is empty.
+    /// Reads the graph of a record over n types into this empty graph, or gives 4 to 7.
     pub fn read(&mut self, n: usize, record: &[u8]) -> Result<(), u8> {
         let has_levels = self.parse(record).ok_or(4)?;
         self.judge(n, has_levels)
     }
 
-    /// Takes in the rows, and tells whether every range has a level.
+    /// Reads the nodes of a record, and tells whether every range has a level.
     fn parse(&mut self, record: &[u8]) -> Option<bool> {
         let (&nodes, mut rest) = record.split_first()?;
         self.nodes = usize::from(nodes);
@@ -103,11 +104,11 @@ impl Graph {
         (nodes > 0 && rest.is_empty()).then_some(has_levels)
     }
 
-    /// 5 to 7 of rows that are taken in; whether every range has a level is known.
+    /// Checks 5, 6 and 7 of a graph. `has_levels` tells whether every range has a level.
     ///
-    /// Takes nodes away whose incoming links are all taken: 6 if some stay, 7 if
-    /// one beside the root has no incoming link. Where none stays, every node is
-    /// below one without incoming links.
+    /// A node is removed once the parents of all its incoming links are removed. If some nodes
+    /// remain, the answer is 6. Else every node is reached from a node without incoming links. If
+    /// the root is not the only such node, the answer is 7.
     pub fn judge(&self, n: usize, has_levels: bool) -> Result<(), u8> {
         let types = &self.types[..self.nodes];
         let least = types.iter().fold(u8::MAX, |least, &next| least.min(next));

@@ -1,7 +1,7 @@
-//! The engine's calls as a Rust programmer would write them for speed: graphs in
-//! compressed rows, sets of types as machine words, buffers on the stack, no
-//! allocation. It is what the engine's speed is measured against; the readable
-//! judge is `reference`. The calls have the names and parameters of `record-engine`.
+//! The engine's calls as a Rust programmer would write them for speed: graphs in compressed
+//! rows, sets of types as machine words, buffers on the stack, no allocation. The benchmark
+//! compares the engine's speed with this package. The readable implementation is
+//! `reference`. The calls have the names and parameters of `record-engine`.
 
 #![forbid(unsafe_code)]
 #![warn(missing_docs)]
@@ -32,12 +32,13 @@ pub use order::Order;
 pub use rows::{Counts, Row, export, import};
 pub use store::{store_drop, store_put, store_read};
 
-/// Why a call has no result: the papers' number, and for 4 to 7 and 18 which record.
+/// Why a call has no result: the number in the papers, and for 4 to 7 and 18 which record is
+/// meant.
 #[derive(Clone, Copy, Debug, PartialEq, Eq)]
 pub struct Refusal {
     /// The number, 1 to 24.
     pub number: u8,
-    /// Whether it tells of the second record.
+    /// Whether the refusal tells of the second record.
     pub second: bool,
 }
 

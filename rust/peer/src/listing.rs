@@ -1,20 +1,22 @@
-//! All small graphs in the order of their bytes: from a listed record the next one. A listed
-//! record is told by seven numbers, each within a span that those before it give.
+//! All small graphs in the order of their bytes: makes the next listed record from a listed
+//! record. Seven numbers describe a listed record. The numbers before a number give the span in
+//! which it lies.
 
 use crate::Refusal;
 use crate::graph::Graph;
 use crate::table::Table;
 
-/// The number of nodes, then the type and the links of each of three nodes, 0 and 0 for one that
-/// is not there. Links: 0 none; 1, 2, 3 feature 0, feature 1 or both to one node; 4, of the root
-/// alone, feature 0 to node 1 and feature 1 to node 2.
+/// The numbers of a listed record: the number of nodes, then the type and the links of each of
+/// three nodes. A node that does not exist has 0 and 0. Links: 0 stands for none; 1, 2 and 3 stand
+/// for feature 0, feature 1, and both to one node; 4, which only the root has, stands for feature 0
+/// to node 1 and feature 1 to node 2.
 type Numbers = [u8; 7];
 
 /// The length of the longest listed record.
 const LONGEST: usize = 32;
 
-/// Writes the listed record after the given one, or the first where that has no bytes; nothing
-/// at the end.
+/// Writes the listed record that follows the given one. If the given record has no bytes, it
+/// writes the first listed record. At the end of the list it gives none.
 pub fn next(
     n: usize,
     table: &[u8],
@@ -48,14 +50,14 @@ pub fn next(
     Ok(Some(written.length))
 }
 
-/// What may stand at each place of the numbers.
+/// The spans of the seven numbers.
 struct Spans {
     n: usize,
     features: usize,
 }
 
 impl Spans {
-    /// The least and the greatest number at a place, by those before it.
+    /// The least and the greatest number at a place, given the numbers before it.
     fn at(&self, place: usize, numbers: &Numbers) -> (u8, u8) {
         let &[nodes, _, root, _, middle, ..] = numbers;
         let top = (self.n - 1) as u8;
@@ -95,7 +97,7 @@ impl Spans {
     }
 }
 
-/// The numbers by which a record would be told.
+/// The numbers that describe a record, if it is a listed record.
 fn numbers_of(record: &[u8]) -> Numbers {
     let byte = |at: usize| record.get(at).copied().unwrap_or(0);
     let mut numbers = [byte(0), 0, 0, 0, 0, 0, 0];
@@ -110,7 +112,7 @@ fn numbers_of(record: &[u8]) -> Numbers {
     numbers
 }
 
-/// How many links a number states.
+/// How many links a number stands for.
 fn width(links: u8) -> usize {
     match links {
         0 => 0,
@@ -131,12 +133,12 @@ impl Written {
     }
 }
 
-/// The record that numbers tell.
+/// The record that numbers describe.
 fn written(numbers: &Numbers) -> Written {
     let mut all = [0; LONGEST];
     all[0] = numbers[0];
     let mut at = 1;
-    // The node that the visit numbers after each.
+    // For each node, the node that it leads to by one or both features.
     let heirs = [1, 2, 1];
     for node in 0..usize::from(numbers[0]) {
         let links = numbers[2 + 2 * node];

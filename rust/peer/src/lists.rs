@@ -1,13 +1,13 @@
-//! The two kinds of lists: types for features, and all features in the order of reading.
+//! The two kinds of lists: lists of types for features, and reading orders.
 
 use crate::Refusal;
 use crate::graph::{Graph, Link};
 use crate::table::Table;
 
-/// For each feature the broadest type that may have it.
+/// A list of types for features: for each feature the broadest type that may have it.
 pub type TypeList = [u8; 64];
 
-/// A list of types over n types, or 17.
+/// Reads a list of types for features over n types, or gives 17.
 pub fn type_list(n: usize, list: &[u8]) -> Result<&TypeList, Refusal> {
     let list: Option<&TypeList> = list.try_into().ok();
     list.filter(|list| list.iter().all(|&entry| usize::from(entry) < n))
@@ -25,14 +25,14 @@ pub fn is_obeyed(table: &Table, list: &TypeList, graph: &Graph) -> bool {
     })
 }
 
-/// The rank of each feature: links of a lesser rank come first, and links of one rank by their
-/// places.
+/// The rank of each feature. Links are ordered by the rank of their feature, then by their places
+/// in the graph.
 pub type Ranks = [u8; 64];
 
-/// By parent number, then feature.
+/// The ranks without a reading order: links are ordered by parent number, then by feature.
 pub const BY_NUMBER: &Ranks = &[0; 64];
 
-/// By the places of the features in a list that has all 64, each once, or 19.
+/// The ranks by a reading order, or 19 if the list has not all 64 features, each once.
 pub fn reading_order(list: &[u8]) -> Result<Ranks, Refusal> {
     let list: Option<&[u8; 64]> = list.try_into().ok();
     let list = list.ok_or(Refusal::of(19))?;

@@ -1,4 +1,5 @@
-//! Which of two graphs is the broader: whether one is below another, both ways.
+//! The order: which of two graphs is the broader. It checks in both directions whether one graph
+//! is below the other.
 
 use crate::graph::Graph;
 use crate::table::Table;
@@ -8,9 +9,9 @@ use crate::table::Table;
 pub enum Order {
     /// Each is below the other.
     Same,
-    /// The first is below the second alone.
+    /// Only the first is below the second.
     Under,
-    /// The second is below the first alone.
+    /// Only the second is below the first.
     Above,
     /// Neither is below the other.
     Neither,
@@ -34,7 +35,7 @@ pub fn node_map(table: &Table, s: &Graph, g: &Graph) -> Option<[u8; 256]> {
     is_below(table, s, g, &mut map).then_some(map)
 }
 
-/// A node that is not mapped yet; there are at most 255.
+/// Marks a node that is not mapped yet. It is no node number, since there are at most 255 nodes.
 const NONE: u8 = u8::MAX;
 
 /// Whether s is below g; maps the nodes of g to those of s.

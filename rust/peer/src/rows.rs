@@ -1,5 +1,5 @@
-//! The planning tool's table: links as rows and three bytes for each node, read into a record
-//! and filled from one.
+//! Planning tables: links as rows, and three bytes for each node. `import` writes the record of a
+//! planning table, and `export` fills a planning table from a record.
 
 use crate::Refusal;
 use crate::graph::{Graph, Link};
@@ -41,7 +41,7 @@ pub fn import(
     write(&graph, output)
 }
 
-/// Takes in the graph of a planning table, or gives 4, 14, 15, 5, 6 or 7.
+/// Reads the graph of a planning table, or gives 4, 14, 15, 5, 6 or 7.
 fn fill(n: usize, rows: &[Row], nodes: &[u8], graph: &mut Graph) -> Result<(), u8> {
     let (labels, []) = nodes.as_chunks::<3>() else {
         return Err(4);
@@ -57,7 +57,7 @@ fn fill(n: usize, rows: &[Row], nodes: &[u8], graph: &mut Graph) -> Result<(), u
     if !rows.iter().all(is_known) {
         return Err(14);
     }
-    // Each node's features, and the target by each.
+    // The features of each node, and the target of each feature.
     let mut maps = [0u64; 255];
     let mut targets = [[0u8; 64]; 255];
     for row in rows {

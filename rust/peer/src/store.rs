@@ -1,6 +1,7 @@
-//! Up to 16 programs in one buffer: a map of those that exist, their common part, and each
-//! one's difference from it, each behind its length in two bytes. A buffer is believed only
-//! after the way to its state has been gone again.
+//! A store: up to 16 programs in one buffer. The buffer has a map of the versions that exist, the
+//! common part of the programs, and the difference of each program from it. Each part stands
+//! behind its length in two bytes. A call trusts a buffer only after it has gone the way of the
+//! programs again.
 
 use crate::Refusal;
 use crate::bounds::{Bounds, Side};
@@ -15,14 +16,14 @@ use crate::write::{renumber, write};
 
 const LONGEST: usize = 16_384;
 const VERSIONS: usize = 16;
-/// The bytes of the map, which are all that an empty store uses.
+/// The number of bytes of the map. An empty store uses no other bytes.
 const MAP: usize = 2;
 
-/// The programs by version, numbered as they are written.
+/// The programs by version, in written numbering.
 type Programs = [Option<Graph>; VERSIONS];
 
-/// Puts a record, the second, into a store under the number of a version, and gives the used
-/// length.
+/// Puts a record, which counts as the second, into a store under a version. Gives the number of
+/// used bytes.
 pub fn store_put(
     n: usize,
     table: &[u8],
@@ -51,7 +52,7 @@ pub fn store_read(
     write(opened.program(version)?, output)
 }
 
-/// Drops a version, and gives the used length.
+/// Drops a version, and gives the number of used bytes.
 pub fn store_drop(
     n: usize,
     table: &[u8],
@@ -90,14 +91,15 @@ impl Types {
     }
 }
 
-/// A store that is taken in: its programs and its state.
+/// A store that was read: its programs and its state.
 struct Store<'a> {
     types: &'a Types,
     programs: Programs,
     state: State,
 }
 
-/// The state after some steps: its bytes, how many are used, and the common part.
+/// The state after some steps of the way: the bytes, how many of them are used, and the common
+/// part.
 struct State {
     bytes: [u8; LONGEST],
     used: usize,
@@ -117,7 +119,7 @@ impl Store<'_> {
         }
     }
 
-    /// Takes in a buffer, or gives 4 where it holds no state; this one is empty.
+    /// Reads a buffer into this empty store, or gives 4 if the buffer holds no store.
     fn open(&mut self, buffer: &[u8]) -> Result<(), Refusal> {
         let is_held = buffer.len() <= LONGEST
             && self.restore(buffer).is_some()
@@ -126,7 +128,8 @@ impl Store<'_> {
         if is_held { Ok(()) } else { Err(Refusal::of(4)) }
     }
 
-    /// Takes in what the common part and each difference combine to, if the buffer has them.
+    /// Reads the programs, which are the combinations of the common part and each difference, if
+    /// the buffer has the form of a store.
     fn restore(&mut self, buffer: &[u8]) -> Option<()> {
         let (&map, mut rest) = buffer.split_first_chunk::<MAP>()?;
         let map = u16::from_le_bytes(map);
@@ -147,7 +150,7 @@ impl Store<'_> {
         Some(())
     }
 
-    /// Puts a record, the second, under the number of a version that is absent.
+    /// Puts a record, which counts as the second, under a version that is absent.
     fn put(&mut self, version: usize, record: &[u8], room: usize) -> Result<(), Refusal> {
         let mut graph = Graph::empty();
         let read = graph.read(self.types.table.n, record);
@@ -156,7 +159,7 @@ impl Store<'_> {
         let place = place.filter(|program| program.is_none());
         renumber(&graph, place.ok_or(Refusal::of(20))?.insert(Graph::empty()));
         if self.programs[version + 1..].iter().all(Option::is_none) {
-            // The way so far is the beginning of this one.
+            // The way that was gone is the beginning of the new one.
             self.step(version, room)
         } else {
             self.go(room)
@@ -182,7 +185,8 @@ impl Store<'_> {
         &self.state.bytes[..self.state.used]
     }
 
-    /// Goes the way of the programs in so many bytes, or gives the first of 11, 13 and 21.
+    /// Goes the way of the programs in a buffer of this length, or gives the first of 11, 13 and
+    /// 21.
     fn go(&mut self, room: usize) -> Result<(), Refusal> {
         self.state.bytes[..MAP].fill(0);
         self.state.used = MAP;
@@ -225,7 +229,7 @@ impl Store<'_> {
     }
 }
 
-/// Takes in a record behind its length, and gives what follows it.
+/// Reads a record behind its length, and gives the bytes that follow it.
 fn read_part<'a>(n: usize, bytes: &'a [u8], graph: &mut Graph) -> Option<&'a [u8]> {
     let (&length, rest) = bytes.split_first_chunk::<2>()?;
     let (record, rest) = rest.split_at_checked(u16::from_le_bytes(length).into())?;
@@ -233,7 +237,8 @@ fn read_part<'a>(n: usize, bytes: &'a [u8], graph: &mut Graph) -> Option<&'a [u8
     Some(rest)
 }
 
-/// Writes a graph behind its length, if there is room, and gives the place behind it.
+/// Writes the length of a graph's record and the record, if there is room. Gives the place behind
+/// them.
 fn write_part(graph: &Graph, output: &mut [u8], place: usize) -> Option<usize> {
     let (count, rest) = output[place..].split_first_chunk_mut::<2>()?;
     let length = write(graph, rest).ok()?;

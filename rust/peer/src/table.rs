@@ -1,8 +1,10 @@
-//! The type table: each type's lower types as a word, and the wanted types of a difference.
+//! The type table: for each type a word of the types below or equal to it. Also the wanted types
+//! of a difference.
 
 use crate::Refusal;
 
-/// An accepted table.
+/// A type table. It is an order with a least and a greatest type; `open` also checks meets and
+/// joins.
 pub struct Table {
     /// How many types there are.
     pub n: usize,
@@ -11,7 +13,7 @@ pub struct Table {
 }
 
 impl Table {
-    /// The table of some bytes, or 1, 2 or 3.
+    /// An accepted table, or 1, 2 or 3.
     pub fn open(n: usize, bytes: &[u8]) -> Result<Table, Refusal> {
         let table = Table::read(n, bytes)?;
         match table.has_bounds() {
@@ -20,7 +22,8 @@ impl Table {
         }
     }
 
-    /// An order of types with a least and a greatest, or 1 or 2.
+    /// A table that is an order with a least and a greatest type, or 1 or 2. Meets and joins are
+    /// not checked.
     pub fn read(n: usize, bytes: &[u8]) -> Result<Table, Refusal> {
         if !(2..=64).contains(&n) || bytes.len() != 8 * n {
             return Err(Refusal::of(1));
@@ -35,8 +38,8 @@ impl Table {
         }
     }
 
-    /// Whether every two types have a meet, and so a join, since one type is the greatest. It is
-    /// enough that every two have one that one type covers.
+    /// Whether every two types have a meet. They then have a join too, since there is a greatest
+    /// type. It is enough to check every two types that one type covers.
     pub fn has_bounds(&self) -> bool {
         let down = &self.down;
         (0..self.n).all(|i| {
@@ -52,7 +55,7 @@ impl Table {
         self.down[usize::from(upper)] >> lower & 1 == 1
     }
 
-    /// The greatest type whose meet with q is p, if there is one; q is told by its word.
+    /// The greatest type whose meet with q is p, if there is one. `over` is the word of q.
     pub fn wanted(&self, p: u8, over: u64) -> Option<u8> {
         let top = self.n - 1;
         let lower = self.down[usize::from(p)];
@@ -83,8 +86,8 @@ fn is_order(n: usize, down: &[u64; 64]) -> bool {
         })
 }
 
-/// The types that type i covers: of those strictly below it the highest numbered is taken, all
-/// below that are put aside, and so on.
+/// The types that type i covers. The loop takes the highest numbered type strictly below i, leaves
+/// out all types below it, and goes on with the rest.
 fn covered(down: &[u64; 64], i: usize) -> u64 {
     let mut left = down[i] & !(1 << i);
     let mut taken = 0;
@@ -96,7 +99,7 @@ fn covered(down: &[u64; 64], i: usize) -> u64 {
     taken
 }
 
-/// The places of a word's bits, the lowest first.
+/// The places of the bits that are set in a word, lowest first.
 pub fn bits(mut word: u64) -> impl Iterator<Item = usize> {
     std::iter::from_fn(move || {
         let bit = word.trailing_zeros() as usize;
@@ -107,8 +110,8 @@ pub fn bits(mut word: u64) -> impl Iterator<Item = usize> {
     })
 }
 
-/// An end of a word: where the type of a word is in it, if the table is numbered along the
-/// order, the highest bit for lower types and the lowest for upper ones.
+/// An end of a word. If the numbers of the types follow the order, the type of a word of lower
+/// types is its highest bit, and the type of a word of upper types is its lowest bit.
 #[derive(Clone, Copy)]
 pub enum End {
     Low,
@@ -132,7 +135,7 @@ impl End {
     }
 }
 
-/// The type whose word of lower types it is, if there is one.
+/// The type whose word of lower types is the given word, if there is one.
 pub fn type_of(down: &[u64; 64], word: u64) -> Option<u8> {
     if word == 0 {
         return None;
@@ -144,8 +147,8 @@ pub fn type_of(down: &[u64; 64], word: u64) -> Option<u8> {
     search(down, word, word & !down[bit], End::Low)
 }
 
-/// The type of a part of a word whose word it is, if there is one. It is sought from both ends
-/// in turn, and a type that is not it is put aside with all on its side.
+/// The type in `part` whose word is `word`, if there is one. The search goes from both ends in
+/// turn. With a type that has another word, it leaves out all types of that other word.
 pub fn search(words: &[u64; 64], word: u64, part: u64, first: End) -> Option<u8> {
     let (mut left, mut end) = (part, first);
     while left != 0 {

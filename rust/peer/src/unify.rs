@@ -1,4 +1,5 @@
-//! The combination: classes of the nodes of both graphs, merged down equal features.
+//! The combination. It puts the nodes of both graphs into classes, and merges the targets of
+//! merged nodes by equal features.
 
 use crate::Refusal;
 use crate::bounds::Bounds;
@@ -7,15 +8,18 @@ use crate::graph::{Graph, Link};
 use crate::range::Range;
 use crate::write::{renumber, write};
 
-/// Up to 255 nodes of each graph, rounded up to a power of two, and their links.
+/// Room for the nodes of both graphs, up to 255 each, rounded up to a power of two; and room for
+/// their links.
 const NODES: usize = 512;
 const LINKS: usize = 4096;
-/// Room for any links: a merge appends a row of up to 64, and there are fewer merges than nodes.
+/// Room for the links of all graphs. A merge appends a row of up to 64 links, and there are fewer
+/// merges than nodes.
 const LARGE: usize = LINKS + 64 * NODES;
-/// Room for those of most graphs.
+/// Room for the links of most graphs.
 const SMALL: usize = 5376;
 
-/// A feature, and the node of both graphs that it leads to, in one word.
+/// A feature and the node that it leads to, in one word. The nodes of both graphs are numbered
+/// together.
 #[derive(Clone, Copy)]
 struct ClassLink(u16);
 
@@ -40,12 +44,12 @@ struct Rows<const ROOM: usize> {
     end: usize,
 }
 
-/// Writes the combination, or 9, 10, 11, 8.
+/// Writes the combination, or gives 9, 10, 11 or 8.
 pub fn unify(meets: &Bounds, a: &Graph, b: &Graph, output: &mut [u8]) -> Result<usize, Refusal> {
     unify_with(meets, a, b, |graph| write(graph, output))
 }
 
-/// Makes the combination in written numbering, or gives 9, 10, 11.
+/// Makes the combination in written numbering, or gives 9, 10 or 11.
 pub fn combine(meets: &Bounds, a: &Graph, b: &Graph, written: &mut Graph) -> Result<(), Refusal> {
     unify_with(meets, a, b, |graph| {
         renumber(graph, written);
@@ -53,8 +57,8 @@ pub fn combine(meets: &Bounds, a: &Graph, b: &Graph, written: &mut Graph) -> Res
     })
 }
 
-/// What becomes of the combination, or 9, 10, 11. Two functions call it, and all that it rests on
-/// is inlined in each.
+/// Makes the combination and gives what `finish` makes of it, or gives 9, 10 or 11. The helpers
+/// are inlined into both functions that call it.
 fn unify_with<T>(
     meets: &Bounds,
     a: &Graph,
@@ -69,7 +73,7 @@ fn unify_with<T>(
     }
 }
 
-/// The same with room for so many links.
+/// Does the same, with room for `ROOM` links.
 fn unify_within<const ROOM: usize, T>(
     meets: &Bounds,
     a: &Graph,
@@ -98,8 +102,8 @@ fn unify_within<const ROOM: usize, T>(
             rows.merge(lower, higher, &mut pending, &mut waiting);
         }
     }
-    // Each class gets a number, the root's the first, the meet of its types and the overlap of
-    // its ranges; each node has the number of its class, whose least node comes first.
+    // Each class gets a number, the meet of its types and the overlap of its ranges. The root's
+    // class has number 0. The least node of a class comes first and gives the class its number.
     let mut number = [0u16; NODES];
     let mut representative = [0u16; NODES];
     let mut types = [0u8; NODES];
@@ -161,7 +165,8 @@ fn unify_within<const ROOM: usize, T>(
     finish(&graph)
 }
 
-/// Whether some classes stay when those are taken away whose incoming links all are.
+/// Whether a class reaches itself. A class is removed once the classes of all its incoming links
+/// are removed. A class that reaches itself remains.
 #[inline(always)]
 fn has_cycle<const ROOM: usize>(
     rows: &Rows<ROOM>,

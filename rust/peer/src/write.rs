@@ -1,4 +1,4 @@
-//! Numbering by first visit, and writing.
+//! Numbers the nodes of a graph by first visit, and writes records.
 
 use crate::Refusal;
 use crate::graph::{Graph, HAS_RANGE, Link};
@@ -11,10 +11,10 @@ struct Numbering {
     count: usize,
 }
 
-/// A node without a number; numbers are at most 254.
+/// Marks a node without a number. It is no number, since numbers are at most 254.
 const NONE: u8 = u8::MAX;
 
-/// Depth first from the root, lowest feature first.
+/// Numbers the nodes that the root reaches, depth first, lowest feature first.
 fn number(graph: &Graph) -> Numbering {
     let mut numbering = Numbering {
         order: [0; 256],
@@ -22,7 +22,7 @@ fn number(graph: &Graph) -> Numbering {
         count: 1,
     };
     numbering.number[0] = 0;
-    // The places of the links that are left at the nodes on the way down.
+    // For each node on the path down, the places of its links that are still to be followed.
     let mut way = [(0u16, 0u16); 256];
     let mut depth = 0;
     let (mut place, mut end) = (graph.first[0], graph.first[1]);
@@ -48,7 +48,7 @@ fn number(graph: &Graph) -> Numbering {
     }
 }
 
-/// Writes the nodes that the root reaches, or 8.
+/// Writes the record of the nodes that the root reaches, or gives 8.
 pub fn write(graph: &Graph, output: &mut [u8]) -> Result<usize, Refusal> {
     let numbering = number(graph);
     let length = numbering.length(graph);
@@ -57,8 +57,8 @@ pub fn write(graph: &Graph, output: &mut [u8]) -> Result<usize, Refusal> {
     Ok(length)
 }
 
-/// The same, and in a second output the mark of each link, or 22; marks go by the places of the
-/// links.
+/// Writes the record, and in a second output the mark of each link, or gives 8 or 22. `marks` are
+/// in the order of the links in the graph.
 pub fn write_marked(
     graph: &Graph,
     marks: &[u8; 2048],
@@ -87,7 +87,7 @@ impl Numbering {
         order.map(|&node| usize::from(node))
     }
 
-    /// The bytes of the record.
+    /// The length of the record.
     fn length(&self, graph: &Graph) -> usize {
         let row_length = |node: usize| {
             9 + 2 * usize::from(graph.ranges[node] != Range::FULL) + graph.places(node).len()
@@ -96,7 +96,7 @@ impl Numbering {
     }
 }
 
-/// Fills bytes with the record, which is as long.
+/// Fills the output with the record. The output has the record's length.
 fn fill(graph: &Graph, numbering: &Numbering, output: &mut [u8]) {
     output[0] = numbering.count as u8;
     let mut rest = &mut output[1..];
@@ -122,7 +122,7 @@ fn fill(graph: &Graph, numbering: &Numbering, output: &mut [u8]) {
     }
 }
 
-/// Makes the same graph by its written numbers.
+/// Makes the same graph with its written numbers.
 pub fn renumber(graph: &Graph, written: &mut Graph) {
     let numbering = number(graph);
     written.nodes = numbering.count;

@@ -1,6 +1,6 @@
-//! The peer answers as the engine and the reference do, so that what is measured is the same
-//! work: the calls that take a table and records, on random and damaged input, over tables that
-//! hold types as sets and over others.
+//! The peer answers as the engine and the reference do, so that the benchmark measures the same
+//! work. These tests make the calls that take a table and records, on random and damaged input,
+//! over distributive tables, which hold types as sets, and over others.
 
 mod told;
 
@@ -15,10 +15,10 @@ use reference::random::{self, Numbering, Ranges, Shape, TableBytes, Xorshift};
 use reference::table::MOST_TYPES;
 use told::told;
 
-/// The call of the peer, in the form of the other two.
+/// A call of the peer, in the form of the calls of the engine and the reference.
 type Peer = fn(&TableBytes, &[&[u8]], &mut [&mut [u8]]) -> Told;
 
-/// The call of a name, by what it takes after the table and by its outputs.
+/// Makes a [`Peer`] from the name of a call, what the call takes after the table, and its outputs.
 macro_rules! peer {
     ($name:ident($($input:ident),*; $($output:ident),*), $tell:expr) => {
         |table, inputs, outputs| {
@@ -30,7 +30,7 @@ macro_rules! peer {
     };
 }
 
-/// The calls on two records.
+/// The calls on one or two records.
 const CALLS: [(Call, Peer); 6] = [
     (REWRITE, peer!(rewrite(record; output), Told::Length)),
     (
@@ -52,7 +52,7 @@ const CALLS: [(Call, Peer); 6] = [
     ),
 ];
 
-/// Those with a list of types before the records.
+/// The calls with a list of types for features before the records.
 const WITH_TYPES: [(Call, Peer); 3] = [
     (
         REWRITE_APPROPRIATE,
@@ -68,7 +68,7 @@ const WITH_TYPES: [(Call, Peer); 3] = [
     ),
 ];
 
-/// Those with a reading order before the records.
+/// The calls with a reading order before the records.
 const BY_ORDER: [(Call, Peer); 2] = [
     (
         DIFFERENCE_BY,
@@ -90,13 +90,13 @@ const STEP: (Call, Peer) = (NEXT, |table, inputs, outputs| {
     told(result, |length| length.map_or(Told::End, Told::Length))
 });
 
-/// How often each refusal came, and at 0 how often there was none.
+/// How often each refusal came. Place 0 counts the replies that are no refusal.
 #[derive(Default)]
 struct Counts([usize; 25]);
 
 impl Counts {
-    /// One call by all three, on outputs that are long enough or not: the same reply, and the
-    /// same bytes in the outputs.
+    /// Makes one call by all three, with outputs that are long enough or too short. The replies
+    /// and the bytes of the outputs have to be the same.
     fn check(
         &mut self,
         random: &mut Xorshift,
@@ -134,7 +134,7 @@ impl Counts {
         self.0[usize::from(number)] += 1;
     }
 
-    /// From the stored seeds, each of these came at least so often.
+    /// With the stored seeds, each of these replies came at least this often.
     fn assert_each(&self, numbers: &[usize], least: usize) {
         let enough = numbers.iter().all(|&number| self.0[number] >= least);
         assert!(enough || !random::is_stored(), "{:?}", self.0);
@@ -205,7 +205,7 @@ fn large_table(random: &mut Xorshift) -> TableBytes {
     }
 }
 
-/// Numbered along the order, against it and across it.
+/// Tables whose numbers follow the order, go against it, or follow neither direction.
 #[test]
 fn over_tables_of_many_types() {
     let random = &mut Xorshift::stored(43);
@@ -227,8 +227,8 @@ fn over_tables_of_many_types() {
     counts.assert_each(&[0, 8, 10, 12], 20);
 }
 
-/// Every order of up to six types with a least and a greatest one, numbered along its order:
-/// accepted or refused by 3.
+/// Every order of up to six types with a least and a greatest type, whose numbers follow the
+/// order, is accepted or refused by 3.
 #[test]
 fn over_every_small_order() {
     let random = &mut Xorshift::stored(44);
@@ -282,8 +282,8 @@ fn by_a_reading_order() {
     counts.assert_each(&[0, 1, 2, 3, 4, 5, 6, 7, 8, 12, 13, 19, 22], 3);
 }
 
-/// Whole lists over few types, and records that are read and not listed, are not read, or stand
-/// beside another number of features.
+/// Whole listings over few types. Also records that are accepted but not listed, records that are
+/// refused, and records with another number of features.
 #[test]
 fn through_a_listing() {
     let random = &mut Xorshift::stored(47);
@@ -320,7 +320,7 @@ fn through_a_listing() {
     counts.assert_each(&[0, 4, 5, 6, 7, 8, 23, 24], 20);
 }
 
-/// Steps among the records of 64 types, as the engine goes them.
+/// Steps through the listing over 64 types, compared with those of the engine.
 #[test]
 fn through_a_long_listing() {
     let table = random::boolean(6);

@@ -1,5 +1,5 @@
-//! The peer gathers as the engine and the reference do: the same replies and the same bytes on
-//! random calls in turn, and in bytes that hold no gathering.
+//! The peer keeps a gathering as the engine and the reference do. Random calls in turn give the
+//! same replies and the same bytes, also in bytes that hold no gathering.
 
 mod told;
 
@@ -9,18 +9,18 @@ use reference::gathering;
 use reference::random::{self, Ranges, Shape, TableBytes, Xorshift};
 use told::told;
 
-/// A call on a state, with an output.
+/// A call on a gathering, with an output.
 type Work<'a> = &'a dyn Fn(&mut [u8], &mut [u8]) -> Told;
 
-/// How often each refusal came, and at 0 how often there was none.
+/// How often each refusal came. Place 0 counts the replies that are no refusal.
 #[derive(Default)]
 struct Gatherings {
     counts: [usize; 25],
 }
 
 impl Gatherings {
-    /// One call by each of the three on the same bytes and output: the same reply, and the same
-    /// bytes after it.
+    /// Makes one call by each of the three on the same bytes and output. The replies, and the bytes
+    /// after the call, have to be the same.
     fn check(&mut self, state: &mut Vec<u8>, room: usize, [peer, engine, reference]: [Work; 3]) {
         let run = |work: Work| {
             let (mut state, mut output) = (state.clone(), vec![7; room]);

@@ -1,5 +1,5 @@
-//! The peer reads and fills planning tables as the engine and the reference do, whole and
-//! damaged ones, in outputs that are long enough or not.
+//! The peer imports and exports planning tables as the engine and the reference do. The planning
+//! tables are whole or damaged, and the outputs are long enough or too short.
 
 mod told;
 
@@ -10,7 +10,7 @@ use reference::random::{self, Ranges, Shape, TableBytes, Xorshift};
 use reference::rows::{self, PlanningTable};
 use told::told;
 
-/// One import by all three. Gives the number of the refusal, 0 for a length.
+/// Makes one import by all three. Gives the number of the refusal, or 0 for a length.
 fn check_import(table: &TableBytes, planned: &PlanningTable, room: usize) -> usize {
     let (n, bytes) = (table.n, &table.bytes[..]);
     let run = |work: &dyn Fn(&mut [u8]) -> Told| {
@@ -37,7 +37,7 @@ fn check_import(table: &TableBytes, planned: &PlanningTable, room: usize) -> usi
     number(by_peer.0)
 }
 
-/// One export by all three, into so many rows and bytes.
+/// Makes one export by all three, into the given numbers of rows and bytes.
 fn check_export(table: &TableBytes, record: &[u8], rooms: [usize; 2]) -> usize {
     let (n, bytes) = (table.n, &table.bytes[..]);
     let [rows, nodes] = rooms;
@@ -87,7 +87,7 @@ fn engine_row((parent, feature, target): (u8, u8, u8)) -> record_engine::Row {
     }
 }
 
-/// The number of a refusal, 0 for no refusal.
+/// The number of a refusal, or 0 for no refusal.
 fn number(told: Told) -> usize {
     match told {
         Told::Refused(number, _) => usize::from(number),

@@ -1,5 +1,5 @@
-//! The peer keeps a store as the engine and the reference do: the same replies and the same
-//! bytes on random calls, in buffers that hold a state and in damaged ones.
+//! The peer keeps a store as the engine and the reference do. Random calls give the same replies
+//! and the same bytes, in buffers that hold a store and in damaged buffers.
 
 mod told;
 
@@ -9,8 +9,8 @@ use reference::record;
 use reference::store::{self, EMPTY, LONGEST_STORE};
 use told::told;
 
-/// One call by all three: the same reply, and the same bytes in the store and the output.
-/// Gives the number of the refusal, 0 for a length.
+/// Makes one call by all three. The replies, and the bytes of the store and the output, have to be
+/// the same. Gives the number of the refusal, or 0 for a length.
 fn check(table: &TableBytes, stored: &mut Vec<u8>, call: &StoreCall) -> usize {
     let (n, bytes) = (table.n, &table.bytes[..]);
     let room = match call {
@@ -95,7 +95,7 @@ fn the_peer_keeps_a_store_as_the_reference() {
     }
 }
 
-/// Common parts that are too large on the way, and a drop that is refused for one.
+/// Some common parts on the way are too large, and one of them makes a drop refused.
 #[test]
 fn large_common_parts() {
     let table = random::diamond();

@@ -1,7 +1,7 @@
-//! Appropriateness: which features belong to which types (Paper 9). A list of 64
-//! bytes gives for each feature the broadest type that may have it; a node may have
-//! the feature when its type is below or equal to that one. So 0 forbids a feature,
-//! since no node has type 0, and top allows it everywhere.
+//! The list of types for features (Paper 9), also called an appropriateness list. The 64
+//! bytes give for each feature the broadest type that may have it: a node may have the
+//! feature when its type is below or equal to that type. So 0 forbids a feature, since no
+//! node has type 0, and top allows it to all nodes.
 
 use crate::graph::{FEATURES, Feature, Graph};
 use crate::table::{Table, Type};
@@ -14,7 +14,7 @@ pub struct Appropriateness {
 }
 
 impl Appropriateness {
-    /// Reads a list; nothing, which is refusal 17, where it is not of 64 bytes or an
+    /// Reads a list. Gives none, which is refusal 17, if the list has not 64 bytes or an
     /// entry is n or more.
     pub fn accept(table: &Table, bytes: &[u8]) -> Option<Appropriateness> {
         let broadest: [Type; FEATURES] = bytes.try_into().ok()?;

@@ -1,12 +1,13 @@
 //! The calls on bytes: rewriting, order, common part, combination, difference, and the
-//! difference with its reasons (Paper 13); the first, third and fourth also with a list
-//! of types for features (Paper 9), the differences also with a list of all features
-//! (Paper 10); a step through all small graphs (Paper 14); import and export of the
-//! planning tool's rows (Paper 2); and whether a table is accepted. Checks run in the
-//! papers' order: the table (1, 2, 3), the list (17, 19), the first graph and then the
-//! second (4 to 7, with 14 and 15 behind 4 for rows, and 18 by the list of types), then 12,
-//! 13, 9, 10, 11, 23, 24, 8 and 22. An output changes only where a length or counts are
-//! returned, and then only in its first places.
+//! difference with its reasons (Paper 13). Rewriting, common part and combination also come
+//! with a list of types for features (Paper 9), and the differences also with a reading order
+//! (Paper 10). Further calls are a step through all small graphs (Paper 14), import and export
+//! of planning tables (Paper 2), and the check of a table.
+//!
+//! Checks run in the papers' order: the table (1, 2, 3); the list (17, 19); the first graph
+//! and then the second (4 to 7, with 14 and 15 after 4 for rows, and 18 with a list of types);
+//! then 12, 13, 9, 10, 11, 23, 24, 8 and 22. An output changes only if a call returns a length
+//! or counts, and then only in its first places.
 
 use crate::appropriateness::Appropriateness;
 use crate::canonical::canonical;
@@ -25,11 +26,11 @@ use crate::unify;
 /// A call that takes a table and two graphs and writes a record.
 pub type Call = fn(usize, &[u8], &[u8], &[u8], &mut [u8]) -> Reply;
 
-/// The same with a list behind the table.
+/// A call that takes a table, a list and two graphs and writes a record.
 pub type CallWithList = fn(usize, &[u8], &[u8], &[u8], &[u8], &mut [u8]) -> Reply;
 
-/// Makes a call with an output as long as the longest record, and gives the
-/// record it writes there.
+/// Makes a call with an output as long as the longest record, and gives the record that
+/// the call writes.
 pub fn written(
     call: Call,
     n: usize,
@@ -40,7 +41,7 @@ pub fn written(
     written_by(|output| call(n, table, first, second, output))
 }
 
-/// The same for any call that writes a record into the output it is lent.
+/// Makes any call that writes a record into its output, and gives the record.
 pub fn written_by(call: impl FnOnce(&mut [u8]) -> Reply) -> Result<Vec<u8>, Refusal> {
     let mut output = vec![0; LONGEST_RECORD];
     match call(&mut output) {
@@ -53,7 +54,8 @@ pub fn written_by(call: impl FnOnce(&mut [u8]) -> Reply) -> Result<Vec<u8>, Refu
     }
 }
 
-/// Whether a table is accepted: 0, since nothing is written, or 1 to 3.
+/// Whether a table is accepted. The length is 0, since nothing is written; or the table is
+/// refused by 1 to 3.
 pub fn check_table(n: usize, table: &[u8]) -> Reply {
     reply(accept_table(n, table).map(|_| Reply::Length(0)))
 }
@@ -145,7 +147,7 @@ pub fn difference_explained(
     reply(result)
 }
 
-/// The difference whose least links go by a list of all features.
+/// The difference that keeps the least links by a reading order.
 pub fn difference_by(
     n: usize,
     table: &[u8],
@@ -159,7 +161,7 @@ pub fn difference_by(
     reply(result)
 }
 
-/// The same with its reasons.
+/// The difference that keeps the least links by a reading order, with its reasons.
 pub fn difference_explained_by(
     n: usize,
     table: &[u8],

@@ -1,12 +1,12 @@
-//! The canonical form, document 01's written form: nodes numbered by first
-//! visit from the root, depth first, lowest feature first. Two graphs mean the
-//! same exactly when their canonical forms are equal.
+//! The canonical form, which is document 01's written form: nodes are numbered by first
+//! visit from the root, depth first, lowest feature first. Two graphs mean the same
+//! exactly when their canonical forms are equal.
 
 use crate::graph::{Graph, Node, ROOT};
 use std::collections::BTreeMap;
 
-/// The same graph with its nodes numbered as written. Nodes that the root does
-/// not reach are not visited and so are left out.
+/// The same graph with its nodes numbered as in the written record. Nodes that the root
+/// does not reach are left out, for they are not visited.
 pub fn canonical(graph: &Graph) -> Graph {
     let visits = Visits::of(graph);
     let renumbered = |old: &usize| {
@@ -25,8 +25,8 @@ pub fn canonical(graph: &Graph) -> Graph {
     }
 }
 
-/// The nodes that the root reaches by first visit: a node's place is its number as
-/// written.
+/// The nodes that the root reaches, in the order of first visit. The place of a node is
+/// its number in the written record.
 pub fn first_visits(graph: &Graph) -> Vec<usize> {
     Visits::of(graph).order
 }

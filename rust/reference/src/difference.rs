@@ -1,9 +1,9 @@
-//! The difference of two graphs, for s below g: the most general graph that
-//! combined with g gives back s. It is a part of s with wanted types and ranges.
-//! Document 01's rules are followed word for word: groups of incoming links,
-//! wanted labels, kept links. Refusals 12, then 13 where a node of s, kept or
-//! not, has no wanted type (Paper 6). Each kept link has a reason (Paper 13). Which
-//! link of a group is the least may be decided by a list of features (Paper 10).
+//! The difference of two graphs g and s, for s below g: the most general graph whose
+//! combination with g is s. It is a part of s with wanted types and ranges. The code
+//! follows document 01's rules word for word: groups of incoming links, wanted labels,
+//! kept links. It refuses by 12, then by 13 if a node of s, kept or not, has no wanted
+//! type (Paper 6). Each kept link has a reason (Paper 13). A reading order may decide
+//! which link of a group is the least (Paper 10).
 
 use crate::canonical::{canonical, first_visits};
 use crate::graph::{Graph, Link, Node, ROOT};
@@ -93,7 +93,7 @@ pub fn difference_by(
     let part = Graph {
         nodes: nodes.collect(),
     };
-    // The difference numbers its nodes in its own way: s may number them otherwise.
+    // The difference numbers its nodes by its own visits: s may have other numbers.
     let reasons = first_visits(&part).into_iter().flat_map(|parent| {
         let features = part.nodes[parent].links.keys();
         features.map(move |&feature| Link { parent, feature })
@@ -173,7 +173,7 @@ impl<'a> Overlay<'a> {
         groups
     }
 
-    /// Why a link is kept, where the node it enters has so many groups.
+    /// Why a link is kept, given the number of groups of the node that it enters.
     fn reason(&self, link: Link, groups: usize) -> Reason {
         if !self.covered.contains(&link) {
             Reason::Bare

@@ -1,16 +1,17 @@
 //! Gathering while the session is open (Paper 4): programs are added one after another, and
-//! their common part is kept by folding. The state is bytes: n (1 byte), the table (8 × n
-//! bytes), the length of the common part so far (2 bytes, low byte first, 0 before the first
-//! addition), its record, and room for the longest record. Bytes that hold no gathering are
-//! taken as those parts as far as they go, and refused by what is wrong with a part: the
-//! table, then the program as the first graph and what was gathered as the second.
+//! the gathering keeps their common part by folding. Its bytes are n (1 byte), the table
+//! (8 × n bytes), the length of the common part so far (2 bytes, low byte first, 0 before the
+//! first addition), the record of the common part, and room for the longest record. Bytes that
+//! hold no gathering are split into these parts as far as they go. A fault in a part is then
+//! refused: first in the table, then in the program, as the first graph, then in the common
+//! part, as the second.
 
 use crate::calls::{self, written_by};
 use crate::record::LONGEST_RECORD;
 use crate::reply::{Refusal, Reply, Side};
 use crate::table::Table;
 
-/// So many bytes are enough for a gathering over every table.
+/// This many bytes are enough for a gathering over every table.
 pub const LONGEST_GATHERING: usize = bytes_for(64);
 
 /// The bytes of a gathering over n types: "a gathering can hold the longest record".
@@ -18,8 +19,8 @@ pub const fn bytes_for(n: usize) -> usize {
     1 + 8 * n + 2 + LONGEST_RECORD
 }
 
-/// What the accepted ones among some programs give, "folded in their order": their common
-/// part, and how many they are; nothing before the first.
+/// The common part of the accepted programs among some programs, "folded in their order", and
+/// the number of accepted programs. Without an accepted program there is no common part.
 pub fn folded(n: usize, table: &[u8], programs: &[Vec<u8>]) -> (Option<Vec<u8>>, usize) {
     let mut so_far = None;
     let mut count = 0;
@@ -32,8 +33,8 @@ pub fn folded(n: usize, table: &[u8], programs: &[Vec<u8>]) -> (Option<Vec<u8>>,
     (so_far, count)
 }
 
-/// The common part of what was gathered and one program more: of the first program alone
-/// its own record in written form.
+/// The common part of what was gathered and one more program. For the first program it is the
+/// program's own written record.
 fn joined(
     n: usize,
     table: &[u8],
@@ -47,7 +48,7 @@ fn joined(
 }
 
 /// "A gathering is begun with one accepted table and keeps it." Tells how many bytes are
-/// used; 8 where the longest record would have no room.
+/// used. Refuses by 8 if the longest record would have no room.
 pub fn begin(n: usize, table: &[u8], gathering: &mut [u8]) -> Reply {
     if let Err(fault) = Table::accept(n, table) {
         return Reply::Refused(Refusal::Table(fault));
@@ -108,12 +109,12 @@ pub fn finish(gathering: &[u8], output: &mut [u8]) -> Reply {
     }
 }
 
-/// The parts of a state. A part that the bytes end in is as long as they go, and a byte
-/// of the length that is missing is 0.
+/// The parts of a gathering. If the bytes end in a part, the part ends there too. A missing
+/// byte of the length counts as 0.
 struct Parts<'a> {
     n: usize,
     table: &'a [u8],
-    /// The common part so far; nothing where its length is 0.
+    /// The common part so far; none if its length is 0.
     gathered: Option<&'a [u8]>,
     /// All that stands behind the length.
     room: &'a [u8],
@@ -138,7 +139,7 @@ impl Parts<'_> {
     }
 }
 
-/// The first bytes, so many or as many as there are, and the others.
+/// The first `count` bytes, or all if there are fewer, and the other bytes.
 fn split(bytes: &[u8], count: usize) -> (&[u8], &[u8]) {
     bytes.split_at(count.min(bytes.len()))
 }

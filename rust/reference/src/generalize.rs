@@ -1,13 +1,13 @@
 //! The common part of two graphs: generalization, the join in the lattice of
 //! graphs. Its paths are those in both graphs, each with the join of its two
 //! types and the smallest range holding both, and two paths share exactly when
-//! they share in both. A path whose node is top and unshared stays in.
+//! they share in both. A path whose node is top and unshared is kept too.
 
 use crate::graph::{Graph, Node, ROOT};
 use crate::table::Table;
 use std::collections::BTreeMap;
 
-/// The common part, of any size; a node for each pair of nodes that one path leads to.
+/// The common part, of any size. It has a node for each pair of nodes that one path leads to.
 ///
 /// A path in both graphs leads to a pair of nodes, one of each. Two paths share
 /// in both exactly when they lead to the same pair, so the pairs are the classes

@@ -1,7 +1,8 @@
-//! Graphs in memory: nodes with a label and links, node 0 the root. Nothing here
-//! bounds the number of nodes or links, so these are also document 01's graphs
-//! of any size. Helpers: incoming links, the nodes the root reaches, and an
-//! order of the nodes with all targets first, which exists when none loops.
+//! Graphs in memory. A node has a label and links, and node 0 is the root. Nothing here
+//! bounds the number of nodes or links, so these are also document 01's graphs of any
+//! size. Helpers give the incoming links, the nodes that the root reaches, and an order of
+//! the nodes in which each node stands after its targets. That order exists exactly when
+//! no node reaches itself.
 
 use crate::label::Label;
 use std::collections::{BTreeMap, BTreeSet};
@@ -9,13 +10,13 @@ use std::collections::{BTreeMap, BTreeSet};
 /// A feature, 0 to 63.
 pub type Feature = u8;
 
-/// There are so many features.
+/// The number of features.
 pub const FEATURES: usize = 64;
 
 /// The number of the root.
 pub const ROOT: usize = 0;
 
-/// A node: its label, and for each feature it has the target.
+/// A node: its label, and the target of each of its features.
 #[derive(Clone, Debug, PartialEq, Eq, PartialOrd, Ord)]
 pub struct Node {
     /// The type of the node and its range.
@@ -75,7 +76,7 @@ impl Graph {
         incoming
     }
 
-    /// The nodes the root reaches, itself among them.
+    /// The nodes that the root reaches, with the root itself.
     pub fn reached(&self) -> BTreeSet<usize> {
         let mut reached = BTreeSet::new();
         let mut waiting = vec![ROOT];
@@ -87,12 +88,12 @@ impl Graph {
         reached
     }
 
-    /// All nodes, each after all its targets; none when some node reaches itself.
+    /// All nodes, each after all its targets; no list if some node reaches itself.
     ///
-    /// A node is listed once all its targets are. A node that reaches itself waits
-    /// for itself and is never listed; and if some nodes are never listed, each of
-    /// them has a target among them, so going on from target to target meets one
-    /// of them twice. So the list is whole exactly when no node reaches itself.
+    /// A node is listed as soon as all its targets are listed. A node that reaches itself
+    /// waits for itself and is never listed. If some nodes are never listed, each of them
+    /// has a target among them, so a walk from target to target meets one of them twice.
+    /// So all nodes are listed exactly when no node reaches itself.
     pub fn bottom_up(&self) -> Option<Vec<usize>> {
         let incoming = self.incoming();
         let mut unlisted_targets: Vec<usize> =

@@ -1,5 +1,6 @@
-//! The house types (Paper 8): 64 types of three grades, 0 to 3, numbered 16 × first
-//! + 4 × second + third. One is below another when each grade is at most the other's.
+//! The house types (Paper 8): 64 types with three grades of 0 to 3. The number of a type is
+//! 16 × first + 4 × second + third. A type is below another when each of its grades is at
+//! most the other's.
 
 use crate::random::TableBytes;
 use crate::table::MOST_TYPES;
@@ -20,7 +21,7 @@ pub fn lesser(a: usize, b: usize) -> usize {
     16 * x + 4 * y + z
 }
 
-/// The table of the order.
+/// The type table of the house types.
 pub fn table() -> TableBytes {
     TableBytes::of_relation(MOST_TYPES, is_below)
 }

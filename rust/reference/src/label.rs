@@ -1,15 +1,14 @@
-//! What a node says: its type and its range of levels (Paper 7). Labels are
-//! ordered by both, so below, join, meet and the wanted label go part by part.
-//! A label of type 0 or without a level is a contradiction, and so is every
-//! label below one.
+//! A label is what a node says: its type and its range of levels (Paper 7). The order, the
+//! join, the meet and the wanted label work on type and range separately. A label of type 0
+//! or without a level is a contradiction, and so is every label below one.
 
 use crate::table::{CONTRADICTION, Table, Type};
 
 /// A level, 0 to 255.
 pub type Level = u8;
 
-/// The levels from the lowest to the highest, both among them. Where the lowest is
-/// above the highest there is none.
+/// The levels from the lowest to the highest, both included. If the lowest is above the
+/// highest, the range has no level.
 #[derive(Clone, Copy, Debug, PartialEq, Eq, PartialOrd, Ord)]
 pub struct Range {
     /// The lowest level.
@@ -30,12 +29,12 @@ impl Range {
         self.lowest > self.highest
     }
 
-    /// Whether the range lies inside another; neither is empty.
+    /// Whether the range lies inside another. Neither range is empty.
     pub fn is_inside(self, outer: Range) -> bool {
         outer.lowest <= self.lowest && self.highest <= outer.highest
     }
 
-    /// The smallest range holding both; neither is empty.
+    /// The smallest range that holds both ranges. Neither range is empty.
     pub fn hull(self, other: Range) -> Range {
         Range {
             lowest: self.lowest.min(other.lowest),
@@ -51,9 +50,9 @@ impl Range {
         }
     }
 
-    /// The wanted range: the widest whose overlap with `over` equals `p`, which
-    /// lies inside `over` and is not empty. An end that `over` has too need not be
-    /// said again; any other can come from nowhere else.
+    /// The wanted range: the widest range whose overlap with `over` is `p`. The range `p`
+    /// lies inside `over` and is not empty. At an end that `p` and `over` have in common, the
+    /// wanted range has the end of the full range. At any other end it has the end of `p`.
     pub fn wanted(over: Range, p: Range) -> Range {
         let lowest = match p.lowest == over.lowest {
             true => Range::FULL.lowest,

@@ -1,8 +1,8 @@
 //! A plain reference for typed map graphs (typed feature structures) and their
-//! algebra: subsumption, generalization, unification and difference, on bytes.
-//! Written from document 01 and the change requests alone, sentence by sentence,
-//! for reading first and for speed second; it is meant to judge other engines on
-//! many inputs.
+//! operations: order (subsumption), common part (generalization), combination
+//! (unification) and difference, on bytes. It is written from document 01 and the change
+//! requests alone, sentence by sentence. It is written to be read first and to be fast
+//! second. Tests compare the proved engine with it on many inputs.
 
 #![forbid(unsafe_code)]
 #![warn(missing_docs)]

@@ -1,5 +1,6 @@
-//! The order of links, by which a difference keeps the least of each group: document
-//! 01's, or that of a list of all features, in which a clinic reads them (Paper 10).
+//! The order of links, by which a difference keeps the least link of each group. It is
+//! document 01's order, or the order by a reading order, which is a list of all features in
+//! the order in which a clinic reads them (Paper 10).
 
 use crate::graph::{FEATURES, Feature, Link};
 use std::collections::BTreeSet;
@@ -15,8 +16,8 @@ pub enum LinkOrder {
 }
 
 impl LinkOrder {
-    /// The order by a list; nothing, which is refusal 19, where it is anything else than
-    /// "a list of all 64 features, each once".
+    /// The order by a list. Gives none, which is refusal 19, if the list is not "a list of all
+    /// 64 features, each once".
     pub fn by_list(list: &[u8]) -> Option<LinkOrder> {
         let list: [Feature; FEATURES] = list.try_into().ok()?;
         let mut places = [None; FEATURES];
@@ -31,7 +32,7 @@ impl LinkOrder {
         Some(LinkOrder::ByList(places))
     }
 
-    /// The least of some links; parents go by the numbers that they have there.
+    /// The least of some links, by the parents' numbers in the links.
     pub fn least(&self, links: &BTreeSet<Link>) -> Option<Link> {
         match self {
             LinkOrder::ByParent => links.first().copied(),

@@ -1,6 +1,6 @@
-//! All small graphs in order (Paper 14), by making them all: "over a table, a number of
-//! features F of 1 or 2, and at most 3 nodes, list all written records without ranges that
-//! use features below F, in the order of their bytes".
+//! All small graphs in order (Paper 14): "over a table, a number of features F of 1 or 2, and
+//! at most 3 nodes, list all written records without ranges that use features below F, in the
+//! order of their bytes". The code makes all of them and sorts them.
 
 use crate::canonical::canonical;
 use crate::graph::{Feature, Graph, Node};
@@ -14,8 +14,8 @@ const MOST_LISTED: usize = 3;
 /// "F of 1 or 2".
 const MOST_FEATURES: usize = 2;
 
-/// The list for each number of types and of features; which type is below which does not
-/// matter to it. Each is made once.
+/// The list for each number of types and of features. It does not depend on the order of the
+/// types. Each list is made once.
 static LISTINGS: [[OnceLock<Listing>; MOST_FEATURES]; MOST_TYPES + 1] =
     [const { [const { OnceLock::new() }; MOST_FEATURES] }; MOST_TYPES + 1];
 
@@ -25,7 +25,7 @@ pub struct Listing {
 }
 
 impl Listing {
-    /// The list over a table and a number of features; none for any number but 1 and 2.
+    /// The list over a table and a number of features; none if the number is not 1 or 2.
     pub fn of(table: &Table, features: usize) -> Option<&'static Listing> {
         let by_features = &LISTINGS[table.n()];
         let listing = by_features.get(features.checked_sub(1)?)?;
@@ -61,7 +61,7 @@ impl Listing {
         found.is_ok()
     }
 
-    /// The least listed record after the bytes; no bytes come before all.
+    /// The first listed record after the given bytes. No bytes come before all records.
     pub fn after(&self, bytes: &[u8]) -> Option<&[u8]> {
         let place = self.records.partition_point(|record| **record <= *bytes);
         self.records.get(place).map(|record| &**record)
@@ -71,8 +71,9 @@ impl Listing {
 /// For each node and feature the target, if there is a link.
 type Links = Vec<Option<usize>>;
 
-/// The links of the graphs of so many nodes that are their own written form: none loops,
-/// all nodes are reached, and they are numbered by first visit. Types have no part in it.
+/// The links of all graphs with this number of nodes that are in written form: no node reaches
+/// itself, the root reaches all nodes, and nodes are numbered by first visit. Types do not
+/// matter here.
 fn written_links(count: usize, features: usize) -> Vec<Links> {
     let mut targets: Vec<Option<usize>> = (0..count).map(Some).collect();
     targets.push(None);
@@ -98,7 +99,7 @@ fn graph(types: &[Type], links: &[Option<usize>]) -> Graph {
     }
 }
 
-/// Every way to choose one of the options for each of so many places.
+/// Every way to choose one of the options for each of the places.
 fn all_choices<T: Copy>(options: &[T], places: usize) -> Vec<Vec<T>> {
     (0..places).fold(vec![Vec::new()], |begun, _| {
         let longer = begun.iter().flat_map(|chosen| {

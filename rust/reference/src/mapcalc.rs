@@ -1,6 +1,6 @@
-//! The small program `mapcalc` as a function: the bytes of standard input to
-//! the line it prints, without the line end. Input that does not have the form
-//! of document 01 is `bad input`, found before any other check.
+//! The small program `mapcalc` as a function. It takes the bytes of standard input and gives
+//! the line that the program prints, without the line end. Input that does not have the form
+//! of document 01 is `bad input`. This is checked before anything else.
 
 use crate::calls;
 use crate::reader::Reader;
@@ -95,7 +95,7 @@ pub fn line(input: &[u8]) -> String {
     }
 }
 
-/// The parts of the input; nothing if it is bad.
+/// The parts of the input; none if the input is bad.
 fn parse(input: &[u8]) -> Option<Input<'_>> {
     let mut reader = Reader::new(input);
     let operation = Operation::of_byte(reader.byte()?)?;
@@ -128,8 +128,8 @@ fn hexadecimal(bytes: &[u8]) -> String {
     bytes.iter().map(|byte| format!("{byte:02x}")).collect()
 }
 
-/// The input bytes that ask for an operation on a table and two records, with the
-/// parts as they are: nothing is checked, and the length of a record is cut to 16 bits.
+/// The input bytes that ask for an operation on a table and two records. The parts are not
+/// checked, and the length of a record is cut to 16 bits.
 pub fn input(operation: u8, n: u8, table: &[u8], first: &[u8], second: &[u8]) -> Vec<u8> {
     let mut input = vec![operation, n];
     input.extend(table);

@@ -1,15 +1,14 @@
-//! Document 01's notation for graphs, `type[feature: value]` with equal
-//! capitals sharing, read into a graph; behind a type `{lowest..highest}` is its
-//! range. And hexadecimal digits read into bytes. For tests: text that has not
-//! this form stops the program.
+//! Reads document 01's notation for graphs, `type[feature: value]`, in which equal capitals
+//! are one node. A range `{lowest..highest}` may follow a type. Also reads hexadecimal digits
+//! into bytes. The functions are for tests: they panic if the text does not have this form.
 
 use crate::graph::{Feature, Graph, Node};
 use crate::label::{Label, Range};
 use crate::table::Type;
 use std::collections::BTreeMap;
 
-/// The graph of a text such as `top[0: X a{10..200}, 1: X]`. The types are `a` (1),
-/// `b` (2), `top` (the one given) or a number; without a range it is the full one.
+/// The graph of a text such as `top[0: X a{10..200}, 1: X]`. The types are `a` (1), `b` (2),
+/// `top` (the given type) or a number. A type without a range has the full range.
 pub fn graph(top: Type, text: &str) -> Graph {
     let mut parser = Parser {
         top,

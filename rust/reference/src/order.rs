@@ -1,16 +1,16 @@
 //! The order of graphs: subsumption. Graph g subsumes s, or s is below g, when
 //! every path of g is a path of s, with a type in s below or equal to its type
 //! in g and a range inside that in g, and paths that share (corefer) in g share
-//! in s. The answer carries the map of the nodes of g into those of s, which the
-//! difference needs.
+//! in s. The result has the map from the nodes of g to those of s, which the difference
+//! needs.
 
 use crate::graph::{Graph, ROOT};
 use crate::table::Table;
 use std::collections::BTreeMap;
 
-/// The map that shows one graph below another: each node of the upper graph and the one
-/// node of the lower graph that all its paths lead to. The node of the upper
-/// graph lies over the node of the lower one.
+/// The map that shows that one graph is below another. It maps each node of the upper graph
+/// to the one node of the lower graph to which the same paths lead. The node of the upper
+/// graph lies over that node of the lower graph.
 #[derive(Clone, Debug, PartialEq, Eq)]
 pub struct Morphism {
     /// The node of the lower graph, for each node of the upper graph.
@@ -35,8 +35,8 @@ impl Order {
     /// All four.
     pub const ALL: [Order; 4] = [Order::Same, Order::Under, Order::Above, Order::Neither];
 
-    /// The answer where it is known whether the first is below the second, and
-    /// whether the second is below the first.
+    /// The answer, given whether the first is below the second and whether the second is
+    /// below the first.
     pub fn of(below: bool, above: bool) -> Order {
         match (below, above) {
             (true, true) => Order::Same,

@@ -1,7 +1,7 @@
-//! Document 01's sentences over paths, taken literally: a graph as its set of
-//! paths, their types and ranges, and which of them share (corefer). The number
-//! of paths may be exponential, so this is for small graphs; the other modules
-//! must agree with it there.
+//! Document 01's sentences over paths, taken literally. A graph is its set of paths, their
+//! types and ranges, and which paths share (corefer). The number of paths may be
+//! exponential, so this module is for small graphs. Tests compare the other modules with it
+//! there.
 
 use crate::canonical::canonical;
 use crate::graph::{Feature, Graph, Node, ROOT};
@@ -137,9 +137,9 @@ pub fn generalize(table: &Table, first: &PathGraph, second: &PathGraph) -> PathG
 /// The combination: "sharing is the smallest equivalence that holds both graphs'
 /// sharing and passes down equal features; a class has the meet of all types in
 /// it", and the overlap of all ranges. The classes grow until nothing more is passed
-/// down or a class is seen to hold a path and a longer path that begins with it: then
-/// it reaches itself. Without a loop a path is no longer than there are classes, so
-/// this ends.
+/// down, or until a class holds a path and a longer path that begins with it. Such a
+/// class reaches itself. If no class reaches itself, no path is longer than the number of
+/// classes, so the loop ends.
 pub fn unify(table: &Table, first: &PathGraph, second: &PathGraph) -> Result<PathGraph, Refusal> {
     let mut classes = equivalence(first.classes.union(&second.classes).cloned());
     loop {

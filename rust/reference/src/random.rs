@@ -1,8 +1,8 @@
-//! A deterministic generator of inputs: type tables, graphs, records, pairs of
-//! graphs that are related, lists of types for features and of all features, planning
-//! tables, stores, whole `mapcalc` inputs, valid and damaged, with level ranges and without. The
-//! same seed gives the same inputs on every machine. Nothing here uses the operations on
-//! graphs: a graph above another is made by steps that plainly weaken it.
+//! A deterministic generator of inputs: type tables, graphs, records, pairs of related graphs,
+//! lists of types for features, reading orders, planning tables, stores, and whole `mapcalc`
+//! inputs. Inputs are valid or damaged, and have ranges or none. The same seed gives the same
+//! inputs on every machine. Nothing here uses the operations on graphs: a graph above another
+//! is made by steps that clearly make it more general.
 
 mod graphs;
 mod inputs;
@@ -25,7 +25,7 @@ use std::env;
 /// The environment variable that moves the stored seeds of the tests.
 const MOVED: &str = "RANDOM_SEED";
 
-/// What the stored seeds are moved by.
+/// The number by which the stored seeds are moved.
 fn moved() -> u32 {
     env::var(MOVED).map_or(0, |text| match text.parse() {
         Ok(number) => number,
@@ -33,8 +33,8 @@ fn moved() -> u32 {
     })
 }
 
-/// Whether tests go by their stored seeds, which are known to bring up all that a test
-/// is about; a moved seed need not.
+/// Whether tests use their stored seeds. With its stored seed, each test meets all cases that
+/// it is about. With a moved seed it may miss some.
 pub fn is_stored() -> bool {
     moved() == 0
 }
@@ -62,14 +62,14 @@ impl Xorshift {
         generator
     }
 
-    /// A test's generator, from the seed that is stored with the test. A number in the
-    /// environment variable `RANDOM_SEED` moves it to other inputs; 0 is as without
-    /// one. Prints how to come to the same inputs again, which is shown where the test
+    /// The generator of a test, from the seed that is stored with the test. A number in the
+    /// environment variable `RANDOM_SEED` moves the seed, so that the inputs are others; 0
+    /// does not move it. Prints how to get the same inputs again, which is shown if the test
     /// fails.
     pub fn stored(seed: u64) -> Xorshift {
         let moved = moved();
         println!("stored seed {seed}; the same inputs again by {MOVED}={moved}");
-        // Stored seeds are small: moved ones are none of them.
+        // Stored seeds are small, so a moved seed is never a stored one.
         Xorshift::new(seed.wrapping_add(u64::from(moved) << 32))
     }
 
@@ -86,7 +86,7 @@ impl Xorshift {
         ((self.word() >> 16) % bound as u64) as usize
     }
 
-    /// A number from `least` to `most`, both among them.
+    /// A number from `least` to `most`, both included.
     pub fn between(&mut self, least: usize, most: usize) -> usize {
         least + self.pick(most - least + 1)
     }

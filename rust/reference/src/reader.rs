@@ -1,5 +1,5 @@
-//! A reader over bytes: it keeps the bytes and the place of the next one
-//! together, and gives nothing where the bytes end early.
+//! A reader over bytes. It keeps the bytes and the place of the next byte together, and
+//! gives none if the bytes end early.
 
 /// Bytes and the place of the next one.
 #[derive(Clone, Copy, Debug)]

@@ -1,7 +1,7 @@
-//! Graph records: bytes to a graph with refusals 4 to 7, and a graph to bytes.
-//! The four refusals are looked for in that order, each over the whole record
-//! before the next. Writing keeps the numbering of the graph it is given and no
-//! full range; the written form of document 01 is that of `canonical`.
+//! Records: reads bytes into a graph, with refusals 4 to 7, and writes a graph to bytes.
+//! The four checks are made in this order, each on the whole record before the next one.
+//! Writing keeps the numbering of the graph and spells out no full range. To write document
+//! 01's written form, write the graph that `canonical` gives.
 
 use crate::graph::{Feature, Graph, Node};
 use crate::label::{Label, Range};
@@ -18,7 +18,8 @@ pub const MOST_LINKS: usize = 2048;
 /// The longest record: the count, 255 nodes of 11 bytes, 2,048 targets.
 pub const LONGEST_RECORD: usize = 1 + 11 * MOST_NODES + MOST_LINKS;
 
-/// Whether a graph has no more nodes and links than a record; else it is 11 as a result.
+/// Whether a graph has no more nodes and links than a record can have. A result that has more
+/// is refused by 11.
 pub fn can_hold(graph: &Graph) -> bool {
     graph.nodes.len() <= MOST_NODES && graph.link_count() <= MOST_LINKS
 }
@@ -39,7 +40,7 @@ pub enum GraphFault {
     Cyclic,
     /// 7: a node the root does not reach.
     Unreached,
-    /// 18: a link that the list of a call forbids; reading finds the others alone.
+    /// 18: a link that the list of types for features forbids. Reading a record never gives it.
     Inappropriate,
 }
 
@@ -67,7 +68,7 @@ pub fn read(table: &Table, record: &[u8]) -> Result<Graph, GraphFault> {
     judged(table, graph)
 }
 
-/// A graph that none of 5, 6 and 7 applies to.
+/// The graph of the nodes, if it is not refused by 5, 6 or 7.
 pub(crate) fn judged(table: &Table, graph: Graph) -> Result<Graph, GraphFault> {
     let label_stands = |node: &Node| {
         !node.label.is_contradiction() && usize::from(node.label.node_type) < table.n()
@@ -93,7 +94,7 @@ pub(crate) fn judged(table: &Table, graph: Graph) -> Result<Graph, GraphFault> {
     Ok(graph)
 }
 
-/// The nodes as the bytes give them; nothing if N is 0 or the length does not fit.
+/// The nodes as the bytes give them; none if N is 0 or the length does not fit.
 fn parse(record: &[u8]) -> Option<Graph> {
     let mut reader = Reader::new(record);
     let count = reader.byte()?;
@@ -113,8 +114,8 @@ fn parse(record: &[u8]) -> Option<Graph> {
     reader.at_end().then_some(Graph { nodes })
 }
 
-/// A type byte, and where its bit 7 stands the lowest and the highest level; without
-/// the bit the range is full.
+/// Reads a type byte and, if its bit 7 is set, the lowest and the highest level. Without the
+/// bit the range is full.
 fn label(reader: &mut Reader) -> Option<Label> {
     let type_byte = reader.byte()?;
     let range = match type_byte & HAS_RANGE {
@@ -143,8 +144,8 @@ pub fn write(graph: &Graph) -> Vec<u8> {
     write_spelling(graph, |_| false)
 }
 
-/// The same with the full range spelled out at the nodes that pass a test, as a
-/// record that is read may have it.
+/// The same bytes, but with the full range spelled out at the nodes that pass a test. Calls
+/// read such records too.
 pub fn write_spelling(graph: &Graph, mut spelled: impl FnMut(usize) -> bool) -> Vec<u8> {
     let byte = |number: usize| u8::try_from(number).expect("at most 255 nodes");
     let mut record = vec![byte(graph.nodes.len())];

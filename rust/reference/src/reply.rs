@@ -1,6 +1,6 @@
-//! What a call gives back: a length, one of the order's four answers, the end of a
-//! listing, the counts of nodes and rows, or a refusal with the number it has in the papers.
-//! A refusal of a graph tells the kind and which graph.
+//! What a call gives back: a length, one of the order's four answers, the end of a listing,
+//! the counts of nodes and rows, or a refusal with its number in the papers. A refusal of a
+//! graph tells what is wrong and with which graph.
 
 use crate::order::Order;
 use crate::record::GraphFault;
@@ -26,7 +26,8 @@ pub enum Refusal {
     NoRoom,
     /// 9: combination, a class reaches itself.
     Cycle,
-    /// 10: combination, a class has type 0 for its meet or an empty overlap, and no loop.
+    /// 10: combination, a class has type 0 for its meet or an empty overlap, and no class
+    /// reaches itself.
     Clash,
     /// 11: the result has over 255 nodes or 2,048 links.
     TooLarge,
@@ -40,7 +41,7 @@ pub enum Refusal {
     RowTwice,
     /// 16: an order or a finish "before the first addition".
     NothingGathered,
-    /// 17: the list is not of 64 bytes or has an entry of n or more.
+    /// 17: the list of types for features has not 64 bytes, or has an entry of n or more.
     TypeList,
     /// 19: difference, the list is not one "of all 64 features, each once".
     ReadingOrder,
@@ -93,13 +94,13 @@ impl Refusal {
 /// The reply of a call.
 #[derive(Clone, Copy, Debug, PartialEq, Eq)]
 pub enum Reply {
-    /// The record stands in the first bytes of the output, this many.
+    /// The length of the record, which stands in the first bytes of the output.
     Length(usize),
     /// Which graph is the broader, seen from the first.
     Order(Order),
     /// No listed record follows, and the output is unchanged.
     End,
-    /// The first rows and the first node bytes are the graph's.
+    /// The graph stands in the first rows and the first node bytes.
     Counts {
         /// How many nodes it has.
         nodes: usize,

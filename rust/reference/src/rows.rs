@@ -1,6 +1,6 @@
-//! Rows from the planning tool (Papers 2 and 7): a graph as "a table of rows, each a
-//! parent, a feature and a target", with three bytes beside it for each node, "type,
-//! lowest and highest, 0 and 255 for the full range".
+//! Planning tables (Papers 2 and 7). A planning table is a graph as "a table of rows, each a
+//! parent, a feature and a target", and three bytes for each node, "type, lowest and highest,
+//! 0 and 255 for the full range".
 
 use crate::graph::{FEATURES, Feature, Graph, Node};
 use crate::label::{Label, Range};
@@ -22,7 +22,7 @@ pub struct Row {
 /// "In the planning tool's table each node's type becomes three bytes."
 pub const NODE_BYTES: usize = 3;
 
-/// The planning tool's table of a graph.
+/// The planning table of a graph.
 #[derive(Clone, Debug, PartialEq, Eq)]
 pub struct PlanningTable {
     /// The links.
@@ -55,8 +55,9 @@ impl PlanningTable {
     }
 }
 
-/// The graph of a planning table, "rows in any order and the root being node 0"; it keeps
-/// the table's numbering. Each refusal is looked for over the whole before the next.
+/// The graph of a planning table, "rows in any order and the root being node 0". The graph
+/// keeps the numbering of the planning table. Each check is made on the whole planning table
+/// before the next one.
 pub fn read(table: &Table, rows: &[Row], nodes: &[u8]) -> Result<Graph, Refusal> {
     let of_graph = |fault| Refusal::Graph(fault, Side::First);
     // "Nodes, counted by the type bytes, are 1 to 255 and rows at most 2,048, else 4";

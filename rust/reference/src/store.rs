@@ -1,9 +1,9 @@
 //! A patient's versions in one buffer (Paper 11): up to 16 programs over one table, kept as
 //! their common part and each program's difference from it. The bytes are "a map of 16 bits
 //! (2 bytes, low byte first) saying which exist, then the length and record of their common
-//! part, then the length and difference of each version that exists". Nothing is trusted and
-//! nothing is kept from a state: every call restores the programs from the bytes, goes the
-//! way of an empty store into which they are put, and compares.
+//! part, then the length and difference of each version that exists". No call trusts the
+//! bytes: it restores the programs from them, puts the programs into an empty store one after
+//! another, and compares the result with the bytes.
 
 use crate::calls::{accept_graph, accept_table, deliver, reply};
 use crate::canonical::canonical;
@@ -26,7 +26,7 @@ pub const VERSIONS: usize = 16;
 /// "An empty store is two zero bytes."
 pub const EMPTY: [u8; 2] = [0, 0];
 
-/// Programs by their version numbers.
+/// The programs by their versions.
 pub type Programs = BTreeMap<usize, Graph>;
 
 /// "Put names a version number from 0 to 15 that is absent." Tells the used length.
@@ -122,9 +122,9 @@ fn low_first(number: usize) -> [u8; 2] {
     u16::try_from(number).expect("two bytes").to_le_bytes()
 }
 
-/// The programs that a buffer holds: those whose way in its length ends in its first bytes.
-/// There is at most one such list, since a common part and a difference from it combine to
-/// the program.
+/// The programs that a buffer holds: those whose way, in a buffer of this length, ends in the
+/// buffer's first bytes. There is at most one such list of programs, since each program is the
+/// combination of the common part and the program's difference.
 pub fn held(table: &Table, store: &[u8]) -> Option<Programs> {
     // "A buffer above 16,384 bytes is 4."
     if store.len() > LONGEST_STORE {
@@ -135,8 +135,8 @@ pub fn held(table: &Table, store: &[u8]) -> Option<Programs> {
     store.starts_with(&state).then_some(programs)
 }
 
-/// What the common part and each difference combine to, as far as the bytes have the form of
-/// a state.
+/// The combinations of the common part and each difference, if the bytes have the form of a
+/// store.
 fn restored(table: &Table, store: &[u8]) -> Option<Programs> {
     let mut reader = Reader::new(store);
     let map = number(&mut reader)?;

@@ -1,7 +1,7 @@
-//! Type tables: a finite lattice of types, read from bytes and checked
-//! (refusals 1 to 3), with its meets and joins, the wanted type of a type and a
-//! meet over it, and whether it admits differences (a Brouwer lattice). A set of
-//! types is a 64-bit word: bit j stands for type j, just as in a row of the table.
+//! Type tables. A type table is a finite lattice of types. It is read from bytes and checked
+//! (refusals 1 to 3). It gives meets, joins and wanted types, and tells whether it admits
+//! differences (whether it is a Brouwer lattice). A set of types is a 64-bit word: bit j
+//! stands for type j, as in a row of the table.
 
 /// The number of a type.
 pub type Type = u8;
@@ -50,7 +50,7 @@ pub struct Table {
 }
 
 impl Table {
-    /// Reads and checks a table of n types; 1 is looked for first, then 2, then 3.
+    /// Reads and checks a table of n types. The checks are made in the order 1, 2, 3.
     pub fn accept(n: usize, bytes: &[u8]) -> Result<Table, TableFault> {
         if !(2..=MOST_TYPES).contains(&n) || bytes.len() != 8 * n {
             return Err(TableFault::Size);
@@ -125,7 +125,7 @@ impl Table {
     }
 
     /// The wanted type: the greatest type whose meet with `over` equals `p`.
-    /// Where the table admits differences and p is below `over` it is the residual.
+    /// If the table admits differences and p is below `over`, it is the residual.
     pub fn wanted(&self, over: Type, p: Type) -> Option<Type> {
         self.greatest(self.set(|c| self.meet(c, over) == p))
     }

@@ -10,7 +10,7 @@ use crate::reply::Refusal;
 use crate::table::Table;
 use std::collections::BTreeMap;
 
-/// The combination, of any size; a loop is refused before a clash.
+/// The combination, of any size. A loop (9) is refused before a clash (10).
 pub fn unify(table: &Table, first: &Graph, second: &Graph) -> Result<Graph, Refusal> {
     let combined = quotient(table, first, second);
     if combined.bottom_up().is_none() {
@@ -26,7 +26,7 @@ pub fn unify(table: &Table, first: &Graph, second: &Graph) -> Result<Graph, Refu
     Ok(combined)
 }
 
-/// The graph of the classes, with whatever loops and clashes it has.
+/// The graph of the classes. It may have loops and clashes.
 ///
 /// The paper's classes are of paths. A path of either graph leads to a node of
 /// it, and paths leading to one node are in one class, so classes of the nodes of
@@ -50,12 +50,12 @@ struct Class {
     links: BTreeMap<Feature, usize>,
 }
 
-/// The nodes of both graphs in a row, those of the second after those of the
-/// first, parted into classes.
+/// The nodes of both graphs in classes. The numbers of the second graph's nodes follow
+/// those of the first.
 struct Classes {
     /// The class of each node.
     class_of: Vec<usize>,
-    /// The classes that stand, each numbered as its least member.
+    /// The classes. The number of a class is that of its least member.
     standing: BTreeMap<usize, Class>,
 }
 
@@ -83,8 +83,8 @@ impl Classes {
         }
     }
 
-    /// Puts two nodes in one class, and gives the pairs of nodes that must share
-    /// because these two do: their targets by an equal feature.
+    /// Puts two nodes into one class. Gives the pairs of nodes that have to share because
+    /// these two share: their targets by equal features.
     fn merge(&mut self, table: &Table, a: usize, b: usize) -> Vec<(usize, usize)> {
         let kept = self.class_of[a].min(self.class_of[b]);
         let gone = self.class_of[a].max(self.class_of[b]);

@@ -3,7 +3,7 @@
 use comparison::Told;
 use peer::Refusal;
 
-/// A reply of the peer; 4 to 7 and 18 tell of a graph.
+/// A reply of the peer. The refusals 4 to 7 and 18 tell of a graph.
 pub fn told<T>(result: Result<T, Refusal>, tell: impl FnOnce(T) -> Told) -> Told {
     match result {
         Ok(answer) => tell(answer),

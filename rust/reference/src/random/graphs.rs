@@ -1,6 +1,5 @@
-//! Random graphs of a wanted shape, with level ranges or without, graphs above a
-//! given one, and pairs of both kinds. All of them are graphs that a record can
-//! hold.
+//! Random graphs of a given shape, with ranges or without, graphs above a given graph, and
+//! pairs of graphs. A record can hold each of these graphs.
 
 use super::Xorshift;
 use crate::graph::{Feature, Graph, Node, ROOT};
@@ -18,20 +17,20 @@ pub enum Ranges {
     Present,
 }
 
-/// What a random graph is to be like.
+/// The shape of a random graph.
 #[derive(Clone, Debug, PartialEq, Eq)]
 pub struct Shape {
     /// How many nodes.
     pub nodes: usize,
-    /// How many links to try for beyond those that reach each node once.
+    /// How many links to try to add to those that reach each node once.
     pub extra_links: usize,
     /// The features to use, at least one.
     pub features: Vec<Feature>,
-    /// Each new node hangs below one of the last so many; 1 makes a chain.
+    /// Each new node hangs below one of this many nodes before it; 1 makes a chain.
     pub spread: usize,
-    /// Of four nodes so many are top, the others of any type.
+    /// This many of four nodes are top. The others have any type.
     pub tops: usize,
-    /// Of four nodes so many have a range, the others the full one.
+    /// This many of four nodes have a range. The others have the full range.
     pub ranges: usize,
 }
 
@@ -50,7 +49,7 @@ impl Shape {
         }
     }
 
-    /// The same shape with ranges on some nodes, where they are to be present.
+    /// The same shape, with ranges at some nodes if `ranges` are present.
     pub fn ranged(self, random: &mut Xorshift, ranges: Ranges) -> Shape {
         match ranges {
             Ranges::Absent => self,
@@ -224,9 +223,9 @@ pub fn ladder(nodes: usize, features: &[Feature], node_type: Type) -> Graph {
     }
 }
 
-/// A graph above the one given, by one step: a type raised, a range widened, a link
-/// dropped with what only it reaches, or a shared node parted in two. Nothing where
-/// the step drawn cannot be taken.
+/// A graph above the given one, made by one random step: a type is raised, a range is
+/// widened, a link is dropped with all that only it reaches, or a shared node is split in
+/// two. Gives none if the step is impossible.
 pub fn weakened(random: &mut Xorshift, table: &Table, graph: &Graph) -> Option<Graph> {
     match random.pick(5) {
         0 | 1 => Some(raised(random, table, graph)),
@@ -310,8 +309,8 @@ fn dropped(random: &mut Xorshift, graph: &Graph) -> Option<Graph> {
     Some(without_unreached(&weaker))
 }
 
-/// The graph with a shared node parted in two, some of its incoming links leading
-/// to each, if it has one and a record can hold the result.
+/// The graph with a shared node split in two. Some of its incoming links lead to each of
+/// the two. Gives none if no node is shared or a record cannot hold the result.
 fn parted(random: &mut Xorshift, graph: &Graph) -> Option<Graph> {
     let incoming = graph.incoming();
     let shared: Vec<usize> = (0..graph.nodes.len())

@@ -1,5 +1,5 @@
-//! Random bytes to hand in: records and whole `mapcalc` inputs, with ranges and
-//! without, valid and damaged in each way that document 01 and Paper 7 refuse.
+//! Random inputs in bytes: records and whole `mapcalc` inputs, with ranges and without. They
+//! are valid, or damaged in each way that document 01 and Paper 7 refuse.
 
 use super::Xorshift;
 use super::graphs::{Ranges, Shape, graph, label, low_pair, pair, range};
@@ -10,8 +10,8 @@ use crate::mapcalc;
 use crate::record::{self, HAS_RANGE, MOST_NODES};
 use crate::table::{CONTRADICTION, MOST_TYPES, Table, Type};
 
-/// A record of a graph in its own numbering. Where ranges are present, full ones are
-/// spelled out at all nodes, at some, or at none.
+/// The record of a graph in its own numbering. If ranges are present, full ranges are spelled
+/// out at all nodes, at some, or at none.
 pub fn record_of(random: &mut Xorshift, graph: &Graph, ranges: Ranges) -> Vec<u8> {
     match ranges {
         Ranges::Absent => record::write(graph),
@@ -29,7 +29,7 @@ pub fn valid_record(random: &mut Xorshift, n: usize, ranges: Ranges) -> Vec<u8> 
     record_of(random, &graph, ranges)
 }
 
-/// A record that is likely, but not sure, to be refused.
+/// A record that is probably, but not surely, refused.
 pub fn damaged_record(random: &mut Xorshift, n: usize, ranges: Ranges) -> Vec<u8> {
     let shape = match random.chance(1, 8) {
         true => Shape::any(random),
@@ -131,9 +131,9 @@ fn type_at_least(random: &mut Xorshift, n: usize) -> Type {
     random.between(n, usize::from(HAS_RANGE) - 1) as Type
 }
 
-/// The record of a graph whose last type byte has bit 7 and whose range is cut away,
-/// in whole or in part, with what follows it or without. Where the last node has no
-/// links it is too short.
+/// The record of a graph whose last type byte has bit 7. Its range is missing in whole or in
+/// part, and what follows the range may be missing too. If the last node has no links, the
+/// record is too short.
 pub fn without_levels(random: &mut Xorshift, mut graph: Graph) -> Vec<u8> {
     let last = graph.nodes.last_mut().expect("a node");
     last.label.range = range(random);

@@ -1,6 +1,6 @@
-//! Random lists of types for features (Paper 9): lists that some graphs obey, lists
-//! that a graph breaks while others obey them, damaged lists, and whole inputs of the
-//! calls that take a list.
+//! Random lists of types for features (Paper 9): lists that given graphs obey, lists that one
+//! graph breaks and others obey, damaged lists, and whole inputs of the calls that take a
+//! list.
 
 use super::Xorshift;
 use super::graphs::{Ranges, Shape, pair, type_above};
@@ -44,7 +44,7 @@ pub fn broken_list(
     Some(list)
 }
 
-/// The list with a length that is not 64 or with entries that are not types.
+/// The list, damaged: its length is not 64, or some entries are no types.
 pub fn damaged_list(random: &mut Xorshift, n: usize, mut list: Vec<u8>) -> Vec<u8> {
     match random.pick(5) {
         kind @ 0..3 => resize(random, kind, n, &mut list),
@@ -73,8 +73,8 @@ pub(super) fn resize(random: &mut Xorshift, kind: usize, bound: usize, list: &mu
     }
 }
 
-/// A list for some graphs: obeyed by all, or broken by one and obeyed by some of the
-/// others where there is such a list; one in eight is damaged.
+/// A list for given graphs. All graphs obey it; or, if there is such a list, one graph breaks
+/// it and some of the others obey it. One list in eight is damaged.
 pub fn any_list(random: &mut Xorshift, table: &Table, graphs: &[&Graph]) -> Vec<u8> {
     let mut obeying = graphs.to_vec();
     let breaking = obeying.remove(random.pick(graphs.len()));

@@ -1,4 +1,4 @@
-//! Random lists of all features (Paper 10): each feature once, and damaged ones; and
+//! Random reading orders (Paper 10), which have each feature once, damaged reading orders, and
 //! whole inputs of the calls that take one.
 
 use super::Xorshift;
@@ -26,8 +26,7 @@ pub fn list_beginning(first: &[Feature]) -> Vec<Feature> {
     first.iter().copied().chain(others).collect()
 }
 
-/// The list with a length that is not 64, with a feature twice, or with an entry that is
-/// no feature.
+/// The list, damaged: its length is not 64, it has a feature twice, or an entry is no feature.
 pub fn damaged_reading_order(random: &mut Xorshift, mut list: Vec<Feature>) -> Vec<Feature> {
     let place = random.pick(FEATURES);
     match random.pick(6) {

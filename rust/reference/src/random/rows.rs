@@ -1,5 +1,5 @@
-//! Random planning tables: rows in any order and nodes in any numbering, whole and damaged
-//! in each way that Papers 2 and 7 refuse.
+//! Random planning tables, with rows in any order and nodes in any numbering. They are valid,
+//! or damaged in each way that Papers 2 and 7 refuse.
 
 use super::Xorshift;
 use super::graphs::{Ranges, Shape, graph, label};
@@ -22,8 +22,7 @@ pub fn valid_planning_table(random: &mut Xorshift, n: usize, ranges: Ranges) -> 
     planning_table(random, &graph)
 }
 
-/// A planning table that is likely, but not sure, to be refused: by one fault or by several
-/// at once.
+/// A planning table that is probably, but not surely, refused. It has one fault or several.
 pub fn damaged_planning_table(random: &mut Xorshift, n: usize, ranges: Ranges) -> PlanningTable {
     let shape = match random.chance(1, 8) {
         true => Shape::any(random),

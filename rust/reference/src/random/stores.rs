@@ -1,5 +1,5 @@
-//! Random calls on a store (Paper 11): programs that have much in common, versions that are
-//! there and that are not, and buffers whose bytes nobody put there.
+//! Random calls on a store (Paper 11): with programs that have much in common, with versions
+//! that are present or absent, and on buffers whose bytes no call wrote.
 
 use super::Xorshift;
 use super::graphs::{Ranges, Shape, graph, graph_above, graph_well_above, low_graph, renumbered};
@@ -21,16 +21,16 @@ pub enum StoreCall {
     Drop(usize),
 }
 
-/// What the programs of one store are made from: a graph that most of them lie above.
+/// The template of the programs of one store: a graph. Most programs are above it.
 pub struct Template {
     table: Table,
     first: Graph,
     shape: Shape,
     ranges: Ranges,
-    /// Versions are mostly below this number, so that one that is there is often named.
+    /// Versions are mostly below this number, so that calls often name a present version.
     versions: usize,
-    /// In one of five templates most programs are strides of so many nodes, whose common part
-    /// is larger than they are or too large, or lone tops.
+    /// In one of five templates, most programs are lone tops or strides of this many nodes. The
+    /// common part of two strides is larger than they are, or too large for a record.
     strides: Option<usize>,
 }
 
@@ -110,9 +110,10 @@ pub fn store_length(random: &mut Xorshift) -> usize {
     *random.choose(&[few, some, some, some, any, any, LONGEST_STORE])
 }
 
-/// Two graphs of so many nodes in a row whose common part has about a sixth of the square of
-/// that number: by feature 0 one goes on to the next node and the other to the next but one,
-/// and by feature 1 the other way round. From 39 nodes on it has more than 255.
+/// Two graphs with the given number of nodes in a row. In one graph feature 0 leads to the next
+/// node and feature 1 to the next but one; in the other graph it is the other way round. Their
+/// common part has about a sixth of the square of that number of nodes. From 39 nodes on it has
+/// more than 255.
 pub fn strides(nodes: usize, node_type: Type) -> [Graph; 2] {
     [[1, 2], [2, 1]].map(|[zero, one]| {
         let node = |number: usize| {
@@ -125,8 +126,8 @@ pub fn strides(nodes: usize, node_type: Type) -> [Graph; 2] {
     })
 }
 
-/// A buffer made from one that may hold a state over a table: another map, a part changed in
-/// its bytes or in its meaning, a part left out or doubled, another length.
+/// A buffer made from one that may hold a store over a table. It has another map, a part with
+/// other bytes or another meaning, a part missing or twice, or another length.
 pub fn damaged_store(random: &mut Xorshift, table: &TableBytes, store: &[u8]) -> Vec<u8> {
     let mut damaged = match Parts::of(store) {
         Some(mut state) if random.chance(2, 3) => {

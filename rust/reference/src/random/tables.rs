@@ -1,11 +1,11 @@
-//! Random and well-known type tables: lattices of several kinds, orders that need
-//! not be lattices, and damaged tables.
+//! Random and well-known type tables: lattices of several kinds, orders that may be no
+//! lattices, and damaged tables.
 
 use super::Xorshift;
 use crate::table::{MOST_TYPES, Table};
 use std::collections::BTreeSet;
 
-/// A table as a call takes it: n and the bytes beside it.
+/// A table as a call takes it: n and the bytes.
 #[derive(Clone, Debug, PartialEq, Eq)]
 pub struct TableBytes {
     /// The number of types as given.
@@ -15,7 +15,7 @@ pub struct TableBytes {
 }
 
 impl TableBytes {
-    /// The table in which `below(j, i)` tells whether bit j of row i stands.
+    /// The table in which `below(j, i)` tells whether bit j of row i is set.
     pub fn of_relation(n: usize, below: impl Fn(usize, usize) -> bool) -> TableBytes {
         let mut bytes = vec![0; 8 * n];
         for i in 0..n {
@@ -28,12 +28,12 @@ impl TableBytes {
         TableBytes { n, bytes }
     }
 
-    /// Whether bit j of row i stands, of a table that has these rows.
+    /// Whether bit j of row i is set. The table has both rows.
     fn has_below(&self, j: usize, i: usize) -> bool {
         self.bytes[8 * i + j / 8] >> (j % 8) & 1 == 1
     }
 
-    /// The accepted table; stops the program where it is not accepted.
+    /// The accepted table. Panics if the table is not accepted.
     pub fn accepted(&self) -> Table {
         Table::accept(self.n, &self.bytes).expect("a table that is accepted")
     }
@@ -250,7 +250,7 @@ pub fn brouwer_table(random: &mut Xorshift) -> TableBytes {
     }
 }
 
-/// A table that is likely, but not sure, to be refused.
+/// A table that is probably, but not surely, refused.
 pub fn damaged_table(random: &mut Xorshift) -> TableBytes {
     let mut table = valid_table(random);
     match random.pick(10) {
