@@ -1,13 +1,13 @@
 #!/usr/bin/env python3
-"""Times unification by NLTK, to be put beside a combination of the benchmark.
+"""Times unification by NLTK, for a comparison with the combinations of the benchmark.
 
     python3 rust/benchmark/nltk_unify.py
 
 The feature structures have the shape of the benchmark's graphs: 8, 40 and 255 nodes with some two
-links a node, each node below one of the last quarter of those before it, and the other links from a
-node to a later one, which is then shared (reentrant). Two structures have the same links, and each
-lacks some types of the other, so that they unify. The time is the least of many runs; NLTK copies
-both structures in each. Where NLTK is not installed this says so and ends well.
+links a node. Each node is below one of the last quarter of the nodes before it. The other links go
+from a node to a later node, which is then shared (reentrant). Two structures have the same links, and
+each lacks some types of the other, so that they unify. The time is the least of many runs. In each
+run NLTK copies both structures. If NLTK is not installed, the program says so and ends with success.
 """
 
 import random
@@ -27,7 +27,7 @@ LEAST_RUNS = 5
 
 
 def links_of(count):
-    """For each node its links, from feature to node."""
+    """The links of each node, from feature to node."""
     draw = random.Random(count)
     links = [{} for _ in range(count)]
     for node in range(1, count):
@@ -46,7 +46,7 @@ def links_of(count):
 
 
 def structure(links, seed):
-    """The structure of such links; three nodes in four have a type."""
+    """The structure with the given links. Three nodes in four have a type."""
     draw = random.Random(seed)
     nodes = [FeatDict() for _ in links]
     for number, node in enumerate(nodes):
@@ -73,7 +73,7 @@ def least_time(one, other):
 
 
 def main():
-    # A unification calls itself for each link on the way down.
+    # A unification calls itself once for each link of a path.
     sys.setrecursionlimit(100_000)
     print("Microseconds of a unification by NLTK\n")
     print("| nodes | links | time |")

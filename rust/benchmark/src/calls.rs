@@ -1,4 +1,4 @@
-//! The rows of all calls but those on stores.
+//! The rows of all calls except those on stores.
 
 use crate::inputs::{Input, LARGER, LONE, NO_GRAPH, SIZES, SMALLER, Size, Types, tables};
 use crate::rows::{Row, Work, works};
@@ -8,8 +8,8 @@ use reference::random::{self, Xorshift};
 use reference::rows::PlanningTable;
 use std::sync::Arc;
 
-/// The five operations over all tables and sizes, and with ranges over two tables and sizes; the
-/// other calls over two tables and sizes.
+/// The rows of the five operations over all tables and sizes, those of the operations with ranges
+/// over two tables and sizes, and those of the other calls over two tables and sizes.
 pub fn rows(tables: &[Types]) -> Vec<Row> {
     let mut rows = Vec::new();
     for types in tables {
@@ -30,8 +30,8 @@ pub fn rows(tables: &[Types]) -> Vec<Row> {
     rows
 }
 
-/// The operations on chains of 1, 8 and 255 nodes, which take the most stack, the other calls on
-/// the longest, and stores.
+/// The rows for the stack: the operations on chains of 1, 8 and 255 nodes, which take the most
+/// stack, the other calls on the longest chain, and the calls on stores.
 pub fn stack_rows() -> Vec<Row> {
     let tables = tables();
     let house = &tables[2];
@@ -40,7 +40,7 @@ pub fn stack_rows() -> Vec<Row> {
         let chain = Arc::new(Input::chain(house, size));
         let path = Arc::new(Input::longest_path(house, size));
         let mut named = operations(&chain);
-        // The largest of these is refused after all work but the writing.
+        // The largest of these is refused when only the writing is left to do.
         let combinations = works!(
             path,
             |x, lent| record_engine::unify(x.n, &x.table, &x.general, &x.other, &mut lent.output)
@@ -117,8 +117,8 @@ pub fn operations(input: &Arc<Input>) -> Vec<Named> {
     OPERATIONS.into_iter().zip(works).collect()
 }
 
-/// Whether a table is accepted, and steps through a listing, which take what they take over
-/// graphs of any size.
+/// The check of a table, and steps through a listing. Their cost does not depend on the size of
+/// graphs.
 fn of_table(types: &Types) -> Vec<Named> {
     let n = types.bytes.n;
     let table = Arc::new(types.bytes.bytes.clone());
@@ -151,14 +151,14 @@ fn house_table() -> Named {
     )
 }
 
-/// An input with what the other calls take beside it.
+/// An input, and what the other calls take in addition.
 pub struct Beside {
     n: usize,
     table: Vec<u8>,
     specific: Vec<u8>,
     general: Vec<u8>,
     other: Vec<u8>,
-    /// A list of types that all three graphs obey.
+    /// A list of types for features that all three graphs obey.
     types: Vec<u8>,
     /// A reading order.
     reading: Vec<u8>,
@@ -212,7 +212,7 @@ impl Beside {
     }
 }
 
-/// A gathering from its begin to its finish, of three records.
+/// A whole gathering: its begin, three additions and its finish.
 macro_rules! gather {
     ($library:ident, $x:ident, $lent:ident) => {{
         let state = &mut $lent.state[..GATHERING_LENGTH];

@@ -1,6 +1,5 @@
-//! What is measured: a table, a graph, a more general one, and one beside it with
-//! which it has a common part, a combination and a difference, without level ranges
-//! and with them. The same on every run.
+//! The inputs that are measured: a table, a specific graph, and two graphs above it, the general
+//! one and another. The graphs have ranges or none. The inputs are the same in every run.
 
 use reference::graph::Graph;
 use reference::house;
@@ -9,8 +8,7 @@ use reference::random::{self, Shape, TableBytes, Xorshift};
 use reference::record;
 use reference::table::Table;
 
-/// A table that is measured over, and its name in what is printed: its number of types and its
-/// kind.
+/// A table of the benchmark, and its name in the output: its number of types and its kind.
 pub struct Types {
     pub name: &'static str,
     pub bytes: TableBytes,
@@ -18,7 +16,7 @@ pub struct Types {
 }
 
 impl Types {
-    /// Whether the calls beside the operations are measured over it.
+    /// Whether all calls are measured over it, and not only the operations.
     pub fn is_for_all_calls(&self) -> bool {
         matches!(self.name, "4 diamond" | "64 house")
     }
@@ -33,8 +31,9 @@ impl Types {
     }
 }
 
-/// 4 types, the subsets of six atoms, the house types, 64 types that are not distributive and not
-/// numbered along their order, and 64 types each below the next.
+/// The five tables: the diamond, the subsets of six atoms, the house types, 64 types that are not
+/// distributive and whose numbers do not follow their order, and 64 types of which each is below
+/// the next.
 pub fn tables() -> [Types; 5] {
     [
         Types::new("4 diamond", random::diamond()),
@@ -48,12 +47,13 @@ pub fn tables() -> [Types; 5] {
     ]
 }
 
-/// How large a graph is, and what is printed of it.
+/// The size of a graph, and its name in the output.
 #[derive(Clone, Copy, PartialEq, Eq)]
 pub struct Size {
     pub name: &'static str,
     pub nodes: usize,
-    /// Whether it has all links that a record can have, else some two a node.
+    /// Whether the graph has as many links as a record can have. Otherwise it has some two links a
+    /// node.
     is_full: bool,
 }
 
@@ -77,13 +77,13 @@ pub const SIZES: [Size; 5] = [
     },
 ];
 
-/// A lone node, for what is measured apart from the rows.
+/// The size of a lone node. It is only used for the stack.
 pub const LONE: Size = size("1", 1);
 
-/// The size of what has no graph, or one of three nodes.
+/// The size of a row without a graph, or with a graph of three nodes.
 pub const NO_GRAPH: Size = size("-", 0);
 
-/// The two sizes between which it is told how a cost grows.
+/// The two sizes from which the report computes how a cost grows with the nodes.
 pub const SMALLER: Size = SIZES[1];
 pub const LARGER: Size = SIZES[3];
 
@@ -93,16 +93,16 @@ pub struct Input {
     pub n: usize,
     /// The table.
     pub table: Vec<u8>,
-    /// A graph of the size that is measured.
+    /// The record of a graph of the size that is measured.
     pub specific: Vec<u8>,
-    /// A graph above it.
+    /// The record of a graph above the specific one.
     pub general: Vec<u8>,
-    /// Another graph above it.
+    /// The record of another graph above the specific one.
     pub other: Vec<u8>,
 }
 
 impl Input {
-    /// The first input of a seed whose graphs have a difference.
+    /// The first input, by the number of its seed, whose graphs have a difference.
     pub fn new(types: &Types, size: Size) -> Input {
         let mut attempts = (0..).map(|seed| Input::attempt(types, size, seed));
         let input = attempts.find(|x| {
@@ -118,7 +118,7 @@ impl Input {
         let random = &mut Xorshift::new(nodes as u64 + 1000 * seed);
         let shape = Shape {
             nodes,
-            // Together some two links for each node, or as many as there can be.
+            // With these links there are some two for each node, or as many as possible.
             extra_links: links,
             features: if size.is_full { 0..64 } else { 0..24 }.collect(),
             spread: (nodes / 4).max(1),
@@ -137,7 +137,7 @@ impl Input {
         }
     }
 
-    /// A chain of so many nodes in the place of all three graphs.
+    /// An input whose three graphs are one chain of `size.nodes` nodes.
     pub fn chain(types: &Types, size: Size) -> Input {
         let top = (types.bytes.n - 1) as u8;
         let chain = record::write(&random::chain_graph(size.nodes, 0, top));
@@ -150,8 +150,9 @@ impl Input {
         }
     }
 
-    /// The same, and the root has a link to the last node; in the other graph the root has a link
-    /// to a chain of the other nodes, so that combined the one chain goes on where the other ends.
+    /// An input with a chain whose root also has a link to the last node. In the other graph the
+    /// root has a link to a chain of the other nodes. In their combination one chain continues where
+    /// the other ends.
     pub fn longest_path(types: &Types, size: Size) -> Input {
         let input = Input::chain(types, size);
         let [mut first, _, mut second] = input.graphs(types);
@@ -168,8 +169,8 @@ impl Input {
         }
     }
 
-    /// The graphs with ranges: at every other node of the specific one, and at the nodes
-    /// over it the same range, or for one in eight a range around it.
+    /// The graphs with ranges. About half of the nodes of the specific graph have a range. A node
+    /// over such a node has the same range, or in one of eight cases a range around it.
     pub fn with_ranges(&self, types: &Types, size: Size) -> Input {
         let random = &mut Xorshift::new(size.nodes as u64);
         let table = &types.accepted;
@@ -208,12 +209,13 @@ impl Input {
     }
 }
 
-/// A graph above the one given: an eighth of its nodes raised, a few links less.
+/// A graph above the given one with the same number of nodes. It is made by at most one weakening
+/// step for every eight nodes.
 fn weaker(random: &mut Xorshift, table: &Table, graph: &Graph) -> Graph {
     let mut weaker = graph.clone();
     for _ in 0..graph.nodes.len() / 8 {
         let step = random::weakened(random, table, &weaker);
-        // As large as the one given, for the size measured to mean something.
+        // The number of nodes stays the same, because the benchmark reports it.
         weaker = step
             .filter(|step| step.nodes.len() == graph.nodes.len())
             .unwrap_or(weaker);

@@ -1,5 +1,6 @@
-//! Instructions of calls, counted by valgrind, which repeat: this program runs itself under it,
-//! makes each call once to be warm, and has it counted the second time.
+//! Counts the instructions of calls by valgrind. The counts are the same in every run, up to a few.
+//! This program runs itself under valgrind, makes each call once to be warm, and has valgrind count
+//! the second call.
 
 use crate::rows::{Lent, Row, Work};
 use std::hint::black_box;
@@ -7,10 +8,10 @@ use std::path::Path;
 use std::process::{Command, Stdio};
 use std::{env, fs, process};
 
-/// The first argument of a run under valgrind; the names of the rows follow.
+/// The first argument of a run under valgrind. The words that pick the rows follow it.
 pub const COUNTED: &str = "--counted";
 
-/// Makes every call, once not counted and once counted, under valgrind.
+/// Makes every call twice under valgrind: once not counted, and once counted.
 pub fn run(rows: &[Row]) {
     let mut lent = Lent::new();
     for work in rows.iter().flat_map(|row| &row.works) {
@@ -20,26 +21,26 @@ pub fn run(rows: &[Row]) {
     }
 }
 
-/// What is done in here is counted.
+/// Valgrind counts what this function does.
 #[inline(never)]
 fn counted(work: &Work, lent: &mut Lent) {
     black_box(work(black_box(lent)));
 }
 
-/// When this is called, valgrind writes into a file what it has counted since the last time.
+/// When this function is called, valgrind writes to a file what it has counted since the last time.
 #[inline(never)]
 fn settle() {
     black_box(());
 }
 
-/// By these settings the C library clears and copies by vector stores, however many bytes.
+/// With these settings the C library clears and copies any number of bytes by vector stores.
 const SETTINGS: &str = "GLIBC_TUNABLES";
 const VECTORS: &str = "glibc.cpu.x86_rep_stosb_threshold=1000000000:\
                        glibc.cpu.x86_rep_movsb_threshold=1000000000";
 
-/// The instructions of each row by the engine and by the peer, if valgrind is there. The rows are
-/// those that the words pick. Each byte that is cleared or copied is counted, or else the vector
-/// stores for them.
+/// The instructions of each row by the engine and by the peer, if valgrind is installed. The rows
+/// are those that the words pick. With `each_byte`, valgrind counts each byte that is cleared or
+/// copied; otherwise it counts the vector stores.
 pub fn count(words: &[String], rows: &[Row], each_byte: bool) -> Option<Vec<[f64; 2]>> {
     let folder = env::temp_dir().join(format!("benchmark-{}", process::id()));
     fs::create_dir(&folder).expect("a folder for what is counted");
@@ -71,7 +72,7 @@ pub fn count(words: &[String], rows: &[Row], each_byte: bool) -> Option<Vec<[f64
     counts
 }
 
-/// The total that a file of valgrind's tells.
+/// The total in a file that valgrind wrote.
 fn total(file: &Path) -> f64 {
     let text = fs::read_to_string(file).expect("what valgrind has counted");
     let mut totals = text

@@ -1,32 +1,34 @@
-//! Prints what every call of the library costs, by the engine and by the peer, the same calls
-//! as fast Rust.
+//! Measures what every call of the library costs, by the engine and by the peer, which makes the
+//! same calls in fast Rust. The commands
 //!
 //!     rt staticlib record_engine
 //!     cargo run --release --offline --manifest-path rust/Cargo.toml -p benchmark
 //!
-//! measures all rows, in some four minutes on a machine that has nothing else to do. Words behind
-//! `--` pick rows: those whose name, the call, the types and the nodes, has one of the words in it.
-//! So
+//! measure all rows. This takes some four minutes on a machine that has nothing else to do. A row
+//! has a name, which tells the call, the types and the nodes. Words behind `--` pick the rows whose
+//! names contain one of the words. For example,
 //!
 //!     cargo run --release --offline --manifest-path rust/Cargo.toml -p benchmark -- "common part, 64 house" stack
 //!
 //! measures the common parts over the house types, and the stack. An option may come before the
-//! words: `--instructions` leaves out the times, so that all is done in half a minute; `--each-byte`
-//! too, and counts as valgrind does by itself; `--list` prints the names alone. For each row it
-//! prints
+//! words. `--instructions` leaves out the times, so that the run takes half a minute. `--each-byte`
+//! leaves out the times too, and counts bytes as valgrind does by itself. `--list` only prints the
+//! names. For each row the program prints
 //!
-//! - the instructions of a call, where valgrind is there, which repeat but for some tens of them
-//!   that hang on where the stack begins. Clearing and copying many bytes is counted by the vector
-//!   stores that it takes. By itself valgrind counts an instruction for each of more than 2,048
-//!   bytes, which a processor does not take: of a common part, 65,025 for the marks alone;
-//! - the time of a call, the least of many runs in which engine and peer take turns.
+//! - the instructions of a call, if valgrind is installed. The counts of two runs are equal up to
+//!   some tens of instructions, which depend on where the stack begins. Clearing and copying many
+//!   bytes counts as the vector stores that it takes. By itself valgrind counts an instruction for
+//!   each of more than 2,048 bytes, which a processor does not take. For the marks of a common part
+//!   alone, that would be 65,025 instructions;
+//! - the time of a call: the least of many runs in which engine and peer take turns.
 //!
-//! Then it prints what each node costs, what opening 64 types costs, the means of the ratios, the
-//! worst rows, and the stack that calls take. The five operations are measured over five tables (the
-//! diamond, the 64 subsets of six atoms, the 64 house types, 64 rivals, which are not distributive
-//! and not numbered along their order, and a chain of 64) and on graphs of 8, 40, 100 and 255 nodes
-//! with some two links a node and of 255 with 2,048 links, the other calls over two tables and two
-//! sizes. Before all, the engine and the peer give the same answer and the same bytes in every row.
+//! Then the program prints what each node costs, what opening 64 types costs, the means of the
+//! ratios, the worst rows, and the stack that calls take. The five operations are measured over five
+//! tables: the diamond, the 64 subsets of six atoms, the 64 house types, a chain of 64 types, and 64
+//! rivals, which are not distributive and whose numbers do not follow their order. The graphs have 8,
+//! 40, 100 and 255 nodes with some two links a node, and 255 nodes with 2,048 links. The other calls
+//! are measured over two tables and two sizes. Before it measures, the program checks that the
+//! engine and the peer give the same answer and the same bytes in every row.
 //!
 //! `nltk_unify.py` in this package times unification by NLTK on structures of the same shape.
 
@@ -44,11 +46,11 @@ use rows::Row;
 use std::env;
 use std::process::ExitCode;
 
-/// By this word the stack is picked.
+/// The word that picks the stack.
 const STACK: &str = "stack";
 
-/// By these options no times are measured; by the second valgrind counts each byte that is
-/// cleared.
+/// The options that leave out the times. With the second, valgrind counts each byte that is
+/// cleared or copied.
 const INSTRUCTIONS: &str = "--instructions";
 const EACH_BYTE: &str = "--each-byte";
 
@@ -75,12 +77,12 @@ fn main() -> ExitCode {
     ExitCode::SUCCESS
 }
 
-/// The rows that words pick, by call; all where there are no words.
+/// The rows that words pick, sorted by call; all rows if there are no words.
 fn picked(words: &[String]) -> Vec<Row> {
     let tables = inputs::tables();
     let mut rows = calls::rows(&tables);
     rows.extend(stores::rows(&tables));
-    // The operations, then the other calls as they come.
+    // First the operations, then the other calls in the order of the rows.
     let mut order: Vec<&'static str> = calls::OPERATIONS.to_vec();
     for row in &rows {
         if !order.contains(&row.call) {

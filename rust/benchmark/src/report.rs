@@ -1,4 +1,4 @@
-//! What is printed of the rows that were measured.
+//! Prints the rows that were measured, and the summary.
 
 use crate::calls::OPERATIONS;
 use crate::inputs::{LARGER, SIZES, SMALLER};
@@ -7,13 +7,13 @@ use crate::rows::Row;
 /// A row with its costs by the engine and by the peer.
 pub struct Measured<'a> {
     pub row: &'a Row,
-    /// Instructions, where valgrind is there.
+    /// Instructions, if valgrind is installed.
     pub instructions: Option<[f64; 2]>,
-    /// Microseconds, where they are asked for.
+    /// Microseconds, if times are asked for.
     pub times: Option<[f64; 2]>,
 }
 
-/// What a cost is counted in.
+/// The unit of a cost.
 type Cost<'a> = (&'static str, fn(&Measured<'a>) -> Option<[f64; 2]>);
 
 fn costs<'a>() -> [Cost<'a>; 2] {
@@ -53,7 +53,7 @@ fn cells(both: Option<[f64; 2]>) -> String {
     }
 }
 
-/// A number with some three digits at least.
+/// A number as text, with about three digits or more.
 fn short(number: f64) -> String {
     let places = match number.abs() {
         ..10.0 => 3,
@@ -64,7 +64,7 @@ fn short(number: f64) -> String {
     format!("{number:.places$}")
 }
 
-/// What all rows come to.
+/// Prints the summary of all rows.
 pub fn print_all(all: &[Measured]) {
     print_growth(all);
     print_opening(all);
@@ -108,14 +108,14 @@ fn print_growth(all: &[Measured]) {
     }
 }
 
-/// The costs of one less those of another.
+/// The costs of one row minus those of another.
 fn less(one: Option<[f64; 2]>, other: Option<[f64; 2]>) -> Option<[f64; 2]> {
     let ([one_engine, one_peer], [engine, peer]) = (one?, other?);
     Some([one_engine - engine, one_peer - peer])
 }
 
-/// What 64 types cost over 4: a rewriting of few nodes over the subsets less that over the
-/// diamond.
+/// What 64 types cost more than 4 types: the cost of rewriting a few nodes over the subsets, minus
+/// the cost over the diamond.
 fn print_opening(all: &[Measured]) {
     let rewriting = |types: &str| {
         all.iter().find(|measured| {

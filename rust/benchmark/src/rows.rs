@@ -1,4 +1,4 @@
-//! A row of what is printed: one call on one input, by the engine and by the peer.
+//! A row of the benchmark: one call on one input, by the engine and by the peer.
 
 use crate::inputs::Size;
 use record_engine::{LONGEST_RECORD, MOST_LINKS, MOST_NODES, STORE_LENGTH};
@@ -15,16 +15,17 @@ pub struct Row {
     pub works: [Work; 2],
 }
 
-/// A call: what it answers, as a number.
+/// A call on lent buffers, which gives its answer as a number.
 pub type Work = Box<dyn Fn(&mut Lent) -> usize + Send + Sync>;
 
 impl Row {
-    /// By this name a row is picked.
+    /// The name of the row, by which words pick it.
     pub fn name(&self) -> String {
         format!("{}, {}, {}", self.call, self.types, self.size.name)
     }
 
-    /// The engine and the peer give the same answer and leave the same in all that is lent.
+    /// Checks that the engine and the peer give the same answer, and leave the same bytes in all
+    /// lent buffers.
     pub fn check(&self) {
         let [engine, peer] = self.works.each_ref().map(|work| {
             let mut lent = Lent::new();
@@ -34,7 +35,7 @@ impl Row {
     }
 }
 
-/// What is lent to a call, long enough for every result.
+/// The buffers that are lent to a call. They are long enough for every result.
 pub struct Lent {
     /// For a record.
     pub output: Vec<u8>,
@@ -58,7 +59,7 @@ impl Lent {
         }
     }
 
-    /// All bytes; one of the two kinds of rows is untouched.
+    /// All bytes of the buffers. One of the two kinds of rows is not changed by a call.
     fn bytes(&self) -> Vec<u8> {
         let engine = self.engine_rows.iter();
         let engine = engine.map(|row| [row.parent, row.feature, row.target]);
@@ -126,8 +127,8 @@ pub fn answer<T: Answer, E>(result: Result<T, E>) -> usize {
     }
 }
 
-/// A call of both libraries, which have the same names and parameters: the name of the input, an
-/// `Arc`, in the call, that of what is lent, and the call.
+/// A call of both libraries, which have the same names and parameters. It takes the input, which is
+/// an `Arc`, the names of the input and of the lent buffers in the call, and the call.
 macro_rules! works {
     ($input:expr, |$x:ident, $lent:ident| $call:ident($($argument:expr),*)) => {
         $crate::rows::works!($input, |$x, $lent|

@@ -1,5 +1,5 @@
-//! The stack that a call takes below its caller, by the engine and by the peer, as
-//! `comparison::stack_taken` measures it, which tells 1,024 bytes at least.
+//! Prints the stack that a call takes below its caller, by the engine and by the peer.
+//! `comparison::stack_taken` measures it. The least number that it gives is 1,024 bytes.
 
 use crate::rows::{Lent, Row};
 use comparison::stack_taken;

@@ -1,5 +1,6 @@
-//! The rows of the calls on stores: of 4 and of 16 versions over two tables and two sizes. The
-//! programs share much: each is one template with a few types and ranges lowered.
+//! The rows of the calls on stores. The stores have 4 and 16 versions, over two tables and in two
+//! sizes. The programs have much in common: each is one template with a few types and ranges
+//! lowered.
 
 use crate::inputs::{LARGER, SMALLER, Size, Types};
 use crate::rows::{Row, works};
@@ -26,7 +27,7 @@ macro_rules! drop_first {
     }};
 }
 
-/// What is measured of a store.
+/// The input of the rows of one store.
 struct Input {
     n: usize,
     table: Vec<u8>,
@@ -36,7 +37,7 @@ struct Input {
     /// The used bytes of a store of all versions, and of one without the last.
     all: Vec<u8>,
     without_last: Vec<u8>,
-    /// The first as a whole store.
+    /// The store of all versions, in a buffer of full length.
     store: Vec<u8>,
 }
 
@@ -108,8 +109,8 @@ impl Input {
     }
 }
 
-/// So many programs: a template of so many nodes with some two links for each, of which one
-/// node in 16 has a lower type or a range in each program.
+/// The programs of a store. Each is a template with some two links a node. In each program, about
+/// one node in 16 has a lower type or a range.
 fn programs(types: &Types, nodes: usize, versions: usize) -> Vec<Vec<u8>> {
     let random = &mut Xorshift::new(nodes as u64);
     let shape = Shape {
@@ -136,8 +137,8 @@ fn programs(types: &Types, nodes: usize, versions: usize) -> Vec<Vec<u8>> {
     (0..versions).map(|_| program()).collect()
 }
 
-/// The used bytes of a store of some programs, from version 0 on, made by the plain calls: the
-/// common part of all and the difference of each from it.
+/// The used bytes of a store of given programs, from version 0 on. The plain calls make the common
+/// part of all programs and the difference of each program from it.
 fn stored(n: usize, table: &[u8], programs: &[Vec<u8>]) -> Vec<u8> {
     let written = |call: &dyn Fn(&mut [u8]) -> Result<usize, Refusal>| {
         let mut output = vec![0; LONGEST_RECORD];

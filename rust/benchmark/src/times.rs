@@ -1,14 +1,14 @@
-//! Times of calls: the least of many runs, in which the engine and the peer take turns, so that
-//! what else a machine does hits both.
+//! Measures the times of calls. The time of a call is the least of many runs. The engine and the
+//! peer take turns, so that other work of the machine slows both.
 
 use crate::rows::{Lent, Row, Work};
 use std::hint::black_box;
 use std::time::{Duration, Instant};
 
-/// How long a run is, of as many calls as fit in, at least one.
+/// The length of a run. It has as many calls as fit into this time, but at least one.
 const RUN: Duration = Duration::from_micros(100);
 
-/// How long a row is measured, and how many runs there are at least.
+/// How long a row is measured, and the least number of runs.
 const ROW: Duration = Duration::from_millis(900);
 const LEAST_RUNS: usize = 15;
 
@@ -29,7 +29,7 @@ pub fn time(row: &Row) -> [f64; 2] {
     least
 }
 
-/// The time of a call, of so many in a row.
+/// The time of a call, in microseconds: the mean of `count` calls in a row.
 fn run(work: &Work, lent: &mut Lent, count: u32) -> f64 {
     let start = Instant::now();
     for _ in 0..count {

@@ -1,4 +1,5 @@
-//! The calls of both engines in one form. They have the same names and parameters there.
+//! The calls of the proved engine and of the reference in one form. Both have the same names and
+//! parameters.
 
 use crate::told::Told;
 use reference::calls;
@@ -6,16 +7,16 @@ use reference::random::TableBytes;
 use reference::record::{LONGEST_RECORD, MOST_LINKS};
 use reference::reply::Reply;
 
-/// A table, the records, a list before them where the call takes one, and the outputs.
-/// A call leaves out records that it does not take.
+/// A call as a function of the table, the inputs and the outputs. The inputs are the records; a
+/// list stands before them if the call takes one. A call ignores records that it does not take.
 type Engine<T> = fn(&TableBytes, &[&[u8]], &mut [&mut [u8]]) -> T;
 
 /// One output of a call.
 #[derive(Clone, Copy)]
 pub struct Output {
-    /// So many bytes are never too few.
+    /// This many bytes are always enough.
     pub longest: usize,
-    /// The number of the refusal where it has too few.
+    /// The number of the refusal if the output has too few bytes.
     pub short: u8,
 }
 
@@ -32,17 +33,17 @@ const REASONS: Output = Output {
 /// One call, by the proved engine and by the reference.
 #[derive(Clone, Copy)]
 pub struct Call {
-    /// The proved engine's.
+    /// The call of the proved engine.
     pub engine: Engine<Told>,
-    /// The reference's.
+    /// The call of the reference.
     pub reference: Engine<Reply>,
-    /// The outputs that it takes; the first is for a record.
+    /// The outputs that the call takes. The first is for a record.
     pub outputs: &'static [Output],
-    /// The call that writes the same record and nothing beside it.
+    /// The call that writes the same record and nothing else, if there is one.
     pub plain: Option<&'static Call>,
 }
 
-/// The call of a name, by what it takes after the table and by its outputs.
+/// Makes a [`Call`] from the name of a call, what the call takes after the table, and its outputs.
 macro_rules! call {
     ($name:ident($($input:ident),*; $($output:ident: $kind:expr),*)) => {
         Call {
@@ -64,10 +65,10 @@ macro_rules! call {
     };
 }
 
-/// A record in written form.
+/// The written record of a record.
 pub const REWRITE: Call = call!(rewrite(graph; output: RECORD));
 
-/// Which is the broader, seen from the first; nothing is written.
+/// The order of two records, seen from the first. It writes nothing.
 pub const ORDER: Call = call!(order(first, second;));
 
 /// The common part.
@@ -76,24 +77,24 @@ pub const GENERALIZE: Call = call!(generalize(first, second; output: RECORD));
 /// The combination.
 pub const UNIFY: Call = call!(unify(first, second; output: RECORD));
 
-/// The difference of the first, which is the general one, and the second.
+/// The difference of the first record, which is the general one, and the second.
 pub const DIFFERENCE: Call = call!(difference(general, specific; output: RECORD));
 
-/// A record that obeys a list in written form.
+/// The written record of a record that obeys a list of types for features.
 pub const REWRITE_APPROPRIATE: Call = call!(rewrite_appropriate(list, graph; output: RECORD));
 
-/// The common part of two records that obey a list.
+/// The common part of two records that obey a list of types for features.
 pub const GENERALIZE_APPROPRIATE: Call =
     call!(generalize_appropriate(list, first, second; output: RECORD));
 
-/// The combination of two records that obey a list.
+/// The combination of two records that obey a list of types for features.
 pub const UNIFY_APPROPRIATE: Call = call!(unify_appropriate(list, first, second; output: RECORD));
 
-/// The difference by a list of all features.
+/// The difference by a reading order.
 pub const DIFFERENCE_BY: Call = call!(difference_by(list, general, specific; output: RECORD));
 
-/// The listed record after another. Before the record comes the number of features, as
-/// `number` gives its bytes.
+/// The listed record that follows a record. The first input is the number of features, in the
+/// bytes that `number` gives; the second is the record.
 pub const NEXT: Call = Call {
     engine: |table, inputs, outputs| {
         let ([features, record, ..], [output]) = (inputs, outputs) else {
@@ -126,7 +127,7 @@ pub const DIFFERENCE_EXPLAINED: Call = Call {
     ..call!(difference_explained(general, specific; output: RECORD, reasons: REASONS))
 };
 
-/// The difference by a list of all features with its reasons.
+/// The difference by a reading order, with its reasons.
 pub const DIFFERENCE_EXPLAINED_BY: Call = Call {
     plain: Some(&DIFFERENCE_BY),
     ..call!(difference_explained_by(list, general, specific; output: RECORD, reasons: REASONS))

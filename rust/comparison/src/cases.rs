@@ -1,6 +1,5 @@
-//! Inputs of the program `mapcalc`, each with a name: the cases of document 01,
-//! every refusal that the program can print, every kind of bad input, and level
-//! ranges.
+//! Inputs of the program `mapcalc`, each with a name: the cases of document 01, every refusal
+//! that the program can print, every kind of bad input, and ranges.
 
 use reference::graph::{Graph, Node};
 use reference::mapcalc::{Operation, input};
@@ -8,9 +7,9 @@ use reference::notation;
 use reference::random::{self, TableBytes};
 use reference::record;
 
-/// An input of the program and what it is.
+/// An input of the program, and its name.
 pub struct Case {
-    /// What is asked, in a few words.
+    /// The name: what is asked, in a few words.
     pub name: &'static str,
     /// The bytes of standard input.
     pub input: Vec<u8>,
@@ -46,7 +45,7 @@ fn with_records(first: &[u8], second: &[u8]) -> Vec<u8> {
     asked(Operation::Generalize, &random::diamond(), first, second)
 }
 
-/// An input with a table as it is and two lone tops of the diamond.
+/// An input with any table, and two lone nodes of type 3.
 fn with_table(n: usize, bytes: Vec<u8>) -> Vec<u8> {
     let lone = record_of("top");
     asked(Operation::Order, &TableBytes { n, bytes }, &lone, &lone)

@@ -1,5 +1,5 @@
-//! How often each reply came, so that a test can tell whether its inputs bring up all that
-//! it is about.
+//! Counts how often each reply came, so that a test can check that its inputs reach all cases
+//! that it is about.
 
 use crate::told::Told;
 use reference::order::Order;
@@ -41,13 +41,14 @@ impl Counts {
         }
     }
 
-    /// From the stored seeds, each of these replies came at least so often, and no other
-    /// at all; 0 is a length.
+    /// With the stored seeds, each of these replies came at least this often, and no other reply
+    /// came; 0 stands for a length.
     pub fn assert_replies(&self, numbers: &[usize], least: usize) {
         self.assert_replies_beside(numbers, least, &[]);
     }
 
-    /// The same where some others may have come too.
+    /// With the stored seeds, each of these replies came at least this often. Other replies may
+    /// have come too.
     pub fn assert_replies_beside(&self, numbers: &[usize], least: usize, others: &[usize]) {
         for (number, &count) in self.replies.iter().enumerate() {
             let enough = match numbers.contains(&number) {
@@ -59,8 +60,8 @@ impl Counts {
         }
     }
 
-    /// From the stored seeds, each of these refusals came at least so often of the first
-    /// graph and at least so often of the second.
+    /// With the stored seeds, each of these refusals came at least this often of the first graph
+    /// and at least this often of the second.
     pub fn assert_sides(&self, numbers: &[usize], least: usize) {
         for &number in numbers {
             let [first, second] = self.sides[number];
@@ -69,8 +70,8 @@ impl Counts {
         }
     }
 
-    /// From the stored seeds, each of these refusals came at least so often of the second
-    /// graph, and none of the first.
+    /// With the stored seeds, each of these refusals came at least this often of the second graph,
+    /// and never of the first.
     pub fn assert_second(&self, numbers: &[usize], least: usize) {
         for &number in numbers {
             let [first, second] = self.sides[number];
@@ -80,7 +81,7 @@ impl Counts {
         }
     }
 
-    /// Every refusal of a graph was of this side, 0 for the first.
+    /// Every refusal of a graph was of this graph: 0 for the first, 1 for the second.
     pub fn assert_only_side(&self, side: usize) {
         let other = self
             .sides
@@ -90,7 +91,7 @@ impl Counts {
         assert_eq!(other, 0, "{:?}", self.sides);
     }
 
-    /// From the stored seeds, each of the order's four answers came at least so often.
+    /// With the stored seeds, each of the order's four answers came at least this often.
     pub fn assert_answers(&self, least: usize) {
         for order in Order::ALL {
             let enough = self.answers[order as usize] >= least || !random::is_stored();
@@ -98,13 +99,13 @@ impl Counts {
         }
     }
 
-    /// From the stored seeds, a listing ended at least so often.
+    /// With the stored seeds, a listing ended at least this often.
     pub fn assert_ends(&self, least: usize) {
         let enough = self.ends >= least || !random::is_stored();
         assert!(enough, "{} ends", self.ends);
     }
 
-    /// From the stored seeds, rows and nodes were filled at least so often.
+    /// With the stored seeds, rows and nodes were filled at least this often.
     pub fn assert_fills(&self, least: usize) {
         let enough = self.fills >= least || !random::is_stored();
         assert!(enough, "{} fills", self.fills);

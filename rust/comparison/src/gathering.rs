@@ -1,5 +1,5 @@
-//! One gathering by the proved engine and one by the reference, in step: the same calls, the
-//! same replies, and after each call the same bytes in all that was lent.
+//! Keeps one gathering by the proved engine and one by the reference, and makes the same calls on
+//! both. The replies, and after each call the bytes of all lent buffers, have to be the same.
 
 use crate::counts::Counts;
 use crate::lent::Lent;
@@ -9,10 +9,10 @@ use reference::gathering;
 use reference::random::{TableBytes, Xorshift};
 use reference::reply::Reply;
 
-/// Both engines' bytes of one gathering, and how often each reply came since the start.
+/// The bytes of one gathering, and how often each reply came.
 pub struct Gatherings {
     random: Xorshift,
-    /// What both engines hold: they are compared after each call.
+    /// The bytes of both engines, which are compared after each call.
     state: Lent,
     /// The replies of begin.
     pub begun: Counts,
@@ -25,7 +25,7 @@ pub struct Gatherings {
 }
 
 impl Gatherings {
-    /// No bytes; the seed decides what lent bytes hold.
+    /// A gathering without bytes. The seed decides what lent bytes hold.
     pub fn new(seed: u64) -> Gatherings {
         let mut random = Xorshift::stored(seed);
         let state = Lent::new(&mut random, 0);
@@ -39,17 +39,17 @@ impl Gatherings {
         }
     }
 
-    /// Lends so many bytes, which hold anything.
+    /// Lends the given number of bytes, which hold anything.
     pub fn lend(&mut self, room: usize) {
         self.state = Lent::new(&mut self.random, room);
     }
 
-    /// Puts bytes in the place of the state.
+    /// Replaces the bytes of the gathering.
     pub fn put(&mut self, bytes: &[u8]) {
         self.state = Lent::holding(&mut self.random, bytes);
     }
 
-    /// The bytes of the state.
+    /// The bytes of the gathering.
     pub fn bytes(&self) -> &[u8] {
         self.state.all()
     }
@@ -75,7 +75,7 @@ impl Gatherings {
         reply
     }
 
-    /// The order of a program to what is gathered; no byte changes.
+    /// The order of a program and the common part. No byte changes.
     pub fn order(&mut self, program: &[u8]) -> Reply {
         let before = self.state.clone();
         let told = gathering_order(self.state.all(), program).into();
@@ -86,8 +86,8 @@ impl Gatherings {
         reply
     }
 
-    /// Writes what is gathered into an output of so many bytes, whose others stay; the
-    /// state stays, and a refusal leaves the output.
+    /// Writes the common part into an output of the given length. The gathering and the other
+    /// bytes of the output are unchanged. A refusal changes no byte.
     pub fn finish(&mut self, room: usize) -> (Reply, Vec<u8>) {
         let state = self.state.clone();
         let before = Lent::new(&mut self.random, room);
@@ -115,7 +115,7 @@ impl Gatherings {
         (reply, written)
     }
 
-    /// A call of each engine that may change the state; a refusal does not.
+    /// Makes a call of each engine that may change the gathering. A refusal does not change it.
     fn change(
         &mut self,
         engine: impl FnOnce(&mut [u8]) -> Told,

@@ -1,12 +1,12 @@
-//! Outputs that tell a stray write.
+//! Outputs that show a write outside of them.
 
 use record_engine::Row;
 use reference::random::Xorshift;
 
-/// Elements on each side of an output, which no call may change.
+/// The number of elements on each side of an output, which no call may change.
 const MARGIN: usize = 16;
 
-/// An output of bytes or of rows, in the midst of others that tell a stray write.
+/// An output of bytes or of rows, between other elements that show a write outside of the output.
 #[derive(Clone, PartialEq, Eq)]
 pub struct Lent<T = u8> {
     elements: Vec<T>,
@@ -19,7 +19,7 @@ impl Lent {
         Lent::of(room, |place| any_byte(start, place))
     }
 
-    /// The bytes given, in the midst of others.
+    /// The given bytes, between other bytes.
     pub fn holding(random: &mut Xorshift, bytes: &[u8]) -> Lent {
         let mut lent = Lent::new(random, bytes.len());
         lent.output().copy_from_slice(bytes);
@@ -40,37 +40,37 @@ impl Lent<Row> {
 }
 
 impl<T: Copy> Lent<T> {
-    /// An output of a given length whose elements go by their places.
+    /// An output of a given length whose elements depend on their places.
     fn of(room: usize, element: impl FnMut(usize) -> T) -> Lent<T> {
         Lent {
             elements: (0..MARGIN + room + MARGIN).map(element).collect(),
         }
     }
 
-    /// The same with every element changed.
+    /// The same output with every element changed.
     pub fn map<U: Copy>(&self, mut change: impl FnMut(T) -> U) -> Lent<U> {
         let room = self.all().len();
         Lent::of(room, |place| change(self.elements[place]))
     }
 
-    /// The elements that are lent.
+    /// The elements that a call is lent.
     pub fn output(&mut self) -> &mut [T] {
         let end = self.elements.len() - MARGIN;
         &mut self.elements[MARGIN..end]
     }
 
-    /// All of them, to be read.
+    /// All elements, also those around the output.
     pub fn all(&self) -> &[T] {
         &self.elements[MARGIN..self.elements.len() - MARGIN]
     }
 
-    /// The first elements of the output, so many.
+    /// The first elements of the output, as many as are given.
     pub fn first(&self, count: usize) -> Vec<T> {
         self.all()[..count].to_vec()
     }
 }
 
-/// A byte that goes by its place.
+/// A byte that depends on its place.
 fn any_byte(start: usize, place: usize) -> u8 {
     (start + 167 * place) as u8
 }

@@ -1,5 +1,5 @@
-//! The proved engine and the reference side by side: the same call on the same
-//! bytes, the same reply, the same output, also beside it.
+//! Compares the proved engine with the reference. Both get the same call on the same bytes.
+//! They have to give the same reply and the same output, and may change no byte around it.
 
 #![warn(missing_docs)]
 
@@ -42,7 +42,7 @@ pub struct Comparison {
 }
 
 impl Comparison {
-    /// A comparison of one call; the seed decides the outputs lent.
+    /// A comparison of one call. The seed decides what the lent outputs hold.
     pub fn new(call: Call, seed: u64) -> Comparison {
         Comparison {
             call,
@@ -53,10 +53,10 @@ impl Comparison {
         }
     }
 
-    /// The reply to an input where each output has room enough. The same input is also
-    /// called with outputs of no bytes and of any length, and where it has a result, with
-    /// outputs as long as what is written, shorter by one byte, each by itself and
-    /// together, and longer.
+    /// The reply to an input when each output has enough room. The call is also made with
+    /// outputs of no bytes and of any length. If there is a result, the call is also made with
+    /// outputs that are exactly long enough, too short by one byte, each alone and together, and
+    /// longer.
     pub fn check(&mut self, table: &TableBytes, records: &[&[u8]]) -> Reply {
         self.inputs += 1;
         let outputs = self.call.outputs;
@@ -89,8 +89,7 @@ impl Comparison {
         reply
     }
 
-    /// The reply to an input where each output has room enough, and the record that is
-    /// written.
+    /// The reply to an input when each output has enough room, and the record that is written.
     pub fn answer(&mut self, table: &TableBytes, records: &[&[u8]]) -> (Reply, Vec<u8>) {
         let longest = self.longest();
         self.answer_within(table, records, &longest)
@@ -144,7 +143,8 @@ impl Comparison {
         (reply, by_engine)
     }
 
-    /// The call that writes the record alone gives the same reply and the same record.
+    /// Checks that the call that writes only the record gives the same reply and the same
+    /// record.
     fn check_plain(&self, table: &TableBytes, records: &[&[u8]], reply: Reply, lent: &[Lent]) {
         let Some(plain) = self.call.plain else { return };
         let mut output = vec![0; plain.outputs[0].longest];
@@ -155,8 +155,8 @@ impl Comparison {
         }
     }
 
-    /// How many bytes of each output are written where a record has this length: the
-    /// second output has a reason for each of its links, which are counted.
+    /// How many bytes of each output are written, if the record has this length. The second
+    /// output has a reason for each link of the record.
     fn filled(&mut self, table: &TableBytes, lent: &[Lent], length: usize) -> Vec<usize> {
         let [output, reasons] = lent else {
             return vec![length];
@@ -169,29 +169,29 @@ impl Comparison {
         vec![length, count]
     }
 
-    /// From the stored seeds, each of these replies came at least so often, and no other
-    /// at all; 0 is a length.
+    /// With the stored seeds, each of these replies came at least this often, and no other reply
+    /// came; 0 stands for a length.
     pub fn assert_replies(&self, numbers: &[usize], least: usize) {
         self.counts.assert_replies(numbers, least);
     }
 
-    /// From the stored seeds, each of these refusals came at least so often of the first
-    /// graph and at least so often of the second.
+    /// With the stored seeds, each of these refusals came at least this often of the first graph
+    /// and at least this often of the second.
     pub fn assert_sides(&self, numbers: &[usize], least: usize) {
         self.counts.assert_sides(numbers, least);
     }
 
-    /// From the stored seeds, each of the order's four answers came at least so often.
+    /// With the stored seeds, each of the order's four answers came at least this often.
     pub fn assert_answers(&self, least: usize) {
         self.counts.assert_answers(least);
     }
 
-    /// From the stored seeds, a listing ended at least so often.
+    /// With the stored seeds, a listing ended at least this often.
     pub fn assert_ends(&self, least: usize) {
         self.counts.assert_ends(least);
     }
 
-    /// From the stored seeds, each of the three reasons came at least so often.
+    /// With the stored seeds, each of the three reasons came at least this often.
     pub fn assert_reasons(&self, least: usize) {
         let enough = self.reasons[1..].iter().all(|&count| count >= least);
         assert!(enough || !random::is_stored(), "{:?}", self.reasons);
@@ -209,8 +209,9 @@ fn exact_and_short(filled: &[usize]) -> Vec<Vec<usize>> {
     })
 }
 
-/// A comparison of one call on at least so many inputs, which are drawn and checked a few
-/// at a time. The seed decides the outputs lent, and the next one the inputs.
+/// A comparison of one call on at least the given number of inputs, which are drawn and checked
+/// a few at a time. The seed decides what the lent outputs hold, and the next seed decides the
+/// inputs.
 pub fn compare(
     call: Call,
     seed: u64,
@@ -225,8 +226,8 @@ pub fn compare(
     compared
 }
 
-/// The same on pairs of mostly small records, some of any size and some damaged, over
-/// tables of which some are damaged.
+/// A comparison of one call on pairs of records. Most records are small, some have any size, and
+/// some are damaged. Some tables are damaged too.
 pub fn compare_pairs(call: Call, seed: u64, count: usize, ranges: Ranges) -> Comparison {
     compare(call, seed, count, |compared, random| {
         let table = match random.chance(1, 8) {

@@ -1,4 +1,4 @@
-//! Running the program `mapcalc`.
+//! Runs the program `mapcalc`.
 
 use std::io::Write;
 use std::path::{Path, PathBuf};
@@ -9,8 +9,8 @@ pub fn path() -> PathBuf {
     Path::new(env!("CARGO_MANIFEST_DIR")).join("../../target/bin/mapcalc")
 }
 
-/// The line that the program prints for an input, without its line end. Stops where
-/// the program fails, or prints anything but one line.
+/// The line that the program prints for an input, without its line end. Panics if the program
+/// fails or prints anything but one line.
 pub fn run(program: &Path, input: &[u8]) -> String {
     let mut child = Command::new(program)
         .stdin(Stdio::piped())

@@ -1,5 +1,6 @@
-//! Import and export by the proved engine and by the reference: the same call on the same
-//! rows and bytes, the same reply, and the same rows and bytes in all that was lent.
+//! Compares import and export by the proved engine with those of the reference. Both get the same
+//! call on the same rows and bytes. The replies, and the rows and bytes of all lent buffers, have
+//! to be the same.
 
 use crate::counts::Counts;
 use crate::exact_and_short;
@@ -11,7 +12,7 @@ use reference::record::{LONGEST_RECORD, MOST_LINKS, MOST_NODES};
 use reference::reply::Reply;
 use reference::rows::{self, NODE_BYTES, PlanningTable};
 
-/// Both engines at import and export, and how often each reply came.
+/// A comparison of import and export, and how often each reply came.
 pub struct PlanningTables {
     random: Xorshift,
     /// The replies of import.
@@ -21,7 +22,7 @@ pub struct PlanningTables {
 }
 
 impl PlanningTables {
-    /// The seed decides what lent rows and bytes hold.
+    /// A comparison. The seed decides what lent rows and bytes hold.
     pub fn new(seed: u64) -> PlanningTables {
         PlanningTables {
             random: Xorshift::stored(seed),
@@ -30,9 +31,9 @@ impl PlanningTables {
         }
     }
 
-    /// Imports with room for every record: the reply, and the record that is written. The
-    /// same is also imported with outputs of no bytes and of any length, and where there is a
-    /// result, with outputs as long as it, shorter by one byte, and longer.
+    /// Imports with room for every record. Gives the reply and the record that is written. The
+    /// import is also made with outputs of no bytes and of any length. If there is a result, it is
+    /// also made with outputs that are as long as the record, shorter by one byte, and longer.
     pub fn import(&mut self, table: &TableBytes, given: &PlanningTable) -> (Reply, Vec<u8>) {
         let (reply, written) = self.import_within(table, given, LONGEST_RECORD);
         let exact = written.len();
@@ -48,8 +49,8 @@ impl PlanningTables {
         (reply, written)
     }
 
-    /// Imports with an output of so many bytes; a refusal leaves it, and what is not written
-    /// stays.
+    /// Imports with an output of the given length. A refusal changes no byte, and bytes behind the
+    /// record are unchanged.
     pub fn import_within(
         &mut self,
         table: &TableBytes,
@@ -75,10 +76,10 @@ impl PlanningTables {
         (reply, written)
     }
 
-    /// Exports with room for every graph: the reply, and the rows and node bytes that are
-    /// filled. The same is also exported with no room and with any, and where there is a
-    /// result, with as many rows and bytes as it has, one less of either and of both, and
-    /// more.
+    /// Exports with room for every graph. Gives the reply, and the rows and node bytes that are
+    /// filled. The export is also made with no room and with any room. If there is a result, it is
+    /// also made with as many rows and bytes as the result has, with one less of either and of both,
+    /// and with more.
     pub fn export(&mut self, table: &TableBytes, record: &[u8]) -> (Reply, PlanningTable) {
         let most = [MOST_LINKS, NODE_BYTES * MOST_NODES];
         let (reply, filled) = self.export_within(table, record, most);
@@ -101,8 +102,8 @@ impl PlanningTables {
         (reply, filled)
     }
 
-    /// Exports into so many rows and so many node bytes; a refusal leaves both, and what is
-    /// not filled stays.
+    /// Exports into the given numbers of rows and node bytes. A refusal changes neither, and what
+    /// is not filled is unchanged.
     pub fn export_within(
         &mut self,
         table: &TableBytes,
@@ -138,7 +139,7 @@ impl PlanningTables {
     }
 }
 
-/// The reference's row as the engine's.
+/// A row of the reference as a row of the engine.
 fn to_engine(row: rows::Row) -> Row {
     let rows::Row {
         parent,
@@ -152,7 +153,7 @@ fn to_engine(row: rows::Row) -> Row {
     }
 }
 
-/// The engine's row as the reference's.
+/// A row of the engine as a row of the reference.
 fn to_reference(row: Row) -> rows::Row {
     let Row {
         parent,

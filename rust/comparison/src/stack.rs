@@ -1,11 +1,11 @@
-//! The stack of a call: calls on a thread that has what is stated and no more, and how much
-//! of it a call takes.
+//! The stack of calls: makes calls on a thread that has exactly the stated stack, and measures how
+//! much stack a call takes.
 
 use record_engine::STACK;
 use std::ptr::with_exposed_provenance_mut;
 use std::thread;
 
-/// What some calls give on a thread that has the stated stack and no more.
+/// Makes calls on a thread that has exactly the stated stack, and gives their result.
 pub fn on_stated_stack<T: Send>(calls: impl FnOnce() -> T + Send) -> T {
     on_stack(STACK, calls)
 }
@@ -19,17 +19,17 @@ fn on_stack<T: Send>(bytes: usize, calls: impl FnOnce() -> T + Send) -> T {
     })
 }
 
-/// So many bytes of stack are painted, more than a call takes.
+/// The number of bytes of stack that are painted. No call takes more.
 const PAINTED: usize = 2 * STACK;
 
-/// So many bytes below a frame are not painted, for what paints them.
+/// The number of bytes below a frame that are not painted. The function that paints uses them.
 const MARGIN: usize = 1024;
 
 const PAINT: u8 = 0xA5;
 
-/// How many bytes of stack a call takes below its caller, at least `MARGIN`: the stack is
-/// painted before the call, and the lowest byte that has another colour is looked for after
-/// it.
+/// How many bytes of stack a call takes below its caller, but at least `MARGIN`. The stack is
+/// painted before the call. After the call, the lowest byte with another value shows how far the
+/// call went.
 pub fn stack_taken(call: impl FnOnce() + Send) -> usize {
     on_stack(2 * PAINTED, || painted(call))
 }

@@ -1,5 +1,5 @@
-//! One store by the proved engine and one by the reference, in step: the same calls, the same
-//! replies, and after each call the same bytes in all that was lent.
+//! Keeps one store by the proved engine and one by the reference, and makes the same calls on both.
+//! The replies, and after each call the bytes of all lent buffers, have to be the same.
 
 use crate::counts::Counts;
 use crate::lent::Lent;
@@ -9,10 +9,10 @@ use reference::random::{StoreCall, TableBytes, Xorshift};
 use reference::reply::Reply;
 use reference::store;
 
-/// Both engines' bytes of one store, and how often each reply came since the start.
+/// The bytes of one store, and how often each reply came.
 pub struct Stores {
     random: Xorshift,
-    /// What both engines hold: they are compared after each call.
+    /// The bytes of both engines, which are compared after each call.
     state: Lent,
     /// The replies of put.
     pub put: Counts,
@@ -23,7 +23,7 @@ pub struct Stores {
 }
 
 impl Stores {
-    /// No bytes; the seed decides what lent bytes hold.
+    /// A store without bytes. The seed decides what lent bytes hold.
     pub fn new(seed: u64) -> Stores {
         let mut random = Xorshift::stored(seed);
         let state = Lent::new(&mut random, 0);
@@ -36,13 +36,13 @@ impl Stores {
         }
     }
 
-    /// Lends so many bytes, of which the first two are 0 and the others hold anything.
+    /// Lends the given number of bytes. The first two are 0, and the others hold anything.
     pub fn empty(&mut self, room: usize) {
         self.state = Lent::new(&mut self.random, room);
         self.state.output().iter_mut().take(2).for_each(|b| *b = 0);
     }
 
-    /// Puts bytes in the place of the store.
+    /// Replaces the bytes of the store.
     pub fn hold(&mut self, bytes: &[u8]) {
         self.state = Lent::holding(&mut self.random, bytes);
     }
@@ -83,8 +83,8 @@ impl Stores {
         reply
     }
 
-    /// Reads a version into an output of so many bytes, whose others stay: the reply and the
-    /// record. The store stays, and a refusal leaves the output.
+    /// Reads a version into an output of the given length. Gives the reply and the record. The
+    /// store and the other bytes of the output are unchanged. A refusal changes no byte.
     pub fn read(&mut self, table: &TableBytes, version: usize, room: usize) -> (Reply, Vec<u8>) {
         let (n, bytes) = (table.n, &table.bytes);
         let state = self.state.clone();
@@ -106,8 +106,8 @@ impl Stores {
         (reply, written)
     }
 
-    /// A call of each engine that may change the store. A refusal does not, and bytes behind
-    /// the used ones stay.
+    /// Makes a call of each engine that may change the store. A refusal does not change it, and
+    /// the bytes behind the used ones are unchanged.
     fn change(
         &mut self,
         engine: impl FnOnce(&mut [u8]) -> Told,

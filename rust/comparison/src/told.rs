@@ -1,4 +1,4 @@
-//! What a reply tells, whichever engine gives it: the papers' numbers.
+//! What a reply tells, in one form for all engines. Refusals have their numbers in the papers.
 
 use record_engine::{Counts, Order, Refusal};
 use reference::reply::Reply;
@@ -12,9 +12,9 @@ pub enum Told {
     Order(usize),
     /// The end of a listing.
     End,
-    /// The number of nodes that were filled, and that of rows.
+    /// The number of nodes that were filled, and the number of rows.
     Counts(usize, usize),
-    /// The number of the refusal, and for a graph's its place among first and second.
+    /// The number of the refusal. If it tells of a graph, also 0 for the first and 1 for the second.
     Refused(u8, Option<usize>),
 }
 

@@ -1,6 +1,6 @@
 //! What `docs/PROOFS.md` refers to: its links, and in its tables the theorems and the must-fail edits.
 
-/// A theorem that a table names, and the file that it stands in.
+/// A theorem that a table of the document names, and the file that the theorem stands in.
 #[derive(Clone, Debug, PartialEq, Eq, PartialOrd, Ord)]
 pub struct Cited {
     pub file: String,
@@ -14,9 +14,9 @@ pub struct Document {
     pub links: Vec<(String, String)>,
     /// The theorems of the columns `theorem`.
     pub theorems: Vec<Cited>,
-    /// The fields of the columns `theorem`, each a record's name and its own.
+    /// The fields in the columns `theorem`. Each is the name of a record and the name of the field.
     pub fields: Vec<(String, String)>,
-    /// The edits of the columns `edit`, each a crate and a name.
+    /// The edits in the columns `edit`. Each is a crate and the name of the edit.
     pub edits: Vec<(String, String)>,
 }
 
@@ -61,7 +61,7 @@ pub fn in_repository(target: &str) -> Option<&str> {
 }
 
 impl Document {
-    /// Reads the document. The line with `Theorems: ` names the file of the theorems that stand without a link below it.
+    /// Reads the document. A line with `Theorems: ` names the file of the theorems below it that have no link.
     pub fn read(text: &str) -> Document {
         let mut document = Document::default();
         let mut file = String::new();
@@ -99,7 +99,7 @@ impl Document {
         document
     }
 
-    /// Takes up what a cell of theorems names. A link to a definition or to code is no theorem.
+    /// Adds the theorems and fields that a cell names. A link to a definition or to code is no theorem.
     fn cite(&mut self, file: &str, cell: &str) {
         let (links, rest) = links_of(cell);
         for (name, target) in links {

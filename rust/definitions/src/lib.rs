@@ -1,8 +1,8 @@
-//! Which definitions the statements about the calls are made of. A statement is the type of a public theorem in one of the statement
-//! files; it reaches the definitions that it names, and what those name in turn. Proofs and comments are not read.
+//! Finds the definitions that the statements about the calls rest on. A statement is the type of a public theorem in one of the statement
+//! files. It reaches the definitions that it names, and the definitions that those name in turn. Proofs and comments are not read.
 //!
-//! The list of them stands in `docs/PROOFS.md`, in two parts. A definition of the part `computed` is a program whose result a theorem states,
-//! so what the program names is not gone into. `Document` reads what else `docs/PROOFS.md` refers to.
+//! `docs/PROOFS.md` lists these definitions in two parts. A definition of the part `### Computed` is a program whose result a theorem states,
+//! so the definitions that the program names are not followed. `Document` reads what else `docs/PROOFS.md` refers to.
 
 mod document;
 mod list;
@@ -48,7 +48,7 @@ pub struct Reached {
     pub lines: usize,
 }
 
-/// Goes from the statements of some files to what they reach. A computed definition is reached and not gone into.
+/// Finds the definitions that the statements of some files reach. A computed definition is reached, but the names in it are not followed.
 pub fn reach(sources: &mut Sources, statements: &[&str], computed: &BTreeSet<Place>) -> Reached {
     let mut waiting: Vec<Place> = Vec::new();
     for file in statements {

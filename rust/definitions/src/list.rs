@@ -20,7 +20,7 @@ pub struct List {
 }
 
 impl List {
-    /// Reads the list. An entry begins with `- ` and goes on in lines that are set in.
+    /// Reads the list. An entry begins with `- ` and continues in indented lines.
     pub fn read(text: &str) -> List {
         let mut list = List::default();
         let mut part = "";

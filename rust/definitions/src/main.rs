@@ -1,5 +1,5 @@
-//! Prints every definition that the statements about the calls reach, file by file, and how many lines they have: `definitions` for all
-//! statements, `definitions demands` for the three demands alone.
+//! Prints every definition that the statements about the calls reach, file by file, and how many lines these definitions have.
+//! `definitions` does this for all statements, and `definitions demands` for the three demands alone.
 
 use definitions::{DEMANDS, List, Place, STATEMENTS, Sources, reach, repository};
 use std::collections::BTreeSet;

@@ -1,4 +1,4 @@
-//! Reading the files: which definitions a file has, where each stands, and which names its text mentions.
+//! Reads the files: which definitions a file has, where each definition stands, and which names its text has.
 
 use std::collections::{BTreeMap, BTreeSet};
 use std::fs;
@@ -11,12 +11,12 @@ pub struct Place {
     pub name: String,
 }
 
-/// What a declaration is.
+/// The kind of a declaration.
 #[derive(Clone, Copy, Debug, PartialEq, Eq)]
 pub enum Kind {
     /// An abbreviation, a function, a record or a data type.
     Definition,
-    /// A public theorem; its text is its type alone.
+    /// A public theorem. Only its type counts as its text.
     Theorem,
     /// Anything else, such as a private lemma.
     Other,
@@ -170,7 +170,7 @@ impl Sources {
         self.resolve(&file, name)
     }
 
-    /// An enum or a struct of the code: the path names its modules and then itself, or its variants.
+    /// An enum or a struct of the code. The path names its modules, then the type itself, or its variants.
     fn declared(&mut self, krate: &str, path: &str, _name: &str) -> Option<Place> {
         let segments: Vec<&str> = path.split('.').filter(|s| *s != "the-variants").collect();
         let (name, modules) = segments.split_last()?;
@@ -194,7 +194,7 @@ fn indent(line: &str) -> usize {
     line.len() - line.trim_start().len()
 }
 
-/// The words of a line, without its comment. A field's name, which a dot comes before, is none.
+/// The words of a line without its comment. The name of a field, which stands behind a dot, is no word.
 fn words(line: &str) -> Vec<String> {
     let line = line.split("--").next().unwrap_or("");
     line.split(|c: char| c.is_whitespace() || "(){}[],;:=".contains(c))
@@ -260,7 +260,7 @@ fn declares(line: &str) -> Option<(String, bool, Kind)> {
 fn read_text(text: &str) -> File {
     let lines: Vec<&str> = text.lines().collect();
     let mut file = File::default();
-    // The modules around a line: how far each is set in, and its lines.
+    // The modules around a line: the indent of each, and its lines.
     let mut modules: Vec<(usize, Vec<usize>)> = Vec::new();
     let mut i = 0;
     while i < lines.len() {
@@ -298,7 +298,7 @@ fn read_text(text: &str) -> File {
         };
         let mut own = vec![i];
         i += 1;
-        // What belongs to it: lines set in further, and for a definition the lines that begin with its name.
+        // A declaration has the lines with a larger indent. A definition also has the lines that begin with its name.
         while i < lines.len() {
             let text = bare(lines[i]);
             let goes_on = text.is_empty()

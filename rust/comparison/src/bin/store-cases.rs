@@ -1,6 +1,6 @@
-//! Prints the stored cases of the program `mapcalc`: each case's name, its input
-//! in hexadecimal and the line that the program prints for it. The path of the
-//! program is the argument.
+//! Prints the cases of the program `mapcalc` as they are stored: for each case its name, its
+//! input in hexadecimal, and the line that the program prints. The argument is the path of the
+//! program.
 
 use comparison::cases::cases;
 use comparison::program::run;
