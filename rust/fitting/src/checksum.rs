@@ -1,5 +1,5 @@
-//! CRC-32, the checksum of ZIP and of Ethernet (ISO-HDLC): any change of up to 32 bits in a
-//! row changes it.
+//! CRC-32, the checksum of ZIP and of Ethernet (ISO-HDLC). Any change of up to 32 adjacent bits
+//! changes the checksum.
 
 /// The checksum of bytes.
 pub fn crc32(bytes: &[u8]) -> u32 {

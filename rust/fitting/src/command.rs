@@ -1,4 +1,4 @@
-//! The commands: what each reads, which calls it makes, and what it tells.
+//! The commands. A command reads files, makes calls of the engine, and tells the result.
 
 mod arguments;
 mod check;
@@ -27,28 +27,28 @@ type Told = Box<dyn Iterator<Item = Part>>;
 
 /// A part of what a command tells.
 enum Part {
-    /// On standard output.
+    /// A part on standard output.
     Printed(Vec<u8>),
-    /// On standard error; the exit status tells it too.
+    /// A failure, on standard error. It also decides the exit status.
     Failed(Failure),
-    /// On standard error, and no failure.
+    /// A note on standard error, which is no failure.
     Noted(String),
-    /// What was looked for is there: exit status 1.
+    /// What the command looked for was found: the exit status is 1.
     Found,
 }
 
-/// A listing is told so many lines at a time.
+/// The number of lines that a listing writes at a time.
 const LINES_AT_ONCE: usize = 1_000;
 
-/// Runs the tool: writes what a command tells, and gives the exit status, 0 for success, 1
-/// for a refusal and where programs are found to be the same, 2 for wrong use.
+/// Runs the tool. Writes what a command tells, and gives the exit status: 0 for success, 1 for a
+/// refusal or if programs are found to be the same, 2 for wrong use.
 pub fn run(arguments: &[String], out: &mut dyn Write, err: &mut dyn Write) -> u8 {
     let mut status = 0;
     let parts = told(arguments, &mut Progress::new(err));
     for part in parts.unwrap_or_else(failed) {
         let failure = match part {
             Part::Printed(bytes) => match out.write_all(&bytes).and_then(|()| out.flush()) {
-                // Whoever reads has read enough.
+                // The reader closed the pipe: it has read enough.
                 Err(error) if error.kind() == ErrorKind::BrokenPipe => return status,
                 Err(error) => Failure::usage(format!("cannot write: {error}")),
                 Ok(()) => continue,
@@ -64,7 +64,7 @@ pub fn run(arguments: &[String], out: &mut dyn Write, err: &mut dyn Write) -> u8
             Part::Failed(failure) => failure,
         };
         status = status.max(failure.status());
-        // Where standard error is closed, the status alone tells.
+        // If standard error is closed, only the exit status tells of the failure.
         let _ = writeln!(err, "{}", failure.message());
     }
     status

@@ -1,8 +1,8 @@
-//! A graph as a picture in Graphviz's DOT language. Nodes go by the names of their types,
-//! and a link has its feature in its middle; features stand in their order, and the root has
-//! a mark. A shared node is tinted, has a second border and the capital that it has in text.
-//! Over a general graph, what a difference keeps is bold, with its reasons, and what the
-//! general graph gives is grey.
+//! Draws a graph as a picture in Graphviz's DOT language. A node shows the name of its type, and
+//! a link has its feature in its middle. Features stand in their order, and the root has a mark.
+//! A shared node is tinted, and has a second border and the capital that it has in text. If the
+//! graph is drawn over a general graph, the parts that the difference keeps are bold, with their
+//! reasons, and the parts that the general graph gives are grey.
 
 mod types;
 
@@ -13,29 +13,29 @@ use crate::why::{Kept, Said, meaning, word};
 use record_engine::Reason;
 pub use types::types;
 
-/// With more links than this, `dot` is told to lay the picture out soon: straight lines,
-/// labels at the tails, few attempts at fewer crossings. It takes minutes else.
+/// With more links than this, `dot` is told to lay the picture out fast: with straight lines,
+/// labels at the tails, and few attempts at fewer crossings. Otherwise it takes minutes.
 const MANY_LINKS: usize = 300;
 
-/// With more links than this, it would take seconds all the same, for a picture too dense
-/// to be read: nodes have their places from here.
+/// With more links than this, `dot` would still take seconds, for a picture that is too dense to
+/// read. The nodes then get their places here.
 const TOO_MANY_LINKS: usize = 1000;
 
-/// A picture with a wider row than this, in points, goes from left to right.
+/// If a row would be wider than this, in points, the picture goes from left to right.
 const WIDEST_ROW: usize = 800;
 
-/// The distance of two columns and of two rows, in points; the next node of a row stands
-/// four columns on.
+/// The distance of two columns and of two rows, in points. The next node of a row stands four
+/// columns further.
 const COLUMN: i64 = 45;
 const ROW: i64 = 90;
 
-/// How much a part of a picture is to be seen.
+/// How strongly a part of a picture is drawn.
 const GREY_LINE: &str = "color=\"#9a9a9a\"";
 const GREY_TEXT: &str = "fontcolor=\"#767676\"";
 const BOLD: &str = "penwidth=2.5";
 const SHARED: &str = "peripheries=2, fillcolor=\"#dfeaff\"";
 
-/// What every picture begins with.
+/// The lines that every picture begins with.
 const HEAD: &str = concat!(
     "digraph fitting {\n",
     "  graph [fontname=\"Helvetica\", fontsize=12, labeljust=l, nodesep=0.3, ranksep=0.25];\n",
@@ -43,7 +43,7 @@ const HEAD: &str = concat!(
     "  edge [fontname=\"Helvetica\", fontsize=13, arrowsize=0.8];\n",
 );
 
-/// What makes a picture go from left to right, in lines that stand close.
+/// The lines that make a picture go from left to right, with rows close to each other.
 const RIGHTWARD: &str = concat!(
     "  graph [rankdir=LR, nodesep=0.12, ranksep=0.3];\n",
     "  node [height=0.3, margin=\"0.12,0.05\"];\n",
@@ -77,7 +77,8 @@ fn picture(table: &Table, graph: &Graph, over: Option<Over>) -> String {
         Some(over) if over.kept_only => over.kept.links.contains_key(&(parent, link.feature)),
         _ => true,
     };
-    // The graph with the links that are drawn: numbers and capitals are those of the whole.
+    // The graph with only the links that are drawn. Numbers and capitals are those of the whole
+    // graph.
     let mut drawn = graph.clone();
     for (parent, node) in drawn.nodes.iter_mut().enumerate() {
         node.links.retain(|link| is_drawn(parent, link));
@@ -123,8 +124,8 @@ fn picture(table: &Table, graph: &Graph, over: Option<Over>) -> String {
     dot + "}\n"
 }
 
-/// A node, at a place in points if it has one. Over a general graph, whether the difference
-/// keeps it, and what it says there, if it says anything.
+/// The statement of a node, at a place in points if it has one. Over a general graph, it shows
+/// whether the difference keeps the node, and what the difference says there, if anything.
 fn node(
     table: &Table,
     node: &Node,
@@ -174,7 +175,8 @@ fn words(table: &Table, node: &Node) -> String {
     }
 }
 
-/// The mark of the root. Over a general graph, whether the difference says something there.
+/// The mark of the root. Over a general graph, it shows whether the difference says something at
+/// the root.
 fn root(over: Option<bool>, place: Option<[i64; 2]>) -> String {
     let (reason, line, words): (_, &[&str], &[&str]) = match over {
         None => ("", &[], &[]),
@@ -194,11 +196,11 @@ fn root(over: Option<bool>, place: Option<[i64; 2]>) -> String {
     .concat()
 }
 
-/// How many links lead to each node from the root at most; none where none lead.
+/// For each node, the number of links of the longest path from the root; none if there is no path.
 fn rows(graph: &Graph) -> Vec<Option<usize>> {
     let mut rows = vec![None; graph.nodes.len()];
     rows[0] = Some(0);
-    // As often as a path may have links; no node reaches itself.
+    // A path has fewer links than there are nodes, since no node reaches itself.
     for _ in &graph.nodes {
         for (parent, node) in graph.nodes.iter().enumerate() {
             let Some(row) = rows[parent] else {
@@ -212,7 +214,7 @@ fn rows(graph: &Graph) -> Vec<Option<usize>> {
     rows
 }
 
-/// Whether a row of nodes or of features would be too wide, if rows stood below each other.
+/// Whether a row of nodes or of features would be too wide if the rows stood below each other.
 fn is_wide(table: &Table, graph: &Graph, rows: &[Option<usize>]) -> bool {
     let mut widths = vec![[0, 0]; rows.len() + 1];
     for (node, row) in graph.nodes.iter().zip(rows) {
@@ -229,8 +231,8 @@ fn is_wide(table: &Table, graph: &Graph, rows: &[Option<usize>]) -> bool {
     widths.iter().flatten().any(|&width| width > WIDEST_ROW)
 }
 
-/// Where nodes stand, in points: in their rows, along a row by number. Rows begin at four
-/// different columns in turn, so that fewer lines go through nodes.
+/// The places of the nodes, in points. Nodes stand in their rows, and in a row by number. The rows
+/// begin at four different columns in turn, so that fewer lines go through nodes.
 fn places(rows: &[Option<usize>]) -> Vec<[i64; 2]> {
     let place = |(number, row): (usize, &Option<usize>)| {
         let before = rows[..number].iter().filter(|&other| other == row);
@@ -245,8 +247,8 @@ fn position([x, y]: [i64; 2]) -> String {
     format!("pos=\"{x},{y}\"")
 }
 
-/// The line of a link with its feature in the middle, or at its tail where there are many.
-/// Over a general graph, why the difference keeps the link, if it does.
+/// The statement of a link, with its feature in the middle, or at its tail if there are many links.
+/// Over a general graph, it shows why the difference keeps the link, if it does.
 fn lines(
     table: &Table,
     parent: usize,
@@ -293,7 +295,7 @@ fn statement(what: &str, attributes: &[&str]) -> String {
     }
 }
 
-/// What the looks of a picture over a general graph mean; the reasons that come up.
+/// The legend of a picture over a general graph. It explains only the reasons that occur.
 fn legend(over: Over) -> String {
     let Over { kept, general, .. } = over;
     let mut legend = match over.kept_only {
@@ -313,8 +315,8 @@ fn legend(over: Over) -> String {
     }
 }
 
-/// A text as an attribute, with DOT's mark for the end of a line. DOT reads `&` as the begin
-/// of a character's name.
+/// A text as an attribute, with DOT's mark for the end of a line. DOT reads `&` as the beginning of
+/// a character's name, so it is escaped.
 fn label(name: &str, text: &str, end: &str) -> String {
     let text = text.replace('\\', "\\\\").replace('"', "\\\"");
     let text = text.replace('&', "&amp;");

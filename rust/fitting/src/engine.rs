@@ -1,5 +1,5 @@
-//! The engine's calls over a table, each with an output that is long enough for any record.
-//! All that the tool tells as a result comes from here.
+//! The calls of the engine over a table, each with an output that is long enough for any record.
+//! Every result that the tool tells comes from here.
 
 use crate::planning::NodeBytes;
 use crate::table::Table;
@@ -10,11 +10,11 @@ use record_engine::{difference_explained, difference_explained_by};
 /// An operation on two records that gives a third.
 #[derive(Clone, Copy, Debug, PartialEq, Eq)]
 pub enum Operation {
-    /// What both say, their generalization.
+    /// The common part: what both records say.
     Generalize,
-    /// What they say together, their unification.
+    /// The combination: what the records say together.
     Unify,
-    /// What the second says beyond the first.
+    /// The difference: what the second record says beyond the first.
     Difference,
 }
 
@@ -58,7 +58,8 @@ pub fn operate(
     written(|output| call(table.n, &table.bytes, first, second, output))
 }
 
-/// What two records that obey the table's list, if it has one, have in common or say together.
+/// The common part or the combination of two records. If the table has a list of types for
+/// features, the records have to obey it.
 pub fn operate_obeying(
     operation: Operation,
     table: &Table,
@@ -77,8 +78,8 @@ pub fn operate_obeying(
     }
 }
 
-/// The difference of two records, by a list of all features or without one, and the reason
-/// of each of its links, in record order.
+/// The difference of two records, by a reading order if one is given, and the reason for each of
+/// its links, in the order of the links in the record.
 pub fn explain(
     table: &Table,
     by: Option<&[u8]>,
@@ -93,14 +94,14 @@ pub fn explain(
             difference_explained_by(n, bytes, list, general, specific, output, reasons_lent)
         }
     })?;
-    // Behind the last link's the bytes are as they were lent, and 0 is no reason.
+    // The bytes behind the last reason are still 0, and 0 is no reason.
     let reasons = reasons
         .into_iter()
         .map_while(|byte| Reason::try_from(byte).ok());
     Ok((difference, reasons.collect()))
 }
 
-/// The listed record after another, or the first after no bytes; none at the end.
+/// The listed record that follows a record. After no bytes it is the first; at the end it is none.
 pub fn next(table: &Table, features: usize, record: &[u8]) -> Result<Option<Vec<u8>>, Refusal> {
     let mut output = [0; LONGEST_LISTED];
     let length = record_engine::next(table.n, &table.bytes, features, record, &mut output)?;
@@ -124,7 +125,7 @@ pub fn export(table: &Table, record: &[u8]) -> Result<(Vec<Row>, Vec<NodeBytes>)
     Ok((rows, nodes))
 }
 
-/// Stores a program under the number of a version.
+/// Puts a program into a store under a version.
 pub fn put_version(
     table: &Table,
     store: &mut Store,
@@ -149,7 +150,7 @@ fn accepted(table: &Table) -> Result<record_engine::Table, Refusal> {
     record_engine::Table::from_bytes(&table.bytes)
 }
 
-/// What a call writes.
+/// The record that a call writes.
 fn written(call: impl FnOnce(&mut [u8]) -> Result<usize, Refusal>) -> Result<Vec<u8>, Refusal> {
     let mut output = vec![0; LONGEST_RECORD];
     let length = call(&mut output)?;

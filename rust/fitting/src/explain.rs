@@ -1,5 +1,5 @@
-//! A refusal in words: its number and side as the engine gives them, then what the tool
-//! finds out itself about the cause, and what to do.
+//! A refusal in words. A message has the number and the record as the engine gives them, then
+//! the cause as the tool finds it, and what to do.
 
 mod pair;
 mod planning;
@@ -17,9 +17,9 @@ use crate::table::Table;
 pub use pair::{Contradiction, Kind, contradictions};
 use record_engine::{Refusal, Side};
 
-/// What was found out about a refusal.
+/// The cause of a refusal, as the tool finds it.
 struct Cause {
-    /// Where in a record it is, if it has a place.
+    /// The part of a record where the cause is, if there is one.
     place: Place,
     what: String,
     advice: String,
@@ -43,8 +43,8 @@ impl Cause {
     }
 }
 
-/// The message of a refused call on records; the operation, if it is one. A call on more than
-/// two has gone from one to the next, and the second of the refused call is the last.
+/// The message of a refused call on records. `operation` is given if the call is one. An operation
+/// on more than two records goes from one to the next; the refused call's second record is the last.
 pub fn refused(
     refusal: Refusal,
     operation: Option<Operation>,
@@ -78,8 +78,8 @@ pub fn refused(
     Failure::refused(refusal, message)
 }
 
-/// The first line of a message: number and words as the engine has them. Which record it is
-/// of is said where there are two.
+/// The first line of a message: the number and the sentence of the engine. If the call has two
+/// records, the line also tells which record is meant.
 fn heading(refusal: Refusal, records: usize) -> String {
     let words = refusal.to_string();
     match records {
@@ -114,8 +114,8 @@ pub enum Use<'a> {
     Taken { file: &'a str, version: usize },
 }
 
-/// The message of a store's refusal. The programs are those that are there by their numbers,
-/// and the one that is put among them.
+/// The message of a refusal by a store. The programs are those in the store, by their versions,
+/// with the one that is put.
 pub fn store_refused(
     refusal: Refusal,
     table: &Table,
@@ -139,7 +139,7 @@ pub fn table_refused(refusal: Refusal, table: &Table, name: &str) -> Failure {
     Failure::refused(refusal, message)
 }
 
-/// A cause with the record's name, or where the record was a text, the place in it.
+/// A cause with the name of the record, or with the place in the text if the record was a text.
 fn placed(cause: &Cause, input: &Input) -> String {
     let Cause { what, advice, .. } = cause;
     if let Some((text, read)) = &input.text {
@@ -169,8 +169,8 @@ pub fn listed(items: &[String]) -> String {
 mod tests {
     use record_engine::Refusal;
 
-    /// The tool lends enough bytes and hands in whole lists of types and of features, so no
-    /// session comes to these.
+    /// The tool always lends enough bytes and hands in whole lists of types and of features, so no
+    /// session shows these refusals.
     #[test]
     fn refusals_that_no_command_meets_have_words_too() {
         let is_met =

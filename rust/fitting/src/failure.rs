@@ -1,17 +1,17 @@
-//! Why a command does not succeed: a refusal by the engine, a text or bytes that cannot be
-//! handed to it, or wrong use. All are told on standard error, and the exit status tells
-//! wrong use from the others.
+//! Why a command fails: the engine refuses, a text or bytes cannot be handed to the engine, or
+//! the command is used wrongly. All failures are told on standard error. The exit status is 2 for
+//! wrong use and 1 for the others.
 
 use record_engine::Refusal;
 
-/// What is told on standard error, and with which exit status.
+/// A failure: the message on standard error. Its kind decides the exit status.
 #[derive(Clone, Debug, PartialEq, Eq)]
 pub enum Failure {
     /// Status 1: the engine refuses a table, a record or an operation on them, by a number.
     Refused { number: u8, message: String },
-    /// Status 1: a text is no table, record or planning table, or bytes are none.
+    /// Status 1: a text or bytes are no table, no record and no planning table.
     Malformed(String),
-    /// Status 2: the command is used wrongly, or a file or program is not to be had.
+    /// Status 2: the command is used wrongly, or a file or program cannot be used.
     Usage(String),
 }
 
@@ -22,7 +22,7 @@ impl Failure {
         Failure::Refused { number, message }
     }
 
-    /// Wrong use, told as the tool's own words.
+    /// Wrong use, with a message of the tool.
     pub fn usage(message: impl AsRef<str>) -> Failure {
         Failure::Usage(format!("fitting: {}", message.as_ref()))
     }

@@ -1,6 +1,6 @@
-//! A record as a graph in memory, for showing and for messages: bytes to nodes, and nodes
-//! to bytes. Whether a record is accepted is for the engine to say; a graph that was read
-//! here may have any types, targets and loops.
+//! A record as a graph in memory, for texts, pictures and messages. This module turns bytes into
+//! nodes and nodes into bytes. Only the engine tells whether a record is accepted: a graph that is
+//! read here may have any types and targets, and a node may reach itself.
 
 use std::collections::VecDeque;
 use std::fmt;
@@ -11,7 +11,7 @@ pub const MOST_NODES: usize = 255;
 /// This bit of the type byte says that a lowest and a highest level follow it.
 const HAS_LEVELS: u8 = 0x80;
 
-/// A range of levels, both ends in it.
+/// A range of levels, from the lowest to the highest, both included.
 #[derive(Clone, Copy, Debug, PartialEq, Eq)]
 pub struct Levels {
     pub lowest: u8,
@@ -25,7 +25,7 @@ impl Levels {
         highest: 255,
     };
 
-    /// The levels in both; lowest is above highest where there are none.
+    /// The levels in both ranges. If there are none, the lowest is above the highest.
     pub fn overlap(self, other: Levels) -> Levels {
         Levels {
             lowest: self.lowest.max(other.lowest),
@@ -33,7 +33,7 @@ impl Levels {
         }
     }
 
-    /// Whether no level is in it.
+    /// Whether the range has no level.
     pub fn is_empty(self) -> bool {
         self.lowest > self.highest
     }
@@ -77,14 +77,14 @@ pub struct Graph {
     pub nodes: Vec<Node>,
 }
 
-/// Why bytes are no list of nodes.
+/// Why bytes are not the nodes of a record.
 #[derive(Clone, Debug, PartialEq, Eq)]
 pub enum Malformed {
     /// There is no byte, or byte 0 counts no node.
     NoNodes,
     /// The bytes end within a node, in the part named.
     Ends { node: usize, part: &'static str },
-    /// All nodes end here, and bytes follow.
+    /// The last node ends here, and bytes follow.
     LeftOver { length: usize },
 }
 
@@ -164,7 +164,7 @@ impl Graph {
         self.nodes.iter().map(|node| node.links.len()).sum()
     }
 
-    /// For each node a shortest path from the root; none where there is no path.
+    /// For each node a shortest path from the root; none if there is no path.
     pub fn paths(&self) -> Vec<Option<Vec<u8>>> {
         let mut paths = vec![None; self.nodes.len()];
         paths[0] = Some(Vec::new());
@@ -197,9 +197,9 @@ impl Graph {
         })
     }
 
-    /// The capitals that shared nodes go by, in text and in pictures: `X`, `Y`, `Z` where
-    /// there are at most three, else `X` and the node's number. A node is shared when two
-    /// links or more enter it.
+    /// The capitals of shared nodes, in text and in pictures: `X`, `Y`, `Z` if at most three nodes
+    /// are shared, else `X` and the number of the node. A node is shared when two or more links
+    /// enter it.
     pub fn capitals(&self) -> Vec<Option<String>> {
         let mut entering = vec![0; self.nodes.len()];
         for link in self.nodes.iter().flat_map(|node| &node.links) {
@@ -234,7 +234,7 @@ enum State {
     Done,
 }
 
-/// A search in depth; the way is the links from where it started to where it is.
+/// A search in depth. The way is the list of links from the start of the search to its current node.
 struct Search<'a> {
     graph: &'a Graph,
     state: Vec<State>,
@@ -242,8 +242,8 @@ struct Search<'a> {
 }
 
 impl Search<'_> {
-    /// A node on the way that a link leads back to. The way is then left as it is, that
-    /// link at its end.
+    /// A node on the way that a link leads back to. The way then stays as it is, with that link at
+    /// its end.
     fn returns(&mut self, node: usize) -> Option<usize> {
         match self.state[node] {
             State::Done => return None,

@@ -1,5 +1,5 @@
-//! What `--help` prints, for the whole and for each command; the commands' forms, by which
-//! their arguments are read. The lines that begin with `$` are run by the tests.
+//! The texts of `--help`, for the tool and for each command, and the forms of the commands, by
+//! which their arguments are read. The tests run the lines of the help that begin with `$`.
 
 use crate::failure::Failure;
 use crate::names::{cut, nearest};
@@ -222,7 +222,7 @@ pub fn command(name: &str) -> Result<&'static Command, Failure> {
     })
 }
 
-/// The help about a command, about `text` or `json`, or about the whole.
+/// The help about a command, about `text` or `json`, or about the whole tool.
 pub fn about(subject: &str) -> Result<String, Failure> {
     match subject {
         "" => Ok(include_str!("help/fitting.txt").to_string()),

@@ -1,6 +1,6 @@
-//! What a command reads: a table, and records or texts, told apart by their content. An
-//! accepted record has eight zero bytes in a row, the feature map of a node without links,
-//! and text has no control characters but white space.
+//! Reads what a command needs: a table, and records or texts. Their content tells records from
+//! texts. An accepted record has eight zero bytes in a row, which are the feature map of a node
+//! without links. A text has no control characters except white space.
 
 use crate::failure::Failure;
 use crate::graph::Graph;
@@ -16,23 +16,23 @@ use std::fs::{self, File};
 use std::io::{self, ErrorKind, Read};
 use std::path::{Path, PathBuf};
 
-/// No table, record or sensible text is longer.
+/// The most bytes that are read. No table, record or sensible text is longer.
 const LONGEST_FILE: u64 = 1 << 20;
 
-/// A record as a command was given it.
+/// A record as it was handed to a command.
 #[derive(Clone, Debug)]
 pub struct Input {
-    /// The name that it was given.
+    /// The name of the file, as in the arguments.
     pub name: String,
     /// The name that messages give it.
     pub shown: String,
     pub record: Vec<u8>,
-    /// Where the record was read from text, the text and its parts.
+    /// The text and its parts, if the record was read from text.
     pub text: Option<(String, Text)>,
 }
 
 impl Input {
-    /// Reads a record or a text; whether it is accepted is not asked here.
+    /// Reads a record or a text. It does not check whether the record is accepted.
     pub fn read(table: &Table, argument: &str) -> Result<Input, Failure> {
         let (name, bytes) = contents(argument)?;
         // A text may begin with these letters: capitals name a node.
@@ -92,8 +92,8 @@ pub fn name(argument: &str) -> &str {
     }
 }
 
-/// The files that arguments name, in their order, each once; for a folder those in it and in
-/// its folders, by name. Hidden files and the table's own are left out of a folder.
+/// The files that arguments name, in the order of the arguments, each once. For a folder these are
+/// the files in it and in its folders, sorted by name, except hidden files and the table's own file.
 pub fn files(table: &str, arguments: &[String]) -> Result<Vec<String>, Failure> {
     let mut files = Vec::new();
     for argument in arguments {
@@ -118,7 +118,7 @@ pub fn files(table: &str, arguments: &[String]) -> Result<Vec<String>, Failure> 
     let mut met = BTreeSet::new();
     files.retain(|file| match fs::canonicalize(file) {
         Ok(named) if file != "-" => met.insert(named),
-        // Whether it can be read is told when it is.
+        // An error is told later, when the file is read.
         _ => true,
     });
     Ok(files)
@@ -145,7 +145,7 @@ fn walk(folder: &Path, table: Option<PathBuf>, files: &mut Vec<String>) -> io::R
     Ok(())
 }
 
-/// Reads a table that the engine accepts, from a file of its own or a patient's.
+/// Reads a table that the engine accepts, from a table's file or from a patient's file.
 pub fn table(argument: &str) -> Result<Table, Failure> {
     if argument == "house" {
         return Ok(Table::house());
@@ -173,7 +173,7 @@ pub fn table(argument: &str) -> Result<Table, Failure> {
     }
 }
 
-/// Reads a patient's file, and gives its name too.
+/// Reads a patient's file, and also gives its name.
 pub fn patient(argument: &str) -> Result<(String, Patient), Failure> {
     let (name, bytes) = contents(argument)?;
     if bytes.is_empty() {
@@ -188,7 +188,7 @@ pub fn is_read_whole(bytes: &[u8]) -> bool {
     bytes.len() as u64 <= LONGEST_FILE
 }
 
-/// Reads a file of CSV; what it says is not asked here.
+/// Reads a file of CSV. It does not check what the file says.
 pub fn csv(argument: &str) -> Result<Csv, Failure> {
     let (name, bytes) = contents(argument)?;
     let advice = "hand in CSV, as spreadsheets and `fitting export` write it";
@@ -207,7 +207,7 @@ pub fn csv(argument: &str) -> Result<Csv, Failure> {
     }
 }
 
-/// What bytes are, by their content.
+/// The kind of some bytes, by their content.
 #[derive(Clone, Copy, Debug, PartialEq, Eq)]
 enum Content {
     /// There is nothing, or nothing but white space.
@@ -215,7 +215,7 @@ enum Content {
     Text,
     /// Text with two bytes for a letter, which is not read here.
     Utf16,
-    /// Bytes that no text has are among them.
+    /// Some of the bytes are in no text.
     Binary,
 }
 
@@ -232,14 +232,14 @@ fn content(bytes: &[u8]) -> Content {
     }
 }
 
-/// Whether a byte is a control character but white space.
+/// Whether a byte is a control character other than white space.
 fn is_control(byte: &u8) -> bool {
     byte.is_ascii_control() && !byte.is_ascii_whitespace()
 }
 
-/// Whether bytes are text with two bytes for a letter: behind a mark of the byte order any
-/// text, else letters of ASCII. No accepted table or record is like that: in its seven or
-/// eight zero bytes in a row is a letter that no text has.
+/// Whether bytes are text with two bytes for a letter. With a mark of the byte order at the
+/// beginning it is any text, otherwise letters of ASCII. No accepted table or record looks like
+/// that: its seven or eight zero bytes in a row contain a letter that no text has.
 fn is_utf16(bytes: &[u8]) -> bool {
     if bytes.len() < 4 || !bytes.len().is_multiple_of(2) {
         return false;
@@ -258,8 +258,8 @@ fn is_utf16(bytes: &[u8]) -> bool {
         || is_text(pairs.map(u16::from_be_bytes).collect())
 }
 
-/// Whether the engine can have something to say about a record of these bytes: they have
-/// eight zeros in a row, as every accepted record does, or they are a list of nodes.
+/// Whether bytes look like a record, so that the engine can tell what is wrong with them: they
+/// have eight zeros in a row, as every accepted record does, or they are a list of nodes.
 fn is_like_a_record(bytes: &[u8]) -> bool {
     bytes.windows(8).any(|bytes| bytes == [0; 8]) || Graph::decode(bytes).is_ok()
 }
@@ -288,7 +288,7 @@ fn neither(name: &str, bytes: &[u8]) -> Failure {
     ))
 }
 
-/// The text of bytes, with a line feed for each line end; a mark of the byte order before it
+/// The text of bytes, with a line feed for each line end. A mark of the byte order at the beginning
 /// is left out.
 fn decoded(name: &str, bytes: &[u8]) -> Result<String, Failure> {
     match std::str::from_utf8(bytes) {
@@ -327,7 +327,8 @@ fn contents(argument: &str) -> Result<(String, Vec<u8>), Failure> {
     }
 }
 
-/// The file of the same folder that a name which is not there is nearest to, as a question.
+/// A question that proposes the file with the nearest name in the same folder, for a name that does
+/// not exist.
 fn neighbour(argument: &str) -> Option<String> {
     const LOOKED_AT: usize = 1_000;
     let missing = Path::new(argument);

@@ -1,5 +1,5 @@
-//! Answers as JSON (RFC 8259), for programs that run the tool. `fitting help json` has their
-//! shapes.
+//! Answers as JSON (RFC 8259), for programs that run the tool. `fitting help json` describes the
+//! answers.
 
 use crate::table::Table;
 use std::fmt;
@@ -49,7 +49,7 @@ impl Json {
             Json::List(_) => ('[', ']'),
             Json::Object(_) => ('{', '}'),
         };
-        // What has only small things in it stands on one line.
+        // A value that contains only small values stands on one line.
         let (gap, end) = match self.is_small() {
             true => (String::new(), String::new()),
             false => (

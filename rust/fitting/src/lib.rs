@@ -1,7 +1,7 @@
-//! `fitting`: records as text and as pictures, for a person at a desk. A
-//! command reads a type table and records or texts, asks the engine (`record_engine`) and
-//! tells what it answers. What the engine proves is not computed here; what a message or a
-//! picture tells beyond the engine's answer is.
+//! The tool `fitting` shows records as text and as pictures, for a person at a desk. A command
+//! reads a type table and records or texts, asks the engine (`record_engine`), and tells what
+//! the engine answers. Every result comes from the engine. This package computes only what a
+//! message or a picture tells in addition.
 
 #![forbid(unsafe_code)]
 

@@ -1,4 +1,4 @@
-//! The program `fitting`: arguments in, what a command tells out.
+//! The program `fitting`. It takes arguments, runs a command, and prints what the command tells.
 
 use std::io;
 use std::process::ExitCode;

@@ -1,11 +1,11 @@
-//! Names in messages: long ones are cut, and a misspelt one is answered by the nearest.
+//! Names in messages. A long name is cut, and for a misspelt name the nearest one is proposed.
 
 use crate::notation::is_name;
 
-/// So many characters of a name are shown in a message.
+/// The number of characters of a name that a message shows.
 const SHOWN: usize = 40;
 
-/// A name as a message shows it: its first line, or the start of that.
+/// A name as a message shows it: its first line, or the beginning of that line.
 pub fn cut(name: &str) -> String {
     let line = name.lines().next().unwrap_or("");
     let start: String = line.chars().take(SHOWN).collect();
@@ -15,7 +15,7 @@ pub fn cut(name: &str) -> String {
     }
 }
 
-/// A file's name as a message shows it: where it is long, its end.
+/// The name of a file as a message shows it. Of a long name, the message shows the end.
 pub fn cut_file(name: &str) -> String {
     const SHOWN: usize = 60;
     let count = name.chars().count();
@@ -28,7 +28,7 @@ pub fn cut_file(name: &str) -> String {
     }
 }
 
-/// A name as text writes it: in quotation marks where it is not a word of small letters.
+/// A name as text writes it: in quotation marks if it is not a word of small letters.
 pub fn written(name: &str) -> String {
     match is_name(name) {
         true => name.to_string(),
@@ -60,8 +60,8 @@ pub fn unquotable(name: &str) -> Option<&'static str> {
     }
 }
 
-/// The one of some names that a misspelt one is meant for, if one is near: it differs in few
-/// letters, capitals not counted, or goes on where the misspelt one ends.
+/// The name that a misspelt name probably means, if one is near. A near name differs in few
+/// letters, without regard to capitals, or begins with the misspelt name.
 pub fn nearest<'a>(wrong: &str, names: impl IntoIterator<Item = &'a str>) -> Option<&'a str> {
     let wrong: Vec<char> = wrong.to_lowercase().chars().collect();
     let near = names.into_iter().filter_map(|name| {

@@ -1,7 +1,7 @@
-//! Document 01's notation for graphs: `type{lowest..highest}[feature: value, ..]`, where
-//! equal capitals share, as in `top[0: X a, 1: X]`. One level is `{level}`, and a name in
-//! quotation marks may begin with a capital. What [`write()`] prints, [`read`] reads. White
-//! space and line breaks are free, and `#` begins a comment.
+//! Document 01's notation for graphs: `type{lowest..highest}[feature: value, ..]`. Equal capitals
+//! are one node, as in `top[0: X a, 1: X]`. A range of one level is `{level}`. A name in quotation
+//! marks may begin with a capital. White space and line breaks may stand anywhere between words, and
+//! `#` begins a comment. [`read`] reads what [`write()`] prints.
 
 mod read;
 mod tokens;

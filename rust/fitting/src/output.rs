@@ -1,5 +1,5 @@
-//! A file that a command writes. It gets its name when it is whole: a failure leaves what
-//! stood there before.
+//! Writes a file. The file gets its name only when it is complete, so after a failure the old file
+//! is still there.
 
 use crate::failure::Failure;
 use std::fs::{self, OpenOptions};
@@ -7,7 +7,7 @@ use std::io::{self, Write};
 use std::path::{Path, PathBuf};
 use std::process;
 
-/// What is asked of the bytes that were written, before they get their name.
+/// The check of the bytes that were written, before the file gets its name.
 type Check<'a> = &'a dyn Fn(&[u8]) -> bool;
 
 /// Writes a file.
@@ -15,7 +15,7 @@ pub fn write(file: &str, bytes: &[u8]) -> Result<(), Failure> {
     written(file, bytes, None)
 }
 
-/// Writes a file that is read again and checked before it gets its name.
+/// Writes a file, and reads and checks it before it gets its name.
 pub fn write_checked(file: &str, bytes: &[u8], check: Check) -> Result<(), Failure> {
     written(file, bytes, Some(check))
 }
@@ -25,7 +25,7 @@ fn written(file: &str, bytes: &[u8], check: Option<Check>) -> Result<(), Failure
         .map_err(|error| Failure::usage(format!("cannot write {file}: {error}")))
 }
 
-/// What a check that fails is told as.
+/// The error of a check that fails.
 fn unlike() -> io::Error {
     io::Error::other("what was written does not read as what was meant")
 }
@@ -52,7 +52,7 @@ fn put(file: &Path, bytes: &[u8], check: Option<Check>) -> io::Result<()> {
     }
 }
 
-/// Writes beside a file, then takes its place.
+/// Writes a new file in the same folder, then puts it in place of the old one.
 fn replace(
     file: &Path,
     permissions: Option<fs::Permissions>,
@@ -82,7 +82,7 @@ fn replace(
     written
 }
 
-/// A name of the same folder that no one uses.
+/// A name in the same folder that no file has.
 fn beside(file: &Path) -> Option<PathBuf> {
     let name = file.file_name()?.to_str()?;
     Some(file.with_file_name(format!(".{name}.{}", process::id())))

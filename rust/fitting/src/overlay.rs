@@ -1,6 +1,6 @@
-//! How a general graph lies over a specific one: each path of the general graph leads to a
-//! node of the specific one, or something keeps it from being above. For messages and
-//! pictures; whether one record is below another is the engine's answer.
+//! How a general graph lies over a specific one, for messages and pictures. Either each path of the
+//! general graph leads to a node of the specific one, or something keeps the general graph from
+//! being above. Whether one record is below another is the engine's answer.
 
 use crate::graph::Graph;
 use crate::table::Table;
@@ -13,8 +13,8 @@ pub struct Named<'a> {
     pub name: &'a str,
 }
 
-/// For each node of the general graph the node of the specific one that it lies over; or
-/// what is first met, by shortest paths, that keeps the one from being above the other.
+/// For each node of the general graph, the node of the specific one that it lies over. If the
+/// general graph is not above, it is the first reason why, on a shortest path.
 pub fn image(table: &Table, general: Named, specific: Named) -> Result<Vec<usize>, String> {
     let (above, below) = (general.name, specific.name);
     let mut images: Vec<Option<(usize, Vec<u8>)>> = vec![None; general.graph.nodes.len()];

@@ -1,5 +1,5 @@
-//! A patient's file: a table with its names, and versions of a program over it, in Paper 11's
-//! store. docs/PATIENT-FILE.md tells each byte.
+//! A patient's file: a table with its names, and versions of a program over it in a store (Paper
+//! 11). docs/PATIENT-FILE.md describes each byte.
 
 use crate::checksum::crc32;
 use crate::failure::Failure;
@@ -13,7 +13,7 @@ const SIGNATURE: &[u8; 8] = b"FITTING\n";
 /// The number of the format.
 const FORMAT: u8 = 1;
 
-/// What to do about a file that is not as it was written.
+/// What to do about a file that has changed since it was written.
 const ADVICE: &str = "hand in a whole copy of what `fitting pack` wrote";
 
 /// What the file holds.
@@ -23,7 +23,7 @@ pub struct Patient {
     pub store: Store,
 }
 
-/// Whether bytes are meant for a patient's file: the signature's letters are there.
+/// Whether bytes are meant to be a patient's file: they begin with the letters of the signature.
 pub fn is_meant(bytes: &[u8]) -> bool {
     bytes.starts_with(&SIGNATURE[..7])
 }
@@ -50,7 +50,8 @@ impl Patient {
         bytes
     }
 
-    /// Opens the bytes of a file of this name. What is not as it was written is told.
+    /// Opens the bytes of a file of this name. A file that has changed since it was written is a
+    /// failure.
     pub fn open(name: &str, bytes: &[u8]) -> Result<Patient, Failure> {
         opened(name, bytes).map_err(|fault| match fault {
             Fault::Refused(failure) => failure,
@@ -79,11 +80,11 @@ fn text(table: &Table) -> String {
     }
 }
 
-/// Why bytes are not opened.
+/// Why bytes cannot be opened.
 enum Fault {
-    /// They are no file of this format.
+    /// The bytes are no file of this format.
     Other(String, String),
-    /// They are not as they were written.
+    /// The bytes have changed since they were written.
     Damaged(String),
     /// The engine refuses the table.
     Refused(Failure),

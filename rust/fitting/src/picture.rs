@@ -1,4 +1,4 @@
-//! Pictures made from DOT by Graphviz's program `dot`, which is needed for nothing else.
+//! Makes pictures from DOT with Graphviz's program `dot`. Nothing else in the tool needs `dot`.
 
 use crate::failure::Failure;
 use crate::output;
@@ -6,11 +6,11 @@ use std::io::{self, ErrorKind, Write};
 use std::process::{Child, Command, Output, Stdio};
 use std::thread;
 
-/// The endings that `dot` makes pictures for.
+/// The endings of file names for which `dot` makes pictures.
 const FORMATS: [&str; 3] = ["svg", "png", "pdf"];
 
-/// Writes a picture, whose ending tells the format; a file that ends in `.dot` gets the DOT
-/// text itself.
+/// Writes a picture. The ending of the file's name tells the format. A file that ends in `.dot`
+/// gets the DOT text itself.
 pub fn draw(dot: &str, file: &str) -> Result<(), Failure> {
     let ending = file.rsplit_once('.').map_or("", |(_, ending)| ending);
     if ending == "dot" {
@@ -32,8 +32,8 @@ pub fn draw(dot: &str, file: &str) -> Result<(), Failure> {
     output::write(file, &picture)
 }
 
-/// The picture that `dot` makes of a DOT text; an error of the kind `NotFound` where the
-/// program is not installed.
+/// The picture that `dot` makes of a DOT text. The error is of the kind `NotFound` if the program
+/// is not installed.
 pub fn rendered(dot: &str, format: &str) -> io::Result<Vec<u8>> {
     let child = Command::new("dot")
         .arg(format!("-T{format}"))
@@ -43,16 +43,16 @@ pub fn rendered(dot: &str, format: &str) -> io::Result<Vec<u8>> {
     let Output { status, stdout, .. } = output(child, dot)?;
     match status.success() {
         true => Ok(stdout),
-        // What went wrong it has told itself.
+        // The program itself has told what went wrong.
         false => Err(io::Error::other(format!("`dot` fails ({status})"))),
     }
 }
 
-/// What a program writes that is given a text.
+/// What a program writes when it gets a text as its input.
 fn output(mut child: Child, text: &str) -> io::Result<Output> {
     let stdin = child.stdin.take();
     thread::scope(|scope| {
-        // What the program does not read it tells of itself, by its status.
+        // If the program does not read its input, its exit status tells so.
         scope.spawn(move || stdin.map(|mut stdin| stdin.write_all(text.as_bytes())));
         child.wait_with_output()
     })

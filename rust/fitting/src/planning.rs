@@ -1,6 +1,6 @@
-//! A planning table as CSV: nodes below the header line `node,type,lowest,highest` and links
-//! below `parent,feature,target`, in one file or in two. What [`nodes`] and [`links`] print,
-//! [`read`] reads. Rows stand in any order, and a cell has a name or a number.
+//! A planning table as CSV. Nodes stand below the header line `node,type,lowest,highest`, and links
+//! stand below `parent,feature,target`, in one file or in two. [`read`] reads what [`nodes`] and
+//! [`links`] print. Rows may stand in any order, and a cell has a name or a number.
 
 mod csv;
 mod read;
@@ -10,7 +10,7 @@ pub use csv::File;
 pub use read::{Place, Planning, read};
 pub use write::{links, nodes};
 
-/// The header of nodes; the last two columns may be left out.
+/// The header of nodes. The last two columns may be missing.
 const NODES: [&str; 4] = ["node", "type", "lowest", "highest"];
 
 /// The header of links.

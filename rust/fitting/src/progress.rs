@@ -1,5 +1,5 @@
-//! How far a long command is: a line on standard error after a second, and whenever twice the
-//! time has passed since.
+//! Tells how far a long command is. It prints a line on standard error after a second, and another
+//! line whenever the time has doubled.
 
 use std::io::Write;
 use std::time::{Duration, Instant};
@@ -7,7 +7,7 @@ use std::time::{Duration, Instant};
 /// The first line comes after this time.
 const FIRST: Duration = Duration::from_secs(1);
 
-/// The line's writer.
+/// The writer of these lines.
 pub struct Progress<'a> {
     err: &'a mut dyn Write,
     begin: Instant,
@@ -23,7 +23,7 @@ impl<'a> Progress<'a> {
         }
     }
 
-    /// Tells how many of all are done, if it is time to.
+    /// Prints how many of all are done, if it is time to do so.
     pub fn tell(&mut self, done: usize, all: usize, what: &str) {
         self.tell_at(self.begin.elapsed(), done, all, what);
     }
@@ -31,7 +31,7 @@ impl<'a> Progress<'a> {
     fn tell_at(&mut self, elapsed: Duration, done: usize, all: usize, what: &str) {
         if elapsed >= self.next {
             self.next = 2 * elapsed;
-            // Where standard error is closed, nobody waits for a line.
+            // If standard error is closed, nobody reads the line.
             let _ = writeln!(self.err, "fitting: {done} of {all} {what}");
         }
     }

@@ -1,12 +1,12 @@
-//! The order in which features are read (Paper 10), from those that `--by` names.
+//! Makes the reading order (Paper 10) from the features that `--by` names.
 
 use crate::names::cut;
 use crate::table::Table;
 use record_engine::FEATURES;
 
-/// All features, each once: those that are named, by name or number and parted by commas,
-/// then the others by number; or what is wrong, and what to do. A name may stand in quotation
-/// marks.
+/// The reading order: first the features in the text, then the others by number. In the text,
+/// features stand by name or number, with commas between them. A name may stand in quotation marks.
+/// The error tells what is wrong and what to do.
 pub fn order(table: &Table, named: &str) -> Result<Vec<u8>, String> {
     let mut list = Vec::new();
     for word in words(named) {
@@ -28,7 +28,7 @@ pub fn order(table: &Table, named: &str) -> Result<Vec<u8>, String> {
     Ok([list, others].concat())
 }
 
-/// What stands between commas, without quotation marks; a comma between these parts nothing.
+/// The words between commas. A comma in quotation marks separates nothing.
 fn words(named: &str) -> Vec<&str> {
     let mut quoted = false;
     let parts = |c: char| {

@@ -1,11 +1,12 @@
-//! A report as one page of HTML without outside parts, for a browser and for paper: the
-//! programs, their orders, what all have in common, and what each says beyond it.
+//! A report as one page of HTML, for a browser and for paper. The page shows the programs, their
+//! orders, what all of them have in common, and what each says beyond that. It loads nothing from
+//! outside.
 
 use crate::table::Table;
 use crate::why::{Line, word};
 use record_engine::Order;
 
-/// With more programs than this, orders are told by signs and not by words.
+/// With more programs than this, the page tells orders by signs and not by words.
 const MOST_WORDS: usize = 8;
 
 /// What a page is made of.
@@ -94,7 +95,7 @@ impl Report<'_> {
         page + "</body>\n</html>\n"
     }
 
-    /// What the words and the looks of the programs' sections mean.
+    /// The legend: what words and colours mean in the sections of the programs.
     fn legend(&self) -> String {
         let pictures = match self.without_pictures {
             Some(_) => "",
@@ -192,7 +193,7 @@ impl Report<'_> {
         format!("<td class=\"{word}\">{text}</td>")
     }
 
-    /// A program's own section.
+    /// The section of a program.
     fn program(&self, place: usize, program: &Program) -> String {
         let (number, name) = (place + 1, escaped(&program.name));
         let mut section = format!("<section id=\"p{number}\">\n<h3>{number}. {name}</h3>\n");
@@ -261,8 +262,8 @@ fn part(part: &Part, caption: &str) -> String {
     html
 }
 
-/// The element `svg` of a picture that `dot` made. What it says of itself is left out: its
-/// numbers come up in every picture, and its titles would be shown.
+/// The element `svg` of a picture that `dot` made. Identifiers and titles are left out: the
+/// identifiers are the same in every picture, and a browser would show the titles.
 fn inline(picture: &str) -> String {
     let begin = picture.find("<svg").unwrap_or(0);
     let mut rest = &picture[begin..];

@@ -1,7 +1,7 @@
-//! Places in a text. What is wrong there is told with the file's name, line and column,
-//! the line itself, a caret below the place, and what to do.
+//! Places in a text. A message about a place has the name of the file, the line and the column, the
+//! line itself with a caret below the place, and what to do.
 
-/// A line longer than this is shown in part.
+/// Of a line that is longer than this, only a part is shown.
 const WIDTH: usize = 76;
 
 /// What is wrong at a place of a text, and what to do about it.
@@ -52,7 +52,7 @@ pub fn pointed(name: &str, text: &str, at: usize, what: &str) -> String {
     format!("{name}:{line}:{column}: {what}\n{shown}\n    {caret}^")
 }
 
-/// A line, or the part of it around a place, and the blanks that a caret stands behind.
+/// A line, or the part of it around a place, and the blanks before the caret.
 fn clipped(line: &str, place: usize) -> (String, String) {
     let characters: Vec<char> = line.chars().collect();
     let start = match characters.len() > WIDTH {

@@ -1,6 +1,6 @@
-//! A type table with the names of its types and features: from text (`text`), from bytes, or
-//! that of the house types. The engine says whether it is accepted; orders and meets
-//! are looked up here for messages alone.
+//! A type table with the names of its types and features. It is made from text (`text`), from bytes,
+//! or as the table of the house types. The engine tells whether it is accepted. Orders and meets are
+//! computed here only for messages.
 
 mod source;
 mod text;
@@ -15,16 +15,16 @@ use record_engine::{FEATURES, HOUSE_TABLE_LENGTH, house_table};
 /// There are at most this many types.
 pub const MOST_TYPES: usize = 64;
 
-/// The number of types, 8 bytes for each, and names. Types without a name go by their
-/// numbers, but for the greatest, which is `top` then.
+/// A table: the number of types, 8 bytes for each type, and names. A type without a name is shown by
+/// its number, except the greatest type, which is then shown as `top`.
 #[derive(Clone, Debug, PartialEq, Eq)]
 pub struct Table {
     pub n: usize,
     pub bytes: Vec<u8>,
     types: Vec<Option<String>>,
     features: Vec<Option<String>>,
-    /// The appropriateness list: for each feature the broadest type that may have it. There
-    /// is none where every type may have every feature.
+    /// The list of types for features: for each feature the broadest type that may have it. There is
+    /// none if every type may have every feature.
     pub list: Option<Vec<u8>>,
 }
 
@@ -34,8 +34,7 @@ impl Table {
         text::read(text)
     }
 
-    /// The text of an accepted table, which reads as the same table; types without a name get
-    /// one.
+    /// The text of an accepted table. It reads as the same table. Types without a name get one.
     pub fn text(&self) -> String {
         text::write(self)
     }
@@ -50,8 +49,7 @@ impl Table {
         source::rust(self, name)
     }
 
-    /// The table of rows of 8 bytes; rows of no length that fits are for the engine to
-    /// refuse.
+    /// The table of rows of 8 bytes. The engine refuses a length that does not fit.
     pub fn from_bytes(bytes: &[u8]) -> Table {
         let n = bytes.len() / 8;
         let mut types = vec![None; n];
@@ -79,7 +77,7 @@ impl Table {
         (self.n - 1) as u8
     }
 
-    /// Whether a node says nothing but its links.
+    /// Whether a node says nothing except by its links.
     pub fn says_nothing(&self, node: &Node) -> bool {
         node.node_type == self.top() && node.levels == Levels::FULL
     }
@@ -124,7 +122,7 @@ impl Table {
         number_of(&self.features, name)
     }
 
-    /// The name of a type that is another word but for capitals.
+    /// The name of a type that differs from a word only in capitals.
     pub fn type_like(&self, word: &str) -> Option<String> {
         let (word, mut names) = (word.to_lowercase(), self.types.iter().flatten());
         names.find(|name| name.to_lowercase() == word).cloned()
@@ -158,8 +156,8 @@ impl Table {
         }
     }
 
-    /// A short name of the table, to be compared by eye: the checksum of its bytes and, where
-    /// it has names or a list, that of these.
+    /// The fingerprint of the table, which a person can compare by eye: the checksum of its bytes
+    /// and, if the table has names or a list, the checksum of these.
     pub fn fingerprint(&self) -> String {
         let order = format!("{:08x}", crc32(&self.bytes));
         if self.is_unnamed() {
@@ -172,7 +170,7 @@ impl Table {
         format!("{order}-{:08x}", crc32(&bytes))
     }
 
-    /// Whether it has neither names nor a list, but for the names that need no line.
+    /// Whether it has no list, and no names except those that need no line.
     pub fn is_unnamed(&self) -> bool {
         let implied = [(0, "bottom"), (self.n - 1, "top")];
         let is_implied = |(number, name): (usize, &Option<String>)| match name {
@@ -184,8 +182,8 @@ impl Table {
             && self.list.is_none()
     }
 
-    /// How another table differs from this one, if it does: in the number of types, in their
-    /// order, or, where both have names, in names or lists.
+    /// How another table differs from this one, if it does: in the number of types, in their order,
+    /// or, if both have names, in names or lists.
     pub fn unlike(&self, other: &Table) -> Option<String> {
         unlike::unlike(self, other)
     }
@@ -249,7 +247,8 @@ fn number_of(names: &[Option<String>], name: &str) -> Option<u8> {
     place.map(|place| place as u8)
 }
 
-/// The name that is nearest to a misspelt one, or some of the names, or what numbers serve.
+/// A proposal for a misspelt name: the nearest name, or some of the names, or the numbers that can
+/// be used.
 fn advice(wrong: &str, names: &[&str], numbers: &str) -> String {
     const LISTED: usize = 12;
     if let Some(name) = nearest(wrong, names.iter().copied()) {

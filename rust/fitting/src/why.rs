@@ -1,5 +1,5 @@
-//! Why a difference keeps its links: the difference laid into the specific graph, with the
-//! engine's reasons, in words and for a picture.
+//! Why a difference keeps its links. This module finds the links of the difference in the specific
+//! graph, and gives the engine's reasons in words and for a picture.
 
 mod differing;
 
@@ -16,12 +16,11 @@ use std::collections::BTreeMap;
 pub struct Kept {
     /// The kept links of the specific graph, by parent and feature.
     pub links: BTreeMap<(usize, u8), Reason>,
-    /// For each node of the specific graph that is kept what the difference says there, if
-    /// it says anything.
+    /// For each kept node of the specific graph, what the difference says there, if anything.
     pub nodes: BTreeMap<usize, Option<Said>>,
 }
 
-/// What a difference says at a node. The three have no links.
+/// What a difference says at a node. The three nodes have no links.
 #[derive(Clone, Debug, PartialEq, Eq)]
 pub struct Said {
     /// What the general graph says there: all of it that lies over the node.
@@ -45,7 +44,7 @@ impl Said {
         }
     }
 
-    /// What is new at the node: the levels alone where it has the same type with others.
+    /// What is new at the node: only the levels, if the type is the same.
     fn becomes(&self, table: &Table) -> String {
         match self.over.node_type == self.own.node_type && self.over.levels != Levels::FULL {
             true => self.own.levels.to_string(),
@@ -54,7 +53,7 @@ impl Said {
     }
 }
 
-/// The type of a node and, where they are not all, its levels, as messages show them.
+/// The type of a node and, if its range is not full, its levels, as messages show them.
 pub fn label(table: &Table, node: &Node) -> String {
     let name = table.type_shown(node.node_type);
     match node.levels {
@@ -63,7 +62,7 @@ pub fn label(table: &Table, node: &Node) -> String {
     }
 }
 
-/// Lays a difference, with a reason for each of its links, into the specific graph.
+/// Finds the links of a difference in the specific graph. Each link has a reason.
 pub fn kept(
     table: &Table,
     general: &Graph,
@@ -102,8 +101,8 @@ fn laid(table: &Table, general: &Graph, specific: &Graph) -> Vec<usize> {
     image(table, upper, lower).expect("the general graph is above")
 }
 
-/// For each node of a specific graph what a general one says there: the meet of the types
-/// and the overlap of the levels that lie over it.
+/// For each node of a specific graph, what a general graph says there: the meet of the types and the
+/// overlap of the levels that lie over the node.
 fn over(table: &Table, general: &Graph, specific: &Graph) -> Vec<Node> {
     let nothing = Node {
         node_type: table.top(),
@@ -154,7 +153,7 @@ pub struct Line {
     pub words: String,
 }
 
-/// What the general graph is.
+/// How a message names the general graph.
 #[derive(Clone, Copy)]
 pub enum General<'a> {
     /// One with a name.
@@ -166,7 +165,7 @@ pub enum General<'a> {
 }
 
 impl General<'_> {
-    /// Why a link to a node is kept, that other paths lead to as well.
+    /// Why a link is kept, if other paths lead to its node as well.
     fn words(
         self,
         table: &Table,

@@ -1,4 +1,4 @@
-//! A command's arguments: the operands in their order, and options anywhere among them.
+//! The arguments of a command: the operands in their order, and options anywhere between them.
 
 use crate::failure::Failure;
 use crate::help::{Command, More, OPTIONS};
@@ -13,12 +13,12 @@ const OUTPUTS: [&str; 3] = ["-o", "--nodes", "--links"];
 pub struct Arguments {
     command: &'static Command,
     pub operands: Vec<String>,
-    /// The options that are given, with what stands behind them, if they take something.
+    /// The given options, each with its value if it takes one.
     options: BTreeMap<&'static str, String>,
 }
 
 impl Arguments {
-    /// Reads what follows the name of a command, as many operands as its form has.
+    /// Reads the arguments behind the name of a command, by the command's form.
     pub fn read(command: &'static Command, arguments: &[String]) -> Result<Arguments, Failure> {
         let mut read = Arguments {
             command,
@@ -45,7 +45,7 @@ impl Arguments {
         Ok(read)
     }
 
-    /// What stands behind an option, if it is given.
+    /// The value of an option, if the option is given.
     pub fn value(&self, option: &str) -> Option<&str> {
         self.options.get(option).map(String::as_str)
     }
@@ -60,7 +60,7 @@ impl Arguments {
         self.value("-o")
     }
 
-    /// No file that is written is one of those that are read.
+    /// Checks that no file that is written is also read.
     pub fn spare<'a>(&self, inputs: impl IntoIterator<Item = &'a str>) -> Result<(), Failure> {
         let inputs: Vec<&str> = inputs.into_iter().collect();
         for option in OUTPUTS {

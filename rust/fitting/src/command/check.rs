@@ -1,4 +1,4 @@
-//! `check`: whether the engine accepts a table and files over it.
+//! `check`: tells whether the engine accepts a table and files over it.
 
 use super::{Part, Told, counted};
 use crate::command::arguments::Arguments;
@@ -9,7 +9,7 @@ use crate::json::{self, Json};
 use crate::table::Table;
 use crate::{engine, explain};
 
-/// One line for each file and a summary, or all as JSON; of what is refused, the cause on
+/// Prints one line for each file and a summary, or all as JSON. The cause of a refusal goes to
 /// standard error.
 pub fn check(table: &Table, arguments: &Arguments) -> Told {
     let (quiet, as_json) = (arguments.has("--quiet"), arguments.has("--json"));
@@ -53,7 +53,7 @@ pub fn check(table: &Table, arguments: &Arguments) -> Told {
     Box::new(parts.into_iter())
 }
 
-/// What is told of a file in a line.
+/// The line about a file.
 fn line_of(checked: &Result<Checked, Failure>) -> String {
     match checked {
         Ok(Checked { form, nodes, links }) => {
@@ -71,7 +71,7 @@ fn line_of(checked: &Result<Checked, Failure>) -> String {
     }
 }
 
-/// The same as JSON.
+/// What the line about a file tells, as JSON.
 fn json_of(file: &str, checked: &Result<Checked, Failure>) -> Json {
     match checked {
         Ok(Checked { form, nodes, links }) => {

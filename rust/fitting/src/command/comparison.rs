@@ -1,6 +1,6 @@
-//! `compare`: what two records both say, what only one says, and where they contradict each
-//! other. The common part, the differences from it and whether there is a combination are the
-//! engine's answers.
+//! `compare`: tells what two records both say, what only one of them says, and where they contradict
+//! each other. The common part, the differences from it, and whether there is a combination are
+//! answers of the engine.
 
 use super::operations::{explained_graphs, order_of, order_word};
 use super::{Told, put};
@@ -28,7 +28,7 @@ pub fn compare(table: &Table, arguments: &Arguments) -> Result<Told, Failure> {
     put(arguments.output().unwrap_or("-"), told)
 }
 
-/// What is found out about two records.
+/// The result of a comparison of two records.
 struct Comparison<'a> {
     table: &'a Table,
     inputs: &'a [Input; 2],
@@ -63,7 +63,7 @@ impl<'a> Comparison<'a> {
             let specific = own.graph(table)?;
             let kept = match explained_graphs(table, None, &both, &own.record) {
                 Ok(explained) => explained.kept,
-                // No most general difference: all that differs is told.
+                // There is no most general difference, so all that differs is told.
                 Err(_) => why::differing(table, &Graph::of_written(&both), &specific),
             };
             let mut lines = why::lines(table, &specific, &kept, General::CommonWith(&other.shown));

@@ -1,4 +1,4 @@
-//! `draw`: a record as a picture, alone or over a more general one, or the types of a table.
+//! `draw`: draws a record, alone or over a more general record, or the types of a table.
 
 use super::operations::{explained, reading_order};
 use super::{Told, text};

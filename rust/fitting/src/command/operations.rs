@@ -1,5 +1,5 @@
-//! `order`, `common`, `combine` and `difference`: the engine's answers about two records, or
-//! more of them in turn.
+//! `order`, `common`, `combine` and `difference`: the engine's answers about two records, or about
+//! more records in turn.
 
 use super::{Part, Told, give, printed, put};
 use crate::command::arguments::Arguments;
@@ -25,7 +25,7 @@ pub fn order(table: &Table, arguments: &Arguments) -> Result<Told, Failure> {
         graph: graphs[side],
         name: &inputs[side].shown,
     };
-    // Of which it is to be told why it is not below which.
+    // The pairs for which a message tells why the one is not below the other.
     let not_below: &[(usize, usize)] = match order {
         Order::Same => &[],
         Order::Under => &[(1, 0)],
@@ -62,7 +62,7 @@ pub fn order(table: &Table, arguments: &Arguments) -> Result<Told, Failure> {
             format!("{}\n{because}", order_word(order)).into_bytes()
         }
     };
-    // No record tells an order, so a file gets the same words.
+    // An order is no record, so a file gets the same words as standard output.
     put(arguments.output().unwrap_or("-"), told)
 }
 
@@ -90,7 +90,7 @@ pub fn combine(table: &Table, arguments: &Arguments) -> Result<Told, Failure> {
     operate(Operation::Unify, table, arguments)
 }
 
-/// Goes from one record to the next: the result so far and the next give a further result.
+/// Goes from one record to the next: the operation takes the result so far and the next record.
 fn operate(operation: Operation, table: &Table, arguments: &Arguments) -> Result<Told, Failure> {
     let files = arguments.operands[1..].iter();
     let inputs = files.map(|file| Input::read(table, file));
@@ -158,7 +158,7 @@ pub fn difference(table: &Table, arguments: &Arguments) -> Result<Told, Failure>
     Ok(Box::new(told.chain(iter::once(Part::Printed(why)))))
 }
 
-/// The list of all features that `--by` asks for, if it is there.
+/// The reading order that `--by` asks for, if the option is given.
 pub fn reading_order(table: &Table, arguments: &Arguments) -> Result<Option<Vec<u8>>, Failure> {
     let list = arguments.value("--by").map(|by| reading::order(table, by));
     list.transpose()

@@ -1,4 +1,4 @@
-//! `pack`, `versions`, `unpack`, `put` and `drop`: a patient's file and its versions.
+//! `pack`, `versions`, `unpack`, `put` and `drop`: the commands on a patient's file and its versions.
 
 use super::{Told, counted, text};
 use crate::command::arguments::{Arguments, is_one_file};
@@ -14,13 +14,13 @@ use record_engine::STORE_LENGTH;
 use std::fs;
 use std::path::Path;
 
-/// A line about a version is at most so wide.
+/// The greatest width of a line about a version.
 const WIDTH: usize = 80;
 
 /// A version's number and its written record.
 type Program = (usize, Vec<u8>);
 
-/// Programs to a file; what they take alone and together.
+/// `pack`: writes programs to a file, and tells how many bytes they take alone and together.
 pub fn pack(table: Table, arguments: &Arguments) -> Result<Told, Failure> {
     let file = match arguments.output() {
         Some("-") => return Err(arguments.misused("`pack` writes a file, which `-` is not")),
@@ -68,7 +68,7 @@ pub fn pack(table: Table, arguments: &Arguments) -> Result<Told, Failure> {
     Ok(text(told))
 }
 
-/// Each version on a line, and what all take.
+/// `versions`: prints a line for each version, and the bytes that all take.
 pub fn versions(arguments: &Arguments) -> Result<Told, Failure> {
     let (_, patient) = opened(arguments)?;
     let mut told = String::new();
@@ -86,7 +86,7 @@ pub fn versions(arguments: &Arguments) -> Result<Told, Failure> {
     Ok(text(told))
 }
 
-/// Versions as text, or as records in a folder.
+/// `unpack`: prints versions as text, or writes them as records into a folder.
 pub fn unpack(arguments: &Arguments) -> Result<Told, Failure> {
     if arguments.output() == Some("-") {
         return Err(arguments.misused("`unpack` writes into a folder, which `-` is not"));
@@ -145,7 +145,7 @@ pub fn unpack(arguments: &Arguments) -> Result<Told, Failure> {
     Ok(text(told))
 }
 
-/// A program under the number of a further version.
+/// `put`: puts a program under a version that is absent.
 pub fn put(arguments: &Arguments) -> Result<Told, Failure> {
     let (_, mut patient) = changed(arguments)?;
     let version = number(arguments, &arguments.operands[1])?;
@@ -158,7 +158,7 @@ pub fn put(arguments: &Arguments) -> Result<Told, Failure> {
     finish(arguments, &patient, &programs, version, "put")
 }
 
-/// A version less.
+/// `drop`: removes a version.
 pub fn drop(arguments: &Arguments) -> Result<Told, Failure> {
     let (name, mut patient) = changed(arguments)?;
     let version = number(arguments, &arguments.operands[1])?;
@@ -175,7 +175,7 @@ pub fn drop(arguments: &Arguments) -> Result<Told, Failure> {
     finish(arguments, &patient, &programs, version, "dropped")
 }
 
-/// The file that a command reads, with its name; `--table` is the table that it is to have.
+/// The file that a command reads, with its name. `--table` names the table that the file has to have.
 fn opened(arguments: &Arguments) -> Result<(String, Patient), Failure> {
     let (name, patient) = input::patient(&arguments.operands[0])?;
     if let Some(argument) = arguments.value("--table") {
@@ -191,7 +191,7 @@ fn opened(arguments: &Arguments) -> Result<(String, Patient), Failure> {
     Ok((name, patient))
 }
 
-/// The same of a file that is changed.
+/// The file that a command changes, with its name.
 fn changed(arguments: &Arguments) -> Result<(String, Patient), Failure> {
     match arguments.operands[0].as_str() {
         "-" => Err(arguments.misused("FILE is changed, which standard input cannot be")),
@@ -199,7 +199,7 @@ fn changed(arguments: &Arguments) -> Result<(String, Patient), Failure> {
     }
 }
 
-/// A version's number as it was typed; which there are is for the engine to say.
+/// The number of a version as it was typed. The engine tells whether there is such a version.
 fn number(arguments: &Arguments, word: &str) -> Result<usize, Failure> {
     word.parse()
         .map_err(|_| arguments.misused(&format!("`{}` is no number of a version", cut(word))))
@@ -212,7 +212,7 @@ fn programs(patient: &Patient) -> Vec<Program> {
         .expect("each was read when the file was opened")
 }
 
-/// Puts a program, or tells why not; the others are given too.
+/// Puts a program, or tells why it is refused. The message needs the other programs too.
 fn add(
     patient: &mut Patient,
     input: &Input,
@@ -230,8 +230,8 @@ fn add(
     })
 }
 
-/// Writes a file. It gets its name when every version has been unpacked from what was written
-/// and is the program that it was; gives the number of bytes.
+/// Writes a file, and gives the number of bytes. The file gets its name only after every version was
+/// unpacked from the written bytes and was the program that it should be.
 fn store(file: &str, patient: &Patient, programs: &[Program]) -> Result<usize, Failure> {
     let bytes = patient.bytes();
     let check = |read: &[u8]| {

@@ -7,7 +7,7 @@ use crate::input::{self, Input};
 use crate::table::Table;
 use crate::{engine, explain, planning};
 
-/// The record of a planning table.
+/// `import`: the record of a planning table.
 pub fn import(table: &Table, arguments: &Arguments) -> Result<Told, Failure> {
     let files = arguments.operands[1..].iter().map(|file| input::csv(file));
     let files = files.collect::<Result<Vec<_>, _>>()?;
@@ -17,7 +17,8 @@ pub fn import(table: &Table, arguments: &Arguments) -> Result<Told, Failure> {
     give(table, arguments, record)
 }
 
-/// The planning table of a record, its nodes before its links where both go to one file.
+/// `export`: the planning table of a record. If all goes to one file, the nodes stand before the
+/// links.
 pub fn export(table: &Table, arguments: &Arguments) -> Result<Told, Failure> {
     let [nodes, links] = ["--nodes", "--links"].map(|option| arguments.value(option));
     if nodes.is_some() && links.is_some() && arguments.output().is_some() {

@@ -1,4 +1,4 @@
-//! `report`: many programs and how they differ, as one page of HTML.
+//! `report`: writes one page of HTML about many programs and how they differ.
 
 use super::operations::explained_graphs;
 use super::sameness::Meanings;
@@ -123,7 +123,7 @@ fn common(table: &Table, meanings: &Meanings) -> Result<Vec<u8>, Failure> {
     Ok(common)
 }
 
-/// What a program says beyond the common part; without one, the whole program.
+/// What a program says beyond the common part. If there is no common part, it is the whole program.
 fn beyond(
     table: &Table,
     common: &Result<Vec<u8>, Failure>,
@@ -143,7 +143,7 @@ fn beyond(
             let difference = Graph::of_written(&explained.difference);
             (explained.kept, None, notation::write(table, &difference))
         }
-        // No most general difference: all that differs is told.
+        // There is no most general difference, so all that differs is told.
         Err(refusal) => {
             let kept = why::differing(table, &Graph::of_written(common), graph);
             let refused = format!("There is no most general difference: {refusal}.");

@@ -1,5 +1,5 @@
-//! `same`: which of many programs mean the same, and which lie under which. Programs mean the
-//! same when their written records are the same bytes.
+//! `same`: tells which of many programs mean the same, and which program is under which. Programs
+//! mean the same when their written records have equal bytes.
 
 use super::operations::order_of;
 use super::{Part, Told, counted};
@@ -50,7 +50,7 @@ pub fn same(
 /// Programs by what they mean.
 #[derive(Default)]
 pub struct Meanings {
-    /// Programs that mean the same, each group as the first of it was met.
+    /// The groups of programs that mean the same, in the order of their first programs.
     pub groups: Vec<Vec<Input>>,
     /// The group of a written record.
     places: BTreeMap<Vec<u8>, usize>,
@@ -94,7 +94,7 @@ impl Meanings {
         Ok(orders)
     }
 
-    /// The groups of which one is under the other and no third between them.
+    /// The pairs of groups of which one is under the other, with no third group between them.
     fn directly_under(
         &self,
         table: &Table,

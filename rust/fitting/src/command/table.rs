@@ -1,4 +1,5 @@
-//! `table`: a table as text, its bytes as a file or as source, and its fingerprint.
+//! `table`: prints a table as text, writes its bytes as a file or as source, and tells its
+//! fingerprint.
 
 use super::{Told, put};
 use crate::command::arguments::Arguments;

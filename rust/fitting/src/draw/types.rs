@@ -1,5 +1,5 @@
-//! The types of a table as a picture: the greatest at the top, and a line from each type to
-//! those directly below it.
+//! Draws the types of a table. The greatest type stands at the top, and a line goes from each type
+//! to the types directly below it.
 
 use super::{GREY_LINE, GREY_TEXT, HEAD, RIGHTWARD, WIDEST_ROW, label, statement};
 use crate::names::cut;
@@ -36,8 +36,8 @@ pub fn types(table: &Table) -> String {
     dot + "}\n"
 }
 
-/// Whether a row of types would be too wide; types stand in rows by the longest way down from
-/// the greatest.
+/// Whether a row of types would be too wide. The row of a type is the length of the longest path
+/// down from the greatest type.
 fn is_wide(table: &Table) -> bool {
     let mut types: Vec<usize> = (0..table.n).collect();
     types.sort_by_key(|&number| std::cmp::Reverse(table.row(number).count_ones()));

@@ -1,6 +1,6 @@
-//! Why an operation on accepted records is refused, 9 to 13: the paths at which they loop,
-//! clash or are not below, the size of the result, or the types that restore. Where they
-//! contradict each other.
+//! Why an operation on accepted records is refused by 9 to 13: the paths at which the records loop,
+//! clash or are not below each other, the size of the result, or the types that restore. Also finds
+//! where records contradict each other, for `compare`.
 
 use super::unify::unify;
 use super::{Cause, Place, listed};
@@ -11,15 +11,15 @@ use crate::overlay::{Named, image};
 use crate::table::Table;
 use std::collections::BTreeSet;
 
-/// Inputs as their graphs, with their names. An operation on more than two goes from one to
-/// the next, and is refused at the last of them.
+/// The graphs of the inputs, with their names. An operation on more than two records goes from one
+/// to the next, and is refused at the last of these.
 struct Group<'a> {
     table: &'a Table,
     graphs: Vec<Graph>,
     names: Vec<&'a str>,
 }
 
-/// What was found out about a refusal of an operation by its number.
+/// The cause of a refusal of an operation, by the number of the refusal.
 pub fn cause(
     number: u8,
     operation: Option<Operation>,
@@ -40,9 +40,9 @@ pub fn cause(
 
 type Words = (String, String);
 
-/// Where records contradict each other: a place of their combination.
+/// A contradiction between records, at a place of their combination.
 pub struct Contradiction {
-    /// A path of the combination to it.
+    /// A path of the combination to the place.
     pub path: Vec<u8>,
     pub kind: Kind,
     /// What comes together there.
@@ -57,14 +57,14 @@ pub struct Said {
     pub label: String,
 }
 
-/// In which way records contradict each other.
+/// The kind of a contradiction.
 #[derive(Clone, Copy, PartialEq, Eq)]
 pub enum Kind {
     /// A class of shared paths reaches itself.
     Loop,
-    /// It has no type.
+    /// A class of shared paths has no type.
     Type,
-    /// It has no level.
+    /// A class of shared paths has no level.
     Levels,
 }
 
@@ -220,8 +220,8 @@ impl<'a> Group<'a> {
         ))
     }
 
-    /// The numbers of nodes and links of the common part: what all but the last have in
-    /// common is a record, and that of it and the last is none.
+    /// The numbers of nodes and links of the common part of all records. The common part of all
+    /// records but the last fits into a record, and the common part with the last does not.
     fn common_size(&self) -> Option<(usize, usize)> {
         let (last, before) = self.graphs.split_last()?;
         let (first, more) = before.split_first()?;
@@ -246,8 +246,8 @@ impl<'a> Group<'a> {
         Some((obstacle, advice))
     }
 
-    /// A node of the specific graph at which no type is the greatest of those that restore
-    /// its type.
+    /// A node of the specific graph without a wanted type: among the types that restore its type,
+    /// none is the greatest.
     fn no_wanted_type(&self) -> Option<Words> {
         let table = self.table;
         let [upper, lower] = self.named();
@@ -281,8 +281,8 @@ impl<'a> Group<'a> {
     }
 }
 
-/// The numbers of nodes and links of a common part: the pairs of nodes that paths in both
-/// graphs lead to.
+/// The numbers of nodes and links of a common part. Its nodes are the pairs of nodes that one path
+/// leads to in both graphs.
 fn common_size(first: &Graph, second: &Graph) -> (usize, usize) {
     let mut met = BTreeSet::from([(0, 0)]);
     let mut waiting = vec![(0, 0)];

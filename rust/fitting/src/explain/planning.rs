@@ -1,5 +1,5 @@
-//! Why a planning table is refused, 4 to 7, 14 and 15: the line with the node or the row, and
-//! what is wrong there.
+//! Why a planning table is refused by 4 to 7, 14 or 15: the line with the node or the row, and what
+//! is wrong there.
 
 use super::{Place, record};
 use crate::graph::MOST_NODES;
@@ -8,7 +8,7 @@ use crate::table::Table;
 use record_engine::{FEATURES, MOST_LINKS, Row};
 use std::collections::BTreeMap;
 
-/// What was found out about a refusal of a planning table by its number, as a message.
+/// The cause of a refusal of a planning table, by the number of the refusal, as a message.
 pub fn cause(number: u8, table: &Table, planning: &Planning) -> Option<String> {
     let (place, what, advice) = match number {
         4 => size(table, planning)?,
@@ -69,7 +69,7 @@ fn out_of_range(planning: &Planning) -> Option<Words> {
     .next()
 }
 
-/// The first row that has parent and feature of one before it.
+/// The first row that has the same parent and feature as a row before it.
 fn twice(table: &Table, planning: &Planning) -> Option<Words> {
     let mut met = BTreeMap::new();
     for (row, &[place, ..]) in planning.rows.iter().zip(&planning.row_places) {

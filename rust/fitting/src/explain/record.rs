@@ -1,6 +1,6 @@
-//! Why a record is refused, 4 to 7 and 18: where its bytes end, which node has what is out of
-//! range, which reaches itself along which path, which no path leads to, or which has a
-//! feature that is for other types.
+//! Why a record is refused by 4 to 7 or 18: where its bytes end, which node has something out of
+//! range, which node reaches itself and by which path, which node no path leads to, or which node
+//! has a feature that is for other types.
 
 use super::{Cause, Place, listed};
 use crate::graph::{Graph, Link, Malformed};
@@ -8,7 +8,7 @@ use crate::input::Input;
 use crate::table::Table;
 use record_engine::MOST_LINKS;
 
-/// What was found out about a refusal of a record by its number.
+/// The cause of a refusal of a record, by the number of the refusal.
 pub fn cause(number: u8, table: &Table, input: &Input) -> Option<Cause> {
     match (number, Graph::decode(&input.record)) {
         (4, _) => malformed(&input.record),
@@ -17,7 +17,7 @@ pub fn cause(number: u8, table: &Table, input: &Input) -> Option<Cause> {
     }
 }
 
-/// What was found out about a refusal of a graph by its number, 5 to 7 and 18.
+/// The cause of a refusal of a graph, by the number of the refusal, 5 to 7 or 18.
 pub fn cause_in(number: u8, table: &Table, graph: &Graph) -> Option<Cause> {
     match number {
         5 => out_of_range(table, graph),

@@ -1,5 +1,5 @@
-//! Why a store refuses, 11, 13, 20 and 21: the number of the version, the room, or what the
-//! programs have in common on the way to all of them.
+//! Why a store refuses by 11, 13, 20 or 21: the number of the version, the room, or the common part
+//! of the first programs on the way.
 
 use super::{Use, listed, pair};
 use crate::engine::{self, Operation};
@@ -7,8 +7,8 @@ use crate::input::Input;
 use crate::table::Table;
 use record_engine::{Refusal, VERSIONS};
 
-/// What was found out about a refusal: the cause and what to do. The programs are those that
-/// are there, and the one that is put among them.
+/// The cause of a refusal, and what to do. The programs are those in the store, with the one that is
+/// put.
 pub fn cause(
     refusal: Refusal,
     table: &Table,
@@ -48,7 +48,7 @@ pub fn cause(
     }
 }
 
-/// The refusal of the common part of the first of the programs, or of a difference from it.
+/// The refusal of the common part of the first programs, or of a difference from it.
 fn on_the_way(
     refusal: Refusal,
     table: &Table,

@@ -1,11 +1,11 @@
-//! Why a table is refused, 1 to 3: its length, a row or two that are as in no order, or two
-//! types without a meet, by their names.
+//! Why a table is refused by 1 to 3: its length, a row or two rows that no order has, or two types
+//! without a meet, with their names.
 
 use super::{Cause, Place};
 use crate::graph::Graph;
 use crate::table::Table;
 
-/// What was found out about a refusal of a table by its number.
+/// The cause of a refusal of a table, by the number of the refusal.
 pub fn cause(number: u8, table: &Table) -> Option<Cause> {
     let (what, advice) = match number {
         1 => size(table),
@@ -32,7 +32,7 @@ fn size(table: &Table) -> Words {
     )
 }
 
-/// The first of the rows that is not as an order's, or two rows that do not fit together.
+/// The first row that no order has, or two rows that do not fit together.
 fn order(table: &Table) -> Option<Words> {
     let n = table.n;
     let name = |number: usize| table.type_shown(number as u8);
@@ -74,8 +74,8 @@ fn order(table: &Table) -> Option<Words> {
     None
 }
 
-/// Two types without a meet. With a greatest type, a pair without a join leaves a pair
-/// without a meet as well.
+/// Two types without a meet. Since there is a greatest type, a table in which two types have no join
+/// also has two types without a meet.
 fn bounds(table: &Table) -> Option<Words> {
     let name = |number: usize| table.type_shown(number as u8);
     let pairs = (0..table.n).flat_map(|a| (0..a).map(move |b| (b, a)));

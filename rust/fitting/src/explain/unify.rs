@@ -1,18 +1,18 @@
-//! The classes that a combination merges nodes into, loops and clashes among them, to tell
-//! why there is none. What a combination is, the engine says.
+//! The classes of nodes of a combination, with loops and clashes, to tell why there is no
+//! combination. The combination itself is the engine's answer.
 
 use crate::graph::{Graph, Link, Node};
 use crate::table::Table;
 use std::collections::BTreeMap;
 
-/// The classes as the nodes of a graph that may loop and clash, class 0 with all roots.
+/// The classes as the nodes of a graph that may loop and clash. Class 0 has all roots.
 pub struct Combination {
     pub graph: Graph,
-    /// For each class its nodes: which of the graphs, and the number there.
+    /// For each class its nodes. Each is the place of its graph among the graphs, and its number there.
     pub members: Vec<Vec<(usize, usize)>>,
 }
 
-/// Merges all roots, and what equal features of merged nodes lead to.
+/// Merges all roots, and the targets of merged nodes by equal features.
 pub fn unify(table: &Table, graphs: &[Graph]) -> Combination {
     // Where the nodes of each graph begin among all.
     let mut begins = Vec::new();
@@ -66,7 +66,7 @@ pub fn unify(table: &Table, graphs: &[Graph]) -> Combination {
     }
 }
 
-/// Nodes in classes: each has a leader, which is itself or in its class before it.
+/// Nodes in classes. The leader of a node is the node itself or an earlier node of its class.
 struct Classes {
     leader: Vec<usize>,
     /// The links of a class stand at its leader.

@@ -1,6 +1,6 @@
-//! Text to a graph. The graph is not judged here beyond what a record cannot hold: too many
-//! nodes, or numbers that do not fit. The places of nodes and links are kept, so that
-//! what the engine refuses in a text is pointed at as well.
+//! Reads a text into a graph. This module refuses only what no record can hold: too many nodes, or
+//! numbers that do not fit. It keeps the places of nodes and links, so that a message can point at
+//! what the engine refuses.
 
 use super::tokens::{Kind, Token, tokens};
 use crate::graph::{Graph, Levels, Link, MOST_NODES, Node};
@@ -19,7 +19,7 @@ pub struct Text {
     pub links: BTreeMap<(usize, u8), usize>,
 }
 
-/// The graph of a text over a table's names; the root is node 0.
+/// The graph of a text, with the names of a table. The root is node 0.
 pub fn read(table: &Table, text: &str) -> Result<Text, Fault> {
     let mut reader = Reader {
         table,
@@ -61,7 +61,7 @@ impl<'a> Reader<'a> {
         self.tokens[self.next]
     }
 
-    /// The next token, which is left behind; the end stays.
+    /// Takes the next token. The end is not taken.
     fn take(&mut self) -> Token<'a> {
         let token = self.peek();
         self.next = (self.next + 1).min(self.tokens.len() - 1);
@@ -76,8 +76,8 @@ impl<'a> Reader<'a> {
         found
     }
 
-    /// A value: a type with its links, a capital, or a capital with both. Nesting is as
-    /// deep as there are nodes at most.
+    /// A value: a type with its links, a capital, or a capital with both. Values are nested at most
+    /// as deep as there are nodes.
     fn value(&mut self) -> Result<usize, Fault> {
         let token = self.peek();
         match token.kind {
@@ -295,7 +295,7 @@ impl<'a> Reader<'a> {
         Ok(number)
     }
 
-    /// Nothing follows the value, and every capital has a type.
+    /// Checks that nothing follows the value, and that every capital has a type.
     fn end(&self) -> Result<(), Fault> {
         let token = self.peek();
         if token.kind != Kind::End {

@@ -1,5 +1,5 @@
-//! The words and marks of a text, each with its place. Blanks and comments are left out,
-//! and a character that no word or mark has is a fault.
+//! Splits a text into words and marks, each with its place. Blanks and comments are left out. A
+//! character that is in no word and no mark is a fault.
 
 use crate::names::{cut, shown, unquotable};
 use crate::source::Fault;
@@ -10,13 +10,13 @@ pub enum Kind {
     /// A word with a small first letter, or what stands in quotation marks: the name of a
     /// type or a feature.
     Name,
-    /// A word with a capital first letter, which shares.
+    /// A word with a capital first letter, which names a shared node.
     Capital,
     /// Digits.
     Number,
     /// One of `[ ] { } : , ..`
     Mark,
-    /// Behind the last token.
+    /// The end of the text, behind the last token.
     End,
 }
 

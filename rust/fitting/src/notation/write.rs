@@ -1,12 +1,13 @@
-//! A graph to text. A value that fits into the rest of a line stands there; of another,
-//! each link has its own line, unless all is to stand on one. A shared node is described
-//! where it is first met, lowest feature first, and is its capital alone in the other places.
+//! Writes a graph as text. A value that fits into the rest of a line stands there. Otherwise each of
+//! its links has its own line, unless the whole text has to stand on one line. A shared node is
+//! described where it is first met, lowest feature first. In the other places only its capital
+//! stands.
 
 use crate::graph::{Graph, Levels, Node};
 use crate::table::Table;
 use std::collections::BTreeSet;
 
-/// A line has at most this many characters where links can be put on lines of their own.
+/// A line has at most this many characters, if links can be put on lines of their own.
 const WIDTH: usize = 80;
 
 /// The text of an accepted graph, with the line's end.
@@ -14,7 +15,7 @@ pub fn write(table: &Table, graph: &Graph) -> String {
     write_within(WIDTH, table, graph)
 }
 
-/// The same on one line, however long.
+/// The text of an accepted graph on one line, however long.
 pub fn write_line(table: &Table, graph: &Graph) -> String {
     write_within(usize::MAX, table, graph)
 }
@@ -34,7 +35,7 @@ fn write_within(width: usize, table: &Table, graph: &Graph) -> String {
     writer.text + "\n"
 }
 
-/// The type of a node and, where they are not all, its levels.
+/// The type of a node and, if its range is not full, its levels.
 pub fn label(table: &Table, node: &Node) -> String {
     let name = table.type_written(node.node_type);
     match node.levels {

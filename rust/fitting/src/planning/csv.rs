@@ -1,6 +1,6 @@
-//! The lines and cells of CSV as spreadsheets write it. Commas, semicolons or tabs part the
-//! cells, whichever comes first in the text. Quotation marks may stand around a cell, and
-//! one within it is doubled. Blanks around cells and lines without text do not count.
+//! The lines and cells of CSV as spreadsheets write it. Commas, semicolons or tabs separate the
+//! cells, whichever comes first in the text. A cell may stand in quotation marks; a quotation mark
+//! inside it is doubled. Blanks around cells and lines without text do not count.
 
 use crate::names::cut;
 use crate::source::{Fault, line_and_column, line_feeds};
@@ -45,7 +45,7 @@ impl Cell {
     }
 }
 
-/// A line that has text: its cells up to the last that has some.
+/// A line that has text: its cells up to the last cell with text.
 #[derive(Clone, Debug, Default, PartialEq, Eq)]
 pub struct Line {
     pub cells: Vec<Cell>,
@@ -54,7 +54,7 @@ pub struct Line {
 }
 
 impl Line {
-    /// The cell of a column, empty where the line ends before it.
+    /// The cell of a column; an empty cell if the line ends before it.
     pub fn cell(&self, column: usize) -> Cell {
         let past = Cell {
             text: String::new(),

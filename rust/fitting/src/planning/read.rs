@@ -1,6 +1,6 @@
-//! CSV to a planning table. Rows and nodes are not judged here beyond what cannot be handed
-//! to the engine: a cell that is no byte, and nodes that are not numbered from 0. Their places
-//! are kept, so that what the engine refuses is pointed at as well.
+//! Reads CSV into a planning table. This module refuses only what cannot be handed to the engine: a
+//! cell that is no byte, and nodes that are not numbered from 0. It keeps the places of rows and
+//! nodes, so that a message can point at what the engine refuses.
 
 use super::csv::{self, Cell, File, Line};
 use super::{LINKS, NODES, NodeBytes};
@@ -45,7 +45,8 @@ impl Planning {
         self.files[place.file].line(place.at)
     }
 
-    /// The graph that it states, for rows in range that have each parent and feature once.
+    /// The graph of the planning table, if its rows are in range and no two rows have one parent and
+    /// feature.
     pub fn graph(&self) -> Graph {
         let node = |&[node_type, lowest, highest]: &NodeBytes| Node {
             node_type,
@@ -65,8 +66,8 @@ impl Planning {
     }
 }
 
-/// The planning table of one file or more over a table's names, or the message of what is
-/// wrong.
+/// The planning table of one or more files, with the names of a table, or a message that tells what
+/// is wrong.
 pub fn read(table: &Table, files: Vec<File>) -> Result<Planning, String> {
     let mut reader = Reader {
         table,
@@ -97,7 +98,7 @@ pub fn read(table: &Table, files: Vec<File>) -> Result<Planning, String> {
 #[derive(Clone, Copy)]
 enum Part {
     Links,
-    /// With so many columns.
+    /// Nodes, with this number of columns.
     Nodes(usize),
 }
 
@@ -305,7 +306,7 @@ fn no_header(found: Cell) -> Fault {
     )
 }
 
-/// No cell of a line is past its columns.
+/// Checks that a line has no cell beyond its columns.
 fn fits(line: &Line, columns: usize, advice: &str) -> Result<(), Fault> {
     match line.cells.get(columns) {
         None => Ok(()),

@@ -1,4 +1,4 @@
-//! A planning table to CSV, by the names that the table gives to types and features.
+//! Writes a planning table as CSV, with the names that the table gives to types and features.
 
 use super::{LINKS, NODES, NodeBytes};
 use crate::table::Table;
@@ -28,7 +28,7 @@ fn header(columns: &[&str]) -> String {
     format!("{}\n", columns.join(","))
 }
 
-/// A name as a cell: in quotation marks where it has a separator. It has no quotation mark.
+/// A name as a cell: in quotation marks if it has a separator. A name has no quotation mark itself.
 fn cell(name: String) -> String {
     match name.contains([',', ';']) {
         true => format!("\"{name}\""),

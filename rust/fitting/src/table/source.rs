@@ -1,4 +1,4 @@
-//! A table's bytes as source: a C header or Rust constants, with the names as comments.
+//! Writes the bytes of a table as source: a C header or Rust constants, with the names as comments.
 
 use super::Table;
 use record_engine::FEATURES;

@@ -1,8 +1,13 @@
-//! A table from text, a statement a line: `type NAME : ABOVE ..` for each type with those
-//! directly above it, `least NAME` and `greatest NAME` where they are not called `bottom`
-//! and `top`, `feature NUMBER NAME : TYPE` with the broadest type that may have it, if not
-//! every type may, and `house` for the house types, which `type NAME = NUMBER` names. `#`
-//! begins a comment. And a table to such text.
+//! Reads a table from text, and writes it as text. Each line has one statement:
+//!
+//! - `type NAME : ABOVE ..`: a type, and the types directly above it;
+//! - `least NAME` and `greatest NAME`: the names of the least and the greatest type, if these are
+//!   not `bottom` and `top`;
+//! - `feature NUMBER NAME : TYPE`: a feature, and the broadest type that may have it, if not every
+//!   type may have it;
+//! - `house`: the table of the house types, to which `type NAME = NUMBER` gives names.
+//!
+//! `#` begins a comment.
 
 use super::{MOST_TYPES, Table, number_of};
 use crate::names::{cut, shown, written};
@@ -10,7 +15,7 @@ use crate::notation::{is_name, quoted};
 use crate::source::Fault;
 use record_engine::FEATURES;
 
-/// The table that a text states; whether it is accepted is for the engine to say.
+/// The table that a text states. The engine tells whether it is accepted.
 pub fn read(text: &str) -> Result<Table, Fault> {
     let mut statements = Vec::new();
     for line in lines(text)? {
@@ -61,7 +66,7 @@ pub fn read(text: &str) -> Result<Table, Fault> {
     Ok(table)
 }
 
-/// The text of a table, which reads as the same table. Types without a name get `t` and their
+/// The text of a table. It reads as the same table. The name of a type without a name is `t` and its
 /// number.
 pub fn write(table: &Table) -> String {
     let top = table.n - 1;
@@ -81,7 +86,7 @@ pub fn write(table: &Table) -> String {
     if is_house {
         text += "house\n";
     } else if table.n == 2 && text.is_empty() {
-        // A text states something.
+        // The text needs at least one statement.
         text += &format!("greatest {}\n", name(top));
     }
     for number in 1..top {
@@ -150,7 +155,7 @@ enum Statement<'a> {
     },
 }
 
-/// The words of the lines that are not blank; `:` and `=` are words, and `,` parts words.
+/// The words of the lines that are not blank. `:` and `=` are words, and `,` separates words.
 fn lines(text: &str) -> Result<Vec<Vec<Word<'_>>>, Fault> {
     let mut lines = Vec::new();
     let mut start = 0;
@@ -251,7 +256,7 @@ fn number(word: Word<'_>, most: usize, what: &str) -> Result<usize, Fault> {
     })
 }
 
-/// As many types as lines name, the least and the greatest beside them; no names.
+/// A table with the types of the lines, the least and the greatest type, and no names.
 fn unnamed(statements: &[Statement<'_>]) -> Result<Table, Fault> {
     let mut n = 2;
     for statement in statements {

@@ -1,5 +1,5 @@
-//! All of a specific graph that a general one does not give. It is told where the engine has no
-//! difference, since none is the most general.
+//! Finds all of a specific graph that a general graph does not give. It is told if the engine gives
+//! no difference because no difference is the most general.
 
 use super::{Kept, Said, bare, laid, over};
 use crate::graph::Graph;
@@ -10,7 +10,7 @@ use std::collections::{BTreeMap, BTreeSet};
 /// A link, by parent and feature.
 type Place = (usize, u8);
 
-/// All that differs, each link with its reason: what a difference keeps is among it.
+/// All that differs, each link with its reason. A difference would keep a part of it.
 pub fn differing(table: &Table, general: &Graph, specific: &Graph) -> Kept {
     let over = over(table, general, specific);
     let said = |node: usize| {
@@ -45,8 +45,8 @@ pub fn differing(table: &Table, general: &Graph, specific: &Graph) -> Kept {
     kept
 }
 
-/// The links of a specific graph in groups: those that enter a node, and that a general graph
-/// leads to one node, are in one.
+/// The links of a specific graph in groups. Links that enter one node are in one group if the
+/// general graph leads them to one node too.
 struct Groups {
     /// The group of each link that something of the general graph lies over.
     covered: BTreeMap<Place, usize>,
