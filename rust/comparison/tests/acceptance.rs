@@ -1,5 +1,5 @@
-//! The acceptance run (Paper 14): every small fitting over the diamond with features 0 and
-//! 1, as the listing gives them, through the five calls of both engines.
+//! The acceptance run (Paper 14). It makes the five calls of both engines on every small graph over
+//! the diamond with features 0 and 1, as the listing gives them.
 
 use comparison::{Comparison, DIFFERENCE, GENERALIZE, ORDER, REWRITE, UNIFY};
 use record_engine::Listing;

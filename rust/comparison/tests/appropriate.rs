@@ -1,7 +1,7 @@
-//! The calls with a list of types for features (Paper 9) by the proved engine and by
-//! the reference: lists that all graphs obey, that one or both break, with entries 0
-//! and n, of 63 and 65 bytes, over random, large and damaged records and tables; and
-//! that nothing but 17 and 18 differs from the plain calls.
+//! The calls with a list of types for features (Paper 9) by the proved engine and by the
+//! reference. All graphs obey the list, or one or both break it; some lists have entries 0 and n,
+//! or 63 and 65 bytes. Records and tables are random, large and damaged. The tests also check that
+//! nothing but 17 and 18 differs from the plain calls.
 
 use comparison::{Call, Comparison, GENERALIZE, REWRITE, UNIFY, compare, on_stated_stack};
 use comparison::{GENERALIZE_APPROPRIATE, REWRITE_APPROPRIATE, UNIFY_APPROPRIATE};

@@ -1,7 +1,7 @@
-//! Broader graphs in place of narrower ones, by the proved engine and by the
-//! reference: b is made from a, and d from c, by raising types, widening ranges,
-//! dropping links and parting shared nodes. Where a and c combine, so do b and d; what is written of a
-//! and c is below what is written of b and d, whatever outputs are lent.
+//! Broader graphs in place of narrower ones, by the proved engine and by the reference. Graph b is
+//! made from a, and d from c, by raising types, widening ranges, dropping links and splitting shared
+//! nodes. If a and c have a combination, so do b and d. The result for a and c is below the result
+//! for b and d, whatever outputs are lent.
 
 use comparison::{Call, Comparison, GENERALIZE, ORDER, UNIFY};
 use reference::graph::{Feature, Graph};

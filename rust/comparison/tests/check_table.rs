@@ -1,5 +1,6 @@
-//! Whether a table is accepted, by the proved engine and by the reference: every relation on
-//! up to four types, and random tables, most of them damaged. The other calls agree.
+//! The check of a table by the proved engine and by the reference, on every relation on up to four
+//! types and on random tables, most of them damaged. The other calls accept and refuse the same
+//! tables.
 
 use record_engine::{LONGEST_RECORD, Refusal, check_table, rewrite};
 use reference::calls;

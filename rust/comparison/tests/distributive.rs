@@ -1,6 +1,6 @@
-//! Types as sets (document 02, Paper 12): the calls over distributive tables, which hold
-//! types as sets, numbered along, against and across their order, and over other tables
-//! numbered so, which have meets and joins looked up.
+//! Types as sets (document 02, Paper 12). The tests make the calls over distributive tables, for
+//! which the engine holds types as sets, and over other tables, for which it looks up meets and
+//! joins. The numbers of the types follow the order, go against it, or do neither.
 
 use comparison::{Call, Comparison, DIFFERENCE, GENERALIZE, ORDER, REWRITE, UNIFY, compare};
 use reference::house;

@@ -1,6 +1,6 @@
-//! Gathering (Paper 4) by the proved engine and by the reference: random mixtures of
-//! additions, orders and finishes, with damaged programs, common parts that are too large
-//! on the way, outputs of every length, and states that nobody began.
+//! Gathering (Paper 4) by the proved engine and by the reference. The tests mix additions, orders
+//! and finishes at random, with damaged programs, common parts that are too large, outputs of every
+//! length, and bytes in which no gathering was begun.
 
 use comparison::{Gatherings, on_stated_stack};
 use record_engine::{Gathering, LONGEST_RECORD, Order, Refusal};

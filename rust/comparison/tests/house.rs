@@ -1,5 +1,5 @@
-//! The house types: the table that the engine gives and the one made from the
-//! grades, the engine's meets over it, and the stored text of `house_types`.
+//! The house types. The tests compare the table that the engine gives with the table made from the
+//! grades. They also check the engine's meets over the table, and the stored text of `house_types`.
 
 use record_engine::{HOUSE_TABLE_LENGTH, HOUSE_TYPES, LONGEST_RECORD, Refusal, house_table};
 use reference::graph::Graph;

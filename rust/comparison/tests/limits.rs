@@ -1,5 +1,5 @@
-//! Common parts of exactly as many nodes and links as a record can hold, and of one
-//! more: random pairs of graphs, made to measure by what is hung below both roots.
+//! Common parts with exactly as many nodes and links as a record can hold, and with one more. The
+//! pairs of graphs are random; nodes and links are added below both roots until the size fits.
 
 use comparison::{Comparison, GENERALIZE};
 use reference::generalize::generalize;

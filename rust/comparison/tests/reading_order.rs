@@ -1,7 +1,7 @@
-//! The difference by a list of all features (Paper 10), plain and with its reasons, by the
-//! proved engine and by the reference: cases by hand, random lists and damaged ones (63 and
-//! 65 bytes, none, a feature twice, 64 or above) over random, large and damaged records and
-//! tables. Whichever list is given, the difference restores.
+//! The difference by a reading order (Paper 10), with reasons and without, by the proved engine and
+//! by the reference. There are cases by hand, random lists, and damaged lists (63 and 65 bytes, no
+//! bytes, a feature twice, a feature of 64 or above), over random, large and damaged records and
+//! tables. Whichever list is given, the difference restores the specific record.
 
 use comparison::cases::record_of;
 use comparison::{Call, Comparison, DIFFERENCE, ORDER, REWRITE, UNIFY, compare};

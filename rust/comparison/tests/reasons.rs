@@ -1,6 +1,6 @@
-//! The reasons beside the links of a difference (Paper 13) by the proved engine: the
-//! cases of document 01 and others by hand, and random pairs, small, large, with many
-//! shared nodes, and damaged, by the engine and by the reference.
+//! The reasons for the links of a difference (Paper 13). The proved engine gets the cases of
+//! document 01 and other cases by hand. On random pairs, which are small, large, damaged, or have
+//! many shared nodes, the engine is compared with the reference.
 
 use comparison::cases::record_of;
 use comparison::{Comparison, DIFFERENCE_EXPLAINED, compare, compare_pairs, on_stated_stack};

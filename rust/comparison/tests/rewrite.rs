@@ -1,7 +1,6 @@
-//! Rewriting by the proved engine and by the reference: the same reply and the
-//! same bytes, also beside the output, on random and damaged tables and records,
-//! without ranges and with them, with outputs that are empty, one byte short, exact
-//! and larger.
+//! Rewriting by the proved engine and by the reference. Both give the same reply and the same
+//! bytes, and change nothing around the output. Tables and records are random and damaged, with
+//! ranges and without. Outputs are empty, one byte short, exactly long enough, and longer.
 
 use comparison::{Comparison, REWRITE, compare};
 use reference::graph::{Graph, Node};

@@ -1,6 +1,6 @@
-//! Rows from the planning tool (Papers 2 and 7), by the proved engine and by the reference:
-//! random planning tables in any order and numbering, damaged ones with several faults at
-//! once, the order of the checks, the limits, and export and import after each other.
+//! Planning tables (Papers 2 and 7) by the proved engine and by the reference: random planning
+//! tables in any order and numbering, damaged ones with several faults at once, the order of the
+//! checks, the limits, and export and import after each other.
 
 use comparison::PlanningTables;
 use record_engine::{Counts, MOST_LINKS, MOST_NODES, Refusal, Row};

@@ -1,7 +1,7 @@
-//! A call gets by with the stack that the header, the wrapper and the README state: every
-//! call on the deepest and on the largest records takes what its comment in the header
-//! tells, and runs on a thread that has no more than is stated for all. The calls with a
-//! list are run on such a thread in `appropriate.rs`.
+//! The stack of each call is what the header, the wrapper and the README state. On the deepest and
+//! on the largest records, every call takes what its comment in the header states, and runs on a
+//! thread that has exactly the stack stated for all calls. `appropriate.rs` runs the calls with a
+//! list on such a thread.
 
 use comparison::{on_stated_stack, stack_taken};
 use record_engine::{Counts, FEATURES, GATHERING_LENGTH, Order, Refusal, Row, Table};

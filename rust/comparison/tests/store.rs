@@ -1,7 +1,7 @@
-//! A patient's versions in one buffer (Paper 11) by the proved engine and by the reference,
-//! which rebuilds every state from nothing: random walks of puts, reads and drops, damaged
-//! buffers, common parts that are too large on the way, buffers and outputs of every length,
-//! and stored cases.
+//! The store, which keeps a patient's versions in one buffer (Paper 11), by the proved engine and by
+//! the reference, which rebuilds every store from nothing. The tests make random walks of puts,
+//! reads and drops, and use damaged buffers, common parts that are too large on the way, buffers and
+//! outputs of every length, and stored cases.
 
 use comparison::Stores;
 use record_engine::{LONGEST_RECORD, Refusal, STORE_LENGTH, Store, Table, VERSIONS};

@@ -1,5 +1,5 @@
-//! Tables that are made once, and the calls over them: `Table` and `Options` by the proved
-//! engine give what the reference's calls give in one step, refusals included.
+//! The types `Table` and `Options`, which accept a table once. Their methods, by the proved engine,
+//! give what the calls of the reference give, refusals included.
 
 use record_engine::{Reason, Refusal, Row, Table};
 use reference::calls::{self, written_by};
@@ -32,7 +32,7 @@ impl Replies {
         *self.0.entry(number).or_default() += 1;
     }
 
-    /// From the stored seeds, each of these replies came, and no other.
+    /// With the stored seeds, each of these replies came, and no other.
     fn assert_all(&self, numbers: &[u8]) {
         let found: Vec<u8> = self.0.keys().copied().collect();
         assert!(found == numbers || !random::is_stored(), "{:?}", self.0);

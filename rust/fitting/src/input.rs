@@ -22,7 +22,7 @@ const LONGEST_FILE: u64 = 1 << 20;
 /// A record as it was handed to a command.
 #[derive(Clone, Debug)]
 pub struct Input {
-    /// The name of the file, as in the arguments.
+    /// The name of the file, or `standard input`.
     pub name: String,
     /// The name that messages give it.
     pub shown: String,

@@ -95,7 +95,7 @@ impl Report<'_> {
         page + "</body>\n</html>\n"
     }
 
-    /// The legend: what words and colours mean in the sections of the programs.
+    /// The legend: what the words and the bold and grey parts mean in the sections of the programs.
     fn legend(&self) -> String {
         let pictures = match self.without_pictures {
             Some(_) => "",
@@ -262,8 +262,8 @@ fn part(part: &Part, caption: &str) -> String {
     html
 }
 
-/// The element `svg` of a picture that `dot` made. Identifiers and titles are left out: the
-/// identifiers are the same in every picture, and a browser would show the titles.
+/// The element `svg` of a picture that `dot` made, without comments, titles and identifiers. A
+/// browser would show the titles, and the identifiers are the same in every picture.
 fn inline(picture: &str) -> String {
     let begin = picture.find("<svg").unwrap_or(0);
     let mut rest = &picture[begin..];
@@ -279,7 +279,7 @@ fn inline(picture: &str) -> String {
             return text + rest;
         };
         text += &rest[..at];
-        // Nor is the line end behind what stood alone in its line.
+        // The line end behind a part that stood alone in its line is left out too.
         let alone = text.ends_with('\n') || text.is_empty();
         rest = &rest[end..];
         if alone {

@@ -165,7 +165,7 @@ pub enum General<'a> {
 }
 
 impl General<'_> {
-    /// Why a link is kept, if other paths lead to its node as well.
+    /// Why a link is kept, in words. `others` are other paths that lead to its node.
     fn words(
         self,
         table: &Table,

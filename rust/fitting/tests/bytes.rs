@@ -1,5 +1,5 @@
-//! Records through pipes and files as bytes, and pictures through the program `dot`, or a
-//! stand-in for it, or without one.
+//! Records as bytes in pipes and files, and pictures by the program `dot`, by a stand-in for it, or
+//! without it.
 
 mod tool;
 

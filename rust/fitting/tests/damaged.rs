@@ -23,8 +23,8 @@ fn told(arguments: &[&str]) -> (u8, String) {
     (status, String::from_utf8(err).expect("messages are text"))
 }
 
-/// A heading or a place, the cause, and what to do; of an empty file and of text in UTF-16 there
-/// is no cause.
+/// A message has a heading or a place, the cause, and what to do. For an empty file and for text in
+/// UTF-16 it has no cause.
 fn assert_explained(status: u8, message: &str) {
     assert!(status < 2, "{message}");
     let causeless = [": the file is empty\n", ": this is text in UTF-16\n"];

@@ -1,5 +1,5 @@
-//! The examples that the help and the README give: each works in the root of the
-//! repository, which a test's folder stands for.
+//! The examples of the help and the README work in the root of the repository. In these tests a
+//! folder of the test stands for the root.
 
 mod tool;
 

@@ -1,4 +1,4 @@
-//! The tool's answers as sessions: what a person types and sees.
+//! Compares the tool's answers with stored sessions, which show what a person types and sees.
 
 mod maps;
 mod session;

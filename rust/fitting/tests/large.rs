@@ -1,5 +1,5 @@
-//! The largest records: shown, read again and drawn in under a second each, to planning tables
-//! and back too, and results that no record can hold.
+//! The largest records. Each is shown, read again, drawn, and turned into a planning table and back
+//! in under a second. Also results that no record can hold.
 
 mod tool;
 

@@ -1,5 +1,5 @@
-//! The manual page and the completion for bash. Both are made from what the tool's help prints,
-//! and stored; with `UPDATE_GOLDEN=1` in the environment they are stored anew.
+//! The manual page and the completion for bash. Both are made from the tool's help and stored. With
+//! `UPDATE_GOLDEN=1` in the environment they are stored again.
 
 mod tool;
 

@@ -1,4 +1,4 @@
-//! Reports as pages of HTML: every element is closed, nothing is fetched, and pictures stand
+//! Reports as pages of HTML: every element is closed, a page loads nothing, and its pictures stand
 //! in the page.
 
 mod tool;

@@ -1,5 +1,5 @@
-//! A patient's file: the bytes that its document tells, programs that come back byte for byte,
-//! damaged files, and files that a refusal or a failure leaves.
+//! A patient's file: its bytes are those of its document, and programs come back byte for byte. Also
+//! damaged files, and files that a refusal or a failure leaves unchanged.
 
 mod tool;
 

@@ -1,7 +1,6 @@
-//! Random records to text and back: the text of a written record is read as that record,
-//! and what is printed of it is the same text. Random records to planning tables and back:
-//! what is exported is imported as the written record, and what is imported is exported
-//! sorted. Random tables to text and back.
+//! Random records to text and back: the text of a written record is read as that record, and is
+//! printed as the same text. Random records to planning tables and back: the import of an export is
+//! the written record, and the export of an import is sorted. Random tables to text and back.
 
 mod rows;
 

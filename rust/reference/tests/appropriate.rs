@@ -1,7 +1,7 @@
-//! The calls with a list of types for features (Paper 9): the two refusals it adds and
-//! where they stand among the others, and on random graphs that results obey the lists
-//! their graphs obey, that nothing else differs from the plain calls, and what a
-//! difference does to a list.
+//! The calls with a list of types for features (Paper 9). These tests check the two new refusals
+//! and their places among the other checks. On random graphs they check that a result obeys the
+//! lists that its graphs obey, that nothing else differs from the plain calls, and whether a
+//! difference obeys a list.
 
 use reference::appropriateness::Appropriateness;
 use reference::calls::{self, Call, CallWithList, written, written_by};
@@ -59,8 +59,8 @@ fn given(
     written_by(|output| call(table.n, &table.bytes, list, first, second, output))
 }
 
-/// Every call with a list refuses these records so, and leaves the output alone; a lone
-/// record is the first.
+/// Every call with a list refuses these records in this way and changes no byte of the output. A
+/// lone record counts as the first.
 fn assert_refused(table: &TableBytes, list: &[u8], records: [&[u8]; 2], refusal: Refusal) {
     let [first, second] = records;
     let refused = Reply::Refused(refusal);

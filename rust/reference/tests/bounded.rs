@@ -1,6 +1,6 @@
-//! Bounded searches over all small graphs. What a search over small graphs finds
-//! against a result refutes it; finding nothing proves nothing about larger
-//! graphs, so each test says which half of its claim is exact.
+//! Bounded searches over all small graphs. A counterexample among small graphs refutes a result. If
+//! there is none, that proves nothing about larger graphs. So each test says which half of its claim
+//! is exact.
 
 use reference::canonical::canonical;
 use reference::difference::difference_by;

@@ -1,5 +1,5 @@
-//! The generator itself: the same from the same seed, valid where it says so,
-//! and broken in all the ways there are.
+//! Tests the generator itself. The same seed gives the same inputs, inputs that should be valid are
+//! valid, and damaged inputs have every kind of damage.
 
 use reference::appropriateness::Appropriateness;
 use reference::generalize::generalize;

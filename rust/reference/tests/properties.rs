@@ -1,6 +1,6 @@
-//! Properties over many random small graphs and several lattices, from fixed seeds.
-//! The operations are held against document 01's sentences over paths, taken
-//! literally, and against the laws of the lattice of graphs.
+//! Properties over many random small graphs and several lattices, from fixed seeds. The tests
+//! compare the operations with document 01's sentences over paths, taken literally, and with the
+//! laws of the lattice of graphs.
 
 use reference::calls::{self, Call, written};
 use reference::canonical::canonical;

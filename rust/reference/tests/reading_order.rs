@@ -1,6 +1,6 @@
-//! The difference by a list of all features (Paper 10): cases by hand, what is kept held
-//! against the paths of both graphs on many random pairs with random lists, which lists
-//! are refused, and the calls on bytes in the order of their checks.
+//! The difference by a reading order (Paper 10). These tests have cases by hand. On many random
+//! pairs with random lists they compare what is kept with the paths of both graphs. They also check
+//! which lists are refused, and the order of the checks in the calls on bytes.
 
 mod overlaid;
 

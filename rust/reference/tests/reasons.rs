@@ -1,6 +1,6 @@
-//! The reasons beside the links of a difference (Paper 13): cases by hand, each reason
-//! held against the paths of both graphs on many random pairs, and the call on bytes
-//! with outputs of every length.
+//! The reasons for the links of a difference (Paper 13). These tests have cases by hand. On many
+//! random pairs they compare each reason with the paths of both graphs. They also make the call on
+//! bytes with outputs of every length.
 
 mod overlaid;
 

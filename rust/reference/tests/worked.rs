@@ -1,7 +1,6 @@
-//! Examples worked by hand where the rules of document 01 are easily taken
-//! otherwise: the numbering as written, ties between links, groups closed
-//! transitively, kept top nodes, wanted types and ranges, sharing in the common
-//! part.
+//! Examples worked by hand, at points where the rules of document 01 are easily misread: the
+//! written numbering, ties between links, transitively closed groups, kept top nodes, wanted types
+//! and ranges, and sharing in the common part.
 
 use reference::calls::{self, Call, written};
 use reference::graph::Graph;

@@ -1,5 +1,5 @@
-//! Forty-three maps of one device in a folder, records with 22 electrodes each; some mean the
-//! same under another numbering of their nodes. What a person did by hand, `same` does.
+//! Forty-three maps of one device in a folder, which are records with 22 electrodes each. Some mean
+//! the same with other numbers of nodes. The command `same` finds these.
 
 use fitting::graph::{Graph, Levels, Link, Node};
 use std::fs;

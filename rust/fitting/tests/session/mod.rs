@@ -1,5 +1,5 @@
-//! Runs the tool as a session file tells, in a folder of its own, and compares what it
-//! prints. A session is a text of steps:
+//! Runs the tool by a session file, in a folder of its own, and compares what the tool prints with
+//! the file. A session is a text of steps:
 //!
 //!     ## a comment
 //!     $ file NAME                the lines that follow are the file's text
@@ -12,8 +12,8 @@
 //!     ! a line of standard error
 //!     ? the exit status, where it is not 0
 //!
-//! `examples` is there as in the root of the repository. With `UPDATE_GOLDEN=1` in the
-//! environment the session is stored anew as the tool answers.
+//! The folder has `examples` as the root of the repository does. With `UPDATE_GOLDEN=1` in the
+//! environment, the session is stored again with the tool's answers.
 
 use crate::tool::{folder, output, tool};
 use std::path::Path;

@@ -1,5 +1,5 @@
-//! A graph s below a graph g, by the paths of both: what a difference keeps of s, and why,
-//! held against the papers' sentences without the code that computes it.
+//! A graph s below a graph g, as the paths of both. Tests use it to compare what a difference keeps
+//! of s, and why, with the papers' sentences. It uses no code that computes the difference.
 
 use reference::canonical::canonical;
 use reference::difference::{Explained, Reason};
