@@ -5,14 +5,14 @@
  * docs/FORMATS.md describes each byte. examples/difference.c, examples/rows.c, examples/table.c,
  * examples/export.c and examples/thread.c are whole programs.
  *
- * A type table orders n types, 2 to 64. It has a row of 8 bytes for each type. In row i, bit
+ * A type table orders n types, 2 to 64, and has a row of 8 bytes for each type. In row i, bit
  * j % 8 of byte j / 8 is set exactly when type j is below type i or is type i. Bit 0 has the
  * value 1, and bits for j from n on are 0. Type 0 is the contradiction: it is below every other
  * type. Type n - 1 is top: it says nothing, and every other type is below it. The rows are an
  * order. Every two types have a meet, which is the greatest type below or equal to both, and a
  * join, which is the least type above or equal to both. For example, the diamond has n = 4: its
- * types 1 and 2 lie between 0 and 3, and neither is below the other. The first bytes of its
- * rows are 0x01, 0x03, 0x05 and 0x0F, and its other 28 bytes are 0.
+ * types 1 and 2 lie between 0 and 3, and neither is below the other. The first bytes of the
+ * diamond's rows are 0x01, 0x03, 0x05 and 0x0F, and the other 28 bytes are 0.
  *
  * A record is a graph in bytes. Byte 0 is the number of nodes, 1 to 255. The nodes follow, from
  * node 0, the root, on. Each node has these parts:
@@ -37,12 +37,12 @@
  * root. Links are followed lowest feature first, and all that lies below one link is numbered
  * before the next link of the same node is followed. A written record spells out no full range.
  *
- * A list of types for features says which nodes may have which features. It has 64 bytes. Byte f
- * is the broadest type, 0 to n - 1, that may have feature f: a node may have the feature when
- * its type is below or equal to byte f. So 0 forbids the feature, and n - 1 allows it to all
- * nodes. Another name of the list is appropriateness list, and the calls that take one are
- * called `.._appropriate`. The common part and the combination of records that obey a list obey
- * the list too. A difference need not obey it: combine a difference with `record_unify`. The
+ * A list of types for features says in 64 bytes which nodes may have which features. Byte f is
+ * the broadest type, 0 to n - 1, that may have feature f: a node may have the feature when its
+ * type is below or equal to byte f. So 0 forbids the feature, and n - 1 allows it to all nodes.
+ * Another name of the list is appropriateness list, and the calls that take one are called
+ * `.._appropriate`. The common part and the combination of records that obey a list obey the
+ * list too. A difference need not obey the list: combine a difference with `record_unify`. The
  * result is the specific record, so it obeys the list if the specific record does.
  *
  * A reading order is a list of all 64 features, each once, in 64 bytes. The feature that is read
@@ -74,8 +74,8 @@
  * feature 9 of the root leads to node 1, and feature 0 of the root and feature 0 of node 1 lead
  * to node 2, which has type 1 and the levels 10 to 200.
  *
- * A gathering keeps a type table and the common part of the records that were added so far. It
- * is a buffer that the caller lends:
+ * A gathering keeps a type table and the common part of the records that were added so far. The
+ * gathering is a buffer that the caller lends:
  *    1 byte       n
  *    8 * n bytes  the table
  *    2 bytes      the length of the common part, low byte first; 0 before the first addition
@@ -85,23 +85,23 @@
  * the accepted additions alone give, in their order. The common part is the least graph above
  * all accepted records. Where the same records are all accepted in another order, the common
  * part is the same record.
- * A call refuses bytes that hold no gathering by the first fault that it finds. It refuses by 1
- * to 3 for the table, and by 1 where the bytes end before the table does; then by 4 to 7 of the
- * record, as the first, if the call takes a record; then by 4 to 7 of the common part, as the
- * second. A missing byte of the length counts as 0. A common part that is cut off ends where the
- * bytes end. An addition is last refused by 8 where the common part has no room.
+ * A call refuses bytes that hold no gathering by the first fault that it finds: by 1 to 3 for
+ * the table, with 1 where the bytes end before the table does; then by 4 to 7 of the record, as
+ * the first, if the call takes a record; then by 4 to 7 of the common part, as the second. A
+ * missing byte of the length counts as 0. A common part that is cut off ends where the bytes
+ * end. After these checks, an addition is refused by 8 where the common part has no room.
  *
  * A store keeps up to 16 versions of a program over one type table. A program is a record, and a
  * version is its number, 0 to 15. The store holds the common part of all programs once, and for
- * each program its difference from the common part. It is a buffer of 2 to RECORD_STORE bytes
- * that the caller lends:
+ * each program its difference from the common part. The store is a buffer of 2 to RECORD_STORE
+ * bytes that the caller lends:
  *    2 bytes   the map, low byte first: bit v is set when version v exists, v being 0 to 15
  *    and where some version exists
  *    2 bytes   the length of the common part, low byte first
- *    so many   the common part, a written record
+ *    as many   the common part, a written record
  *    and for each version that exists, lowest first
  *    2 bytes   the length of its difference from the common part, low byte first
- *    so many   that difference, a written record
+ *    as many   that difference, a written record
  * The bytes behind these used bytes may hold anything. An empty store is two zero bytes. A put
  * stores a record under a version that is absent, a read gives the written record of what was
  * put, and a drop removes a version. Two versions read as equal bytes exactly when the records

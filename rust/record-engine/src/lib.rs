@@ -35,7 +35,7 @@
 //!
 //! # Type table
 //!
-//! A type table orders n types, 2 to 64. It has a row of 8 bytes for each type. In row i,
+//! A type table orders n types, 2 to 64, and has a row of 8 bytes for each type. In row i,
 //! bit j % 8 of byte j / 8 is set exactly when type j is below type i or is type i. Bit 0
 //! has the value 1, and bits for j from n on are 0. Type 0 is the contradiction: it is below
 //! every other type. Type n − 1 is top: it says nothing, and every other type is below it.
@@ -45,8 +45,8 @@
 //! [`Table::from_order`] makes a table from pairs of types, and [`Table::house`] makes the
 //! table of the house types. [`table`] and [`house_table`] give the bytes of a table. The
 //! examples use the diamond, which has n = 4: its types 1 and 2 lie between 0 and 3, and
-//! neither is below the other. The first bytes of its rows are 0x01, 0x03, 0x05 and 0x0F, and
-//! its other bytes are 0.
+//! neither is below the other. The first bytes of the diamond's rows are 0x01, 0x03, 0x05 and
+//! 0x0F, and the other bytes are 0.
 //!
 //! # Record
 //!
@@ -95,9 +95,9 @@
 //!
 //! # List of types for features
 //!
-//! A list of types for features says which nodes may have which features. It has 64 bytes.
-//! Byte f is the broadest type, 0 to n − 1, that may have feature f: a node may have the
-//! feature when its type is below or equal to byte f. So 0 forbids the feature, and n − 1
+//! A list of types for features says in 64 bytes which nodes may have which features. Byte f
+//! is the broadest type, 0 to n − 1, that may have feature f: a node may have the feature
+//! when its type is below or equal to byte f. So 0 forbids the feature, and n − 1
 //! allows it to all nodes. Another name of the list is appropriateness list: hence the names
 //! [`Options::appropriateness`], [`rewrite_appropriate`], [`generalize_appropriate`] and
 //! [`unify_appropriate`]. These calls refuse a record with a link that the list forbids, by
@@ -105,7 +105,7 @@
 //! (17). Otherwise they reply as [`rewrite`], [`generalize`] and [`unify`] do.
 //!
 //! The common part and the combination of records that obey a list obey the list too. A
-//! difference need not obey it: combine a difference with [`unify`]. The result is the
+//! difference need not obey the list: combine a difference with [`unify`]. The result is the
 //! specific record, so it obeys the list if the specific record does.
 //!
 //! # Reading order
@@ -142,8 +142,8 @@
 //!
 //! # Gathering
 //!
-//! A [`Gathering`] is begun over one table. It keeps the common part of the records that are
-//! added one after another. A refused addition changes nothing. An order compares a record
+//! A [`Gathering`] over one table keeps the common part of the records that are added one
+//! after another. A refused addition changes nothing. An order compares a record
 //! with the common part so far. A finish writes the common part and leaves the gathering
 //! open. An order or a finish before the first addition is refused by
 //! [`Refusal::NothingGathered`] (16). The calls [`gathering_begin`], [`gathering_add`],
@@ -153,8 +153,8 @@
 //!
 //! A [`Store`] keeps up to 16 versions of a program over one type table. A program is a
 //! record, and a version is its number, 0 to 15. The store holds the common part of all
-//! programs once, and for each program its difference from the common part. It has 2 to
-//! [`STORE_LENGTH`] bytes:
+//! programs once, and for each program its difference from the common part. The store has 2
+//! to [`STORE_LENGTH`] bytes:
 //!
 //! - 2 bytes: the map, low byte first; bit v is set when version v exists, v being 0 to 15;
 //! - where some version exists, the length of the common part, 2 bytes, low byte first, and

@@ -8,7 +8,8 @@ use std::collections::BTreeMap;
 /// The classes as the nodes of a graph that may loop and clash. Class 0 has all roots.
 pub struct Combination {
     pub graph: Graph,
-    /// For each class its nodes. Each is the place of its graph among the graphs, and its number there.
+    /// For each class its nodes. A node is the place of its graph among the graphs, and its number in
+    /// that graph.
     pub members: Vec<Vec<(usize, usize)>>,
 }
 
