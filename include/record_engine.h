@@ -2,8 +2,8 @@
  * tables and records, two on planning tables, four on a gathering, three on a store, and one
  * that writes the table of the house types. `rt staticlib record_engine` writes the library to
  * target/staticlib. In the repository, docs/CALLS.md describes each call with examples, and
- * docs/FORMATS.md describes each byte. examples/difference.c, examples/rows.c, examples/table.c,
- * examples/export.c and examples/thread.c are whole programs.
+ * docs/FORMATS.md describes each byte. examples/order.c, examples/difference.c, examples/rows.c,
+ * examples/table.c, examples/export.c and examples/thread.c are whole programs.
  *
  * A type table orders n types, 2 to 64, and has a row of 8 bytes for each type. In row i, bit
  * j % 8 of byte j / 8 is set exactly when type j is below type i or is type i. Bit 0 has the
