@@ -344,7 +344,7 @@ uint64_t record_generalize(size_t n, const uint8_t *table, size_t table_length,
  * share in one of the records share in the combination, and so do their continuations by equal
  * features. The paths that share form a class. A class has the meet of all its types and the
  * overlap of all its ranges. Answers the length, or refuses by 1 to 7, by 9 or 10 where no graph
- * is below both, then by 11 and 8. Takes 128 KiB of stack. */
+ * is below both, then by 11 and 8. Takes 132 KiB of stack. */
 uint64_t record_unify(size_t n, const uint8_t *table, size_t table_length,
                       const uint8_t *first, size_t first_length,
                       const uint8_t *second, size_t second_length,
@@ -353,7 +353,7 @@ uint64_t record_unify(size_t n, const uint8_t *table, size_t table_length,
 /* Writes the difference of a general record, the first, and a specific record below it, the
  * second. The combination of the general record and the difference is the written specific
  * record, byte for byte. No graph strictly above the difference gives the specific record.
- * Answers the length, or refuses by 1 to 7, 12, 13 and 8. Takes 72 KiB of stack. */
+ * Answers the length, or refuses by 1 to 7, 12, 13 and 8. Takes 68 KiB of stack. */
 uint64_t record_difference(size_t n, const uint8_t *table, size_t table_length,
                            const uint8_t *general, size_t general_length,
                            const uint8_t *specific, size_t specific_length,
@@ -379,7 +379,7 @@ uint64_t record_generalize_appropriate(size_t n, const uint8_t *table, size_t ta
 
 /* Does the same as `record_unify`, for two records that obey a list of types for features. The
  * combination obeys the list too. Answers the length, or refuses by 1 to 3, by 17, by the first
- * record's 4 to 7 and 18, by the second record's, then by 9, 10, 11 and 8. Takes 128 KiB of
+ * record's 4 to 7 and 18, by the second record's, then by 9, 10, 11 and 8. Takes 132 KiB of
  * stack. */
 uint64_t record_unify_appropriate(size_t n, const uint8_t *table, size_t table_length,
                                   const uint8_t *list, size_t list_length,
@@ -391,7 +391,7 @@ uint64_t record_unify_appropriate(size_t n, const uint8_t *table, size_t table_l
  * second output. A reason is one byte: RECORD_REASON_BARE, RECORD_REASON_GROUPS or
  * RECORD_REASON_WANTED. The reasons stand in the order of the links in the written difference:
  * node by node, and for each node by feature. The bytes behind the last reason are unchanged.
- * Answers the record's length, or refuses by 1 to 7, 12, 13, 8 and 22. Takes 72 KiB of stack. */
+ * Answers the record's length, or refuses by 1 to 7, 12, 13, 8 and 22. Takes 68 KiB of stack. */
 uint64_t record_difference_explained(size_t n, const uint8_t *table, size_t table_length,
                                      const uint8_t *general, size_t general_length,
                                      const uint8_t *specific, size_t specific_length,
@@ -401,7 +401,7 @@ uint64_t record_difference_explained(size_t n, const uint8_t *table, size_t tabl
 /* Writes the difference as `record_difference` does, but orders the links by a reading order,
  * which is the list. Whichever reading order is given, the difference restores the specific
  * record, and no graph strictly above the difference does. Answers the length, or refuses by 1
- * to 3, by 19, by 4 to 7, then by 12, 13 and 8. Takes 72 KiB of stack. */
+ * to 3, by 19, by 4 to 7, then by 12, 13 and 8. Takes 68 KiB of stack. */
 uint64_t record_difference_by(size_t n, const uint8_t *table, size_t table_length,
                               const uint8_t *list, size_t list_length,
                               const uint8_t *general, size_t general_length,
@@ -410,7 +410,7 @@ uint64_t record_difference_by(size_t n, const uint8_t *table, size_t table_lengt
 
 /* Writes the difference as `record_difference_by` does, and its reasons as
  * `record_difference_explained` does. Answers the record's length, or refuses by 1 to 3,
- * by 19, by 4 to 7, then by 12, 13, 8 and 22. Takes 72 KiB of stack. */
+ * by 19, by 4 to 7, then by 12, 13, 8 and 22. Takes 68 KiB of stack. */
 uint64_t record_difference_explained_by(size_t n, const uint8_t *table, size_t table_length,
                                         const uint8_t *list, size_t list_length,
                                         const uint8_t *general, size_t general_length,
@@ -482,7 +482,7 @@ uint64_t record_gathering_finish(const uint8_t *gathering, size_t gathering_leng
  * first, where the bytes hold no store, by 4 to 7 of the record, which counts as the second, by
  * 20 for the version, then by the first of 11, 13 and 21 on the way of all programs, the new one
  * included. If the version is above all present ones, the call adds one step to the way that it
- * went to find the programs, and does not go the way again. Takes 256 KiB of stack. */
+ * went to find the programs, and does not go the way again. Takes 248 KiB of stack. */
 uint64_t record_store_put(size_t n, const uint8_t *table, size_t table_length,
                           uint8_t *store, size_t store_length,
                           size_t version,
@@ -490,7 +490,7 @@ uint64_t record_store_put(size_t n, const uint8_t *table, size_t table_length,
 
 /* Writes the written record of what was put under a version. Answers the record's length, or
  * refuses by 1 to 3, by 4 of the store, as the first, where the bytes hold no store, by 20 for
- * the version, then by 8. Takes 244 KiB of stack. */
+ * the version, then by 8. Takes 240 KiB of stack. */
 uint64_t record_store_read(size_t n, const uint8_t *table, size_t table_length,
                            const uint8_t *store, size_t store_length,
                            size_t version,
@@ -499,7 +499,7 @@ uint64_t record_store_read(size_t n, const uint8_t *table, size_t table_length,
 /* Removes a version from a store. Answers how many bytes the store uses then. The bytes behind
  * them are unchanged. Refuses by 1 to 3, by 4 of the store, as the first, where the bytes hold no
  * store, by 20 for the version, then by the first of 11, 13 and 21 on the way of the other
- * programs. Takes 244 KiB of stack. */
+ * programs. Takes 240 KiB of stack. */
 uint64_t record_store_drop(size_t n, const uint8_t *table, size_t table_length,
                            uint8_t *store, size_t store_length,
                            size_t version);

@@ -1,4 +1,4 @@
-//! The stack of each call is what the header, the wrapper and the README state. On the deepest and
+//! The stack of each call is what the header and the wrapper state. On the deepest and
 //! on the largest records, every call takes what its comment in the header states, and runs on a
 //! thread that has exactly the stack stated for all calls. `appropriate.rs` runs the calls with a
 //! list on such a thread.

@@ -85,7 +85,7 @@ pub fn generalize_appropriate(
 }
 
 /// Writes the combination of two records, as [`unify`](crate::unify) does, if the records obey
-/// a list of types for features. The combination obeys the list too. Takes 128 KiB of stack.
+/// a list of types for features. The combination obeys the list too. Takes 132 KiB of stack.
 ///
 /// A difference need not obey the list. Combine a difference with [`unify`](crate::unify):
 ///

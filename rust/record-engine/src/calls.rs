@@ -84,7 +84,7 @@ pub fn generalize(
 /// Writes the combination of two records, their unification. The combination is the greatest
 /// graph below both. Paths that share in one of the records share in the combination, and so do
 /// their continuations by equal features. The paths that share form a class. A class has the
-/// meet of all its types and the overlap of all its ranges. Takes 128 KiB of stack.
+/// meet of all its types and the overlap of all its ranges. Takes 132 KiB of stack.
 ///
 /// ```
 /// use record_engine::Refusal;
@@ -133,7 +133,7 @@ pub fn unify(
 
 /// Writes the difference of a general record and a specific record below it. The combination of
 /// the general record and the difference is the written specific record, byte for byte. No
-/// graph strictly above the difference gives the specific record. Takes 72 KiB of stack.
+/// graph strictly above the difference gives the specific record. Takes 68 KiB of stack.
 ///
 /// ```
 /// let diamond = record_engine::table(&[0x01, 0x03, 0x05, 0x0F]).expect("at most 8 types");
