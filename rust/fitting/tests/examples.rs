@@ -1,5 +1,6 @@
-//! The examples of the help and the README work in the root of the repository. In these tests a
-//! folder of the test stands for the root.
+//! The examples of the help, and the pictures of docs/FITTING.md, work in the root of the repository.
+//! In these tests a folder of the test stands for the root. scripts/check-documents runs the other
+//! commands of the documents.
 
 mod tool;
 
@@ -62,57 +63,34 @@ fn the_examples_of_the_help_work() {
 }
 
 #[test]
-fn the_lines_of_the_readme_work() {
-    let folder = folder("readme");
-    let readme = Path::new(env!("CARGO_MANIFEST_DIR")).join("../../README.md");
-    let readme = fs::read_to_string(readme).expect("the README is text");
-    // The gate empties `target`: what is installed there is gone.
-    let installs = readme.lines().filter(|line| line.contains("cargo install"));
-    let installs: Vec<&str> = installs.map(str::trim).collect();
-    assert_eq!(
-        installs,
-        ["cargo install --offline --locked --path rust/fitting --root ~/.local"]
-    );
-    let lines = readme.lines();
-    let lines = lines.filter_map(|line| line.strip_prefix("    fitting "));
+fn the_pictures_of_the_guide_are_made() {
+    let folder = folder("guide");
+    let guide = Path::new(env!("CARGO_MANIFEST_DIR")).join("../../docs/FITTING.md");
+    let guide = fs::read_to_string(guide).expect("the guide is text");
     let mut commands = Vec::new();
-    for line in lines {
+    for line in guide.lines() {
+        let line = line.strip_prefix("$ ").unwrap_or(line);
+        let words = line.strip_prefix("fitting ").unwrap_or_default().split(' ');
         // A picture needs `dot`: DOT text does not. A page is printed as well.
         let is_stored = |word: &&str| word.ends_with(".svg") || word.ends_with(".html");
-        let line = line.split(' ').filter(|word| !is_stored(word));
-        let arguments: Vec<&str> = line.collect();
+        let mut arguments: Vec<&str> = words.filter(|word| !is_stored(word)).collect();
         let begin = match arguments[0] {
-            "draw" => Some("digraph fitting {\n"),
-            "report" => Some("<!DOCTYPE html>\n"),
-            _ => None,
+            "make" => "",
+            "draw" => "digraph fitting {\n",
+            "report" => "<!DOCTYPE html>\n",
+            _ => continue,
         };
-        let arguments = &arguments[..arguments.len() - usize::from(begin.is_some())];
-        let told = output(tool(&folder, arguments), b"");
+        if !begin.is_empty() {
+            assert_eq!(arguments.pop(), Some("-o"));
+        }
+        let told = output(tool(&folder, &arguments), b"");
         let error = String::from_utf8_lossy(&told.stderr);
         assert!(told.status.success(), "{arguments:?}\n{error}");
         let text = String::from_utf8(told.stdout).expect("text");
-        if let Some(begin) = begin {
-            assert!(text.starts_with(begin), "{text}");
-        } else {
-            // What it prints stands in the README.
-            let block: String = text.lines().map(|line| format!("    {line}\n")).collect();
-            assert!(readme.contains(&block), "{block}");
-        }
+        assert!(text.starts_with(begin), "{text}");
         commands.push(arguments[0].to_string());
     }
-    assert_eq!(
-        commands,
-        [
-            "make",
-            "difference",
-            "draw",
-            "compare",
-            "same",
-            "report",
-            "draw",
-            "draw"
-        ]
-    );
+    assert_eq!(commands, ["make", "draw", "report", "draw", "draw"]);
 }
 
 #[test]
