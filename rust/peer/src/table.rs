@@ -13,10 +13,15 @@ pub struct Table {
 }
 
 impl Table {
-    /// An accepted table, or 1, 2 or 3.
+    /// An accepted table, or 1, 2 or 3. One pass over the types checks order and meets.
     pub fn open(n: usize, bytes: &[u8]) -> Result<Table, Refusal> {
-        let table = Table::read(n, bytes)?;
-        match table.has_bounds() {
+        let table = Table::with_rows(n, bytes)?;
+        let mut has_bounds = true;
+        for i in 0..n {
+            let covered = covered(&table.down, i).ok_or(Refusal::of(2))?;
+            has_bounds = has_bounds && has_meets(&table.down, covered);
+        }
+        match has_bounds {
             true => Ok(table),
             false => Err(Refusal::of(3)),
         }
@@ -25,6 +30,16 @@ impl Table {
     /// A table that is an order with a least and a greatest type, or 1 or 2. Meets and joins are
     /// not checked.
     pub fn read(n: usize, bytes: &[u8]) -> Result<Table, Refusal> {
+        let table = Table::with_rows(n, bytes)?;
+        match (0..n).all(|i| covered(&table.down, i).is_some()) {
+            true => Ok(table),
+            false => Err(Refusal::of(2)),
+        }
+    }
+
+    /// A table in which 0 is below every type and every type is below n − 1, or 1 or 2. Whether it
+    /// is an order is not checked.
+    fn with_rows(n: usize, bytes: &[u8]) -> Result<Table, Refusal> {
         if !(2..=64).contains(&n) || bytes.len() != 8 * n {
             return Err(Refusal::of(1));
         }
@@ -32,7 +47,10 @@ impl Table {
         for (word, row) in down.iter_mut().zip(bytes.chunks_exact(8)) {
             *word = u64::from_le_bytes(row.try_into().expect("8 bytes"));
         }
-        match is_order(n, &down) {
+        let all = u64::MAX >> (64 - n);
+        let mut rows = down[..n].iter().enumerate();
+        let is_set = rows.all(|(i, &row)| row & !all == 0 && row >> i & 1 == 1 && row & 1 == 1);
+        match down[n - 1] == all && is_set {
             true => Ok(Table { n, down }),
             false => Err(Refusal::of(2)),
         }
@@ -41,14 +59,8 @@ impl Table {
     /// Whether every two types have a meet. They then have a join too, since there is a greatest
     /// type. It is enough to check every two types that one type covers.
     pub fn has_bounds(&self) -> bool {
-        let down = &self.down;
-        (0..self.n).all(|i| {
-            let covered = covered(down, i);
-            bits(covered).all(|a| {
-                let higher = covered & (!1 << a);
-                bits(higher).all(|b| type_of(down, down[a] & down[b]).is_some())
-            })
-        })
+        let mut covers = (0..self.n).filter_map(|i| covered(&self.down, i));
+        covers.all(|covered| has_meets(&self.down, covered))
     }
 
     pub fn is_below(&self, lower: u8, upper: u8) -> bool {
@@ -74,29 +86,30 @@ impl Table {
     }
 }
 
-/// Whether the words are an order with 0 least and n − 1 greatest.
-fn is_order(n: usize, down: &[u64; 64]) -> bool {
-    let all = u64::MAX >> (64 - n);
-    down[n - 1] == all
-        && down[..n].iter().enumerate().all(|(i, &row)| {
-            let lower = row & !(1 << i);
-            // What is below a type strictly below i is strictly below i.
-            let below = bits(lower).fold(0, |below, j| below | down[j]);
-            row & !all == 0 && row >> i & 1 == 1 && row & 1 == 1 && below & !lower == 0
-        })
+/// Whether every two types of a word have a meet.
+fn has_meets(down: &[u64; 64], types: u64) -> bool {
+    bits(types).all(|a| {
+        let higher = types & (!1 << a);
+        bits(higher).all(|b| type_of(down, down[a] & down[b]).is_some())
+    })
 }
 
 /// The types that type i covers. The loop takes the highest numbered type strictly below i, leaves
-/// out all types below it, and goes on with the rest.
-fn covered(down: &[u64; 64], i: usize) -> u64 {
-    let mut left = down[i] & !(1 << i);
+/// out all types below it, and goes on with the rest. It gives none if a type below a taken one is
+/// not strictly below i. If it gives a word for every type, the table is an order.
+fn covered(down: &[u64; 64], i: usize) -> Option<u64> {
+    let lower = down[i] & !(1 << i);
+    let mut left = lower;
     let mut taken = 0;
     while left != 0 {
         let c = End::High.bit(left);
+        if down[c] & !lower != 0 {
+            return None;
+        }
         taken = taken & !down[c] | 1 << c;
         left &= !down[c];
     }
-    taken
+    Some(taken)
 }
 
 /// The places of the bits that are set in a word, lowest first.
