@@ -7,6 +7,7 @@ pub mod Parts
 pub mod BoundLaws
 pub mod Rows
 pub mod Seeking
+pub mod Turning
 pub mod Covering
 pub mod Spanning
 pub mod Acceptance

@@ -94,7 +94,7 @@ pub overwrite-none : (row : ℕ → List ℕ) (rows : List (List ℕ)) → overw
 unfolding overwrite
 overwrite-none row rows = refl
 
-length-overwrite : (k : ℕ) (row : ℕ → List ℕ) (rows : List (List ℕ)) → length (overwrite k row rows) ≡ length rows
+pub length-overwrite : (k : ℕ) (row : ℕ → List ℕ) (rows : List (List ℕ)) → length (overwrite k row rows) ≡ length rows
 unfolding overwrite
 length-overwrite zero row rows = refl
 length-overwrite (suc k) row rows = length-set (overwrite k row rows) k (row k) ∙ length-overwrite k row rows

@@ -3,10 +3,10 @@
 -- `Table.antt` defines.
 use Prim.Native.Nat.{ℕ, zero, suc, _+_, _*_, _-_, _/_, _%_, _^_, _<_, _≤_}
 use mathlib.Core.Path.{_≡_}
-use mathlib.Core.Bool.{Bool, true, false, _&&_}
+use mathlib.Core.Bool.{Bool, true, false, not, _&&_}
 use mathlib.Core.List.{List}
 use mathlib.Core.Option.{Option}
-use lib.ListN.{getD}
+use lib.ListN.{getD, length}
 use lib.Dec.{leb, eqb}
 use lib.Bits.{bitAnd, bitXor}
 use Rattle.lattice.specs.Table.{every, last, implies, below, found, sized, cell, wanted}
@@ -41,6 +41,12 @@ without a b = bitXor a (bitAnd a b)
 -- The word of the types whose words have bit i. If the words hold the types below each type, these are the types above i.
 unfoldable pub turned : ℕ → List ℕ → ℕ → ℕ
 turned n ws i = word n λ j. bit (getD ws j 0) i
+
+-- Bit j is set in the words of the types of `word` that are not left any more; the words were `old` before.
+pub record Spread (word j : ℕ) (old : List ℕ) (left : ℕ) (new : List ℕ) : Type 0 where
+  pub long : length new ≡ 64
+  pub part : (i : ℕ) → i < 64 → bit left i ≡ true → bit word i ≡ true
+  pub spread : (i : ℕ) → i < 64 → getD new i 0 ≡ digit (bit word i && not (bit left i)) * 2 ^ j + getD old i 0
 
 -- all bits of a are set in b
 abbrev pub partOf : ℕ → ℕ → Bool
