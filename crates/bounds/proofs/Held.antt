@@ -176,6 +176,10 @@ holder-own n sets set c apart l e =
     apart k c r l (eqb-true (getD sets k 0) set f ∙ e)))
 
 module _ (n : ℕ) (sets : List ℕ) (cells : List (List ℕ)) (a b : ℕ) where
+  -- the rows of cells have a place for a type, if the cells are used
+  pub row-inside : setIn sets (n - 1) ≡ 0 → (asSets n sets ≡ false → length cells ≡ 64) → a < n → n ≤ 64 → a < length cells
+  row-inside e long l few = omega (arith, long (ap not (eq-eqb (setIn sets (n - 1)) 0 e)))
+
   pub meet-in-cells : setIn sets (n - 1) ≡ 0 → cellIn cells a b ≡ meetIn n sets cells a b
   unfolding meetIn
   meet-in-cells e = rw (eq-eqb (setIn sets (n - 1)) 0 e)

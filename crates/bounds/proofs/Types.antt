@@ -2,20 +2,21 @@
 -- are those of the table.
 use Prim.Native.Nat.{ℕ, _-_, _<_}
 use mathlib.Core.Path.{_≡_, refl, sym, ap, ap₂, subst, _∙_}
-use mathlib.Core.Bool.{Bool, true, false, not, _&&_}
+use mathlib.Core.Bool.{Bool, true, false, cond, not, _&&_}
 use mathlib.Core.List.{List}
 use mathlib.Core.Option.{Option}
 use native.Mathlib.Omega.{arith}
 use lib.ListN.{length, getD}
 use lib.Bits.{bitAnd, bitOr}
 use borrow.Author.Tests.{eq-eqb}
-use Rattle.lattice.specs.Table.{every, below, accepted, meet, join, cell, filled}
+use Rattle.lattice.specs.Table.{every, below, sized, ordered, accepted, meet, join, cell, filled, boundRow, overwrite}
 use Rattle.lattice.specs.Words.{word, related, Words, bit, turned, Inside}
 use Rattle.bounds.specs.Primes.{wordIrreducible, wordPrime}
 use Rattle.bounds.specs.Sets.{distributive, irreducible, setOf, setIn, asSets, cellIn, meetIn, joinIn, Apart, Held, Sets, Holding}
 use Rattle.lattice.proofs.Every.{and-left, and-right, and-both, not-true-false, true-not-false}
 use Rattle.lattice.proofs.WordLaws.{word-same, word-and, word-cut}
 use Rattle.lattice.proofs.Bits.{bit-word, no-bit, and-bit, part-bit, word-inside}
+use Rattle.lattice.proofs.Rows.{length-overwrite}
 use Rattle.lattice.proofs.Laws.{Meet, Join, accepted-size, accepted-facts, zero-type, top-type, below-antisymmetric, zero-least, meet-exists, join-exists, meets-cell, joins-cell}
 use Rattle.bounds.proofs.PrimeLaws.{few, laws, own-bit, least-outside}
 use Rattle.bounds.proofs.Distributive.{covers-irreducible, below-by-sets, set-bit, sets-apart, sets-meet, sets-join, primes-distributive, word-irreducible}
@@ -36,6 +37,13 @@ turned-tests true y true e = e
 turned-tests true y false e = e
 turned-tests false y true e = refl
 turned-tests false y false e = refl
+
+length-filled : (n : ℕ) (t : List ℕ) (bound : ℕ → ℕ → Option ℕ) (rows : List (List ℕ)) → length (filled n t bound rows) ≡ length rows
+unfolding filled
+length-filled n t bound rows = go (sized n t && ordered n t) where
+  go : (b : Bool) → length (cond b (overwrite n (boundRow n bound) rows) rows) ≡ length rows
+  go true = length-overwrite n (boundRow n bound) rows
+  go false = refl
 
 module _ (n : ℕ) (t : List ℕ) (ok : accepted n t ≡ true) where
   module _ (ws : List ℕ) (words : Words n t false ws) {up : Bool} {sets : List ℕ} (made : Sets up n ws sets n) where
@@ -64,6 +72,21 @@ module _ (n : ℕ) (t : List ℕ) (ok : accepted n t ≡ true) where
         let own : bit (getD ws a 0) j ≡ true = and-left (bit (getD ws a 0) j) (bit all j) both in
         let known : j < n = laws n t ws ok words .inside a j l s own in
         (known, own, sym (bit-word n (wordIrreducible n ws) j known) ∙ and-right (bit (getD ws a 0) j) (bit all j) both)
+
+  -- the set of the greatest type is not empty
+  top-member : setOf n t (n - 1) ≡ 0 → ⊥
+  top-member e =
+      let apart : below t (n - 1) 0 ≡ false =
+      not-true-false (below t (n - 1) 0) λ f.
+      omega (
+        arith,
+        accepted-size n t ok .0,
+        below-antisymmetric n t ok (n - 1) 0 (top-type n t ok) (zero-type n t ok) f (zero-least n t ok (n - 1) (top-type n t ok)),
+      ) in
+      let (j, l, under, other, k, lk, covers) = least-outside n t ok (n - 1) 0 (top-type n t ok) (zero-type n t ok) apart in
+      true-not-false (bit (setOf n t (n - 1)) j)
+      (set-bit n t ok (n - 1) j l ∙ rw (covers-irreducible n t ok j k l lk covers, under))
+      (ap (λ (w : ℕ). bit w j) e ∙ no-bit j)
 
   module _ (ws : List ℕ) (words : Words n t false ws) where
     held-sets : (up : Bool) (sets : List ℕ) → Sets up n ws sets n → Held up n sets
@@ -100,38 +123,32 @@ module _ (n : ℕ) (t : List ℕ) (ok : accepted n t ≡ true) where
             unfilled = λ d. e;
             no-set = λ d. absurd (true-not-false (distributive n t) spread d);
             filled-cells = λ d. absurd (true-not-false (distributive n t) spread d);
-            held = λ h. held-sets up sets made;
+            held = (
+              λ h. held-sets up sets made,
+              λ h.
+              absurd
+              (true-not-false (asSets n sets)
+              (as-sets n sets λ e. top-member (sym (sets-are ws words made (n - 1) (top-type n t ok)) ∙ e)) h),
+            );
           }
 
-      -- else the cells are filled
-      pub holding-cells : every n (wordPrime n ws) ≡ false → setIn sets (n - 1) ≡ 0 → cells ≡ filled n t bound cells₀ →
-          Holding up n t bound sets cells₀ cells
-      holding-cells prime none e =
-          let other : distributive n t ≡ false = sym (primes-distributive n t ok ws words) ∙ prime in
-          record {
-            set = λ d. absurd (true-not-false (distributive n t) d other);
-            unfilled = λ d. absurd (true-not-false (distributive n t) d other);
-            no-set = λ d. none;
-            filled-cells = λ d. e;
-            held = λ h. absurd (true-not-false (asSets n sets) h (ap not (eq-eqb (setIn sets (n - 1)) 0 none)));
-          }
+  module _ (up : Bool) (bound : ℕ → ℕ → Option ℕ) (sets : List ℕ) (cells₀ cells : List (List ℕ)) where
+    -- the table is not distributive: the cells are filled
+    pub holding-cells : distributive n t ≡ false → setIn sets (n - 1) ≡ 0 → length cells₀ ≡ 64 → cells ≡ filled n t bound cells₀ →
+        Holding up n t bound sets cells₀ cells
+    holding-cells other none long e =
+        record {
+          set = λ d. absurd (true-not-false (distributive n t) d other);
+          unfilled = λ d. absurd (true-not-false (distributive n t) d other);
+          no-set = λ d. none;
+          filled-cells = λ d. e;
+          held = (
+            λ h. absurd (true-not-false (asSets n sets) h (ap not (eq-eqb (setIn sets (n - 1)) 0 none))),
+            λ h. ap length e ∙ length-filled n t bound cells₀ ∙ long,
+          );
+        }
 
-  -- the set of the greatest type is not empty
-  top-member : setOf n t (n - 1) ≡ 0 → ⊥
-  top-member e =
-      let apart : below t (n - 1) 0 ≡ false =
-      not-true-false (below t (n - 1) 0) λ f.
-      omega (
-        arith,
-        accepted-size n t ok .0,
-        below-antisymmetric n t ok (n - 1) 0 (top-type n t ok) (zero-type n t ok) f (zero-least n t ok (n - 1) (top-type n t ok)),
-      ) in
-      let (j, l, under, other, k, lk, covers) = least-outside n t ok (n - 1) 0 (top-type n t ok) (zero-type n t ok) apart in
-      true-not-false (bit (setOf n t (n - 1)) j)
-      (set-bit n t ok (n - 1) j l ∙ rw (covers-irreducible n t ok j k l lk covers, under))
-      (ap (λ (w : ℕ). bit w j) e ∙ no-bit j)
-
-  module _ (sets : List ℕ) (cells₀ cells : List (List ℕ)) (long : length cells₀ ≡ 64) (a b : ℕ) (la : a < n) (lb : b < n) where
+  module _ (sets : List ℕ) (cells₀ cells : List (List ℕ)) (long : distributive n t ≡ false → length cells₀ ≡ 64) (a b : ℕ) (la : a < n) (lb : b < n) where
     held-as : {up : Bool} {bound : ℕ → ℕ → Option ℕ} → Holding up n t bound sets cells₀ cells → distributive n t ≡ true → asSets n sets ≡ true
     held-as h d = as-sets n sets λ e. top-member (sym (h .set d (n - 1) (top-type n t ok)) ∙ e)
 
@@ -165,7 +182,7 @@ module _ (n : ℕ) (t : List ℕ) (ok : accepted n t ≡ true) where
           sym (h .set d (m .0) (m .1 .type))))))
       go false d =
           let k : Meet n t a b (cellIn cells a b) =
-          subst (λ (table : List (List ℕ)). Meet n t a b (cellIn table a b)) (sym (h .filled-cells d)) (meets-cell n t ok cells₀ long a b la lb) in
+          subst (λ (table : List (List ℕ)). Meet n t a b (cellIn table a b)) (sym (h .filled-cells d)) (meets-cell n t ok cells₀ (long d) a b la lb) in
           known (rw (not-as h d) (sym (ap cell (k .is)) ∙ is))
 
     -- the type that is held for a join is the join
@@ -192,5 +209,5 @@ module _ (n : ℕ) (t : List ℕ) (ok : accepted n t ≡ true) where
           sym (h .set d (m .0) (m .1 .type))))))
       go false d =
           let k : Join n t a b (cellIn cells a b) =
-          subst (λ (table : List (List ℕ)). Join n t a b (cellIn table a b)) (sym (h .filled-cells d)) (joins-cell n t ok cells₀ long a b la lb) in
+          subst (λ (table : List (List ℕ)). Join n t a b (cellIn table a b)) (sym (h .filled-cells d)) (joins-cell n t ok cells₀ (long d) a b la lb) in
           known (rw (not-as h d) (sym (ap cell (k .is)) ∙ is))

@@ -5,7 +5,7 @@ use mathlib.Core.Path.{_≡_}
 use mathlib.Core.Bool.{Bool, true, false, cond, not, _&&_}
 use mathlib.Core.List.{List, []}
 use mathlib.Core.Option.{Option}
-use lib.ListN.{getD}
+use lib.ListN.{length, getD}
 use lib.Dec.{eqb}
 use lib.Bits.{bitAnd, bitOr}
 use Rattle.lattice.specs.Table.{every, implies, below, foundAs, meet, join, cell, filled}
@@ -86,9 +86,10 @@ abbrev pub Held : Bool → ℕ → List ℕ → Type 0
 Held true = JoinsHeld
 Held false = MeetsHeld
 
--- What a meet or a join asks of lent words: if they hold sets, a set can be turned back into its type.
-abbrev pub Seekable : Bool → ℕ → List ℕ → Type 0
-Seekable up n sets = asSets n sets ≡ true → Held up n sets
+-- What a meet or a join asks of lent words and cells: if the words hold sets, a set can be turned back into its type; else there are 64
+-- rows of cells.
+abbrev pub Seekable : Bool → ℕ → List ℕ → List (List ℕ) → Type 0
+Seekable up n sets cells = (asSets n sets ≡ true → Held up n sets) × (asSets n sets ≡ false → length cells ≡ 64)
 
 -- `part` has every type that is in the words of all types of a set, and is part of the word of one of them
 pub record Above (sets : List ℕ) (set part : ℕ) : Type 0 where
@@ -111,4 +112,4 @@ pub record Holding (up : Bool) (n : ℕ) (t : List ℕ) (bound : ℕ → ℕ →
   pub unfilled : distributive n t ≡ true → cells ≡ cells₀
   pub no-set : distributive n t ≡ false → setIn sets (n - 1) ≡ 0
   pub filled-cells : distributive n t ≡ false → cells ≡ filled n t bound cells₀
-  pub held : Seekable up n sets
+  pub held : Seekable up n sets cells

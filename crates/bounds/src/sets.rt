@@ -78,12 +78,12 @@ fn above_all(sets: &[u64; WORDS], set: u64) -> u64
 pub fn meet<'a>(
     n: usize,
     sets: &'a [u64; WORDS],
-    cells: &'a [[u8; 64]; 64],
+    cells: &'a [[u8; 64]],
     a: usize,
     b: usize,
 ) -> u8
     requires { ⌜ (a < n) × (b < n) × (n ≤ 64) ⌝ }
-    requires { ⌜ Seekable false n (now sets) ⌝ }
+    requires { ⌜ Seekable false n (now sets) (now cells) ⌝ }
     ensures { λ r. ⌜ r ≡ meetIn n (now (sets .entry)) (now (cells .entry)) a b ⌝ }
 {
     if sets[n - 1] == 0 {
@@ -103,12 +103,12 @@ pub fn meet<'a>(
 pub fn join<'a>(
     n: usize,
     sets: &'a [u64; WORDS],
-    cells: &'a [[u8; 64]; 64],
+    cells: &'a [[u8; 64]],
     a: usize,
     b: usize,
 ) -> u8
     requires { ⌜ (a < n) × (b < n) × (n ≤ 64) ⌝ }
-    requires { ⌜ Seekable true n (now sets) ⌝ }
+    requires { ⌜ Seekable true n (now sets) (now cells) ⌝ }
     ensures { λ r. ⌜ r ≡ joinIn n (now (sets .entry)) (now (cells .entry)) a b ⌝ }
 {
     if sets[n - 1] == 0 {

@@ -1,11 +1,13 @@
 // The calls that write the common part of two records (document 01, "Common part"), without a list of types for features or with one (document 02,
 // Paper 9).
 
+use bounds::Form;
 use lattice::Opened;
 use replies::Reply;
 ghost use mathlib.Core.Path.{_≡_};
 ghost use mathlib.Core.Bool.{false};
 ghost use lib.ListN.{length};
+ghost use Rattle.bounds.specs.Opening.{CellsNeeded};
 ghost use Rattle.replies.specs.Reply.{resulting};
 ghost use Rattle.calls.specs.Calls.{generalizing};
 ghost use Rattle.calls.specs.Appropriate.{generalizingAppropriate};
@@ -47,15 +49,44 @@ fn generalize_beside(
         generalizingBeside n (now (table .entry)) listed (now (list .entry)) (now (first .entry)) (now (second .entry)) (now (out .entry)) ⌝ }
 {
     let mut sets = [0u64; bounds::sets::WORDS];
+    let form = bounds::choose(n, table, true, &mut sets);
+    match form {
+        Form::Refused(fault) => Reply::Table(fault),
+        Form::AsCells => generalize_by_cells(n, table, listed, list, &sets, first, second, out),
+        Form::AsSets => {
+            if listed && !record::appropriate::is_list_accepted(n, list) {
+                return Reply::TypeList;
+            }
+            let none = [[0u8; 64]; 0];
+            engine::generalizing::of_records(n, table, list, &sets, &none, first, second, out)
+        }
+    }
+}
+
+// Replies as `generalize_beside` does, for a table that needs cells.
+fn generalize_by_cells<'a>(
+    n: usize,
+    table: &[u8],
+    listed: bool,
+    list: &[u8],
+    sets: &'a [u64; bounds::sets::WORDS],
+    first: &[u8],
+    second: &[u8],
+    out: &mut [u8],
+) -> Reply
+    requires { ⌜ CellsNeeded n (now table) (now sets) × (listed ≡ false → length (now list) ≡ 0) ⌝ }
+    ensures { λ r. ⌜ resulting r (now (out .exit)) ≡
+        generalizingBeside n (now (table .entry)) listed (now (list .entry)) (now (first .entry)) (now (second .entry)) (now (out .entry)) ⌝ }
+{
     let mut cells = [[0u8; 64]; 64];
-    let opened = bounds::open(n, table, true, &mut sets, &mut cells);
+    let opened = bounds::fill(n, table, true, &mut cells);
     match opened {
         Opened::Refused(fault) => Reply::Table(fault),
         Opened::Accepted => {
             if listed && !record::appropriate::is_list_accepted(n, list) {
                 return Reply::TypeList;
             }
-            engine::generalizing::of_records(n, table, list, &sets, &cells, first, second, out)
+            engine::generalizing::of_records(n, table, list, sets, &cells, first, second, out)
         }
     }
 }

@@ -33,7 +33,7 @@ use Rattle.engine.proofs.Tables.{label-known, canonical-same}
 module _ {n : ℕ} {t sets : List ℕ} {cells : List (List ℕ)} (joins : OpenedFor true n t sets cells) where
   -- Two accepted graphs in words and the held joins meet what the common part requires.
   pub ready-to-join : {g h : List ℕ} → Loaded n g → Loaded n h →
-      Recorded g × (Recorded h × (Joinable n (joinIn n sets cells) g h × Seekable true n sets))
+      Recorded g × (Recorded h × (Joinable n (joinIn n sets cells) g h × Seekable true n sets cells))
   ready-to-join one other =
       let few = accepted-size n t (joins .ok) .1 in (
         loaded-recorded few one,

@@ -23,7 +23,7 @@ pub fn join<'a>(
     n: usize,
     gathered: usize,
     sets: &'a [u64; bounds::sets::WORDS],
-    cells: &'a [[u8; 64]; 64],
+    cells: &'a [[u8; 64]],
     bytes: &[u8],
     room: &mut [u8],
 ) -> Reply
@@ -49,7 +49,7 @@ fn join_graph<'a>(
     n: usize,
     gathered: usize,
     sets: &'a [u64; bounds::sets::WORDS],
-    cells: &'a [[u8; 64]; 64],
+    cells: &'a [[u8; 64]],
     program: &'a [u16],
     room: &mut [u8],
 ) -> Reply

@@ -114,12 +114,12 @@ pub fn pair_links<'a>(
 fn join<'a>(
     n: usize,
     sets: &'a [u64; bounds::sets::WORDS],
-    cells: &'a [[u8; 64]; 64],
+    cells: &'a [[u8; 64]],
     a: Label,
     b: Label,
 ) -> Label
     requires { ⌜ (a .kind < n) × (b .kind < n) × (n ≤ 64) ⌝ }
-    requires { ⌜ Seekable true n (now sets) ⌝ }
+    requires { ⌜ Seekable true n (now sets) (now cells) ⌝ }
     ensures { λ r. ⌜ stated r ≡ joinRanged (joinIn n (now (sets .entry)) (now (cells .entry))) (stated a) (stated b) ⌝ }
 {
     Label {
@@ -139,7 +139,7 @@ pub enum Common {
 fn generalize_in<'a>(
     n: usize,
     sets: &'a [u64; bounds::sets::WORDS],
-    cells: &'a [[u8; 64]; 64],
+    cells: &'a [[u8; 64]],
     a: &'a [u16],
     b: &'a [u16],
     words: &mut [u16],
@@ -148,7 +148,7 @@ fn generalize_in<'a>(
     requires { ⌜ Recorded (now a) ⌝ }
     requires { ⌜ Recorded (now b) ⌝ }
     requires { ⌜ Joinable n (joinIn n (now sets) (now cells)) (now a) (now b) ⌝ }
-    requires { ⌜ Seekable true n (now sets) ⌝ }
+    requires { ⌜ Seekable true n (now sets) (now cells) ⌝ }
     requires { ⌜ (512 ≤ length (now words)) × (length (now words) ≤ 65535) ⌝ }
     ensures { λ r. ⌜ Found r (productOut (joinIn n (now (sets .entry)) (now (cells .entry))) (now (a .entry)) (now (b .entry)) (now (out .entry)))
         (length (now (words .entry))) (now (out .entry)) (now (out .exit)) ⌝ }
@@ -199,7 +199,7 @@ fn generalize_in<'a>(
 fn generalize_large<'a>(
     n: usize,
     sets: &'a [u64; bounds::sets::WORDS],
-    cells: &'a [[u8; 64]; 64],
+    cells: &'a [[u8; 64]],
     a: &'a [u16],
     b: &'a [u16],
     out: &mut [u8],
@@ -207,7 +207,7 @@ fn generalize_large<'a>(
     requires { ⌜ Recorded (now a) ⌝ }
     requires { ⌜ Recorded (now b) ⌝ }
     requires { ⌜ Joinable n (joinIn n (now sets) (now cells)) (now a) (now b) ⌝ }
-    requires { ⌜ Seekable true n (now sets) ⌝ }
+    requires { ⌜ Seekable true n (now sets) (now cells) ⌝ }
     ensures { λ r. ⌜ yielding r (now (out .exit)) ≡ productOut (joinIn n (now (sets .entry)) (now (cells .entry))) (now (a .entry)) (now (b .entry)) (now (out .entry)) ⌝ }
 {
     let mut words = [0u16; ROOM];
@@ -221,7 +221,7 @@ fn generalize_large<'a>(
 pub fn generalize<'a>(
     n: usize,
     sets: &'a [u64; bounds::sets::WORDS],
-    cells: &'a [[u8; 64]; 64],
+    cells: &'a [[u8; 64]],
     a: &'a [u16],
     b: &'a [u16],
     out: &mut [u8],
@@ -229,7 +229,7 @@ pub fn generalize<'a>(
     requires { ⌜ Recorded (now a) ⌝ }
     requires { ⌜ Recorded (now b) ⌝ }
     requires { ⌜ Joinable n (joinIn n (now sets) (now cells)) (now a) (now b) ⌝ }
-    requires { ⌜ Seekable true n (now sets) ⌝ }
+    requires { ⌜ Seekable true n (now sets) (now cells) ⌝ }
     ensures { λ r. ⌜ yielding r (now (out .exit)) ≡ productOut (joinIn n (now (sets .entry)) (now (cells .entry))) (now (a .entry)) (now (b .entry)) (now (out .entry)) ⌝ }
 {
     if SMALL_NODES < a[0] as usize + b[0] as usize {

@@ -30,7 +30,7 @@ MeetsBelow n meets = (i j : ℕ) → i < n → j < n → meets i j < n
 -- The meets of n types, as sets and cells have them.
 pub record Meeting (n : ℕ) (sets : List ℕ) (cells : List (List ℕ)) : Type 0 where
   pub below : MeetsBelow n (meetIn n sets cells)
-  pub ready : Seekable false n sets
+  pub ready : Seekable false n sets cells
 
 -- the label of the class c, in words that hold headers alone
 abbrev pub labelOfClass : List ℕ → ℕ → Label

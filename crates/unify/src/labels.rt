@@ -26,12 +26,12 @@ ghost use Rattle.unify.specs.Rows.{Operand};
 fn meet<'a>(
     n: usize,
     sets: &'a [u64; bounds::sets::WORDS],
-    cells: &'a [[u8; 64]; 64],
+    cells: &'a [[u8; 64]],
     a: Label,
     b: Label,
 ) -> Label
     requires { ⌜ (a .kind < n) × (b .kind < n) × (n ≤ 64) ⌝ }
-    requires { ⌜ Seekable false n (now sets) ⌝ }
+    requires { ⌜ Seekable false n (now sets) (now cells) ⌝ }
     ensures { λ r. ⌜ stated r ≡ meetRanged (meetIn n (now (sets .entry)) (now (cells .entry))) (stated a) (stated b) ⌝ }
 {
     Label {
@@ -46,7 +46,7 @@ fn meet<'a>(
 fn lower<'a>(
     n: usize,
     sets: &'a [u64; bounds::sets::WORDS],
-    cells: &'a [[u8; 64]; 64],
+    cells: &'a [[u8; 64]],
     graph: &'a [u16],
     class: &'a [u16; 510],
     shift: usize,
@@ -54,7 +54,7 @@ fn lower<'a>(
 )
     requires { ⌜ Recorded (now graph) ⌝ }
     requires { ⌜ (shift ≤ 255) × (length (now labels) ≡ labelWords) ⌝ }
-    requires { ⌜ Lowerable n (meetIn n (now sets) (now cells)) (now graph) (now labels) × Seekable false n (now sets) ⌝ }
+    requires { ⌜ Lowerable n (meetIn n (now sets) (now cells)) (now graph) (now labels) × Seekable false n (now sets) (now cells) ⌝ }
     requires { ⌜ ((v : ℕ) → v < size (now graph) → getD (now class) (shift + v) 0 < 510) ⌝ }
     ensures { λ _. ⌜ length (now (labels .exit)) ≡ labelWords ⌝ }
     ensures { λ _. ⌜ Below n (now (labels .exit)) ⌝ }
@@ -97,7 +97,7 @@ fn clear(n: usize, nodes: usize, labels: &mut [u16; LABELS])
 pub fn class_labels<'a>(
     n: usize,
     sets: &'a [u64; bounds::sets::WORDS],
-    cells: &'a [[u8; 64]; 64],
+    cells: &'a [[u8; 64]],
     a: &'a [u16],
     b: &'a [u16],
     class: &'a [u16; 510],

@@ -44,7 +44,7 @@ const LINKS: usize = 4096;
 fn merge_within<'a>(
     n: usize,
     sets: &'a [u64; bounds::sets::WORDS],
-    cells: &'a [[u8; 64]; 64],
+    cells: &'a [[u8; 64]],
     a: &'a [u16],
     b: &'a [u16],
     pool: &mut [u16],
@@ -85,7 +85,7 @@ fn merge_within<'a>(
 fn merge_small<'a>(
     n: usize,
     sets: &'a [u64; bounds::sets::WORDS],
-    cells: &'a [[u8; 64]; 64],
+    cells: &'a [[u8; 64]],
     a: &'a [u16],
     b: &'a [u16],
     graph: &mut [u16],
@@ -107,7 +107,7 @@ fn merge_small<'a>(
 fn merge_middle<'a>(
     n: usize,
     sets: &'a [u64; bounds::sets::WORDS],
-    cells: &'a [[u8; 64]; 64],
+    cells: &'a [[u8; 64]],
     a: &'a [u16],
     b: &'a [u16],
     graph: &mut [u16],
@@ -129,7 +129,7 @@ fn merge_middle<'a>(
 fn merge_large<'a>(
     n: usize,
     sets: &'a [u64; bounds::sets::WORDS],
-    cells: &'a [[u8; 64]; 64],
+    cells: &'a [[u8; 64]],
     a: &'a [u16],
     b: &'a [u16],
     graph: &mut [u16],
@@ -150,7 +150,7 @@ fn merge_large<'a>(
 fn merge<'a>(
     n: usize,
     sets: &'a [u64; bounds::sets::WORDS],
-    cells: &'a [[u8; 64]; 64],
+    cells: &'a [[u8; 64]],
     a: &'a [u16],
     b: &'a [u16],
     graph: &mut [u16],
@@ -199,7 +199,7 @@ fn tell(graph: &[u16], out: &mut [u8]) -> Combined
 fn unify_middle<'a>(
     n: usize,
     sets: &'a [u64; bounds::sets::WORDS],
-    cells: &'a [[u8; 64]; 64],
+    cells: &'a [[u8; 64]],
     a: &'a [u16],
     b: &'a [u16],
     out: &mut [u8],
@@ -220,7 +220,7 @@ fn unify_middle<'a>(
 fn unify_large<'a>(
     n: usize,
     sets: &'a [u64; bounds::sets::WORDS],
-    cells: &'a [[u8; 64]; 64],
+    cells: &'a [[u8; 64]],
     a: &'a [u16],
     b: &'a [u16],
     out: &mut [u8],
@@ -240,7 +240,7 @@ fn unify_large<'a>(
 pub fn unify<'a>(
     n: usize,
     sets: &'a [u64; bounds::sets::WORDS],
-    cells: &'a [[u8; 64]; 64],
+    cells: &'a [[u8; 64]],
     a: &'a [u16],
     b: &'a [u16],
     out: &mut [u8],

@@ -35,7 +35,7 @@ pub house-held : (sets : List ℕ) (rows cells : List (List ℕ)) → length row
     Holding false 64 houseTable (types.meet 64 houseTable) sets rows cells → (a b : ℕ) → a < 64 → b < 64 →
     meetIn 64 sets cells a b ≡ getD meets (64 * a + b) 0
 house-held sets rows cells long held a b la lb =
-    meets-known 64 houseTable house.house-accepted sets rows cells long a b la lb held .0 ∙ ap types.cell (house.meets-worked-out a b la lb)
+    meets-known 64 houseTable house.house-accepted sets rows cells (λ d. long) a b la lb held .0 ∙ ap types.cell (house.meets-worked-out a b la lb)
 
 -- The house types' table admits differences.
 pub house-admits : types.admits 64 houseTable ≡ true

@@ -7,7 +7,9 @@ use Prim.Native.Nat.{ℕ, _<_}
 use lib.Bits.{bitAnd, bitOr}
 use lib.ListN.{length}
 use Rattle.lattice.specs.declared.Opened.{Opened}
-use Rattle.bounds.specs.Opening.{Opening}
+use Rattle.bounds.specs.declared.Form.{Form}
+use Rattle.bounds.specs.declared.Form.the-variants.{AsSets, AsCells}
+use Rattle.bounds.specs.Opening.{Chooses, Opening}
 use Rattle.lattice.specs.Words.{Words}
 use Rattle.bounds.specs.Primes.{wordPrime}
 use Rattle.bounds.specs.Sets.{distributive, setOf, setIn, cellIn, meetIn, joinIn, Holding}
@@ -34,6 +36,15 @@ module _ (n : ℕ) (t : List ℕ) (ok : types.accepted n t ≡ true) where
     pub sets-not-held : distributive n t ≡ false → left ≡ types.filled n t bound lent
     sets-not-held = opening .holds ok .filled-cells
 
+  -- "Opening such a table then fills neither": a common part or a combination over such a table lends no cells at all, since the choice of the
+  -- form asks for cells exactly where the meet does not spread over the join.
+  module _ (up : Bool) (answer : Form) (sets : List ℕ) (chooses : Chooses up n t answer sets) where
+    pub sets-chosen : answer ≡ AsSets → distributive n t ≡ true
+    sets-chosen e = chooses .as-sets e .spread
+
+    pub cells-chosen : answer ≡ AsCells → distributive n t ≡ false
+    cells-chosen e = chooses .as-cells e .other ok
+
   -- "Meet is then the overlap of sets and join their union. Show that both are those the 64 by 64 tables would hold at every pair": x and y are
   -- two types, `rows` is any lent table. Two types have different sets.
   module _ (x y : ℕ) (x-type : x < n) (y-type : y < n) where
@@ -52,7 +63,9 @@ module _ (n : ℕ) (t : List ℕ) (ok : types.accepted n t ≡ true) where
           Sets.sets-join n t ok spread x y x-type y-type ∙
           ap (λ o. setOf n t (types.cell o)) (types-laws.joins-cell n t ok rows long x y x-type y-type .is)
 
-      -- "so that all results keep their bytes": in either form a call gets the meets and joins of the table.
+    -- "so that all results keep their bytes": in either form a call gets the meets and joins of the table. A table of 64 rows is lent where the
+    -- meet does not spread over the join.
+    module _ (rows : List (List ℕ)) (long : distributive n t ≡ false → length rows ≡ 64) where
       pub sets-meet-kept : (sets : List ℕ) (cells : List (List ℕ)) → Holding false n t (types.meet n t) sets rows cells →
           meetIn n sets cells x y ≡ types.cell (types.meet n t x y)
       sets-meet-kept sets cells held = meets-known n t ok sets rows cells long x y x-type y-type held .0

@@ -1,5 +1,5 @@
 -- `join` meets its contract: the answer is the cell, or the type whose set is the union.
-use Rattle.bounds.proofs.Held.{union-member, join-in-cells, join-left, join-right, join-sought}
+use Rattle.bounds.proofs.Held.{row-inside, union-member, join-in-cells, join-left, join-right, join-sought}
 use borrow.Author.Needs.{needs}
 use Rattle.bounds.proofs.sets.join.Statement.{statement}
 use Rattle.bounds.proofs.sets.join.Tie as tie
@@ -17,7 +17,9 @@ mul-result : tie.Need-mul-result
 mul-result c = search needs
 
 index-1-result : tie.Need-index-1-result
-index-1-result c = search needs
+index-1-result c =
+    let start = c .before .before in
+    row-inside (start .args .n) (start .args .sets .now) (start .args .cells .now) (start .args .a) (start .args .b) (c .if1 .taken) (start .pre .1 .1) (start .pre .0 .0) (start .pre .0 .2)
 
 index-2-result : tie.Need-index-2-result
 index-2-result c = search needs
@@ -51,7 +53,7 @@ cast-result c = search needs
 returns-2 : tie.Need-returns-2
 returns-2 c =
     let start = c .before .before .before .before .before .before in
-    join-left (start .args .n) (start .args .sets .now) (start .args .cells .now) (start .args .a) (start .args .b) (c .before .before .before .before .if1 .left) (start .pre .0 .0) (start .pre .0 .1) (start .pre .1) (c .if2 .taken)
+    join-left (start .args .n) (start .args .sets .now) (start .args .cells .now) (start .args .a) (start .args .b) (c .before .before .before .before .if1 .left) (start .pre .0 .0) (start .pre .0 .1) (start .pre .1 .0) (c .if2 .taken)
 
 mul-if3 : tie.Need-mul-if3
 mul-if3 c = search needs
@@ -65,7 +67,7 @@ cast-result-2 c = search needs
 returns-3 : tie.Need-returns-3
 returns-3 c =
     let start = c .before .before .before .before .before .before .before .before in
-    join-right (start .args .n) (start .args .sets .now) (start .args .cells .now) (start .args .a) (start .args .b) (c .before .before .before .before .before .before .if1 .left) (start .pre .0 .0) (start .pre .0 .1) (start .pre .1) (c .if3 .taken)
+    join-right (start .args .n) (start .args .sets .now) (start .args .cells .now) (start .args .a) (start .args .b) (c .before .before .before .before .before .before .if1 .left) (start .pre .0 .0) (start .pre .0 .1) (start .pre .1 .0) (c .if3 .taken)
 
 above-all-requires : tie.Need-above-all-requires
 above-all-requires c κs = union-member _ _ (c .before .before .if2 .left)
@@ -76,7 +78,7 @@ find-set-requires c κs = search needs
 returns-4 : tie.Need-returns-4
 returns-4 c =
     let start = c .before .before .before .before .before .before .before .before .before .before in
-    join-sought (start .args .n) (start .args .sets .now) (start .args .cells .now) (start .args .a) (start .args .b) (c .before .before .before .before .before .before .before .before .if1 .left) (start .pre .0 .0) (start .pre .0 .1) (start .pre .1) _ _ (start .pre .0 .2) (c .before .above-all .ensures) (c .find-set .ensures)
+    join-sought (start .args .n) (start .args .sets .now) (start .args .cells .now) (start .args .a) (start .args .b) (c .before .before .before .before .before .before .before .before .if1 .left) (start .pre .0 .0) (start .pre .0 .1) (start .pre .1 .0) _ _ (start .pre .0 .2) (c .before .above-all .ensures) (c .find-set .ensures)
 
 pub join-spec : {M : Type 1} → statement M
 join-spec =
