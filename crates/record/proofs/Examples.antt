@@ -9,7 +9,7 @@ use Rattle.graphs.specs.Number.{visit, each, member}
 use Rattle.graphs.specs.Unify.{anyOf, deep}
 use Rattle.record.specs.declared.GraphFault.the-variants.{Malformed, OutOfRange, Cyclic, Unreached}
 use Rattle.decode.specs.Decode.{bitOf, takeLinks, labelLength, labelOf, takeRow, takeRows, decoded}
-use Rattle.encode.specs.Encode.{bitsFrom, isFull, encodedLabel, encodedRow, encodedRows, encoded}
+use Rattle.encoder.specs.Encode.{bitsFrom, isFull, encodedLabel, encodedRow, encodedRows, encoded}
 use Rattle.graphs.specs.Order.{allOf}
 use Rattle.lattice.specs.Label.{Label, plain}
 use Rattle.record.specs.Read.{labelInRange, inRange, cyclic, reachesAll, reading, accepted, refused}

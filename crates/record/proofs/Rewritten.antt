@@ -29,7 +29,7 @@ use Rattle.graphs.proofs.Form.Rules.{
 }
 use Rattle.lattice.specs.Labels.{tableLabels, OfAnySize}
 use Rattle.decode.specs.Decode.{decoded}
-use Rattle.encode.specs.Encode.{encoded}
+use Rattle.encoder.specs.Encode.{encoded}
 use Rattle.record.specs.Read.{graphOfRows, cyclic, reading, accepted}
 use Rattle.record.proofs.Readings.{LabelInRange, InRange, reading-says, in-range}
 use Rattle.record.proofs.RoundTrip.{decode-encode, form-types}

@@ -7,7 +7,7 @@ use Rattle.graphs.specs.Rows.{Row}
 use Rattle.lattice.specs.Label.{Label}
 use Rattle.lattice.specs.Labels.{Known}
 use Rattle.layout.specs.Layout.{size, labelAt, rowsOf, Sound}
-use Rattle.encode.specs.Encode.{encoded}
+use Rattle.encoder.specs.Encode.{encoded}
 use Rattle.record.specs.declared.reading.Verdict.{Verdict}
 use Rattle.record.specs.declared.reading.Verdict.the-variants.{Accepted, Refused}
 use Rattle.record.specs.Read.{Reading, refused, accepted, reading}
