@@ -9,9 +9,9 @@ use lib.Seq.{sets, slice, slice-empty, length-slice, length-sets, take-suc, getD
 use Rattle.layout.specs.Layout.{Sound, size, linksFrom, rowEnd, longest}
 use Rattle.layout.proofs.Spans.{slice-more}
 use Rattle.encoder.specs.NumberedRows.{Visited, degree, degrees, sumAlong}
+use Rattle.encoder.proofs.WrittenRows.{sum-more, sum-upto}
 use Rattle.encode.specs.Marks.{marksAlong}
 use Rattle.graphs.proofs.Stores.{sets-append, sets-more}
-use Rattle.encoder.proofs.WrittenRows.{sum-more, sum-upto}
 
 -- The marks of a row are written for the places before k.
 pub record MarkTurn (marks : List ℕ) (start end at : ℕ) (old out : List ℕ) (next k : ℕ) : Type 0 where

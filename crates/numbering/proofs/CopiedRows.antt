@@ -26,10 +26,10 @@ use Rattle.layout.proofs.Reaching.{reached-inside}
 use Rattle.layout.proofs.Builder.{length-put, label-put, put-before, Aimed, Orderly, built-begin, built-kept, built-shaped, built-sound, closed-rows, label-same, links-put, row-closes, rows-kept, same-before, same-trans, size-is, size-kept, size-rows}
 use Rattle.visits.specs.Walks.{Numbers}
 use Rattle.encoder.specs.NumberedRows.{degree, degrees, numberByte, numberedRow, numberedRows}
-use Rattle.numbering.specs.Copies.{Closed, Numbered, Renumbers, RowCopied, RowsCopied}
 use Rattle.encoder.proofs.RowBytes.{map-snoc}
 use Rattle.encoder.proofs.WrittenRows.{sum-more, sum-none, sum-upto}
 use Rattle.encode.proofs.WrittenForm.{visited-closed, visited-nodes, written-rows}
+use Rattle.numbering.specs.Copies.{Closed, Numbered, Renumbers, RowCopied, RowsCopied}
 
 -- One row.
 

@@ -66,7 +66,8 @@ use Rattle.lattice.proofs.Lawful.{inside}
 use Rattle.decode.specs.Decode.{bitOf, labelLength, labelOf, takeLinks, takeRow, takeRows, decoded}
 use Rattle.encoder.specs.Encode.{bitsFrom, isFull, encodedLabel, encodedRow, encodedRows, encoded}
 use Rattle.encode.specs.Encode.{fitted, writtenOut}
-use Rattle.record.specs.Read.{labelInRange, inRange, cyclic, reachesAll, reading, accepted, graphOfRows}
+use Rattle.peeling.specs.Range.{labelInRange}
+use Rattle.record.specs.Read.{inRange, cyclic, reachesAll, reading, accepted, graphOfRows}
 use Rattle.record.specs.Appropriate.{listAccepted, readingAppropriate, appropriate, rowAppropriate}
 use Rattle.record.proofs.Accepted.{accepted-rules}
 use Rattle.record.proofs.Theorems.{accepted-of-any-size}

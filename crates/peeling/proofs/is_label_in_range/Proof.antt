@@ -5,9 +5,9 @@ use borrow.Author.Needs.{needs}
 use borrow.Author.Tests.{le-leb, not-true}
 use Rattle.lattice.specs.Label.{Label}
 use Rattle.layout.specs.Builder.{stated}
-use Rattle.record.proofs.Readings.{zero-out, over-out, levels-decide}
-use Rattle.record.proofs.peeling.is_label_in_range.Statement.{statement}
-use Rattle.record.proofs.peeling.is_label_in_range.Tie as tie
+use Rattle.peeling.proofs.Range.{zero-out, over-out, levels-decide}
+use Rattle.peeling.proofs.is_label_in_range.Statement.{statement}
+use Rattle.peeling.proofs.is_label_in_range.Tie as tie
 
 cast-kind : tie.Need-cast-kind
 cast-kind c = search needs

@@ -3,7 +3,7 @@ use mathlib.Core.Logic.{⊎-elim}
 use Prim.Native.Nat.{_-_}
 use native.Mathlib.Omega.{arith}
 use Rattle.layout.proofs.Places.{sized}
-use Rattle.record.proofs.Passes.{
+use Rattle.peeling.proofs.Passes.{
   Peeling,
   peeling-start,
   peeling-few,
@@ -16,8 +16,8 @@ use Rattle.record.proofs.Passes.{
 }
 use borrow.Author.Needs.{needs}
 use borrow.Author.Tests.{eqb-true, eqb-false}
-use Rattle.record.proofs.peeling.sources_first.Statement.{statement}
-use Rattle.record.proofs.peeling.sources_first.Tie as tie
+use Rattle.peeling.proofs.sources_first.Statement.{statement}
+use Rattle.peeling.proofs.sources_first.Tie as tie
 
 abbrev Inv-loop : tie.InvT-loop
 Inv-loop graph incoming₀ nodes queue₀ sources count₀ next₀ incoming queue count next = Peeling graph sources incoming queue next count

@@ -4,7 +4,7 @@ use mathlib.Core.Path.{ap}
 use Prim.Native.Nat.{ℕ, _+_, _-_}
 use native.Mathlib.Omega.{arith}
 use lib.ListN.{getD}
-use Rattle.record.proofs.Counting.{
+use Rattle.peeling.proofs.Counting.{
   Taking,
   due-listed,
   row-start,
@@ -17,8 +17,8 @@ use Rattle.record.proofs.Counting.{
   row-done,
 }
 use borrow.Author.Needs.{needs}
-use Rattle.record.proofs.peeling.take_links.Statement.{statement}
-use Rattle.record.proofs.peeling.take_links.Tie as tie
+use Rattle.peeling.proofs.take_links.Statement.{statement}
+use Rattle.peeling.proofs.take_links.Tie as tie
 
 abbrev Inv-loop : tie.InvT-loop
 Inv-loop graph v incoming₀ queue₀ queued count₀ end k₀ incoming queue count k = Taking graph v incoming₀ queue₀ queued incoming queue count k

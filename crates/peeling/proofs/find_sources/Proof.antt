@@ -2,12 +2,12 @@
 use mathlib.Core.Logic.{⊎-elim}
 use Prim.Native.Nat.{_-_, _≤_}
 use native.Mathlib.Omega.{arith}
-use Rattle.record.specs.Counts.{Queued}
+use Rattle.peeling.specs.Counts.{Queued}
 use Rattle.visits.proofs.Colouring.{whites-bound}
-use Rattle.record.proofs.Counting.{queued-none, queued-source, queued-over, queued-done}
+use Rattle.peeling.proofs.Counting.{queued-none, queued-source, queued-over, queued-done}
 use borrow.Author.Needs.{needs}
-use Rattle.record.proofs.peeling.find_sources.Statement.{statement}
-use Rattle.record.proofs.peeling.find_sources.Tie as tie
+use Rattle.peeling.proofs.find_sources.Statement.{statement}
+use Rattle.peeling.proofs.find_sources.Tie as tie
 
 abbrev Inv-loop : tie.InvT-loop
 Inv-loop nodes incoming queue₀ count₀ v₀ queue count v = (v ≤ nodes) × Queued v incoming queue count

@@ -3,7 +3,7 @@ use mathlib.Core.Path.{ap}
 use Prim.Native.Nat.{ℕ, _+_, _-_}
 use native.Mathlib.Omega.{arith}
 use lib.ListN.{getD}
-use Rattle.record.proofs.Counting.{
+use Rattle.peeling.proofs.Counting.{
   Counting,
   row-listed,
   counting-start,
@@ -14,8 +14,8 @@ use Rattle.record.proofs.Counting.{
   counting-done,
 }
 use borrow.Author.Needs.{needs}
-use Rattle.record.proofs.peeling.count_row.Statement.{statement}
-use Rattle.record.proofs.peeling.count_row.Tie as tie
+use Rattle.peeling.proofs.count_row.Statement.{statement}
+use Rattle.peeling.proofs.count_row.Tie as tie
 
 abbrev Inv-loop : tie.InvT-loop
 Inv-loop graph v incoming₀ nodes end k₀ incoming k = Counting graph v incoming k

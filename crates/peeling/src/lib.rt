@@ -1,6 +1,7 @@
-// Tests a graph for refusals 5, 6 and 7. The range test also counts the links that enter each node. Cycles and reach are then found in
-// one pass (Kahn's topological sort): nodes that no link enters are taken away with their links, as long as there are any. If nodes stay,
-// the graph has a cycle. If none stays, the root reaches every node exactly where it is the only node that no link entered at the start.
+// This crate tests a graph in words for refusals 5, 6 and 7. The range test also counts the links that enter each node. Cycles and reach
+// are then found in one pass (Kahn's topological sort): nodes that no link enters are taken away with their links, as long as there are
+// any. If nodes stay, the graph has a cycle. If none stays, the root reaches every node exactly where it is the only node that no link
+// entered at the start. The crate knows graphs in words, and of the table the number of types; it knows no record's bytes.
 
 use layout::Label;
 ghost use Prim.Native.Nat.{_+_, _≤_, _<_};
@@ -9,8 +10,8 @@ ghost use mathlib.Core.Path.{_≡_};
 ghost use lib.ListN.{length};
 ghost use Rattle.layout.specs.Builder.{stated};
 ghost use Rattle.layout.specs.Layout.{Sound, rowEnd, size};
-ghost use Rattle.record.specs.Read.{labelInRange};
-ghost use Rattle.record.specs.Counts.{Count, Counted, LevelsOrdered, Peels, Queued, RowCount, RowDue, RowTaken};
+ghost use Rattle.peeling.specs.Range.{labelInRange};
+ghost use Rattle.peeling.specs.Counts.{Count, Counted, LevelsOrdered, Peels, Queued, RowCount, RowDue, RowTaken};
 
 // What is found: a cycle; else a node other than the root that no link enters; else neither.
 pub enum Shape {

@@ -18,9 +18,9 @@ use Rattle.graphs.proofs.Search.{true-false}
 use Rattle.layout.specs.Layout.{size, linksFrom, rowEnd, Sound}
 use Rattle.visits.specs.Walks.{Leads, Reaches, one, more}
 use Rattle.visits.proofs.Colouring.{whites-bound}
-use Rattle.record.specs.declared.peeling.Shape.the-variants.{Cyclic, Apart, Rooted}
-use Rattle.record.specs.Counts.{into, entering, Counted, Queued, RowDue, RowTaken, Earlier, Peels}
-use Rattle.record.proofs.Counting.{
+use Rattle.peeling.specs.declared.Shape.the-variants.{Cyclic, Apart, Rooted}
+use Rattle.peeling.specs.Counts.{into, entering, Counted, Queued, RowDue, RowTaken, Earlier, Peels}
+use Rattle.peeling.proofs.Counting.{
   among-source,
   among-target,
   entering-source,

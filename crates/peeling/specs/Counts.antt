@@ -3,16 +3,15 @@
 use mathlib.Core.Path.{_≡_}
 use mathlib.Core.Bool.{Bool, true, false, cond}
 use mathlib.Core.List.{List}
-use Prim.Native.Nat.{ℕ, zero, suc, _+_, _*_, _≤_, _<_}
+use Prim.Native.Nat.{ℕ, zero, suc, _+_, _≤_, _<_}
 use lib.Dec.{eqb, leb}
 use lib.ListN.{length, getD}
-use Rattle.graphs.specs.Large.{linksIn}
-use Rattle.layout.specs.Layout.{size, linksFrom, rowEnd, labelAt, targetAt, rowsOf, Shaped, Sound}
+use Rattle.layout.specs.Layout.{size, linksFrom, rowEnd, labelAt, targetAt, Shaped, Sound}
 use Rattle.visits.specs.Colouring.{whites}
 use Rattle.visits.specs.Walks.{Leads, Reaches}
-use Rattle.record.specs.Read.{labelInRange}
-use Rattle.record.specs.declared.peeling.Shape.{Shape}
-use Rattle.record.specs.declared.peeling.Shape.the-variants.{Cyclic, Apart, Rooted}
+use Rattle.peeling.specs.Range.{labelInRange}
+use Rattle.peeling.specs.declared.Shape.{Shape}
+use Rattle.peeling.specs.declared.Shape.the-variants.{Cyclic, Apart, Rooted}
 
 -- 1 where the link counts and its target is w, else 0
 unfoldable pub hit : Bool → ℕ → ℕ → ℕ
@@ -47,10 +46,6 @@ Within ws v = (k : ℕ) → linksFrom ws v ≤ k → k < rowEnd ws v → targetA
 pub record RowCount (ws : List ℕ) (v : ℕ) (answer : Bool) (incoming : List ℕ) : Type 0 where
   pub yes-stands : answer ≡ true → Within ws v × Counted ws (v + 1) incoming
   pub no-stands : answer ≡ false → Within ws v → ⊥
-
--- the length of a record with the rows of the words and no range: the count, nine bytes for each node and one for each link
-abbrev pub unrangedLength : List ℕ → ℕ
-unrangedLength ws = 1 + 9 * size ws + linksIn (rowsOf ws)
 
 -- no lowest level is above the highest
 abbrev pub LevelsOrdered : List ℕ → Type 0

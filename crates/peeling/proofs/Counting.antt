@@ -14,8 +14,8 @@ use Rattle.graphs.proofs.Search.{true-false}
 use Rattle.layout.specs.Layout.{size, rowFrom, linksFrom, rowEnd, labelAt, targetAt, Shaped}
 use Rattle.visits.specs.Colouring.{whites}
 use Rattle.visits.proofs.Colouring.{whites-bound}
-use Rattle.record.specs.Read.{labelInRange}
-use Rattle.record.specs.Counts.{hit, among, into, entering, Counted, Within, RowCount, Count, Queued, RowDue, RowTaken}
+use Rattle.peeling.specs.Range.{labelInRange}
+use Rattle.peeling.specs.Counts.{hit, among, into, entering, Counted, Within, RowCount, Count, Queued, RowDue, RowTaken}
 
 -- A place that counts.
 

@@ -5,10 +5,10 @@ use native.Mathlib.Omega.{arith}
 use borrow.Author.Needs.{needs}
 use borrow.Author.Tests.{not-true, not-false}
 use Rattle.lattice.specs.Label.{Label}
-use Rattle.record.specs.Read.{labelInRange}
-use Rattle.record.proofs.Counting.{Passed, passed-none, passed-more, passed-all, label-out, target-out}
-use Rattle.record.proofs.peeling.count_incoming.Statement.{statement}
-use Rattle.record.proofs.peeling.count_incoming.Tie as tie
+use Rattle.peeling.specs.Range.{labelInRange}
+use Rattle.peeling.proofs.Counting.{Passed, passed-none, passed-more, passed-all, label-out, target-out}
+use Rattle.peeling.proofs.count_incoming.Statement.{statement}
+use Rattle.peeling.proofs.count_incoming.Tie as tie
 
 abbrev Inv-loop : tie.InvT-loop
 Inv-loop n graph ranged incoming₀ nodes v₀ incoming v = (v ≤ nodes) × Passed n graph v incoming
