@@ -12,9 +12,10 @@ use lib.Seq.{take-append-seam, length-take-le}
 use Rattle.graphs.specs.Rows.{Row}
 use Rattle.graphs.specs.Number.{Canonical, canonical, written}
 use Rattle.lattice.specs.Label.{Label}
+use Rattle.encoder.specs.Encode.{encoded}
 use Rattle.encode.specs.declared.Written.the-variants as outcome
-use Rattle.encode.specs.Encode.{yielding, encoded, fitted, writtenOut}
-use Rattle.encode.proofs.Lengths.{longest}
+use Rattle.encode.specs.Encode.{yielding, fitted, writtenOut}
+use Rattle.encoder.proofs.Lengths.{longest}
 use Rattle.record.specs.declared.GraphFault.{GraphFault}
 use Rattle.record.specs.declared.reading.Verdict.{Verdict}
 use Rattle.record.specs.declared.reading.Verdict.the-variants.{Accepted, Refused}

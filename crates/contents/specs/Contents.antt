@@ -9,7 +9,8 @@ use lib.ListN.{getD, set}
 use Rattle.graphs.specs.Number.{canonical}
 use Rattle.graphs.specs.Rows.{Row}
 use Rattle.lattice.specs.Label.{Label}
-use Rattle.encode.specs.Encode.{encoded, fitted}
+use Rattle.encoder.specs.Encode.{encoded}
+use Rattle.encode.specs.Encode.{fitted}
 use Rattle.record.specs.declared.GraphFault.the-variants.{Malformed}
 use Rattle.record.specs.Read.{Reading, refused, accepted, reading, graphOfRows}
 use Rattle.difference.specs.Difference.{numbered}

@@ -21,8 +21,9 @@ use Rattle.lattice.specs.Table as table
 use Rattle.lattice.specs.Reply.{opened}
 use Rattle.lattice.proofs.Laws.{accepted-size}
 use Rattle.lattice.specs.Labels.{tableLabels, OfAnySize}
+use Rattle.encoder.specs.Encode.{encoded}
 use Rattle.encode.specs.declared.Written.the-variants as outcome
-use Rattle.encode.specs.Encode.{encoded, fitted, writtenOut}
+use Rattle.encode.specs.Encode.{fitted, writtenOut}
 use Rattle.record.specs.Read.{reading, accepted, graphOfRows}
 use Rattle.record.proofs.Rewritten.{written-injective}
 use Rattle.record.proofs.Theorems.{written-reads}

@@ -35,7 +35,8 @@ use Rattle.lattice.proofs.Plain.{
   wanted-plain,
   difference-plain,
 }
-use Rattle.encode.specs.Encode.{encoded, writtenOut}
+use Rattle.encoder.specs.Encode.{encoded}
+use Rattle.encode.specs.Encode.{writtenOut}
 use Rattle.record.specs.declared.GraphFault.{GraphFault}
 use Rattle.record.specs.Read.{Reading, refused, accepted, graphNumber, graphOfRows, reading}
 use Rattle.record.specs.Unranged.{unranged, plainRows, readingTypes}

@@ -19,7 +19,8 @@ use Rattle.lattice.specs.Label.{Label}
 use Rattle.lattice.specs.declared.Opened.the-variants.{Accepted}
 use Rattle.lattice.specs.Reply.{opened}
 use Rattle.lattice.specs.Labels.{tableLabels, OfAnySize, LeastOfAnySize, GreatestOfAnySize, IsCombination, WantedAt}
-use Rattle.encode.specs.Encode.{encoded, fitted}
+use Rattle.encoder.specs.Encode.{encoded}
+use Rattle.encode.specs.Encode.{fitted}
 use Rattle.record.specs.Read.{reading, accepted, graphOfRows}
 use Rattle.replies.specs.declared.Reply.{Reply}
 use Rattle.replies.specs.declared.Reply.the-variants.{Length, Same, Under, Above, Neither, TooLarge}

@@ -22,11 +22,12 @@ use Rattle.lattice.proofs.Lawful.{known-more}
 use Rattle.lattice.proofs.Laws.{accepted-size}
 use Rattle.layout.specs.Layout.{Recorded, size, graphIn, rowsOf}
 use Rattle.layout.proofs.Rows.{length-rows}
+use Rattle.encoder.specs.Encode.{encoded}
 use Rattle.encode.specs.declared.Written.{Written}
 use Rattle.encode.specs.declared.Written.the-variants as outcome
 use Rattle.encode.specs.declared.Marked.{Marked}
 use Rattle.encode.specs.declared.Marked.the-variants as marked
-use Rattle.encode.specs.Encode.{encoded, fitted, writtenOut, yielding}
+use Rattle.encode.specs.Encode.{fitted, writtenOut, yielding}
 use Rattle.encode.specs.Marks.{Noted, noting, fittedBoth, markedOut, marksAlong}
 use Rattle.record.proofs.Accepted.{Rules, accepted-rules, rules-of-any-size}
 use Rattle.record.specs.Reads.{Loaded}

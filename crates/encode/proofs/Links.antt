@@ -11,7 +11,7 @@ use borrow.Author.Tests.{eqb-true}
 use lib.Dec.{eqb}
 use Rattle.graphs.specs.Rows.{from, target, linksOf, addLink}
 use Rattle.graphs.specs.Large.{Ascending}
-use Rattle.encode.proofs.FeatureMap.{Within, target-absent, target-first, target-later}
+use Rattle.encoder.proofs.FeatureMap.{Within, target-absent, target-first, target-later}
 
 pub target-source : (links : List (ℕ × ℕ)) (f w : ℕ) → target links f ≡ some w → List·Memᴰ {A = ℕ × ℕ} (f, w) links
 unfolding target

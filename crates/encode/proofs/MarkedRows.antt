@@ -8,10 +8,10 @@ use lib.ListN.{length, getD, set, take, length-append, length-set}
 use lib.Seq.{sets, slice, slice-empty, length-slice, length-sets, take-suc, getD-take, length-take-le}
 use Rattle.layout.specs.Layout.{Sound, size, linksFrom, rowEnd, longest}
 use Rattle.layout.proofs.Spans.{slice-more}
-use Rattle.encode.specs.NumberedRows.{Visited, degree, degrees, sumAlong}
+use Rattle.encoder.specs.NumberedRows.{Visited, degree, degrees, sumAlong}
+use Rattle.encoder.proofs.WrittenRows.{sum-more, sum-upto}
 use Rattle.encode.specs.Marks.{marksAlong}
 use Rattle.graphs.proofs.Stores.{sets-append, sets-more}
-use Rattle.encode.proofs.WrittenRows.{sum-more, sum-upto}
 
 -- The marks of a row are written for the places before k.
 pub record MarkTurn (marks : List ℕ) (start end at : ℕ) (old out : List ℕ) (next k : ℕ) : Type 0 where

@@ -11,7 +11,7 @@ use Rattle.graphs.specs.Rows.{from}
 use Rattle.graphs.proofs.Lists.{distinct-append, distinct-bound, distinct-from, from-member, from-range, length-from}
 use Rattle.layout.specs.Layout.{Shaped, header, size, rowFrom, rowEnd, rowsEnd}
 use Rattle.layout.proofs.Order.{earlier-row, row-last, row-low, rows-inside}
-use Rattle.encode.specs.NumberedRows.{degrees, sumAlong}
+use Rattle.encoder.specs.NumberedRows.{degrees, sumAlong}
 
 -- the places of the rows of the nodes of a list
 rowPlaces : List ℕ → List ℕ → List ℕ

@@ -28,12 +28,13 @@ use Rattle.layout.proofs.Rows.{row-at}
 use Rattle.layout.proofs.Places.{link-known, links-are}
 use Rattle.visits.specs.Walks.{Numbers, foundIn}
 use Rattle.visits.proofs.GraphVisit.{visit-rows}
+use Rattle.encoder.specs.Encode.{encoded}
+use Rattle.encoder.specs.NumberedRows.{Visited, degree, degrees, numberByte, numberedRow, numberedRows, ranges, sumAlong}
+use Rattle.encoder.proofs.WrittenRows.{ranges-upto, sum-reverse, row-ascending, row-degree, row-within, rows-length}
 use Rattle.encode.specs.declared.Written.the-variants as outcome
-use Rattle.encode.specs.Encode.{encoded, yielding, writtenOut}
-use Rattle.encode.specs.NumberedRows.{Visited, degree, degrees, numberByte, numberedRow, numberedRows, ranges, sumAlong}
+use Rattle.encode.specs.Encode.{yielding, writtenOut}
 use Rattle.encode.proofs.Links.{linksOf-links, target-member}
 use Rattle.encode.proofs.Outcomes.{map-listed, getD-member, fitted-short, fitted-room, both-short, both-narrow, both-room}
-use Rattle.encode.proofs.WrittenRows.{ranges-upto, sum-reverse, row-ascending, row-degree, row-within, rows-length}
 use Rattle.encode.specs.declared.Marked.the-variants as marked
 use Rattle.encode.specs.Marks.{MarksFit, Noted, noting, fittedBoth, marksAlong, markedOut}
 use Rattle.encode.proofs.MarkedRows.{marks-length}

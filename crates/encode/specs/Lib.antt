@@ -1,5 +1,3 @@
--- These files define the bytes of a written record, and what the functions promise that write one.
+-- These files define what writing a record answers and leaves, with marks beside it or without.
 pub mod Encode
-pub mod NumberedRows
-pub mod Copies
 pub mod Marks

@@ -12,11 +12,11 @@ use Rattle.graphs.specs.Number.{Canonical, manyNodes, manyLinks, written, canon
 use Rattle.graphs.specs.Reasons.{writtenOrder}
 use Rattle.lattice.specs.Label.{Label}
 use Rattle.layout.specs.Layout.{linksFrom, rowEnd, graphIn}
+use Rattle.encoder.specs.Encode.{encoded}
+use Rattle.encoder.specs.NumberedRows.{Visited, degrees, numberedRows}
 use Rattle.encode.specs.declared.Written.the-variants as outcome
 use Rattle.encode.specs.declared.Marked.{Marked}
 use Rattle.encode.specs.declared.Marked.the-variants as marked
-use Rattle.encode.specs.Encode.{encoded}
-use Rattle.encode.specs.NumberedRows.{Visited, degrees, numberedRows}
 
 -- the marks of the links of the nodes of a list, node after node
 unfoldable pub marksAlong : List ℕ → List ℕ → List ℕ → List ℕ

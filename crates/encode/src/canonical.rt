@@ -3,7 +3,6 @@
 
 use crate::Marked;
 use crate::Written;
-use crate::encoder;
 use crate::marks;
 ghost use mathlib.Core.Path.{_≡_};
 ghost use Prim.Native.Nat.{_≤_};

@@ -1,10 +1,9 @@
-// This crate writes a graph in words as its written record, or renumbers its nodes as the written record does. There is one encoder for
-// every result. The crate knows graphs in words and a record's bytes; it knows no table.
+// This crate writes a graph in words as its written record: it numbers the nodes, measures the record, and lets the one encoder write it
+// where it fits. Marks of the links can be written beside the record. The crate knows graphs in words and a record's bytes; it knows no
+// table.
 
 pub mod canonical;
-pub mod encoder;
 pub mod marks;
-pub mod numbered;
 
 // What writing a graph answers: the record's length, or document 01's refusals 11 and 8.
 pub enum Written {

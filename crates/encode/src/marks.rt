@@ -5,7 +5,7 @@ ghost use Prim.Native.Nat.{_+_, _≤_, _<_};
 ghost use lib.ListN.{length, take};
 ghost use lib.Seq.{sets, slice};
 ghost use Rattle.layout.specs.Layout.{Sound, linksFrom, longest, rowEnd, size};
-ghost use Rattle.encode.specs.NumberedRows.{Visited, degree, degrees};
+ghost use Rattle.encoder.specs.NumberedRows.{Visited, degree, degrees};
 ghost use Rattle.encode.specs.Marks.{marksAlong};
 
 // Writes the marks of the links of node v from a place on. Answers the next place.

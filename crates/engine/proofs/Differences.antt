@@ -13,8 +13,8 @@ use Rattle.lattice.specs.Label.{Label}
 use Rattle.lattice.specs.Labels.{Known}
 use Rattle.layout.specs.Layout.{size, labelAt, linksAt, graphOfRows, rowsOf, graphIn}
 use Rattle.layout.proofs.Rows.{rows-member}
-use Rattle.encode.specs.Encode.{encoded}
-use Rattle.encode.specs.Copies.{Renumbers}
+use Rattle.encoder.specs.Encode.{encoded}
+use Rattle.numbering.specs.Copies.{Renumbers}
 use Rattle.record.specs.declared.GraphFault.{GraphFault}
 use Rattle.record.specs.Read.{reading}
 use Rattle.record.specs.Reads.{Acceptable, Loaded}

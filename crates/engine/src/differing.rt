@@ -65,7 +65,7 @@ fn read_numbered(
         PairVerdict::Refused(fault, side) => PairVerdict::Refused(fault, side),
         PairVerdict::Both => {
             // An accepted graph can always be written, so the answer of `renumber` is not needed.
-            encode::numbered::renumber(given, s);
+            numbering::renumber(given, s);
             PairVerdict::Both
         }
     }

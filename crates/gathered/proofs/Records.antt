@@ -17,9 +17,10 @@ use Rattle.graphs.specs.OfRows.{samePair}
 use Rattle.lattice.specs.Label.{Label}
 use Rattle.lattice.specs.declared.Opened.the-variants.{Accepted}
 use Rattle.lattice.specs.Reply.{opened}
+use Rattle.encoder.specs.Encode.{encoded}
 use Rattle.encode.specs.declared.Written.the-variants as outcome
-use Rattle.encode.specs.Encode.{encoded, fitted, yielding, writtenOut}
-use Rattle.encode.proofs.Lengths.{longest}
+use Rattle.encode.specs.Encode.{fitted, yielding, writtenOut}
+use Rattle.encoder.proofs.Lengths.{longest}
 use Rattle.record.specs.declared.GraphFault.{GraphFault}
 use Rattle.record.specs.Read.{Reading, refused, reading, accepted, graphOfRows}
 use Rattle.record.proofs.Accepted.{accepted-rules}

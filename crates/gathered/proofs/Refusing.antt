@@ -11,8 +11,9 @@ use Rattle.lattice.specs.Label.{Label}
 use Rattle.lattice.specs.declared.Opened.{Opened}
 use Rattle.lattice.specs.declared.Opened.the-variants as table
 use Rattle.lattice.specs.Reply.{opened}
+use Rattle.encoder.specs.Encode.{encoded}
 use Rattle.encode.specs.declared.Written.the-variants as outcome
-use Rattle.encode.specs.Encode.{yielding, encoded, fitted, writtenOut}
+use Rattle.encode.specs.Encode.{yielding, fitted, writtenOut}
 use Rattle.record.specs.Read.{Reading, refused, accepted, reading, graphOfRows}
 use Rattle.replies.specs.declared.Reply.the-variants.{Length, NoRoom}
 use Rattle.replies.specs.Reply.{resultOf, resulting, refusal}

@@ -13,8 +13,10 @@ use Rattle.lattice.specs.Table.{every, last, below, sized, confined, reflexive,
 use Rattle.lattice.specs.declared.TableFault.the-variants.{Size}
 use Rattle.lattice.specs.Reply.{opened}
 use Rattle.decode.specs.Decode.{bitOf, labelLength, labelOf, takeLinks, takeRow, takeRows, decoded}
-use Rattle.encode.specs.Encode.{bitsFrom, isFull, encodedLabel, encodedRow, encodedRows, encoded, fitted, writtenOut}
-use Rattle.record.specs.Read.{labelInRange, inRange, cyclic, reachesAll, reading}
+use Rattle.encoder.specs.Encode.{bitsFrom, isFull, encodedLabel, encodedRow, encodedRows, encoded}
+use Rattle.encode.specs.Encode.{fitted, writtenOut}
+use Rattle.peeling.specs.Range.{labelInRange}
+use Rattle.record.specs.Read.{inRange, cyclic, reachesAll, reading}
 use Rattle.record.specs.declared.GraphFault.the-variants.{Malformed}
 use Rattle.replies.specs.declared.Reply.the-variants.{Length, NoRoom, Same, Under, Above, Table, Graph, NothingGathered}
 use Rattle.replies.specs.declared.Side.the-variants.{First, Second}

@@ -17,8 +17,9 @@ use Rattle.lattice.specs.declared.Opened.{Opened}
 use Rattle.lattice.specs.declared.Opened.the-variants as table
 use Rattle.lattice.specs.Reply.{opened}
 use Rattle.layout.specs.Layout.{rowsOf}
+use Rattle.encoder.specs.Encode.{encoded}
 use Rattle.encode.specs.declared.Written.the-variants as outcome
-use Rattle.encode.specs.Encode.{yielding, encoded, fitted, writtenOut}
+use Rattle.encode.specs.Encode.{yielding, fitted, writtenOut}
 use Rattle.record.specs.declared.GraphFault.{GraphFault}
 use Rattle.record.specs.declared.reading.Verdict.{Verdict}
 use Rattle.record.specs.declared.reading.Verdict.the-variants.{Accepted, Refused}

@@ -13,7 +13,7 @@ use Rattle.graphs.specs.Order.{allOf}
 use Rattle.graphs.proofs.Lists.{from-member}
 use Rattle.graphs.proofs.Order.{allOf-true}
 use Rattle.lattice.specs.Label.{isFull}
-use Rattle.encode.specs.Encode.{encoded, encodedRows, encodedRow, encodedLabel, bitsFrom}
+use Rattle.encoder.specs.Encode.{encoded, encodedRows, encodedRow, encodedLabel, bitsFrom}
 use Rattle.listed.specs.Listing.{statedRows, span, sets, precedes, Run}
 use Rattle.listed.specs.Numbers.{linkBytes}
 use Rattle.listed.proofs.Order.{Before, false-true, or-left, parts, parts-before, prefix-before, before-parts}

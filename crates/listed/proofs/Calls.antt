@@ -7,7 +7,7 @@ use Prim.Native.Nat.{ℕ, _≤_}
 use lib.ListN.{length}
 use Rattle.graphs.specs.Rows.{from}
 use Rattle.graphs.specs.Unify.{anyOf}
-use Rattle.encode.specs.Encode.{encoded}
+use Rattle.encoder.specs.Encode.{encoded}
 use Rattle.listed.specs.Listing.{precedes, Listed, statedRows, span, runs, listing, isListed}
 use Rattle.listed.proofs.Order.{Before, false-true, before-irrefl, before-cases}
 use Rattle.listed.proofs.Stated.{Counts}

@@ -21,7 +21,7 @@ use Rattle.graphs.proofs.Form.Canonical.{canonical-written, canonical-exact, se
 use Rattle.graphs.proofs.Form.Rules.{form-labels}
 use Rattle.lattice.specs.Label.{Label, isFull, noLabel}
 use Rattle.lattice.specs.Labels.{tableLabels, OfAnySize}
-use Rattle.encode.specs.Encode.{encoded}
+use Rattle.encoder.specs.Encode.{encoded}
 use Rattle.record.specs.Read.{reading, accepted, graphOfRows, reachesAll}
 use Rattle.record.proofs.Readings.{reading-says}
 use Rattle.record.proofs.Nodes.{narrow}

@@ -10,7 +10,7 @@ use lib.Dec.{eqb, leb}
 use lib.ListN.{length, getD}
 use Rattle.graphs.specs.Rows.{from, target}
 use Rattle.lattice.specs.Label.{isFull}
-use Rattle.encode.specs.Encode.{encoded, encodedRows, encodedRow, encodedLabel, bitsFrom}
+use Rattle.encoder.specs.Encode.{encoded, encodedRows, encodedRow, encodedLabel, bitsFrom}
 use Rattle.listed.specs.Listing.{Listed, linkSet, statedRows, span, sets, recordOf, Run}
 use Rattle.listed.specs.Numbers.{width, rootLinks, numbersOf}
 use Rattle.listed.proofs.Bytes.{sets-small}

@@ -13,7 +13,7 @@ use Rattle.graphs.specs.Rows.{from, target}
 use Rattle.graphs.specs.Order.{allOf}
 use Rattle.graphs.proofs.Order.{and-true}
 use Rattle.lattice.specs.Label.{isFull}
-use Rattle.encode.specs.Encode.{encoded, encodedRows, encodedRow, encodedLabel, bitsFrom}
+use Rattle.encoder.specs.Encode.{encoded, encodedRows, encodedRow, encodedLabel, bitsFrom}
 use Rattle.listed.specs.Listing.{heir, linkSet, statedRows, span, recordOf, Run}
 use Rattle.listed.specs.Numbers.{width, linkBytes, rowBytes}
 

@@ -20,7 +20,7 @@ use Rattle.graphs.proofs.Lists.{from-member, flatMap-member}
 use Rattle.graphs.proofs.Order.{and-true, true-and, allOf-true, true-allOf}
 use Rattle.lattice.specs.Label.{Label, plain, isFull, noLabel}
 use Rattle.lattice.proofs.Relabel.{relabelRow, relabelForm, canonical-relabel}
-use Rattle.encode.specs.Encode.{encoded}
+use Rattle.encoder.specs.Encode.{encoded}
 use Rattle.record.specs.Read.{reading, accepted, graphOfRows, cyclic, reachesAll}
 use Rattle.record.proofs.Readings.{InRange, reading-says, in-range}
 use Rattle.record.proofs.RoundTrip.{decode-encode}

@@ -9,7 +9,7 @@ use Prim.Native.Nat.{ℕ, zero, suc, _-_, _≤_, _<_}
 use native.Mathlib.Omega.{arith}
 use lib.Dec.{eqb, leb}
 use lib.ListN.{length}
-use Rattle.encode.specs.Encode.{encoded}
+use Rattle.encoder.specs.Encode.{encoded}
 use Rattle.listed.specs.Listing.{precedes, Listed, LeastAbove, span, runs, raised, recordOf, listing, firstAfter, following, calls, Run}
 use Rattle.listed.proofs.Order.{Before, Ascends, Least, before-irrefl, before-trans, before-cases, ascends-map, map-source, map-member, first-least, none-above, least-first, above-none}
 use Rattle.listed.proofs.Runs.{Raises, raises, member-run, run-member, runs-ascend}

@@ -12,7 +12,7 @@ use Rattle.graphs.specs.Number.{canonical, written}
 use Rattle.graphs.specs.Order.{allOf}
 use Rattle.graphs.specs.Unify.{anyOf}
 use Rattle.lattice.specs.Label.{Label, plain, isFull}
-use Rattle.encode.specs.Encode.{encoded}
+use Rattle.encoder.specs.Encode.{encoded}
 use Rattle.record.specs.Read.{reading, accepted, graphOfRows}
 
 -- "the order of their bytes": at the first place where the two lists differ, the first has the lesser byte, or it ends there.

@@ -5,7 +5,7 @@ use Prim.Native.Nat.{ℕ, _+_, _*_}
 use lib.Dec.{eqb, leb}
 use lib.ListN.{length, getD}
 use Rattle.graphs.specs.Rows.{from}
-use Rattle.encode.specs.Encode.{bitsFrom}
+use Rattle.encoder.specs.Encode.{bitsFrom}
 use Rattle.listed.specs.Listing.{linkSet, rootSpan, middleSpan}
 
 -- how many links a number states

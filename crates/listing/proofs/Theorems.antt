@@ -20,8 +20,9 @@ use Rattle.lattice.specs.Labels.{tableLabels, OfAnySize}
 use Rattle.lattice.specs.Reply as table
 use Rattle.lattice.proofs.Laws.{accepted-size}
 use Rattle.lattice.proofs.Acceptance.{opened-accepted}
+use Rattle.encoder.specs.Encode.{encoded}
 use Rattle.encode.specs.declared.Written.the-variants as outcome
-use Rattle.encode.specs.Encode.{yielding, encoded, fitted}
+use Rattle.encode.specs.Encode.{yielding, fitted}
 use Rattle.record.specs.declared.GraphFault.{GraphFault}
 use Rattle.record.specs.Read as graph
 use Rattle.record.proofs.Theorems.{accepted-fits, written-accepted}

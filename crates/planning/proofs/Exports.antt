@@ -23,7 +23,7 @@ use Rattle.layout.specs.Layout.{Sound, size, rowsOf, graphIn}
 use Rattle.layout.proofs.Places.{link-known}
 use Rattle.layout.proofs.Reaching.{reached-inside}
 use Rattle.layout.proofs.Rows.{length-rows}
-use Rattle.encode.specs.Copies.{Renumbers}
+use Rattle.numbering.specs.Copies.{Renumbers}
 use Rattle.record.specs.declared.GraphFault.{GraphFault}
 use Rattle.record.specs.declared.reading.Verdict.{Verdict}
 use Rattle.record.specs.declared.reading.Verdict.the-variants.{Accepted, Refused}

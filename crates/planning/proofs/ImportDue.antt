@@ -24,12 +24,14 @@ use Rattle.lattice.specs.declared.Opened.the-variants as opened
 use Rattle.lattice.specs.Reply.{tableNumber}
 use Rattle.lattice.specs.Reply as table
 use Rattle.lattice.proofs.Every.{below-suc}
+use Rattle.encoder.specs.Encode.{encoded}
 use Rattle.encode.specs.declared.Written.the-variants as outcome
-use Rattle.encode.specs.Encode.{encoded, writtenOut, fitted, yielding}
+use Rattle.encode.specs.Encode.{writtenOut, fitted, yielding}
+use Rattle.peeling.proofs.Range.{LabelInRange}
 use Rattle.record.specs.declared.GraphFault.{GraphFault}
 use Rattle.record.specs.declared.GraphFault.the-variants.{Malformed, OutOfRange, Cyclic, Unreached, Inappropriate}
 use Rattle.record.specs.Read.{Reading, refused, accepted, judged, inRange, cyclic, reachesAll, graphNumber}
-use Rattle.record.proofs.Readings.{LabelInRange, in-range}
+use Rattle.record.proofs.Readings.{in-range}
 use Rattle.record.proofs.Accepted.{rules-fit}
 use Rattle.record.proofs.Nodes.{Linked, narrow, few-nodes, few-links}
 use Rattle.record.proofs.Reaching.{cyclic-exact, reaches-exact}

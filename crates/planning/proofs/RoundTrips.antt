@@ -21,8 +21,9 @@ use Rattle.lattice.specs.declared.Opened.the-variants as opened
 use Rattle.lattice.specs.Label.{Label, isFull}
 use Rattle.lattice.specs.Labels.{tableLabels}
 use Rattle.lattice.specs.Reply as table
+use Rattle.encoder.specs.Encode.{encoded}
 use Rattle.encode.specs.declared.Written.the-variants as outcome
-use Rattle.encode.specs.Encode.{encoded, writtenOut, fitted, yielding}
+use Rattle.encode.specs.Encode.{writtenOut, fitted, yielding}
 use Rattle.record.specs.Read.{Reading, accepted, reading, graphOfRows}
 use Rattle.record.proofs.Accepted.{Rules, accepted-rules}
 use Rattle.record.proofs.Rewritten.{rules-read, written-injective}

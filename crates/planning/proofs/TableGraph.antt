@@ -15,7 +15,7 @@ use Rattle.graphs.proofs.Lists.{features-small, from-member, from-range, length
 use Rattle.graphs.proofs.Rows.{linksOf-source, linksOf-ascending, target-linksOf}
 use Rattle.graphs.proofs.Walk.{none-some}
 use Rattle.lattice.specs.Label.{Label, noLabel}
-use Rattle.record.proofs.Readings.{LabelInRange}
+use Rattle.peeling.proofs.Range.{LabelInRange}
 use Rattle.record.proofs.Accepted.{Rules}
 use Rattle.record.proofs.Nodes.{Linked}
 use Rattle.rows.specs.declared.Row as lent

@@ -41,7 +41,7 @@ fn export_graph(graph: &[u16], room: usize, nodes: &mut [u8]) -> Made
     ensures { λ r. ⌜ Makes (λ rows. exportedRows (rowsOf (now (graph .entry))) rows (now (nodes .entry))) room (r .answer) (r .count) (r .at) (now (nodes .exit)) ⌝ }
 {
     let mut new = [0u16; layout::LONGEST];
-    if !encode::numbered::renumber(graph, &mut new) {
+    if !numbering::renumber(graph, &mut new) {
         return refuse(Reply::TooLarge);
     }
     let links = rows::lending::count_links(&new);

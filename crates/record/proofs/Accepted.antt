@@ -19,8 +19,9 @@ use Rattle.graphs.proofs.Form.Large.{canonical-fits}
 use Rattle.lattice.specs.Label.{Label, noLabel}
 use Rattle.lattice.specs.Labels.{tableLabels, Known, OfAnySize}
 use Rattle.lattice.proofs.Lawful.{contradiction-parts, contradiction-from}
+use Rattle.peeling.proofs.Range.{LabelInRange}
 use Rattle.record.specs.Read.{graphOfRows, reading, accepted}
-use Rattle.record.proofs.Readings.{Stands, LabelInRange, InRange, reading-says, in-range}
+use Rattle.record.proofs.Readings.{Stands, InRange, reading-says, in-range}
 use Rattle.decode.proofs.Decoded.{Proper, decoded-says}
 use Rattle.record.proofs.Labels.{SevenBits, decoded-types}
 use Rattle.record.proofs.Nodes.{Linked, decoded-linked, node-row, reached-inside, reached-listed, narrow, few-nodes, few-links}

@@ -7,12 +7,13 @@ use lib.ListN.{replicate}
 use Rattle.graphs.specs.Rows.{Row, from, target}
 use Rattle.graphs.specs.Number.{visit, each, member}
 use Rattle.graphs.specs.Unify.{anyOf, deep}
+use Rattle.peeling.specs.Range.{labelInRange}
 use Rattle.record.specs.declared.GraphFault.the-variants.{Malformed, OutOfRange, Cyclic, Unreached}
 use Rattle.decode.specs.Decode.{bitOf, takeLinks, labelLength, labelOf, takeRow, takeRows, decoded}
-use Rattle.encode.specs.Encode.{bitsFrom, isFull, encodedLabel, encodedRow, encodedRows, encoded}
+use Rattle.encoder.specs.Encode.{bitsFrom, isFull, encodedLabel, encodedRow, encodedRows, encoded}
 use Rattle.graphs.specs.Order.{allOf}
 use Rattle.lattice.specs.Label.{Label, plain}
-use Rattle.record.specs.Read.{labelInRange, inRange, cyclic, reachesAll, reading, accepted, refused}
+use Rattle.record.specs.Read.{inRange, cyclic, reachesAll, reading, accepted, refused}
 
 rows : List (Row Label)
 rows = (plain 3, (0, 1) ∷ []) ∷ (plain 1, []) ∷ []

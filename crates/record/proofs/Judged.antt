@@ -9,15 +9,16 @@ use Rattle.graphs.specs.Rows.{Row}
 use Rattle.graphs.proofs.Search.{not-true}
 use Rattle.lattice.specs.Label.{Label}
 use Rattle.layout.specs.Layout.{size, labelAt, rowsOf, Shaped, Sound}
+use Rattle.peeling.specs.declared.Shape.{Shape}
+use Rattle.peeling.specs.declared.Shape.the-variants as shapes
+use Rattle.peeling.specs.Counts.{Count, Counted, Peels, Ranged}
+use Rattle.peeling.proofs.Range.{label-in-range}
 use Rattle.record.specs.declared.GraphFault.{GraphFault}
 use Rattle.record.specs.declared.GraphFault.the-variants.{OutOfRange, Cyclic, Unreached}
 use Rattle.record.specs.declared.reading.Verdict.the-variants.{Accepted, Refused}
-use Rattle.record.specs.declared.peeling.Shape.{Shape}
-use Rattle.record.specs.declared.peeling.Shape.the-variants as shapes
 use Rattle.record.specs.Read.{Reading, refused, accepted, judged, inRange, cyclic, reachesAll}
-use Rattle.record.specs.Counts.{Count, Counted, Peels, Ranged}
 use Rattle.record.specs.Reads.{ReadsAs, verdictOf}
-use Rattle.record.proofs.Readings.{label-in-range, in-range}
+use Rattle.record.proofs.Readings.{in-range}
 use Rattle.record.proofs.Nodes.{Linked}
 use Rattle.record.proofs.Reaching.{cyclic-exact}
 use Rattle.record.proofs.Words.{ranged-rows, rows-ranged, ranged-linked, looped-rows, sorted-rows, apart-unreached, entered-reaches}

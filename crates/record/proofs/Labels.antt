@@ -18,7 +18,7 @@ use Rattle.lattice.specs.Label.{Label, plain}
 use Rattle.lattice.proofs.Every.{same-test}
 use Rattle.lattice.proofs.Lawful.{label-parts}
 use Rattle.decode.specs.Decode.{Taken, changed, takeLinks, isRanged, labelLength, labelOf, takeRow, takeRows, bitOf, whole, decoded}
-use Rattle.encode.specs.Encode.{isFull, encodedLabel}
+use Rattle.encoder.specs.Encode.{isFull, encodedLabel}
 use Rattle.record.specs.Spelled.{spelledLabel}
 
 -- Bytes that state a label.

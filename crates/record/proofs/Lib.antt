@@ -12,8 +12,6 @@ pub mod Rewritten
 pub mod Loaded
 pub mod Theorems
 pub mod Examples
-pub mod Counting
-pub mod Passes
 pub mod Words
 pub mod Judged
 pub mod Parsed

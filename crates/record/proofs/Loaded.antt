@@ -6,7 +6,7 @@ use Rattle.graphs.specs.Graph.{Reached}
 use Rattle.lattice.proofs.Lawful.{known-more}
 use Rattle.layout.specs.Layout.{Recorded, size, rowsOf, graphIn}
 use Rattle.layout.proofs.Rows.{length-rows}
-use Rattle.encode.specs.Encode.{encoded}
+use Rattle.encoder.specs.Encode.{encoded}
 use Rattle.record.specs.Reads.{Loaded}
 use Rattle.record.proofs.Accepted.{Rules, accepted-rules}
 

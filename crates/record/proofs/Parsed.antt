@@ -17,12 +17,12 @@ use Rattle.layout.proofs.Rows.{rows-member}
 use Rattle.decode.specs.Decode.{decoded}
 use Rattle.decode.specs.Answers.{Held, Parses}
 use Rattle.decode.proofs.Decoded.{Decoded, decoded-says}
+use Rattle.peeling.specs.Counts.{LevelsOrdered}
 use Rattle.record.specs.declared.GraphFault.the-variants.{Malformed}
 use Rattle.record.specs.declared.reading.Verdict.{Verdict}
 use Rattle.record.specs.declared.reading.Verdict.the-variants.{Refused}
 use Rattle.record.specs.Read.{Reading, judged, reading}
-use Rattle.record.specs.Counts.{LevelsOrdered, unrangedLength}
-use Rattle.record.specs.Reads.{Reads, ReadsAs}
+use Rattle.record.specs.Reads.{Reads, ReadsAs, unrangedLength}
 use Rattle.record.proofs.Judged.{refuses}
 use Rattle.record.proofs.Words.{held-length}
 

@@ -29,9 +29,10 @@ use Rattle.graphs.proofs.Form.Rules.{
 }
 use Rattle.lattice.specs.Labels.{tableLabels, OfAnySize}
 use Rattle.decode.specs.Decode.{decoded}
-use Rattle.encode.specs.Encode.{encoded}
+use Rattle.encoder.specs.Encode.{encoded}
+use Rattle.peeling.proofs.Range.{LabelInRange}
 use Rattle.record.specs.Read.{graphOfRows, cyclic, reading, accepted}
-use Rattle.record.proofs.Readings.{LabelInRange, InRange, reading-says, in-range}
+use Rattle.record.proofs.Readings.{InRange, reading-says, in-range}
 use Rattle.record.proofs.RoundTrip.{decode-encode, form-types}
 use Rattle.record.proofs.Nodes.{Linked, reached-inside, narrow}
 use Rattle.record.proofs.Reaching.{SelfReach, AllReached, cyclic-exact, reaches-exact}

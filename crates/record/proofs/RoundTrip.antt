@@ -21,8 +21,8 @@ use Rattle.graphs.proofs.Form.Rules.{form-labels}
 use Rattle.lattice.specs.Label.{Label, isFull, graphOfRows}
 use Rattle.decode.specs.Decode.{Taken, changed, takeTarget, takeLinks, takeRow, takeRows, bitOf, whole, decoded}
 use Rattle.decode.proofs.Decoded.{Proper}
-use Rattle.encode.specs.Encode.{bitsFrom, encodedLabel, encodedRow, encodedRows, encoded}
-use Rattle.encode.proofs.FeatureMap.{Within, bit-small, target-absent, target-first, target-later}
+use Rattle.encoder.specs.Encode.{bitsFrom, encodedLabel, encodedRow, encodedRows, encoded}
+use Rattle.encoder.proofs.FeatureMap.{Within, bit-small, target-absent, target-first, target-later}
 use Rattle.record.specs.Spelled.{spelledLabel, spelledRow, spelledRows, spelled}
 use Rattle.record.proofs.Labels.{SevenBits, States, encoded-states, spelled-states, row-behind}
 

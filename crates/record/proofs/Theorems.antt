@@ -19,7 +19,7 @@ use Rattle.lattice.specs.Label.{Label}
 use Rattle.record.specs.declared.GraphFault.the-variants.{Malformed, OutOfRange, Cyclic, Unreached}
 use Rattle.lattice.specs.Labels.{tableLabels, Known, OfAnySize}
 use Rattle.decode.specs.Decode.{AreBytes, decoded}
-use Rattle.encode.specs.Encode.{isFull, encoded}
+use Rattle.encoder.specs.Encode.{isFull, encoded}
 use Rattle.record.specs.Read.{graphOfRows, inRange, cyclic, reachesAll, judged, reading, accepted, refused}
 use Rattle.record.specs.Spelled.{Statable, Spells}
 use Rattle.record.proofs.Readings.{reading-says, in-range}

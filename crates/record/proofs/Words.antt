@@ -20,9 +20,11 @@ use Rattle.layout.proofs.Places.{link-at, link-place}
 use Rattle.layout.proofs.Rows.{length-rows, rows-member, rows-source}
 use Rattle.layout.proofs.Spans.{linkAt, links-member, links-at}
 use Rattle.visits.specs.Walks.{Leads, Reaches, one, more}
-use Rattle.record.specs.Read.{labelInRange, reachesAll}
-use Rattle.record.specs.Counts.{Ranged, Earlier}
-use Rattle.record.proofs.Readings.{InRange, label-in-range}
+use Rattle.peeling.specs.Range.{labelInRange}
+use Rattle.peeling.specs.Counts.{Ranged, Earlier}
+use Rattle.peeling.proofs.Range.{label-in-range}
+use Rattle.record.specs.Read.{reachesAll}
+use Rattle.record.proofs.Readings.{InRange}
 use Rattle.record.proofs.Nodes as rows
 use Rattle.record.proofs.Reaching.{SelfReach, reaches-exact}
 

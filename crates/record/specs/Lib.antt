@@ -1,6 +1,5 @@
 -- These files define what it is to read a record.
 pub mod Read
-pub mod Counts
 pub mod Reads
 pub mod Unranged
 pub mod Appropriate

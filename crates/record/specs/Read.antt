@@ -1,6 +1,6 @@
 -- This file defines what reading a record over a table with n types answers (document 01, "Returned by a call"): the graph's rows, or the
 -- first of refusals 4 to 7 that applies. Each refusal is checked over the whole record before the next.
-use mathlib.Core.Bool.{Bool, cond, not, _&&_}
+use mathlib.Core.Bool.{Bool, cond, _&&_}
 use mathlib.Core.List.{List, []}
 use mathlib.Core.Option.{Option, none, some}
 use Prim.Native.Nat.{ℕ, suc}
@@ -11,6 +11,7 @@ use Rattle.graphs.specs.Number.{visit}
 use Rattle.graphs.specs.Order.{allOf}
 use Rattle.graphs.specs.Unify.{anyOf, deep, holds}
 use Rattle.lattice.specs.Label.{Label}
+use Rattle.peeling.specs.Range.{labelInRange}
 use Rattle.record.specs.declared.GraphFault.{GraphFault}
 use Rattle.record.specs.declared.GraphFault.the-variants.{Malformed, OutOfRange, Cyclic, Unreached, Inappropriate}
 use Rattle.decode.specs.Decode.{decoded}
@@ -23,11 +24,6 @@ graphNumber OutOfRange = 5
 graphNumber Cyclic = 6
 graphNumber Unreached = 7
 graphNumber Inappropriate = 18
-
--- The type is not "0 or at least n", the levels are "0 to 255", and the lowest is not "above the highest" (document 02, Paper 7).
-unfoldable pub labelInRange : ℕ → Label → Bool
-labelInRange n l =
-    not (eqb (l .type) 0) && leb (suc (l .type)) n && leb (l .lowest) (l .highest) && leb (l .highest) 255
 
 -- No node has "a type that is 0 or at least n; a target at least N", nor "A lowest level above the highest"; else the record is refused by 5.
 unfoldable pub inRange : ℕ → List (Row Label) → Bool

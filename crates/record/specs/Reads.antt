@@ -2,12 +2,13 @@
 -- The crates that compute on graphs ask for words that are `Loaded`.
 use mathlib.Core.Path.{_≡_}
 use mathlib.Core.List.{List}
-use Prim.Native.Nat.{ℕ, _≤_, _<_}
+use Prim.Native.Nat.{ℕ, _+_, _*_, _≤_, _<_}
 use Rattle.graphs.specs.Rows.{Row}
+use Rattle.graphs.specs.Large.{linksIn}
 use Rattle.lattice.specs.Label.{Label}
 use Rattle.lattice.specs.Labels.{Known}
 use Rattle.layout.specs.Layout.{size, labelAt, rowsOf, Sound}
-use Rattle.encode.specs.Encode.{encoded}
+use Rattle.encoder.specs.Encode.{encoded}
 use Rattle.record.specs.declared.reading.Verdict.{Verdict}
 use Rattle.record.specs.declared.reading.Verdict.the-variants.{Accepted, Refused}
 use Rattle.record.specs.Read.{Reading, refused, accepted, reading}
@@ -32,6 +33,10 @@ pub record ReadsAs (n : ℕ) (o : Reading) (v : Verdict) (ws : List ℕ) : Type 
 -- what reading a record promises of the verdict and the words
 abbrev pub Reads : ℕ → List ℕ → Verdict → List ℕ → Type 0
 Reads n bytes v ws = ReadsAs n (reading n bytes) v ws
+
+-- the length of a record with the rows of the words and no range: the count, nine bytes for each node and one for each link
+abbrev pub unrangedLength : List ℕ → ℕ
+unrangedLength ws = 1 + 9 * size ws + linksIn (rowsOf ws)
 
 -- The record of the rows is accepted over a table with n types and states the same rows.
 abbrev pub Acceptable : ℕ → List (Row Label) → Type 0

@@ -6,8 +6,7 @@ ghost use mathlib.Core.Path.{_≡_};
 ghost use lib.Dec.{eqb};
 ghost use Rattle.layout.specs.Layout.{Shaped};
 ghost use Rattle.decode.specs.Answers.{Roomy};
-ghost use Rattle.record.specs.Counts.{unrangedLength};
-ghost use Rattle.record.specs.Reads.{Reads};
+ghost use Rattle.record.specs.Reads.{Reads, unrangedLength};
 
 // What reading a record answers: it is accepted, or why it is refused.
 pub enum Verdict {

@@ -23,7 +23,8 @@ use Rattle.lattice.specs.declared.Opened.the-variants as opened
 use Rattle.lattice.specs.Reply as table
 use Rattle.lattice.specs.Labels.{tableLabels}
 use Rattle.record.specs.Read as graph
-use Rattle.encode.specs.Encode.{encoded, fitted, writtenOut}
+use Rattle.encoder.specs.Encode.{encoded}
+use Rattle.encode.specs.Encode.{fitted, writtenOut}
 use Rattle.encode.specs.declared.Written.the-variants as outcome
 use Rattle.replies.specs.declared.Side.{Side}
 use Rattle.replies.specs.declared.Side.the-variants.{First, Second}

@@ -64,8 +64,10 @@ use Rattle.lattice.proofs.Every.{and-both, implies-at, every-at, found-some}
 use Rattle.lattice.proofs.Acceptance.{opened-accepted}
 use Rattle.lattice.proofs.Lawful.{inside}
 use Rattle.decode.specs.Decode.{bitOf, labelLength, labelOf, takeLinks, takeRow, takeRows, decoded}
-use Rattle.encode.specs.Encode.{bitsFrom, isFull, encodedLabel, encodedRow, encodedRows, encoded, fitted, writtenOut}
-use Rattle.record.specs.Read.{labelInRange, inRange, cyclic, reachesAll, reading, accepted, graphOfRows}
+use Rattle.encoder.specs.Encode.{bitsFrom, isFull, encodedLabel, encodedRow, encodedRows, encoded}
+use Rattle.encode.specs.Encode.{fitted, writtenOut}
+use Rattle.peeling.specs.Range.{labelInRange}
+use Rattle.record.specs.Read.{inRange, cyclic, reachesAll, reading, accepted, graphOfRows}
 use Rattle.record.specs.Appropriate.{listAccepted, readingAppropriate, appropriate, rowAppropriate}
 use Rattle.record.proofs.Accepted.{accepted-rules}
 use Rattle.record.proofs.Theorems.{accepted-of-any-size}

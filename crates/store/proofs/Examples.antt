@@ -14,8 +14,10 @@ use Rattle.lattice.specs.Table.{every, last, below, sized, confined, reflexive,
 use Rattle.lattice.specs.Reply.{opened}
 use Rattle.lattice.specs.Labels.{wantedLabel}
 use Rattle.decode.specs.Decode.{bitOf, labelLength, labelOf, takeLinks, takeRow, takeRows, decoded}
-use Rattle.encode.specs.Encode.{bitsFrom, isFull, encodedLabel, encodedRow, encodedRows, encoded, fitted, writtenOut}
-use Rattle.record.specs.Read.{labelInRange, inRange, cyclic, reachesAll, reading}
+use Rattle.encoder.specs.Encode.{bitsFrom, isFull, encodedLabel, encodedRow, encodedRows, encoded}
+use Rattle.encode.specs.Encode.{fitted, writtenOut}
+use Rattle.peeling.specs.Range.{labelInRange}
+use Rattle.record.specs.Read.{inRange, cyclic, reachesAll, reading}
 use Rattle.record.specs.declared.GraphFault.the-variants.{Malformed}
 use Rattle.difference.specs.Promise.{wantedAlong, allWantedAlong, differenceAlong}
 use Rattle.difference.specs.Difference.{firstAt, over, differed, differedRows}

@@ -13,7 +13,7 @@ use Rattle.graphs.specs.Number.{Canonical}
 use Rattle.lattice.specs.Label.{Label}
 use Rattle.lattice.specs.declared.Opened.the-variants.{Accepted}
 use Rattle.lattice.specs.Reply.{opened}
-use Rattle.encode.specs.Encode.{encoded}
+use Rattle.encoder.specs.Encode.{encoded}
 use Rattle.record.specs.Read.{Reading}
 use Rattle.difference.specs.Difference.{numbered}
 use Rattle.replies.specs.declared.Reply.{Reply}

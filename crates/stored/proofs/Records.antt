@@ -11,7 +11,8 @@ use Rattle.graphs.specs.Rows.{Row}
 use Rattle.lattice.specs.Label.{Label}
 use Rattle.lattice.specs.declared.Opened.the-variants.{Accepted}
 use Rattle.lattice.specs.Reply.{opened}
-use Rattle.encode.specs.Encode.{encoded, fitted}
+use Rattle.encoder.specs.Encode.{encoded}
+use Rattle.encode.specs.Encode.{fitted}
 use Rattle.record.specs.Read.{reading, accepted, graphOfRows}
 use Rattle.record.proofs.Theorems.{accepted-fits, written-accepted}
 use Rattle.difference.specs.Difference.{numbered}

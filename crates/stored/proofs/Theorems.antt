@@ -17,8 +17,9 @@ use Rattle.lattice.specs.Labels.{tableLabels}
 use Rattle.lattice.specs.Table.{admits}
 use Rattle.lattice.specs.declared.Opened.the-variants.{Accepted}
 use Rattle.lattice.specs.Reply.{opened}
+use Rattle.encoder.specs.Encode.{encoded}
 use Rattle.encode.specs.declared.Written.the-variants as outcome
-use Rattle.encode.specs.Encode.{encoded, fitted, yielding, writtenOut}
+use Rattle.encode.specs.Encode.{fitted, yielding, writtenOut}
 use Rattle.record.specs.Read.{Reading, refused, accepted, reading, graphOfRows}
 use Rattle.record.proofs.Theorems.{accepted-fits}
 use Rattle.difference.specs.Difference.{numbered}

@@ -22,7 +22,8 @@ use Rattle.lattice.proofs.Every.{every-all}
 use Rattle.lattice.proofs.Lawful.{inside}
 use Rattle.lattice.proofs.Laws.{zero-type, residual-exists, wanted-residual}
 use Rattle.lattice.proofs.Acceptance.{opened-accepted}
-use Rattle.encode.specs.Encode.{Outcome, encoded, writtenOut}
+use Rattle.encoder.specs.Encode.{encoded}
+use Rattle.encode.specs.Encode.{Outcome, writtenOut}
 use Rattle.record.specs.Read.{Reading, refused, accepted, graphOfRows, reading}
 use Rattle.record.proofs.Accepted.{Rules, accepted-rules, rules-of-any-size, rules-types, rules-fit}
 use Rattle.record.proofs.Theorems.{written-reads}

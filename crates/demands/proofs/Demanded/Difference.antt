@@ -25,7 +25,8 @@ use Rattle.lattice.proofs.Acceptance.{opened-accepted}
 use Rattle.lattice.proofs.Relabel.{same-below-left, same-below-right}
 use Rattle.lattice.proofs.Transfer.{same-of-any-size}
 use Rattle.lattice.proofs.AnySize.{same-greatest, greatest-sides}
-use Rattle.encode.specs.Encode.{Outcome, encoded, writtenOut}
+use Rattle.encoder.specs.Encode.{encoded}
+use Rattle.encode.specs.Encode.{Outcome, writtenOut}
 use Rattle.record.specs.Read.{reading, accepted, graphOfRows}
 use Rattle.record.proofs.Accepted.{Rules, accepted-rules}
 use Rattle.record.proofs.Theorems.{accepted-of-any-size, accepted-fits, written-accepted}

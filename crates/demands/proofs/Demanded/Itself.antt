@@ -34,7 +34,8 @@ use Rattle.lattice.proofs.Lawful.{inside-le, le-antisymmetric, le-reflexive, pl
 use Rattle.lattice.proofs.Plain.{contradiction-plain}
 use Rattle.lattice.proofs.Relabel.{same-below-right}
 use Rattle.lattice.proofs.Acceptance.{opened-accepted}
-use Rattle.encode.specs.Encode.{bitsFrom, isFull, encodedLabel, encodedRow, encodedRows, encoded, fitted, writtenOut}
+use Rattle.encoder.specs.Encode.{bitsFrom, isFull, encodedLabel, encodedRow, encodedRows, encoded}
+use Rattle.encode.specs.Encode.{fitted, writtenOut}
 use Rattle.record.specs.Read.{reading, accepted, graphOfRows}
 use Rattle.record.proofs.Accepted.{accepted-rules}
 use Rattle.record.proofs.Theorems.{accepted-of-any-size, written-reads}

@@ -20,7 +20,8 @@ use Rattle.lattice.specs.Reply.{opened}
 use Rattle.lattice.specs.Labels.{tableLabels}
 use Rattle.lattice.proofs.Acceptance.{opened-accepted}
 use Rattle.lattice.proofs.AnySize.{below-both}
-use Rattle.encode.specs.Encode.{encoded, fitted, writtenOut}
+use Rattle.encoder.specs.Encode.{encoded}
+use Rattle.encode.specs.Encode.{fitted, writtenOut}
 use Rattle.record.specs.Read.{reading, accepted, graphOfRows}
 use Rattle.record.proofs.Rewritten.{form-again}
 use Rattle.record.proofs.Theorems.{accepted-of-any-size, accepted-fits, accepted-types}

@@ -24,8 +24,8 @@ use Rattle.lattice.specs.Table as types
 use Rattle.lattice.specs.Reply as table
 use Rattle.lattice.proofs.Acceptance.{opened-accepted}
 use Rattle.lattice.specs.Labels.{OfAnySize}
-use Rattle.encode.specs.Encode.{encoded}
-use Rattle.encode.proofs.Lengths.{longest}
+use Rattle.encoder.specs.Encode.{encoded}
+use Rattle.encoder.proofs.Lengths.{longest}
 use Rattle.record.specs.declared.GraphFault.{GraphFault}
 use Rattle.record.specs.Read.{Reading, refused, accepted, reading, graphNumber, graphOfRows}
 use Rattle.record.proofs.Nodes.{few-nodes, few-links}

@@ -17,7 +17,8 @@ use Rattle.lattice.specs.Labels.{OfAnySize}
 use Rattle.lattice.specs.Reply.{opened}
 use Rattle.lattice.proofs.Laws.{accepted-size}
 use Rattle.lattice.proofs.Acceptance.{opened-accepted}
-use Rattle.encode.specs.Encode.{encoded, fitted}
+use Rattle.encoder.specs.Encode.{encoded}
+use Rattle.encode.specs.Encode.{fitted}
 use Rattle.record.specs.declared.GraphFault.{GraphFault}
 use Rattle.record.specs.Read.{reading, refused, accepted, graphOfRows}
 use Rattle.replies.specs.declared.Side.the-variants.{First}

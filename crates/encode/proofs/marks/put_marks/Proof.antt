@@ -1,8 +1,8 @@
 -- `put_marks` meets its contract. Each turn of the loop stores the marks of one row behind those before them.
 use Prim.Native.Nat.{_-_}
 use native.Mathlib.Omega.{arith}
+use Rattle.encoder.proofs.WrittenRows.{visited-small}
 use Rattle.encode.proofs.MarkedRows.{MarkProgress, marks-start, marks-room, marks-step, marks-done}
-use Rattle.encode.proofs.WrittenRows.{visited-small}
 use Rattle.encode.proofs.marks.put_marks.Statement.{statement}
 use Rattle.encode.proofs.marks.put_marks.Tie as tie
 

@@ -1,0 +1,2 @@
+-- This file has the laws of renumbering.
+pub mod CopiedRows
