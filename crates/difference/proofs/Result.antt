@@ -41,7 +41,7 @@ use Rattle.layout.proofs.Order.{place-before}
 use Rattle.encode.specs.Marks.{marksAlong}
 use Rattle.encode.proofs.WrittenForm.{marks-tell}
 use Rattle.visits.specs.Walks.{Reaches, one, more}
-use Rattle.groups.specs.Cover.{Lying}
+use Rattle.cover.specs.Cover.{Lying}
 use Rattle.groups.specs.Marks.{At, Marked}
 use Rattle.groups.proofs.Leading.{at-one, one-at, at-link, link-stands, Says, follows-it, leads-covered, leads-bare, mark-says}
 use Rattle.difference.specs.Promise.{wantedAlong, differenceAlong, reasonsAlong, allWantedAlong}

@@ -5,14 +5,14 @@
 pub mod wanted;
 
 use encode::Marked;
-use groups::link_orders::LinkOrder;
+use link_orders::LinkOrder;
 use replies::Reply;
 use subsume::Order;
 ghost use mathlib.Core.Path.{_≡_};
 ghost use mathlib.Core.List.{List};
 ghost use Prim.Native.Nat.{ℕ};
 ghost use lib.ListN.{length};
-ghost use Rattle.groups.specs.LinkOrders.{Fitting};
+ghost use Rattle.link_orders.specs.LinkOrders.{Fitting};
 ghost use Rattle.keeping.specs.Keeping.{Markable};
 ghost use Rattle.keeping.specs.Explaining.{Copied, Made};
 ghost use Rattle.difference.specs.Asked.{Preparable};

@@ -1,12 +1,14 @@
 // The links of g that lie over links of s, for the groups of a difference. A link is given by its place in the words of its graph. The
 // owner of a link of s is a node of g that some link over it enters. All nodes of g that links over one link of s enter are in one class.
+// `groups` goes on from the owners and the classes. This crate knows graphs in words, a map of the nodes of g to those of s, and the forest
+// of `classes`.
 
 ghost use mathlib.Core.Path.{_≡_};
 ghost use Prim.Native.Nat.{ℕ, _<_};
 ghost use lib.ListN.{length, getD};
 ghost use Rattle.layout.specs.Layout.{size, rowFrom, rowEnd};
 ghost use Rattle.classes.specs.Forest.{Forest};
-ghost use Rattle.groups.specs.Cover.{Grouping, Lying, Owns};
+ghost use Rattle.cover.specs.Cover.{Grouping, Lying, Owns};
 
 // The word for no owner, where nothing of g lies over a link, and for no place, where no link of a class is met yet.
 pub const NONE: u16 = 0xFFFF;

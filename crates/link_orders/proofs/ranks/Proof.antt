@@ -4,9 +4,9 @@ use mathlib.Core.Bool.{Bool, cond}
 use Prim.Native.Nat.{ℕ}
 use lib.ListN.{getD-replicate}
 use Rattle.graphs.specs.Difference.{placeIn}
-use Rattle.groups.proofs.link_orders.ranks.Statement.{statement}
-use Rattle.groups.proofs.link_orders.ranks.Tie as tie
-use Rattle.groups.proofs.link_orders.places.Reads as places-reads
+use Rattle.link_orders.proofs.ranks.Statement.{statement}
+use Rattle.link_orders.proofs.ranks.Tie as tie
+use Rattle.link_orders.proofs.places.Reads as places-reads
 
 places-requires : tie.Need-places-requires
 places-requires c κs = c .before .before .before .pre (c .before .before .if1 .taken)

@@ -16,7 +16,7 @@ use Rattle.graphs.specs.Difference.{placeIn}
 use Rattle.graphs.proofs.Lists.{from-range, length-from, remove, distinct-bound, distinct-from, full-places}
 use Rattle.lattice.specs.Table.{every}
 use Rattle.lattice.proofs.Every.{and-left, and-right, and-both, every-at, every-all, not-true-false}
-use Rattle.groups.specs.LinkOrders.{isReadingOrder, EachOnce}
+use Rattle.link_orders.specs.LinkOrders.{isReadingOrder, EachOnce}
 
 -- What the test says of a list.
 

@@ -2,9 +2,9 @@
 use borrow.Author.Needs.{needs}
 use Prim.Native.Nat.{ℕ, _-_}
 use lib.ListN.{length-replicate}
-use Rattle.groups.proofs.LinkOrders.{Copied, copied-start, copied-inside, copied-next, copied-order}
-use Rattle.groups.proofs.link_orders.by_list.Statement.{statement}
-use Rattle.groups.proofs.link_orders.by_list.Tie as tie
+use Rattle.link_orders.proofs.LinkOrders.{Copied, copied-start, copied-inside, copied-next, copied-order}
+use Rattle.link_orders.proofs.by_list.Statement.{statement}
+use Rattle.link_orders.proofs.by_list.Tie as tie
 
 abbrev Inv-loop : tie.InvT-loop
 Inv-loop list copy₀ i₀ copy i = Copied list i copy

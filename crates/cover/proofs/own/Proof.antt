@@ -2,8 +2,8 @@
 use borrow.Author.Needs.{needs}
 use native.Mathlib.Omega.{arith}
 use mathlib.Core.Path.{refl}
-use Rattle.groups.proofs.cover.own.Statement.{statement}
-use Rattle.groups.proofs.cover.own.Tie as tie
+use Rattle.cover.proofs.own.Statement.{statement}
+use Rattle.cover.proofs.own.Tie as tie
 use Rattle.classes.proofs.forest.unite.Reads as unite-reads
 
 mul-x : tie.Need-mul-x

@@ -3,10 +3,10 @@ use mathlib.Core.Path.{sym, _∙_}
 use Prim.Native.Nat.{_+_, _-_}
 use native.Mathlib.Omega.{arith}
 use lib.ListN.{getD}
-use Rattle.groups.proofs.Covering.{Covering, rows-known, covering-start, covering-next, covering-done, place-within, target-low, place-owner}
-use Rattle.groups.proofs.cover.cover_row.Statement.{statement}
-use Rattle.groups.proofs.cover.cover_row.Tie as tie
-use Rattle.groups.proofs.cover.own.Reads as own-reads
+use Rattle.cover.proofs.Covering.{Covering, rows-known, covering-start, covering-next, covering-done, place-within, target-low, place-owner}
+use Rattle.cover.proofs.cover_row.Statement.{statement}
+use Rattle.cover.proofs.cover_row.Tie as tie
+use Rattle.cover.proofs.own.Reads as own-reads
 use Rattle.subsume.proofs.seek.Reads as seek-reads
 
 abbrev Inv-loop : tie.InvT-loop

@@ -1,13 +1,14 @@
 // The order of links that a call for a difference asks for: by parent number, then feature (document 01, "Difference"), or by a clinic's
 // reading order, which is a list of all 64 features, each once (document 02, Paper 10). Either order gives each feature a rank. Links of
-// a lesser rank come first, and links of one rank come in the order of their places.
+// a lesser rank come first, and links of one rank come in the order of their places. `calls` makes an order, and `groups` asks for its ranks.
+// This crate knows features and lists of them, and no graph in words.
 
 ghost use mathlib.Core.Path.{_≡_};
 ghost use Prim.Native.Nat.{ℕ, _<_};
 ghost use mathlib.Core.Bool.{true};
 ghost use lib.ListN.{length, getD};
 ghost use Rattle.graphs.specs.Difference.{byNumber, byReading, placeIn};
-ghost use Rattle.groups.specs.LinkOrders.{Fitting, Ranks, earlierBy, isReadingOrder};
+ghost use Rattle.link_orders.specs.LinkOrders.{Fitting, Ranks, earlierBy, isReadingOrder};
 
 // The number of features.
 pub const FEATURES: usize = 64;

@@ -2,9 +2,9 @@
 use Prim.Native.Nat.{ℕ, _-_}
 use native.Mathlib.Omega.{arith}
 use lib.ListN.{length-replicate, getD-replicate}
-use Rattle.groups.proofs.ReadingOrder.{Scanned, not-long, scanned-start, scanned-high, scanned-twice, scanned-next, scanned-done}
-use Rattle.groups.proofs.link_orders.is_reading_order.Statement.{statement}
-use Rattle.groups.proofs.link_orders.is_reading_order.Tie as tie
+use Rattle.link_orders.proofs.ReadingOrder.{Scanned, not-long, scanned-start, scanned-high, scanned-twice, scanned-next, scanned-done}
+use Rattle.link_orders.proofs.is_reading_order.Statement.{statement}
+use Rattle.link_orders.proofs.is_reading_order.Tie as tie
 
 abbrev Inv-loop : tie.InvT-loop
 Inv-loop list seen₀ i₀ seen i = Scanned list i seen

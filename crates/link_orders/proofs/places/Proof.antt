@@ -2,9 +2,9 @@
 use Prim.Native.Nat.{ℕ, _-_}
 use native.Mathlib.Omega.{arith}
 use lib.ListN.{length-replicate}
-use Rattle.groups.proofs.ReadingOrder.{Placed, placed-start, placed-next, placed-all}
-use Rattle.groups.proofs.link_orders.places.Statement.{statement}
-use Rattle.groups.proofs.link_orders.places.Tie as tie
+use Rattle.link_orders.proofs.ReadingOrder.{Placed, placed-start, placed-next, placed-all}
+use Rattle.link_orders.proofs.places.Statement.{statement}
+use Rattle.link_orders.proofs.places.Tie as tie
 
 abbrev Inv-loop : tie.InvT-loop
 Inv-loop list at₀ i₀ at i = Placed list i at

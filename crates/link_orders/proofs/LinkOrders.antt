@@ -9,9 +9,9 @@ use lib.ListN.{length, getD, set, length-set}
 use lib.Seq.{getD-set-same, getD-set-other, ext-getD}
 use Rattle.graphs.specs.Difference.{byNumber, byReading}
 use Rattle.graphs.proofs.Search.{true-false}
-use Rattle.groups.specs.declared.link_orders.LinkOrder.{LinkOrder}
-use Rattle.groups.specs.LinkOrders.{isReadingOrder, earlierBy, Fitting}
-use Rattle.groups.proofs.ReadingOrder.{reading}
+use Rattle.link_orders.specs.declared.LinkOrder.{LinkOrder}
+use Rattle.link_orders.specs.LinkOrders.{isReadingOrder, earlierBy, Fitting}
+use Rattle.link_orders.proofs.ReadingOrder.{reading}
 
 abbrev numbers : List ℕ → LinkOrder
 numbers list = record { listed = false; list = list }

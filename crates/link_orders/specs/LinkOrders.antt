@@ -8,7 +8,7 @@ use lib.Dec.{leb, eqb}
 use lib.ListN.{length, getD}
 use Rattle.graphs.specs.Difference.{Link, byNumber, placeIn, byReading}
 use Rattle.lattice.specs.Table.{every}
-use Rattle.groups.specs.declared.link_orders.LinkOrder.{LinkOrder}
+use Rattle.link_orders.specs.declared.LinkOrder.{LinkOrder}
 
 -- The list has 64 bytes, none above 63 and none twice. "A list that is anything else is 19".
 unfoldable pub isReadingOrder : List ℕ → Bool

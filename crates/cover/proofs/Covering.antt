@@ -12,10 +12,9 @@ use lib.Seq.{getD-set-same, getD-set-other, getD-take, length-take-le}
 use Rattle.layout.specs.Layout.{size, rowFrom, linksFrom, rowEnd, featureAt, targetAt, Node, Place, rowsEnd}
 use Rattle.layout.proofs.Order.{next-row, place-from, place-before, one-row, no-header, place-rises, one-feature}
 use Rattle.subsume.specs.Following.{Sought}
-use Rattle.classes.specs.Forest.{Forest, SameRoots, United, Flat, rootOf}
+use Rattle.classes.specs.Forest.{Forest, SameRoots, United, rootOf}
 use Rattle.classes.proofs.Roots.{separate-forest, fixed-root}
-use Rattle.groups.specs.Cover.{Lying, Over, Covers, Tied, same, shared, back, next, Grouping, Unowned, Owns}
-use Rattle.groups.specs.Marks.{Owned}
+use Rattle.cover.specs.Cover.{Lying, Over, Covers, Tied, same, shared, back, next, Grouping, Unowned, Owns}
 
 -- The loop stands at place k in the row of y, and at place j in the row of s that belongs to y. In that row, every place before j has a lesser
 -- feature than place k.
@@ -70,21 +69,6 @@ module _ {s g map : List ℕ} (lying : Lying s g map) where
   pub owner-low : {bound : ℕ} {owner parent : List ℕ} → Grouping s g map bound owner parent → (j : ℕ) → j < length owner →
       (getD owner j 0 ≡ 65535 → ⊥) → getD owner j 0 < size g
   owner-low group j h d = entered-low (group .owned j h d)
-
-  -- `Grouping` gives what marking asks of owners and classes.
-  pub grouping-owned : {bound : ℕ} {owner parent : List ℕ} → Grouping s g map bound owner parent → Flat (size g) parent →
-      Owned s owner parent
-  grouping-owned group flat =
-      record {
-        shaped = lying .lower .sound .shaped;
-        short = lying .short;
-        long = group .owner-long;
-        nodes = size g;
-        few = lying .upper .small;
-        flat = flat;
-        low = owner-low group;
-        linked = λ j h d. let (i, l, o, e) = group .owned j h d in (getD map (o .node) 0, o .under);
-      }
 
   -- `Grouping` moves from place k to place l where no link stands between them.
   moved : {k l : ℕ} {owner parent : List ℕ} → Grouping s g map k owner parent → ((v i : ℕ) → Place g v i → i < l → i < k) →
