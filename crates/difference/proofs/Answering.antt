@@ -42,7 +42,7 @@ use Rattle.link_orders.specs.declared.LinkOrder.{LinkOrder}
 use Rattle.link_orders.specs.LinkOrders.{earlierBy}
 use Rattle.groups.specs.Marks.{Marked as MarkedBy}
 use Rattle.groups.proofs.Ordering.{earlier-by-order}
-use Rattle.keeping.specs.Explaining.{Made, Explains}
+use Rattle.reasons.specs.Explaining.{Made, Explains}
 use Rattle.difference.specs.declared.Options.{Options}
 use Rattle.difference.specs.Asked.{Asked, Prepared}
 use Rattle.difference.specs.Comparable.{Comparable}

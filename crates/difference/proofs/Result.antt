@@ -48,11 +48,11 @@ use Rattle.difference.specs.Promise.{wantedAlong, differenceAlong, reaso
 use Rattle.difference.specs.Wanted.{LabelsOver, wantedAt, Wants, WantsAll, metFrom}
 use Rattle.keeping.specs.Keeping.{Cause, Leads, several, alone, Stays, Why, isRoot, caused, untop, onward, Keeps, Markable}
 use Rattle.keeping.specs.Thinning.{Kept}
-use Rattle.keeping.specs.Explaining.{Made, Copied, Explains, reasonBy}
+use Rattle.reasons.specs.Explaining.{Made, Copied, Explains, reasonBy}
 use Rattle.difference.specs.Asked.{Asked, Prepared}
 use Rattle.difference.proofs.Wanting.{wants-known, meetWhere-same}
 use Rattle.keeping.proofs.Thinning.{rows-sound, copied-feature, copied-target}
-use Rattle.keeping.proofs.Explaining.{reason-one, reason-two, reason-three}
+use Rattle.reasons.proofs.Explaining.{reason-one, reason-two, reason-three}
 
 -- A node that links reach is the end of a path.
 module _ {ws : List ℕ} (sound : Sound ws) where

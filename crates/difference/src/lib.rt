@@ -14,7 +14,7 @@ ghost use Prim.Native.Nat.{ℕ};
 ghost use lib.ListN.{length};
 ghost use Rattle.link_orders.specs.LinkOrders.{Fitting};
 ghost use Rattle.keeping.specs.Keeping.{Markable};
-ghost use Rattle.keeping.specs.Explaining.{Copied, Made};
+ghost use Rattle.reasons.specs.Explaining.{Copied, Made};
 ghost use Rattle.difference.specs.Asked.{Preparable};
 ghost use Rattle.difference.specs.Comparable.{Comparable};
 ghost use Rattle.difference.specs.Explained.{differedWords, explainedResult, markedReply};
@@ -115,7 +115,7 @@ fn write_rows<'a>(
         return replies::reply_of(encode::canonical::write(words, out));
     }
     let mut held = [0u8; layout::LONGEST];
-    keeping::reasons::explain_links(s, marks, words, &mut held);
+    reasons::explain_links(s, marks, words, &mut held);
     marked_reply(encode::canonical::write_marked(words, &held, out, reasons))
 }
 

@@ -4,10 +4,10 @@ use native.Mathlib.Omega.{arith}
 use mathlib.Core.Path.{ap}
 use borrow.Author.Needs.{needs}
 use lib.ListN.{set}
 use Rattle.keeping.proofs.Keeping.{node-known}
-use Rattle.keeping.proofs.Explaining.{Turning, explain-start, explain-room, explain-inside, explain-known, explain-place, explain-more, explain-done}
-use Rattle.keeping.proofs.reasons.explain_row.Statement.{statement}
-use Rattle.keeping.proofs.reasons.explain_row.Tie as tie
+use Rattle.reasons.proofs.Explaining.{Turning, explain-start, explain-room, explain-inside, explain-known, explain-place, explain-more, explain-done}
+use Rattle.reasons.proofs.explain_row.Statement.{statement}
+use Rattle.reasons.proofs.explain_row.Tie as tie
 
 abbrev Inv-loop : tie.InvT-loop
 Inv-loop s marks meeting words v reasons₀ s-end j₀ end k₀ reasons j k = Turning s marks meeting words v reasons₀ reasons j k

@@ -1,12 +1,14 @@
-// The reason for each kept link (document 02, Paper 13), at the link's place in the rows of the difference.
+// The reason for each kept link (document 02, Paper 13), at the link's place in the rows of the difference. `keeping` has made these rows
+// before, and `difference` asks for the reasons. This crate knows graphs in words, the marks of links that `groups` makes, and which nodes
+// `keeping` keeps for the links that enter them.
 
 ghost use mathlib.Core.Path.{_≡_};
 ghost use mathlib.Core.List.{List};
 ghost use Prim.Native.Nat.{ℕ, _<_};
 ghost use lib.ListN.{length};
 ghost use Rattle.layout.specs.Layout.{longest, size};
 ghost use Rattle.keeping.specs.Keeping.{Markable};
-ghost use Rattle.keeping.specs.Explaining.{Copied, Explains, ExplainsRow, reasonOf};
+ghost use Rattle.reasons.specs.Explaining.{Copied, Explains, ExplainsRow, reasonOf};
 
 // Nothing of g lies over the link.
 pub const NOTHING_OVER: u8 = 1;
@@ -69,7 +71,7 @@ pub fn explain_links<'a>(
 {
     // For a covered leading link, 1 marks the targets that a second leading link enters.
     let mut meeting = [0u8; 255];
-    super::keep::keep_entered(s, marks, &mut meeting);
+    keeping::keep::keep_entered(s, marks, &mut meeting);
     let nodes = s[0] as usize;
     let mut v = 0;
     while v < nodes {

@@ -15,10 +15,10 @@ use Rattle.layout.specs.Layout.{longest, size, linksFrom, rowEnd, featureAt, Pl
 use Rattle.layout.specs.Builder.{Same}
 use Rattle.layout.proofs.Order.{earlier-row, one-feature, place-rises}
 use Rattle.subsume.specs.Following.{Sought}
 use Rattle.keeping.specs.Keeping.{Cause, Grown, Markable}
-use Rattle.keeping.specs.Explaining.{Copied, Explains, ExplainsRow, RowExplained, reasonBy, reasonOf}
+use Rattle.reasons.specs.Explaining.{Copied, Explains, ExplainsRow, RowExplained, reasonBy, reasonOf}
 use Rattle.keeping.proofs.Thinning.{copied-feature}
 use Rattle.keeping.proofs.Keeping.{PlaceKnown, place-known}
 
 -- The number of a reason.
 

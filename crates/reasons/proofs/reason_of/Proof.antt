@@ -1,9 +1,9 @@
 -- `reason_of` meets its contract, by its two tests.
 use mathlib.Core.Path.{sym}
 use native.Mathlib.Omega.{arith}
-use Rattle.keeping.proofs.Explaining.{reason-one, reason-two, reason-three}
-use Rattle.keeping.proofs.reasons.reason_of.Statement.{statement}
-use Rattle.keeping.proofs.reasons.reason_of.Tie as tie
+use Rattle.reasons.proofs.Explaining.{reason-one, reason-two, reason-three}
+use Rattle.reasons.proofs.reason_of.Statement.{statement}
+use Rattle.reasons.proofs.reason_of.Tie as tie
 
 returns : tie.Need-returns
 returns c = sym (reason-one (c .before .args .mark) (c .before .args .meeting) (omega (arith, c .if1 .taken)))

@@ -2,10 +2,10 @@
 use Prim.Native.Nat.{ℕ, _-_}
 use native.Mathlib.Omega.{arith}
 use lib.ListN.{replicate, length-replicate, getD-replicate}
 use Rattle.keeping.proofs.Keeping.{node-known}
-use Rattle.keeping.proofs.Explaining.{Explaining, rows-begin, rows-more, rows-explained}
-use Rattle.keeping.proofs.reasons.explain_links.Statement.{statement}
-use Rattle.keeping.proofs.reasons.explain_links.Tie as tie
+use Rattle.reasons.proofs.Explaining.{Explaining, rows-begin, rows-more, rows-explained}
+use Rattle.reasons.proofs.explain_links.Statement.{statement}
+use Rattle.reasons.proofs.explain_links.Tie as tie
 
 abbrev Inv-loop : tie.InvT-loop
 Inv-loop s marks words reasons₀ meeting nodes v₀ reasons v = Explaining s marks meeting words v reasons
