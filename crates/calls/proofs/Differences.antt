@@ -7,7 +7,7 @@ use Rattle.graphs.specs.Difference.{Link, byNumber, byReading}
 use Rattle.lattice.specs.declared.TableFault.{TableFault}
 use Rattle.lattice.specs.declared.Opened.the-variants as opened
 use Rattle.lattice.specs.Reply as table
-use Rattle.groups.specs.LinkOrders.{isReadingOrder}
+use Rattle.link_orders.specs.LinkOrders.{isReadingOrder}
 use Rattle.difference.specs.Explained.{Explained, explainedResult, withReasonsIf}
 use Rattle.difference.proofs.Answering.{refuses-with-reasons}
 use Rattle.replies.specs.declared.Reply.{Reply}

@@ -9,7 +9,7 @@ use Rattle.lattice.specs.declared.Opened.{Opened}
 use Rattle.lattice.specs.declared.Opened.the-variants as opened
 use Rattle.lattice.specs.Reply as table
 use Rattle.graphs.specs.Difference.{byReading}
-use Rattle.groups.specs.LinkOrders.{isReadingOrder}
+use Rattle.link_orders.specs.LinkOrders.{isReadingOrder}
 use Rattle.record.specs.Appropriate.{listAccepted, readingAppropriate}
 use Rattle.replies.specs.declared.Reply.{Reply}
 use Rattle.replies.specs.declared.Reply.the-variants.{Table, TypeList, ReadingOrder}

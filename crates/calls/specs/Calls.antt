@@ -8,7 +8,7 @@ use Rattle.lattice.specs.declared.Opened.{Opened}
 use Rattle.lattice.specs.declared.Opened.the-variants as opened
 use Rattle.lattice.specs.Reply as table
 use Rattle.record.specs.Read.{reading}
-use Rattle.groups.specs.LinkOrders.{isReadingOrder}
+use Rattle.link_orders.specs.LinkOrders.{isReadingOrder}
 use Rattle.difference.specs.Difference.{differedRows}
 use Rattle.replies.specs.declared.Reply.{Reply}
 use Rattle.replies.specs.declared.Reply.the-variants.{Length, Table, ReadingOrder}

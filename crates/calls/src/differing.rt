@@ -81,7 +81,7 @@ fn difference_with(
     match opened {
         Opened::Refused(fault) => Reply::Table(fault),
         Opened::Accepted => {
-            let order = groups::link_orders::by_number();
+            let order = link_orders::by_number();
             let options = Options { order, explained };
             engine::differing::of_records(n, table, options, first, second, out, reasons)
         }
@@ -106,10 +106,10 @@ fn difference_by_with(
     match opened {
         Opened::Refused(fault) => Reply::Table(fault),
         Opened::Accepted => {
-            if !groups::link_orders::is_reading_order(list) {
+            if !link_orders::is_reading_order(list) {
                 return Reply::ReadingOrder;
             }
-            let order = groups::link_orders::by_list(list);
+            let order = link_orders::by_list(list);
             let options = Options { order, explained };
             engine::differing::of_records(n, table, options, first, second, out, reasons)
         }

@@ -39,11 +39,11 @@ use Rattle.replies.specs.Reply.{Result, resulting, resultOf, replyOf, refusing,
 use Rattle.subsume.specs.declared.Order.{Order}
 use Rattle.subsume.specs.declared.Order.the-variants as order
 use Rattle.subsume.specs.Promise.{Orders}
-use Rattle.groups.specs.declared.link_orders.LinkOrder.{LinkOrder}
-use Rattle.groups.specs.LinkOrders.{earlierBy}
+use Rattle.link_orders.specs.declared.LinkOrder.{LinkOrder}
+use Rattle.link_orders.specs.LinkOrders.{earlierBy}
 use Rattle.groups.specs.Marks.{Marked as MarkedBy}
 use Rattle.groups.proofs.Ordering.{earlier-by-order}
-use Rattle.keeping.specs.Explaining.{Made, Explains}
+use Rattle.reasons.specs.Explaining.{Made, Explains}
 use Rattle.difference.specs.declared.Options.{Options}
 use Rattle.difference.specs.Asked.{Asked, Prepared}
 use Rattle.difference.specs.Comparable.{Comparable}

@@ -41,18 +41,18 @@ use Rattle.layout.proofs.Order.{place-before}
 use Rattle.encode.specs.Marks.{marksAlong}
 use Rattle.encode.proofs.WrittenForm.{marks-tell}
 use Rattle.visits.specs.Walks.{Reaches, one, more}
-use Rattle.groups.specs.Cover.{Lying}
+use Rattle.cover.specs.Cover.{Lying}
 use Rattle.groups.specs.Marks.{At, Marked}
 use Rattle.groups.proofs.Leading.{at-one, one-at, at-link, link-stands, Says, follows-it, leads-covered, leads-bare, mark-says}
 use Rattle.difference.specs.Promise.{wantedAlong, differenceAlong, reasonsAlong, allWantedAlong}
 use Rattle.difference.specs.Wanted.{LabelsOver, wantedAt, Wants, WantsAll, metFrom}
 use Rattle.keeping.specs.Keeping.{Cause, Leads, several, alone, Stays, Why, isRoot, caused, untop, onward, Keeps, Markable}
 use Rattle.keeping.specs.Thinning.{Kept}
-use Rattle.keeping.specs.Explaining.{Made, Copied, Explains, reasonBy}
+use Rattle.reasons.specs.Explaining.{Made, Copied, Explains, reasonBy}
 use Rattle.difference.specs.Asked.{Asked, Prepared}
 use Rattle.difference.proofs.Wanting.{wants-known, meetWhere-same}
 use Rattle.keeping.proofs.Thinning.{rows-sound, copied-feature, copied-target}
-use Rattle.keeping.proofs.Explaining.{reason-one, reason-two, reason-three}
+use Rattle.reasons.proofs.Explaining.{reason-one, reason-two, reason-three}
 
 -- A node that links reach is the end of a path.
 module _ {ws : List ℕ} (sound : Sound ws) where

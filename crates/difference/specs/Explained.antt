@@ -15,7 +15,7 @@ use Rattle.encode.specs.declared.Marked.the-variants as marked
 use Rattle.replies.specs.declared.Reply.{Reply}
 use Rattle.replies.specs.declared.Reply.the-variants.{NoReasonRoom}
 use Rattle.replies.specs.Reply.{Result, lengthOf, replyOf}
-use Rattle.groups.specs.LinkOrders.{earlierBy}
+use Rattle.link_orders.specs.LinkOrders.{earlierBy}
 use Rattle.difference.specs.declared.Options.{Options}
 use Rattle.difference.specs.Promise.{reasonsAlong}
 use Rattle.difference.specs.Difference.{over, differed}

@@ -10,7 +10,7 @@ use Rattle.layout.specs.Layout.{graphIn}
 use Rattle.encode.specs.Encode.{writtenOut}
 use Rattle.encode.specs.Marks.{marksAlong}
 use Rattle.replies.specs.Reply.{resultOf}
-use Rattle.keeping.specs.Explaining.{Explains}
+use Rattle.reasons.specs.Explaining.{Explains}
 use Rattle.difference.specs.Explained.{Explained, withReasonsIf}
 
 -- The record of the rows is written and, if `explained`, the reasons for its links are written too. `held` has the reasons at the places of

@@ -5,16 +5,16 @@
 pub mod wanted;
 
 use encode::Marked;
-use groups::link_orders::LinkOrder;
+use link_orders::LinkOrder;
 use replies::Reply;
 use subsume::Order;
 ghost use mathlib.Core.Path.{_≡_};
 ghost use mathlib.Core.List.{List};
 ghost use Prim.Native.Nat.{ℕ};
 ghost use lib.ListN.{length};
-ghost use Rattle.groups.specs.LinkOrders.{Fitting};
+ghost use Rattle.link_orders.specs.LinkOrders.{Fitting};
 ghost use Rattle.keeping.specs.Keeping.{Markable};
-ghost use Rattle.keeping.specs.Explaining.{Copied, Made};
+ghost use Rattle.reasons.specs.Explaining.{Copied, Made};
 ghost use Rattle.difference.specs.Asked.{Preparable};
 ghost use Rattle.difference.specs.Comparable.{Comparable};
 ghost use Rattle.difference.specs.Explained.{differedWords, explainedResult, markedReply};
@@ -115,7 +115,7 @@ fn write_rows<'a>(
         return replies::reply_of(encode::canonical::write(words, out));
     }
     let mut held = [0u8; layout::LONGEST];
-    keeping::reasons::explain_links(s, marks, words, &mut held);
+    reasons::explain_links(s, marks, words, &mut held);
     marked_reply(encode::canonical::write_marked(words, &held, out, reasons))
 }
 

@@ -22,9 +22,10 @@ use Rattle.encode.specs.Encode.{Yield, yielding}
 use Rattle.record.specs.Reads.{Loaded}
 use Rattle.record.proofs.Accepted.{Rules}
 use Rattle.unify.specs.declared.Combined.{Combined}
-use Rattle.unify.specs.Lowered.{Meeting}
-use Rattle.unify.specs.Outcome.{contradicts, unifiedOut, unifyingOut}
-use Rattle.unify.specs.Rows.{Operand}
+use Rattle.merging.specs.Lowered.{Meeting}
+use Rattle.merging.specs.Clash.{contradicts}
+use Rattle.unify.specs.Outcome.{unifiedOut, unifyingOut}
+use Rattle.merging.specs.Rows.{Operand}
 use Rattle.replies.specs.declared.Reply.{Reply}
 use Rattle.replies.specs.Reply.{Result, resulting}
 use Rattle.record.proofs.Loaded.{loaded-reached, loaded-recorded, loaded-rules}

@@ -21,7 +21,7 @@ use Rattle.record.specs.Reads.{Acceptable, Loaded}
 use Rattle.record.proofs.Accepted.{Rules, accepted-rules, rules-of-any-size, rules-types, rules-fit}
 use Rattle.record.proofs.Loaded.{loaded-rules}
 use Rattle.record.proofs.Rewritten.{form-rules, rules-read}
-use Rattle.groups.specs.LinkOrders.{earlierBy}
+use Rattle.link_orders.specs.LinkOrders.{earlierBy}
 use Rattle.difference.specs.declared.Options.{Options}
 use Rattle.difference.specs.Difference.{differed, differedRows, numbered}
 use Rattle.difference.specs.Explained.{Explained, explainedResult, withReasonsIf, reasonsRows, differedWords}

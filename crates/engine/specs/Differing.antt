@@ -10,7 +10,7 @@ use Rattle.graphs.specs.Difference.{Link}
 use Rattle.layout.specs.Layout.{rowsOf}
 use Rattle.record.specs.Read.{graphOfRows, reading}
 use Rattle.record.specs.Reads.{Loaded}
-use Rattle.groups.specs.LinkOrders.{earlierBy}
+use Rattle.link_orders.specs.LinkOrders.{earlierBy}
 use Rattle.difference.specs.declared.Options.{Options}
 use Rattle.difference.specs.Difference.{differedRows, numbered}
 use Rattle.difference.specs.Explained.{Explained, reasonsRows, withReasonsIf}

@@ -13,7 +13,7 @@ ghost use Rattle.lattice.specs.Table.{accepted};
 ghost use Rattle.layout.specs.Layout.{longest};
 ghost use Rattle.decode.specs.Answers.{Roomy};
 ghost use Rattle.record.specs.Reads.{Loaded};
-ghost use Rattle.groups.specs.LinkOrders.{Fitting};
+ghost use Rattle.link_orders.specs.LinkOrders.{Fitting};
 ghost use Rattle.difference.specs.Explained.{explainedResult};
 ghost use Rattle.pairs.specs.declared.PairVerdict.the-variants.{Both};
 ghost use Rattle.engine.specs.Differing.{ReadsNumbered, partingWith};

@@ -26,9 +26,9 @@ use Rattle.lattice.specs.Label.{Label}
 use Rattle.layout.specs.Layout.{size, featureAt, targetAt, graphIn, Sound, Place, rowsEnd}
 use Rattle.layout.proofs.Places.{link-at, link-place}
 use Rattle.layout.proofs.Order.{place-before, one-row, one-feature}
-use Rattle.groups.specs.Cover.{Lying, Covers, Tied, same, shared, back, next, Grouping}
+use Rattle.cover.specs.Cover.{Lying, Covers, Tied, same, shared, back, next, Grouping}
 use Rattle.groups.specs.Marks.{Earlier, Together, Mark, follows, leads, bare, Marked}
-use Rattle.groups.proofs.Covering.{owner-low}
+use Rattle.cover.proofs.Covering.{owner-low}
 pub use Rattle.groups.specs.Marks.{At}
 
 -- Places of one graph.

@@ -1,7 +1,5 @@
--- Lemmas about owners, classes, marks and orders of links.
-pub mod Covering
+-- Lemmas about the marks of links, and about orders of links by their places.
+pub mod Owning
 pub mod Marking
-pub mod ReadingOrder
-pub mod LinkOrders
 pub mod Ordering
 pub mod Leading

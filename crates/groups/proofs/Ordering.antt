@@ -14,9 +14,9 @@ use Rattle.graphs.proofs.Difference.ByNumber.{Before, by-number, by-number-orde
 use Rattle.graphs.proofs.Difference.ByReading.{BeforeIn, by-reading, by-reading-order, one-place}
 use Rattle.layout.specs.Layout.{featureAt, Shaped, Place}
 use Rattle.layout.proofs.Order.{earlier-row, place-rises}
-use Rattle.groups.specs.declared.link_orders.LinkOrder.{LinkOrder}
+use Rattle.link_orders.specs.declared.LinkOrder.{LinkOrder}
 use Rattle.groups.specs.Marks.{At, Earlier, rankAt, Sooner, Owned, Mark, follows, leads, bare, Marks}
-use Rattle.groups.specs.LinkOrders.{earlierBy, Ranks}
+use Rattle.link_orders.specs.LinkOrders.{earlierBy, Ranks}
 
 -- The order that a call asks for.
 

@@ -9,7 +9,7 @@ use lib.ListN.{length, getD}
 use Rattle.graphs.specs.Difference.{Link}
 use Rattle.layout.specs.Layout.{longest, featureAt, Shaped, Place, rowsEnd}
 use Rattle.classes.specs.Forest.{Flat, rootOf}
-use Rattle.groups.specs.Cover.{Grouping}
+use Rattle.cover.specs.Cover.{Grouping}
 
 -- the link l stands at place k
 pub record At (ws : List ℕ) (k : ℕ) (l : Link ℕ) : Type 0 where

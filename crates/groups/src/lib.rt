@@ -1,9 +1,7 @@
 // The groups of links of a difference (document 01, "Difference"). For graphs s and g, and a map of the nodes of g to those of s, this crate
-// marks which links of s lead their groups, by the order of links that a call asks for. `difference` asks for the marks, and `keeping` goes
-// on from them. This crate knows graphs in words and an order of links.
-
-pub mod cover;
-pub mod link_orders;
+// marks which links of s lead their groups, by the order of links that a call asks for. `cover` lays the links of g over those of s, and
+// `link_orders` gives the rank of each feature. `difference` asks for the marks, and `keeping` goes on from them. This crate knows graphs in
+// words and an order of links.
 
 use classes::forest;
 use link_orders::LinkOrder;
@@ -11,9 +9,9 @@ ghost use mathlib.Core.Path.{_≡_};
 ghost use Prim.Native.Nat.{ℕ, _+_, _<_};
 ghost use lib.ListN.{length};
 ghost use Rattle.layout.specs.Layout.{Place};
-ghost use Rattle.groups.specs.Cover.{Lying, Unowned};
+ghost use Rattle.cover.specs.Cover.{Lying, Unowned};
 ghost use Rattle.groups.specs.Marks.{Marked, Marking, Marks, Owned, Sooner};
-ghost use Rattle.groups.specs.LinkOrders.{Fitting, earlierBy};
+ghost use Rattle.link_orders.specs.LinkOrders.{Fitting, earlierBy};
 
 // The mark of a link that another link of its group comes before.
 pub const FOLLOWS: u8 = 0;

@@ -1,4 +1,3 @@
--- Laws of kept nodes, of the rows with kept links, and of the reasons for these links.
+-- Laws of kept nodes, and of the rows with kept links.
 pub mod Keeping
 pub mod Thinning
-pub mod Explaining

@@ -1,4 +1,3 @@
--- Which nodes and links a difference keeps, the rows of the difference, and the reasons for its links.
+-- Which nodes and links a difference keeps, and the rows of the difference.
 pub mod Keeping
 pub mod Thinning
-pub mod Explaining

@@ -71,7 +71,7 @@ use Rattle.record.specs.Read.{inRange, cyclic, reachesAll, reading, accepted, g
 use Rattle.record.specs.Appropriate.{listAccepted, readingAppropriate, appropriate, rowAppropriate}
 use Rattle.record.proofs.Accepted.{accepted-rules}
 use Rattle.record.proofs.Theorems.{accepted-of-any-size}
-use Rattle.groups.specs.LinkOrders.{isReadingOrder}
+use Rattle.link_orders.specs.LinkOrders.{isReadingOrder}
 use Rattle.difference.specs.Promise.{wantedAlong, allWantedAlong, differenceAlong, reasonsAlong}
 use Rattle.calls.specs.Calls.{rewriting, generalizing, ordering, unifying, differing, differingBy}
 use Rattle.engine.specs.Generalizing.{generalized}

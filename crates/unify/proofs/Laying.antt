@@ -14,10 +14,10 @@ use Rattle.layout.proofs.Sums.{links-of-more}
 use Rattle.classes.specs.Merge.{Span}
 use Rattle.classes.specs.Classes.{sumTo, rowLength, linksOf, Roomy, At, Rows, Closed}
 use Rattle.classes.proofs.Merging.{feature-same, target-same}
-use Rattle.unify.specs.Rows.{Fillable, WordsCopied, SpansCopied, Placed, linksBoth, wordsIn}
+use Rattle.merging.specs.Rows.{Fillable, WordsCopied, SpansCopied, Placed, linksBoth, wordsIn}
 use Rattle.layout.proofs.Order.{row-low, row-last}
 use Rattle.layout.proofs.Sums.{rows-end, words-few}
-use Rattle.unify.proofs.Words.{moved-feature, moved-link, moved-target}
+use Rattle.merging.proofs.Words.{moved-feature, moved-link, moved-target}
 
 -- Copied words and spans are placed, and stay placed where later writes keep them.
 module _ {ws : List ℕ} (r : Recorded ws) {at shift : ℕ} {p₀ p₁ : List ℕ} {next : ℕ} {s₀ e₀ s₁ e₁ : List ℕ}

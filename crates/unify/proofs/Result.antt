@@ -57,9 +57,10 @@ use Rattle.visits.specs.Walks.{Reaches, one, more, TargetsFirst}
 use Rattle.encode.specs.declared.Written.{Written}
 use Rattle.encode.specs.Encode.{yielding, writtenOut}
 use Rattle.unify.specs.declared.Combined.the-variants as combined
-use Rattle.unify.specs.Lowered.{labelOfClass, lowerBy}
-use Rattle.unify.specs.Outcome.{contradicts, combinedOf, unifiedOut, unifyingOut}
-use Rattle.unify.specs.Rows.{Operand, Merges}
+use Rattle.merging.specs.Lowered.{labelOfClass, lowerBy}
+use Rattle.merging.specs.Clash.{contradicts}
+use Rattle.unify.specs.Outcome.{combinedOf, unifiedOut, unifyingOut}
+use Rattle.merging.specs.Rows.{Operand, Merges}
 use Rattle.unify.proofs.Sides.{operands, number, Inside, inside-reached, reached-in, number-in, node-of, link-in}
 use Rattle.unify.proofs.Sharing.{classOf, one-related, related-one, class-sound, class-link, class-source, leads-own}
 

@@ -21,7 +21,7 @@ use Rattle.classes.specs.Merge.{Span}
 use Rattle.classes.specs.Classes as classes
 use Rattle.classes.specs.Classes.{At, Same}
 use Rattle.classes.proofs.Merging.{feature-same, target-same}
-use Rattle.unify.specs.Rows.{Operand, Merges}
+use Rattle.merging.specs.Rows.{Operand, Merges}
 use Rattle.unify.proofs.Sides.{Inside, number, inside-reached, reached-in, number-in, number-one, node-of, link-in, link-of}
 
 -- The features of a row ascend, so a feature stands at one place.

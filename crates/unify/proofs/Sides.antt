@@ -16,7 +16,7 @@ use Rattle.layout.specs.Layout.{size, linksFrom, featureAt, targetAt, graphIn}
 use Rattle.layout.proofs.Places.{link-at, link-place, link-known}
 use Rattle.layout.proofs.Reaching.{nodes-listed, reached-inside}
 use Rattle.classes.specs.Classes.{At}
-use Rattle.unify.specs.Rows.{Operand, Placed}
+use Rattle.merging.specs.Rows.{Operand, Placed}
 use Rattle.unify.proofs.Laying.{origin-in, origin-feature, origin-target, placed-link}
 
 module _ {n : ℕ} {g : List ℕ} (h : Operand n g) where

@@ -1,4 +1,2 @@
--- What the combination answers, and what holds in its parts.
+-- What the combination answers.
 pub mod Outcome
-pub mod Lowered
-pub mod Rows

@@ -1,22 +1,17 @@
 -- The outcome of a combination (document 01, "Returned by a call"): 9 for a loop; 10 for a clash and no loop; else the written record, 11 or 8.
-use mathlib.Core.Bool.{Bool}
 use mathlib.Core.List.{List}
 use mathlib.Core.Logic.{_⊎_}
 use Prim.Native.Nat.{ℕ, _-_}
-use lib.Dec.{eqb}
 use Rattle.graphs.specs.Number.{canonical}
 use Rattle.graphs.specs.Unify.{Unified, cycle, clash, unified}
 use Rattle.graphs.specs.OfRows.{sameEither, combinationOf}
 use Rattle.lattice.specs.Label.{Label, plain, noLabel}
-use Rattle.lattice.specs.Labels.{meetRanged, contradictionRanged}
+use Rattle.lattice.specs.Labels.{meetRanged}
 use Rattle.layout.specs.Layout.{rowsOf}
 use Rattle.encode.specs.Encode.{Yield, Outcome, yielding, writtenOut}
+use Rattle.merging.specs.Clash.{contradicts}
 use Rattle.unify.specs.declared.Combined.{Combined}
 use Rattle.unify.specs.declared.Combined.the-variants as combined
-
--- The label is a contradiction: it has type 0, or an empty range.
-abbrev pub contradicts : Label → Bool
-contradicts l = contradictionRanged (λ a. eqb a 0) l
 
 -- The outcome of writing, as the outcome of a combination.
 abbrev pub combinedOf : Outcome → Yield Combined

@@ -1,13 +1,13 @@
 // The combination of document 01 (unification). The nodes of both graphs are merged into classes, and the graph of the classes is written. The
-// nodes of the second graph are numbered after those of the first. This crate knows graphs in words and the meets that `bounds` holds; `encode`
-// writes the result.
-
-pub mod labels;
-pub mod operands;
-pub mod quotient;
+// nodes of the second graph are numbered after those of the first. `merging` has the parts: it lays the graphs side by side, meets the labels
+// of a class, and builds the graph of the classes. This crate knows graphs in words and the meets that `bounds` holds; `encode` writes the
+// result.
 
 use encode::Written;
 use layout::HEADER;
+use merging::labels;
+use merging::operands;
+use merging::quotient;
 ghost use mathlib.Core.Path.{_≡_};
 ghost use mathlib.Core.List.{List};
 ghost use Prim.Native.Nat.{ℕ, _+_, _≤_, _<_};
@@ -15,9 +15,9 @@ ghost use lib.ListN.{length};
 ghost use Rattle.bounds.specs.Sets.{meetIn};
 ghost use Rattle.layout.specs.Layout.{Sound, size};
 ghost use Rattle.encode.specs.Encode.{yielding};
-ghost use Rattle.unify.specs.Lowered.{Meeting};
+ghost use Rattle.merging.specs.Lowered.{Meeting};
 ghost use Rattle.unify.specs.Outcome.{unifyingOut};
-ghost use Rattle.unify.specs.Rows.{Holding, Merges, Operand, Spacious, linksBoth};
+ghost use Rattle.merging.specs.Rows.{Holding, Merges, Operand, Spacious, linksBoth};
 
 // The answer of a combination: what writing the result answers, or document 01's refusals 9 and 10.
 pub enum Combined {

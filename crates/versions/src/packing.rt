@@ -85,7 +85,7 @@ fn part_from(n: usize, table: &[u8], part: &[u8], program: &[u8], output: &mut [
     ensures { λ r. ⌜ resulting r (now (output .exit)) ≡ differing n (now (table .entry)) (now (part .entry)) (now (program .entry)) (now (output .entry)) ⌝ }
 {
     let mut none = [0u8; 0];
-    let order = groups::link_orders::by_number();
+    let order = link_orders::by_number();
     let options = Options {
         order,
         explained: false,

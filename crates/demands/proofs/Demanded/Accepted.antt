@@ -19,7 +19,7 @@ use Rattle.lattice.specs.Reply.{opened}
 use Rattle.record.specs.declared.GraphFault.{GraphFault}
 use Rattle.record.specs.declared.GraphFault.the-variants.{Malformed, OutOfRange, Cyclic, Unreached, Inappropriate}
 use Rattle.record.specs.Read.{Reading, refused, accepted, reading}
-use Rattle.groups.specs.LinkOrders.{isReadingOrder}
+use Rattle.link_orders.specs.LinkOrders.{isReadingOrder}
 use Rattle.replies.specs.declared.Side.{Side}
 use Rattle.replies.specs.declared.Side.the-variants.{First, Second}
 use Rattle.replies.specs.declared.Reply.the-variants.{Table, Graph, ReadingOrder, NoReasonRoom}

@@ -30,7 +30,7 @@ use Rattle.encode.specs.Encode.{Outcome, writtenOut}
 use Rattle.record.specs.Read.{reading, accepted, graphOfRows}
 use Rattle.record.proofs.Accepted.{Rules, accepted-rules}
 use Rattle.record.proofs.Theorems.{accepted-of-any-size, accepted-fits, written-accepted}
-use Rattle.groups.specs.LinkOrders.{isReadingOrder}
+use Rattle.link_orders.specs.LinkOrders.{isReadingOrder}
 use Rattle.replies.specs.declared.Reply.the-variants as replies
 use Rattle.replies.specs.Reply.{Result, refusal, refusing, resultOf}
 use Rattle.calls.specs.Calls.{unifying, differing, differingBy}

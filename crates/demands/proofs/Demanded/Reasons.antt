@@ -35,7 +35,7 @@ use Rattle.record.specs.declared.GraphFault.{GraphFault}
 use Rattle.record.specs.declared.GraphFault.the-variants as faults
 use Rattle.record.specs.Read.{Reading, refused, accepted, reading, graphOfRows, graphNumber}
 use Rattle.record.proofs.Accepted.{Rules}
-use Rattle.groups.specs.LinkOrders.{isReadingOrder}
+use Rattle.link_orders.specs.LinkOrders.{isReadingOrder}
 use Rattle.difference.specs.Promise.{reasonsAlong}
 use Rattle.replies.specs.declared.Reply.{Reply}
 use Rattle.replies.specs.declared.Reply.the-variants as replies

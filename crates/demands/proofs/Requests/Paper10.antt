@@ -22,8 +22,8 @@ use Rattle.lattice.specs.Reply.{opened}
 use Rattle.lattice.specs.Labels.{tableLabels}
 use Rattle.record.specs.declared.GraphFault.{GraphFault}
 use Rattle.record.specs.Read.{reading, refused, accepted, graphOfRows}
-use Rattle.groups.specs.LinkOrders.{isReadingOrder, EachOnce}
-use Rattle.groups.proofs.ReadingOrder as Reading
+use Rattle.link_orders.specs.LinkOrders.{isReadingOrder, EachOnce}
+use Rattle.link_orders.proofs.ReadingOrder as Reading
 use Rattle.replies.specs.declared.Side.the-variants.{First, Second}
 use Rattle.replies.specs.declared.Reply.{Reply}
 use Rattle.replies.specs.declared.Reply.the-variants.{Length, Table, Graph as Refusal, TooLarge, NotBelow, NoWantedType, ReadingOrder, NoReasonRoom}

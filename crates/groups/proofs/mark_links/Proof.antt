@@ -2,7 +2,7 @@
 use mathlib.Core.Path.{sym}
 use native.Mathlib.Omega.{arith}
 use borrow.Author.Needs.{needs}
-use Rattle.groups.proofs.Covering.{unowned-fresh}
+use Rattle.cover.proofs.Covering.{unowned-fresh}
 use Rattle.groups.proofs.mark_links.Statement.{statement}
 use Rattle.groups.proofs.mark_links.Tie as tie
 

@@ -6,16 +6,17 @@ use borrow.Author.Needs.{needs}
 use lib.ListN.{length-replicate}
 use Rattle.layout.specs.Layout.{rowFrom}
 use Rattle.classes.proofs.Roots.{flattened}
-use Rattle.groups.specs.Cover.{Grouping}
-use Rattle.groups.proofs.Covering.{grouping-start, grouping-row, grouping-end, grouping-same, grouping-owned}
+use Rattle.cover.specs.Cover.{Grouping}
+use Rattle.cover.proofs.Covering.{grouping-start, grouping-row, grouping-end, grouping-same}
+use Rattle.groups.proofs.Owning.{grouping-owned}
 use Rattle.groups.proofs.Ordering.{marks-by-order}
 use Rattle.groups.proofs.mark_owned.Statement.{statement}
 use Rattle.groups.proofs.mark_owned.Tie as tie
 use Rattle.classes.proofs.forest.flatten.Reads as flatten-reads
 use Rattle.classes.proofs.forest.separate.Reads as separate-reads
-use Rattle.groups.proofs.cover.cover_row.Reads as cover-row-reads
+use Rattle.cover.proofs.cover_row.Reads as cover-row-reads
 use Rattle.groups.proofs.mark.Reads as mark-reads
-use Rattle.groups.proofs.link_orders.ranks.Reads as ranks-reads
+use Rattle.link_orders.proofs.ranks.Reads as ranks-reads
 
 abbrev Inv-loop : tie.InvT-loop
 Inv-loop s g map order owner₀ marks parent₀ nodes y₀ owner parent y = (y ≤ nodes) × Grouping s g map (rowFrom g y) owner parent

@@ -7,7 +7,7 @@ use lib.ListN.{length-replicate}
 use Rattle.lattice.proofs.Lawful.{known-more}
 use Rattle.layout.proofs.Order.{directory}
 use Rattle.layout.proofs.Sums.{words-few}
-use Rattle.unify.proofs.Words.{words-are}
+use Rattle.merging.proofs.Words.{words-are}
 use Rattle.unify.proofs.Laying.{lay, laid-roomy, closed-classed, closed-fillable}
 use Rattle.unify.proofs.merge_within.Statement.{statement}
 use Rattle.unify.proofs.merge_within.Tie as tie

@@ -1,0 +1,2 @@
+-- The orders of links.
+pub mod LinkOrders

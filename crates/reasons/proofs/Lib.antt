@@ -1,0 +1,2 @@
+-- Laws of the reasons for kept links.
+pub mod Explaining

@@ -1,0 +1,2 @@
+-- The reasons for the links of a difference.
+pub mod Explaining
