@@ -5,16 +5,16 @@ use mathlib.Core.Bool.{Bool, true, cond}
 use mathlib.Core.List.{List}
 use mathlib.Core.Option.{Option}
 use native.Mathlib.Omega.{arith}
-use Rattle.lattice.specs.declared.TableFault.{TableFault}
-use Rattle.lattice.specs.declared.TableFault.the-variants.{Bounds}
-use Rattle.lattice.specs.declared.Opened.{Opened}
-use Rattle.lattice.specs.declared.Opened.the-variants.{Accepted, Refused}
+use Rattle.acceptance.specs.declared.TableFault.{TableFault}
+use Rattle.acceptance.specs.declared.TableFault.the-variants.{Bounds}
+use Rattle.acceptance.specs.declared.Opened.{Opened}
+use Rattle.acceptance.specs.declared.Opened.the-variants.{Accepted, Refused}
 use Rattle.lattice.specs.Table.{accepted, sideBound, boundRow, overwrite, filled}
-use Rattle.lattice.specs.Reply.{opened}
+use Rattle.acceptance.specs.Reply.{opened}
 use Rattle.lattice.specs.Words.{Words, wordBound, allFound, OrderWords}
 use Rattle.lattice.proofs.OrderLaws.{facts-ordered}
 use Rattle.lattice.proofs.Rows.{overwrite-same}
-use Rattle.lattice.proofs.Acceptance.{accepted-opened, table-ordered, side-bound, answer-found}
+use Rattle.acceptance.proofs.Acceptance.{accepted-opened, table-ordered, side-bound, answer-found}
 use Rattle.bounds.specs.Sets.{Holding}
 use Rattle.bounds.specs.Opening.{Opening}
 

@@ -5,9 +5,9 @@ use mathlib.Core.Bool.{Bool, true}
 use mathlib.Core.List.{List}
 use mathlib.Core.Option.{Option}
 use lib.ListN.{length}
-use Rattle.lattice.specs.declared.Opened.{Opened}
+use Rattle.acceptance.specs.declared.Opened.{Opened}
 use Rattle.lattice.specs.Table.{accepted, sideBound}
-use Rattle.lattice.specs.Reply.{opened}
+use Rattle.acceptance.specs.Reply.{opened}
 use Rattle.bounds.specs.Sets.{Holding}
 
 -- The answer is that of acceptance; if the table is accepted, the lent words and cells hold the bounds of one side.

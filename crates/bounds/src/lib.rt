@@ -5,8 +5,8 @@ ghost use mathlib.Core.Path.{_≡_};
 ghost use lib.ListN.{length};
 ghost use Rattle.lattice.specs.Table.{sideBound};
 ghost use Rattle.bounds.specs.Opening.{Opening};
-use lattice::Opened;
-use lattice::TableFault;
+use acceptance::Opened;
+use acceptance::TableFault;
 
 mod cells;
 mod primes;
@@ -24,19 +24,19 @@ pub fn open(
     requires { ⌜ length (now sets) ≡ 128 ⌝ }
     ensures { λ r. ⌜ Opening up n (now (table .entry)) (sideBound n (now (table .entry)) up) r (now (sets .exit)) (now (cells .entry)) (now (cells .exit)) ⌝ }
 {
-    if !lattice::order::is_sized(n, table) {
+    if !acceptance::order::is_sized(n, table) {
         return Opened::Refused(TableFault::Size);
     }
     let down = lattice::words::read_words(n, table);
-    if !lattice::order::is_ordered(n, &down) {
+    if !acceptance::order::is_ordered(n, &down) {
         return Opened::Refused(TableFault::Order);
     }
     if sets::hold(n, &down, up, sets) {
-        return lattice::bounded(lattice::covers::are_bounded(n, &down));
+        return acceptance::bounded(acceptance::covers::are_bounded(n, &down));
     }
     if up {
         let above = lattice::words::turn_words(n, &down);
-        return lattice::bounded(cells::fill(n, &above, true, cells));
+        return acceptance::bounded(cells::fill(n, &above, true, cells));
     }
-    lattice::bounded(cells::fill(n, &down, false, cells))
+    acceptance::bounded(cells::fill(n, &down, false, cells))
 }

@@ -1,7 +1,7 @@
 // The calls that write the common part of two records (document 01, "Common part"), without a list of types for features or with one (document 02,
 // Paper 9).
 
-use lattice::Opened;
+use acceptance::Opened;
 use replies::Reply;
 ghost use mathlib.Core.Path.{_≡_};
 ghost use mathlib.Core.Bool.{false};

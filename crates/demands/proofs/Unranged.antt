@@ -19,9 +19,9 @@ use Rattle.graphs.specs.OfRows.{samePair, sameEither}
 use Rattle.graphs.proofs.Lists.{tells-eqb}
 use Rattle.graphs.proofs.Difference.ByNumber.{by-number-order}
 use Rattle.lattice.specs.Label.{Label, plain, noLabel}
-use Rattle.lattice.specs.declared.TableFault.{TableFault}
+use Rattle.acceptance.specs.declared.TableFault.{TableFault}
 use Rattle.lattice.specs.Table.{every, found}
-use Rattle.lattice.specs.Reply.{opened, tableNumber}
+use Rattle.acceptance.specs.Reply.{opened, tableNumber}
 use Rattle.lattice.specs.Labels.{typeLabels, tableLabels, OfAnySize, wantedLabel}
 use Rattle.lattice.proofs.Relabel.{relabel, relabelForm, relabelUnified}
 use Rattle.lattice.proofs.AnySize.{unification-combination}

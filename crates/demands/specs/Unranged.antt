@@ -14,7 +14,7 @@ use Rattle.graphs.specs.Difference.{byNumber}
 use Rattle.graphs.specs.OfRows.{sameEither, liesBelow, commonForm, combinationOf, wantedOver, differenceOver}
 use Rattle.lattice.specs.Label.{Label}
 use Rattle.lattice.specs.Table.{every, found, wanted}
-use Rattle.lattice.specs.Reply.{opened}
+use Rattle.acceptance.specs.Reply.{opened}
 use Rattle.lattice.specs.Labels.{typeLabels}
 use Rattle.encode.specs.Encode.{writtenOut}
 use Rattle.record.specs.Read.{Reading, refused, accepted}

@@ -10,10 +10,10 @@ use lib.ListN.{take, drop}
 use Rattle.graphs.specs.Rows.{Row}
 use Rattle.lattice.specs.Label.{Label}
 use Rattle.layout.specs.Layout.{rowsOf}
-use Rattle.lattice.specs.declared.TableFault.{TableFault}
-use Rattle.lattice.specs.declared.Opened.{Opened}
-use Rattle.lattice.specs.declared.Opened.the-variants as table
-use Rattle.lattice.specs.Reply.{opened}
+use Rattle.acceptance.specs.declared.TableFault.{TableFault}
+use Rattle.acceptance.specs.declared.Opened.{Opened}
+use Rattle.acceptance.specs.declared.Opened.the-variants as table
+use Rattle.acceptance.specs.Reply.{opened}
 use Rattle.record.specs.declared.GraphFault.{GraphFault}
 use Rattle.record.specs.declared.reading.Verdict.{Verdict}
 use Rattle.record.specs.declared.reading.Verdict.the-variants.{Accepted, Refused}

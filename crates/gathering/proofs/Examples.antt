@@ -10,8 +10,8 @@ use Rattle.graphs.specs.Generalize.{generalizationBy}
 use Rattle.graphs.specs.Unify.{anyOf, deep}
 use Rattle.graphs.specs.OfRows.{samePair}
 use Rattle.lattice.specs.Table.{every, last, below, sized, confined, reflexive, antisymmetric, transitive, least, greatest, ordered, isMeet, isJoin, meet, join, bounded}
-use Rattle.lattice.specs.declared.TableFault.the-variants.{Size}
-use Rattle.lattice.specs.Reply.{opened}
+use Rattle.acceptance.specs.declared.TableFault.the-variants.{Size}
+use Rattle.acceptance.specs.Reply.{opened}
 use Rattle.decode.specs.Decode.{bitOf, labelLength, labelOf, takeLinks, takeRow, takeRows, decoded}
 use Rattle.encode.specs.Encode.{bitsFrom, isFull, encodedLabel, encodedRow, encodedRows, encoded, fitted, writtenOut}
 use Rattle.record.specs.Read.{labelInRange, inRange, cyclic, reachesAll, reading}

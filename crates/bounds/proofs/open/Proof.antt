@@ -5,7 +5,8 @@ use mathlib.Core.Bool.{true, false}
 use native.Mathlib.Omega.{arith}
 use Rattle.lattice.specs.Table.{sideBound}
 use Rattle.lattice.proofs.Every.{refuted, held}
-use Rattle.lattice.proofs.Acceptance.{size-facts, answer-size, answer-order, order-words, table-size, up-words, lower-words, side-sided}
+use Rattle.lattice.proofs.Sizes.{size-facts}
+use Rattle.acceptance.proofs.Acceptance.{answer-size, answer-order, order-words, table-size, up-words, lower-words, side-sided}
 use Rattle.bounds.proofs.Types.{holding-sets, holding-cells}
 use Rattle.bounds.proofs.Opening.{opening-refused, opening-found, cells-filled}
 use borrow.Author.Needs.{needs}
