@@ -10,7 +10,7 @@ use Rattle.record.specs.Read.{reading}
 use Rattle.replies.specs.declared.Reply.{Reply}
 use Rattle.replies.specs.declared.Reply.the-variants.{Length, Table}
 use Rattle.pairs.specs.Pair.{readBoth}
-use Rattle.engine.specs.Ordering.{ordered}
+use Rattle.orders.specs.Ordering.{ordered}
 use Rattle.calls.specs.Calls.{checked, checking, ordering}
 
 module _ {X : Type 0} (refuse : Reply → X) (next : X) {o : Opened} where

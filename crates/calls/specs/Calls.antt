@@ -15,7 +15,7 @@ use Rattle.replies.specs.declared.Reply.the-variants.{Length, Table, ReadingOrd
 use Rattle.replies.specs.Reply.{Result, refusing}
 use Rattle.pairs.specs.Pair.{readBoth}
 use Rattle.engine.specs.Rewriting.{rewritten}
-use Rattle.engine.specs.Ordering.{ordered}
+use Rattle.orders.specs.Ordering.{ordered}
 use Rattle.engine.specs.Generalizing.{generalized}
 use Rattle.engine.specs.Unifying.{unifiedRows}
 

@@ -12,6 +12,6 @@ pub fn order(n: usize, table: &[u8], first: &[u8], second: &[u8]) -> Reply
     let opened = acceptance::accept(n, table);
     match opened {
         Opened::Refused(fault) => Reply::Table(fault),
-        Opened::Accepted => engine::ordering::of_records(n, table, first, second),
+        Opened::Accepted => orders::of_records(n, table, first, second),
     }
 }

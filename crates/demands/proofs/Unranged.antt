@@ -53,7 +53,7 @@ use Rattle.subsume.specs.Promise.{rowsBelow}
 use Rattle.calls.specs.Calls.{checked, rewriting, ordering, generalizing, unifying, differing}
 use Rattle.pairs.specs.Pair.{readBoth}
 use Rattle.engine.specs.Rewriting.{rewritten}
-use Rattle.engine.specs.Ordering.{compared, ordered}
+use Rattle.orders.specs.Ordering.{compared, ordered}
 use Rattle.engine.specs.Generalizing.{generalized}
 use Rattle.engine.specs.Unifying.{combinedBy, combined, unifiedRows}
 use Rattle.difference.specs.Difference.{over, wantedAt, allWanted, differenceRows, differed, numbered, differedRows}

@@ -25,7 +25,7 @@ use Rattle.replies.specs.declared.Reply.the-variants as reply
 use Rattle.replies.specs.Reply.{Result, resultOf, refusing}
 use Rattle.calls.specs.Calls.{checked}
 use Rattle.pairs.specs.Pair.{readBoth}
-use Rattle.engine.specs.Ordering.{compared}
+use Rattle.orders.specs.Ordering.{compared}
 use Rattle.engine.specs.Unifying.{combinedBy}
 use Rattle.difference.specs.Difference.{over, numbered}
 

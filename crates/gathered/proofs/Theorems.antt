@@ -28,7 +28,7 @@ use Rattle.replies.specs.declared.Reply.the-variants.{Length, NoRoom, NothingGa
 use Rattle.replies.specs.Reply.{Result, resulting, refusing, replyOf, resultOf, refusal, lengthOf}
 use Rattle.pairs.specs.Pair.{readBoth}
 use Rattle.subsume.specs.Promise.{rowsBelow}
-use Rattle.engine.specs.Ordering.{compared, ordered}
+use Rattle.orders.specs.Ordering.{compared, ordered}
 use Rattle.engine.proofs.Tables.{few-types}
 use Rattle.calls.specs.Calls.{checked, ordering, rewriting}
 use Rattle.demands.specs.Demand.{WrittenRecord, Rewritten}

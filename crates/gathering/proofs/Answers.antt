@@ -24,7 +24,7 @@ use Rattle.replies.specs.declared.Reply.the-variants.{Table, Graph, NothingGath
 use Rattle.replies.specs.Reply.{resulting, refusing}
 use Rattle.pairs.specs.Pair.{readBoth}
 use Rattle.pairs.proofs.Readings.{told-refused, told-accepted, told-loaded, tells-plain}
-use Rattle.engine.specs.Ordering.{ordered}
+use Rattle.orders.specs.Ordering.{ordered}
 use Rattle.engine.specs.Rewriting.{rewrittenRows}
 use Rattle.engine.specs.Generalizing.{generalized}
 use Rattle.calls.specs.Calls.{checked, ordering}

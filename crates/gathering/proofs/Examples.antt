@@ -19,7 +19,7 @@ use Rattle.record.specs.declared.GraphFault.the-variants.{Malformed}
 use Rattle.replies.specs.declared.Reply.the-variants.{Length, NoRoom, Same, Under, Above, Table, Graph, NothingGathered}
 use Rattle.replies.specs.declared.Side.the-variants.{First, Second}
 use Rattle.replies.specs.Reply.{resulting}
-use Rattle.engine.specs.Ordering.{ordered as orderedRows}
+use Rattle.orders.specs.Ordering.{ordered as orderedRows}
 use Rattle.engine.specs.Generalizing.{generalized}
 use Rattle.calls.specs.Calls.{rewriting, ordering, generalizing}
 use Rattle.gathering.specs.Gathering.{twoBytes, stateOf, begun, adding, comparing, finishing}

@@ -77,7 +77,7 @@ pub fn order(state: &[u8], bytes: &[u8]) -> Reply
             if found.gathered == 0 {
                 return nothing_after(n, bytes);
             }
-            engine::ordering::of_records(n, &state[start..end], bytes, &state[room..last])
+            orders::of_records(n, &state[start..end], bytes, &state[room..last])
         }
     }
 }

@@ -36,7 +36,7 @@ use Rattle.subsume.specs.Promise.{rowsBelow}
 use Rattle.calls.specs.Calls.{checked, generalizing, ordering, unifying, differing}
 use Rattle.pairs.specs.Pair.{readBoth}
 use Rattle.engine.specs.Generalizing.{generalized}
-use Rattle.engine.specs.Ordering.{compared, ordered}
+use Rattle.orders.specs.Ordering.{compared, ordered}
 use Rattle.engine.specs.Unifying.{combined, unifiedRows}
 use Rattle.difference.specs.Difference.{allWanted, differenceRows, differed, numbered, differedRows}
 use Rattle.replies.proofs.Numbers.{numberIn, number-small, answer-bounded}

@@ -73,7 +73,7 @@ use Rattle.groups.specs.LinkOrders.{isReadingOrder}
 use Rattle.difference.specs.Promise.{wantedAlong, allWantedAlong, differenceAlong, reasonsAlong}
 use Rattle.calls.specs.Calls.{rewriting, generalizing, ordering, unifying, differing, differingBy}
 use Rattle.engine.specs.Generalizing.{generalized}
-use Rattle.engine.specs.Ordering.{ordered as comparing}
+use Rattle.orders.specs.Ordering.{ordered as comparing}
 use Rattle.engine.specs.Unifying.{unifiedRows}
 use Rattle.calls.specs.Appropriate.{rewritingAppropriate, generalizingAppropriate}
 use Rattle.difference.specs.Difference.{firstAt, over, wantedAt, allWanted, differenceRows, differed, differedRows}

@@ -27,7 +27,7 @@ use Rattle.replies.specs.Reply.{answerOf}
 use Rattle.subsume.specs.Promise.{rowsBelow}
 use Rattle.calls.specs.Calls.{checked, ordering}
 use Rattle.pairs.specs.Pair.{readBoth}
-use Rattle.engine.specs.Ordering.{compared, ordered}
+use Rattle.orders.specs.Ordering.{compared, ordered}
 use Rattle.demands.specs.Demand.{Given, AnswersBelow, AnswersNotBelow}
 use Rattle.record.proofs.Ordered.{order-test}
 

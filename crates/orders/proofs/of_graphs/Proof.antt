@@ -1,10 +1,10 @@
--- `ordering::of_graphs` meets its contract: two graphs are compared in both directions.
+-- `of_graphs` meets its contract: two graphs are compared in both directions.
 use mathlib.Core.Path.{_∙_}
 use Rattle.record.proofs.Loaded.{both-recorded}
-use Rattle.engine.proofs.Orders.{compared-ordered}
+use Rattle.orders.proofs.Orders.{compared-ordered}
 use borrow.Author.Needs.{needs}
-use Rattle.engine.proofs.ordering.of_graphs.Statement.{statement}
-use Rattle.engine.proofs.ordering.of_graphs.Tie as tie
+use Rattle.orders.proofs.of_graphs.Statement.{statement}
+use Rattle.orders.proofs.of_graphs.Tie as tie
 
 subsume-requires : tie.Need-subsume-requires
 subsume-requires c κs =

@@ -1,10 +1,10 @@
 -- `order_in` meets its contract: two records are read, and their graphs are compared where both are accepted.
 use mathlib.Core.Path.{refl, sym, _∙_}
 use Rattle.pairs.proofs.Readings.{both-loaded, both-next, both-refused, optional-none, reads-plain}
-use Rattle.engine.specs.Ordering.{ordered}
+use Rattle.orders.specs.Ordering.{ordered}
 use borrow.Author.Needs.{needs}
-use Rattle.engine.proofs.ordering.order_in.Statement.{statement}
-use Rattle.engine.proofs.ordering.order_in.Tie as tie
+use Rattle.orders.proofs.order_in.Statement.{statement}
+use Rattle.orders.proofs.order_in.Tie as tie
 
 slice-aggregate-read-both : tie.Need-slice-aggregate-read-both
 slice-aggregate-read-both c = search needs

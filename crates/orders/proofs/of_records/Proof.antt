@@ -1,10 +1,10 @@
--- `ordering::of_records` meets its contract: the lent words have room for the two graphs, whether both records are short or not.
+-- `of_records` meets its contract: the lent words have room for the two graphs, whether both records are short or not.
 use Prim.Native.Nat.{ℕ}
 use native.Mathlib.Omega.{arith}
 use lib.ListN.{length-replicate}
 use borrow.Author.Needs.{needs}
-use Rattle.engine.proofs.ordering.of_records.Statement.{statement}
-use Rattle.engine.proofs.ordering.of_records.Tie as tie
+use Rattle.orders.proofs.of_records.Statement.{statement}
+use Rattle.orders.proofs.of_records.Tie as tie
 
 are-short-requires : tie.Need-are-short-requires
 are-short-requires c κs = search needs

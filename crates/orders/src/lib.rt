@@ -1,5 +1,6 @@
-// The order of two records, or of two graphs in words, over an accepted table (document 02, Paper 3): which of the two is the broader, seen from
-// the first.
+// The order of two records, or of two graphs in words, over a table that is already accepted (document 02, Paper 3): which of the two is the
+// broader, seen from the first. It serves `calls` and the crates that open a table themselves. This crate knows records, an accepted table and
+// the order; it opens no table and writes no record.
 
 use pairs::PairVerdict;
 use replies::Reply;
@@ -12,7 +13,7 @@ ghost use Rattle.record.specs.Read.{reading};
 ghost use Rattle.record.specs.Reads.{Loaded};
 ghost use Rattle.pairs.specs.Pair.{readBoth};
 ghost use Rattle.subsume.specs.Promise.{isBelow};
-ghost use Rattle.engine.specs.Ordering.{compared, ordered};
+ghost use Rattle.orders.specs.Ordering.{compared, ordered};
 
 // The order of two records over an accepted table with n types.
 pub fn of_records(n: usize, table: &[u8], first: &[u8], second: &[u8]) -> Reply

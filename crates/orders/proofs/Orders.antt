@@ -14,7 +14,7 @@ use Rattle.record.proofs.Ordered.{order-test}
 use Rattle.subsume.specs.declared.Order.{Order}
 use Rattle.subsume.specs.declared.Order.the-variants as order
 use Rattle.subsume.specs.Promise.{Orders, rowsBelow, isBelow}
-use Rattle.engine.specs.Ordering.{compared, ordered}
+use Rattle.orders.specs.Ordering.{compared, ordered}
 
 module _ (n : ℕ) (t : List ℕ) (s g : List (Row Label)) (rules : Rules n g) where
   -- The order's answer tells whether s is below g.
