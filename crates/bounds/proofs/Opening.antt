@@ -6,17 +6,17 @@ use mathlib.Core.List.{List, []}
 use lib.ListN.{length}
 use mathlib.Core.Option.{Option}
 use native.Mathlib.Omega.{arith}
-use Rattle.lattice.specs.declared.TableFault.{TableFault}
-use Rattle.lattice.specs.declared.TableFault.the-variants.{Bounds}
-use Rattle.lattice.specs.declared.Opened.{Opened}
-use Rattle.lattice.specs.declared.Opened.the-variants.{Accepted, Refused}
+use Rattle.acceptance.specs.declared.TableFault.{TableFault}
+use Rattle.acceptance.specs.declared.TableFault.the-variants.{Bounds}
+use Rattle.acceptance.specs.declared.Opened.{Opened}
+use Rattle.acceptance.specs.declared.Opened.the-variants.{Accepted, Refused}
 use Rattle.lattice.specs.Table.{every, accepted, sideBound, boundRow, overwrite, filled}
-use Rattle.lattice.specs.Reply.{opened}
+use Rattle.acceptance.specs.Reply.{opened}
 use Rattle.lattice.specs.Words.{Words, wordBound, allFound, OrderWords}
 use Rattle.lattice.proofs.Every.{true-not-false}
 use Rattle.lattice.proofs.OrderLaws.{facts-ordered, rows-ordered}
 use Rattle.lattice.proofs.Rows.{overwrite-same, length-overwrite}
-use Rattle.lattice.proofs.Acceptance.{accepted-opened, opened-accepted, table-size, table-ordered, side-bound, answer-found}
+use Rattle.acceptance.proofs.Acceptance.{accepted-opened, opened-accepted, table-size, table-ordered, side-bound, answer-found}
 use Rattle.bounds.specs.declared.Form.{Form}
 use Rattle.bounds.specs.declared.Form.the-variants as forms
 use Rattle.bounds.specs.Primes.{wordPrime}

@@ -126,9 +126,9 @@ module _ (n : ℕ) (t : List ℕ) (ok : accepted n t ≡ true) where
             held = (
               λ h. held-sets up sets made,
               λ h.
-              absurd
-              (true-not-false (asSets n sets)
-              (as-sets n sets λ e. top-member (sym (sets-are ws words made (n - 1) (top-type n t ok)) ∙ e)) h),
+                  absurd
+                  (true-not-false (asSets n sets)
+                  (as-sets n sets λ e. top-member (sym (sets-are ws words made (n - 1) (top-type n t ok)) ∙ e)) h),
             );
           }
 

@@ -5,12 +5,12 @@ use mathlib.Core.Bool.{Bool, true, false}
 use mathlib.Core.List.{List}
 use mathlib.Core.Option.{Option}
 use lib.ListN.{length}
-use Rattle.lattice.specs.declared.TableFault.{TableFault}
-use Rattle.lattice.specs.declared.Opened.{Opened}
-use Rattle.lattice.specs.declared.Opened.the-variants as answers
+use Rattle.acceptance.specs.declared.TableFault.{TableFault}
+use Rattle.acceptance.specs.declared.Opened.{Opened}
+use Rattle.acceptance.specs.declared.Opened.the-variants as answers
 use Rattle.lattice.specs.Table.{accepted, sideBound, filled}
 use Rattle.lattice.specs.Words.{OrderWords}
-use Rattle.lattice.specs.Reply.{opened}
+use Rattle.acceptance.specs.Reply.{opened}
 use Rattle.bounds.specs.declared.Form.{Form}
 use Rattle.bounds.specs.declared.Form.the-variants.{Refused, AsSets, AsCells}
 use Rattle.bounds.specs.Sets.{distributive, setIn, Holding}

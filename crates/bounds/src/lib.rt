@@ -8,8 +8,8 @@ ghost use lib.ListN.{length};
 ghost use Rattle.lattice.specs.Table.{sideBound};
 ghost use Rattle.lattice.specs.Words.{OrderWords};
 ghost use Rattle.bounds.specs.Opening.{Chooses, Fills, Opening};
-use lattice::Opened;
-use lattice::TableFault;
+use acceptance::Opened;
+use acceptance::TableFault;
 
 mod cells;
 mod primes;
@@ -28,17 +28,17 @@ pub fn choose(n: usize, table: &[u8], up: bool, sets: &mut [u64; sets::WORDS]) -
     requires { ⌜ length (now sets) ≡ 128 ⌝ }
     ensures { λ r. ⌜ Chooses up n (now (table .entry)) r (now (sets .exit)) ⌝ }
 {
-    if !lattice::order::is_sized(n, table) {
+    if !acceptance::order::is_sized(n, table) {
         return Form::Refused(TableFault::Size);
     }
     let down = lattice::words::read_words(n, table);
-    if !lattice::order::is_ordered(n, &down) {
+    if !acceptance::order::is_ordered(n, &down) {
         return Form::Refused(TableFault::Order);
     }
     if !sets::hold(n, &down, up, sets) {
         return Form::AsCells;
     }
-    if !lattice::covers::are_bounded(n, &down) {
+    if !acceptance::covers::are_bounded(n, &down) {
         return Form::Refused(TableFault::Bounds);
     }
     Form::AsSets
@@ -53,9 +53,9 @@ pub fn fill(n: usize, table: &[u8], up: bool, cells: &mut [[u8; 64]; 64]) -> Ope
     let down = lattice::words::read_words(n, table);
     if up {
         let above = lattice::words::turn_words(n, &down);
-        return lattice::bounded(cells::fill(n, &above, true, cells));
+        return acceptance::bounded(cells::fill(n, &above, true, cells));
     }
-    lattice::bounded(cells::fill(n, &down, false, cells))
+    acceptance::bounded(cells::fill(n, &down, false, cells))
 }
 
 // Opens a table for joins for `up`, else for meets, where the caller lends cells for both forms.

@@ -75,13 +75,7 @@ fn above_all(sets: &[u64; WORDS], set: u64) -> u64
 }
 
 // The meet of types a and b, as they are held.
-pub fn meet<'a>(
-    n: usize,
-    sets: &'a [u64; WORDS],
-    cells: &'a [[u8; 64]],
-    a: usize,
-    b: usize,
-) -> u8
+pub fn meet<'a>(n: usize, sets: &'a [u64; WORDS], cells: &'a [[u8; 64]], a: usize, b: usize) -> u8
     requires { ⌜ (a < n) × (b < n) × (n ≤ 64) ⌝ }
     requires { ⌜ Seekable false n (now sets) (now cells) ⌝ }
     ensures { λ r. ⌜ r ≡ meetIn n (now (sets .entry)) (now (cells .entry)) a b ⌝ }
@@ -100,13 +94,7 @@ pub fn meet<'a>(
 }
 
 // The join of types a and b, as they are held.
-pub fn join<'a>(
-    n: usize,
-    sets: &'a [u64; WORDS],
-    cells: &'a [[u8; 64]],
-    a: usize,
-    b: usize,
-) -> u8
+pub fn join<'a>(n: usize, sets: &'a [u64; WORDS], cells: &'a [[u8; 64]], a: usize, b: usize) -> u8
     requires { ⌜ (a < n) × (b < n) × (n ≤ 64) ⌝ }
     requires { ⌜ Seekable true n (now sets) (now cells) ⌝ }
     ensures { λ r. ⌜ r ≡ joinIn n (now (sets .entry)) (now (cells .entry)) a b ⌝ }

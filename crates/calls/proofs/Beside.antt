@@ -9,7 +9,7 @@ use borrow.Author.Tests.{eq-eqb}
 use lib.ListN.{length}
 use Rattle.graphs.specs.Rows.{Row}
 use Rattle.lattice.specs.Label.{Label}
-use Rattle.lattice.specs.Reply as table
+use Rattle.acceptance.specs.Reply as table
 use Rattle.record.specs.Read.{Reading, reading}
 use Rattle.record.specs.Appropriate.{listAccepted, readingAppropriate}
 use Rattle.replies.specs.declared.Reply.{Reply}

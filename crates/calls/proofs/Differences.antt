@@ -4,9 +4,9 @@ use mathlib.Core.Bool.{Bool, true, false}
 use mathlib.Core.List.{List}
 use Prim.Native.Nat.{ℕ}
 use Rattle.graphs.specs.Difference.{Link, byNumber, byReading}
-use Rattle.lattice.specs.declared.TableFault.{TableFault}
-use Rattle.lattice.specs.declared.Opened.the-variants as opened
-use Rattle.lattice.specs.Reply as table
+use Rattle.acceptance.specs.declared.TableFault.{TableFault}
+use Rattle.acceptance.specs.declared.Opened.the-variants as opened
+use Rattle.acceptance.specs.Reply as table
 use Rattle.link_orders.specs.LinkOrders.{isReadingOrder}
 use Rattle.difference.specs.Explained.{Explained, explainedResult, withReasonsIf}
 use Rattle.difference.proofs.Answering.{refuses-with-reasons}

@@ -4,10 +4,10 @@ use mathlib.Core.Bool.{Bool, true, false, cond}
 use mathlib.Core.List.{List}
 use mathlib.Core.Logic.{_↔_}
 use Prim.Native.Nat.{ℕ}
-use Rattle.lattice.specs.declared.TableFault.{TableFault}
-use Rattle.lattice.specs.declared.Opened.{Opened}
-use Rattle.lattice.specs.declared.Opened.the-variants as opened
-use Rattle.lattice.specs.Reply as table
+use Rattle.acceptance.specs.declared.TableFault.{TableFault}
+use Rattle.acceptance.specs.declared.Opened.{Opened}
+use Rattle.acceptance.specs.declared.Opened.the-variants as opened
+use Rattle.acceptance.specs.Reply as table
 use Rattle.graphs.specs.Difference.{byReading}
 use Rattle.link_orders.specs.LinkOrders.{isReadingOrder}
 use Rattle.record.specs.Appropriate.{listAccepted, readingAppropriate}

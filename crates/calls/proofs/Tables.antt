@@ -2,15 +2,15 @@
 use mathlib.Core.Path.{_≡_, sym, _∙_, ap}
 use mathlib.Core.List.{List}
 use Prim.Native.Nat.{ℕ}
-use Rattle.lattice.specs.declared.TableFault.{TableFault}
-use Rattle.lattice.specs.declared.Opened.{Opened}
-use Rattle.lattice.specs.declared.Opened.the-variants as opened
-use Rattle.lattice.specs.Reply as table
+use Rattle.acceptance.specs.declared.TableFault.{TableFault}
+use Rattle.acceptance.specs.declared.Opened.{Opened}
+use Rattle.acceptance.specs.declared.Opened.the-variants as opened
+use Rattle.acceptance.specs.Reply as table
 use Rattle.record.specs.Read.{reading}
 use Rattle.replies.specs.declared.Reply.{Reply}
 use Rattle.replies.specs.declared.Reply.the-variants.{Length, Table}
 use Rattle.pairs.specs.Pair.{readBoth}
-use Rattle.engine.specs.Ordering.{ordered}
+use Rattle.orders.specs.Ordering.{ordered}
 use Rattle.calls.specs.Calls.{checked, checking, ordering}
 
 module _ {X : Type 0} (refuse : Reply → X) (next : X) {o : Opened} where

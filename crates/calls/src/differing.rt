@@ -1,8 +1,8 @@
 // The calls that write the difference of two records (document 01, "Difference"). g is the first graph, s the second. Links are ordered by
 // number, or by a list of features (document 02, Paper 10). Two of the calls write the reasons beside the record (document 02, Paper 13).
 
+use acceptance::Opened;
 use difference::Options;
-use lattice::Opened;
 use replies::Reply;
 ghost use mathlib.Core.Path.{_≡_};
 ghost use Rattle.replies.specs.Reply.{resulting};
@@ -77,7 +77,7 @@ fn difference_with(
     ensures { λ r. ⌜ explainedResult r (now (out .exit)) (now (reasons .exit)) ≡
         differingWith explained n (now (table .entry)) (now (first .entry)) (now (second .entry)) (now (out .entry)) (now (reasons .entry)) ⌝ }
 {
-    let opened = lattice::accept(n, table);
+    let opened = acceptance::accept(n, table);
     match opened {
         Opened::Refused(fault) => Reply::Table(fault),
         Opened::Accepted => {
@@ -102,7 +102,7 @@ fn difference_by_with(
     ensures { λ r. ⌜ explainedResult r (now (out .exit)) (now (reasons .exit)) ≡
         differingByWith explained n (now (table .entry)) (now (list .entry)) (now (first .entry)) (now (second .entry)) (now (out .entry)) (now (reasons .entry)) ⌝ }
 {
-    let opened = lattice::accept(n, table);
+    let opened = acceptance::accept(n, table);
     match opened {
         Opened::Refused(fault) => Reply::Table(fault),
         Opened::Accepted => {

@@ -1,8 +1,8 @@
 // The calls that write the combination of two records (document 01, "Combination"), without a list of types for features or with one (document 02,
 // Paper 9).
 
+use acceptance::Opened;
 use bounds::Form;
-use lattice::Opened;
 use replies::Reply;
 ghost use mathlib.Core.Path.{_≡_};
 ghost use mathlib.Core.Bool.{false};

@@ -16,9 +16,9 @@ use Rattle.graphs.specs.Rows.{Row}
 use Rattle.graphs.specs.Number.{Canonical, canonical, manyNodes, manyLinks, written}
 use Rattle.graphs.proofs.Form.Large.{canonical-many-nodes, canonical-many-links, canonical-fits}
 use Rattle.lattice.specs.Label.{Label}
-use Rattle.lattice.specs.declared.Opened.the-variants.{Accepted}
+use Rattle.acceptance.specs.declared.Opened.the-variants.{Accepted}
 use Rattle.lattice.specs.Table as table
-use Rattle.lattice.specs.Reply.{opened}
+use Rattle.acceptance.specs.Reply.{opened}
 use Rattle.lattice.proofs.Laws.{accepted-size}
 use Rattle.lattice.specs.Labels.{tableLabels, OfAnySize}
 use Rattle.encoder.specs.Encode.{encoded}

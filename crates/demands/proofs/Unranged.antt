@@ -19,9 +19,9 @@ use Rattle.graphs.specs.OfRows.{samePair, sameEither}
 use Rattle.graphs.proofs.Lists.{tells-eqb}
 use Rattle.graphs.proofs.Difference.ByNumber.{by-number-order}
 use Rattle.lattice.specs.Label.{Label, plain, noLabel}
-use Rattle.lattice.specs.declared.TableFault.{TableFault}
+use Rattle.acceptance.specs.declared.TableFault.{TableFault}
 use Rattle.lattice.specs.Table.{every, found}
-use Rattle.lattice.specs.Reply.{opened, tableNumber}
+use Rattle.acceptance.specs.Reply.{opened, tableNumber}
 use Rattle.lattice.specs.Labels.{typeLabels, tableLabels, OfAnySize, wantedLabel}
 use Rattle.lattice.proofs.Relabel.{relabel, relabelForm, relabelUnified}
 use Rattle.lattice.proofs.AnySize.{unification-combination}
@@ -54,7 +54,7 @@ use Rattle.subsume.specs.Promise.{rowsBelow}
 use Rattle.calls.specs.Calls.{checked, rewriting, ordering, generalizing, unifying, differing}
 use Rattle.pairs.specs.Pair.{readBoth}
 use Rattle.engine.specs.Rewriting.{rewritten}
-use Rattle.engine.specs.Ordering.{compared, ordered}
+use Rattle.orders.specs.Ordering.{compared, ordered}
 use Rattle.engine.specs.Generalizing.{generalized}
 use Rattle.engine.specs.Unifying.{combinedBy, combined, unifiedRows}
 use Rattle.difference.specs.Difference.{over, wantedAt, allWanted, differenceRows, differed, numbered, differedRows}

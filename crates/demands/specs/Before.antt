@@ -13,7 +13,7 @@ use Rattle.graphs.specs.Difference.{byNumber}
 use Rattle.graphs.specs.OfRows.{wantedOver, differenceOver}
 use Rattle.lattice.specs.Label.{Label, noLabel}
 use Rattle.lattice.specs.Table.{residual, admits}
-use Rattle.lattice.specs.Reply.{opened}
+use Rattle.acceptance.specs.Reply.{opened}
 use Rattle.lattice.specs.Labels.{tableLabels, wantedRange}
 use Rattle.encode.specs.Encode.{writtenOut}
 use Rattle.record.specs.Read.{graphOfRows, reading}

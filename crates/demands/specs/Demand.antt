@@ -16,8 +16,8 @@ use Rattle.graphs.specs.Large.{ManyNodes, ManyLinks}
 use Rattle.graphs.specs.Generalize.{IsGeneralization, generalizationBy}
 use Rattle.graphs.specs.Difference.{Link}
 use Rattle.lattice.specs.Label.{Label}
-use Rattle.lattice.specs.declared.Opened.the-variants.{Accepted}
-use Rattle.lattice.specs.Reply.{opened}
+use Rattle.acceptance.specs.declared.Opened.the-variants.{Accepted}
+use Rattle.acceptance.specs.Reply.{opened}
 use Rattle.lattice.specs.Labels.{tableLabels, OfAnySize, LeastOfAnySize, GreatestOfAnySize, IsCombination, WantedAt}
 use Rattle.encoder.specs.Encode.{encoded}
 use Rattle.encode.specs.Encode.{fitted}

@@ -14,7 +14,7 @@ use Rattle.graphs.specs.Difference.{byNumber}
 use Rattle.graphs.specs.OfRows.{sameEither, liesBelow, commonForm, combinationOf, wantedOver, differenceOver}
 use Rattle.lattice.specs.Label.{Label}
 use Rattle.lattice.specs.Table.{every, found, wanted}
-use Rattle.lattice.specs.Reply.{opened}
+use Rattle.acceptance.specs.Reply.{opened}
 use Rattle.lattice.specs.Labels.{typeLabels}
 use Rattle.encode.specs.Encode.{writtenOut}
 use Rattle.record.specs.Read.{Reading, refused, accepted}
@@ -25,7 +25,7 @@ use Rattle.replies.specs.declared.Reply.the-variants as reply
 use Rattle.replies.specs.Reply.{Result, resultOf, refusing}
 use Rattle.calls.specs.Calls.{checked}
 use Rattle.pairs.specs.Pair.{readBoth}
-use Rattle.engine.specs.Ordering.{compared}
+use Rattle.orders.specs.Ordering.{compared}
 use Rattle.engine.specs.Unifying.{combinedBy}
 use Rattle.difference.specs.Difference.{over, numbered}
 

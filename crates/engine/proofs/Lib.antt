@@ -1,7 +1,6 @@
 -- Laws of the operations over an accepted table.
 pub mod Tables
 pub mod Written
-pub mod Orders
 pub mod CommonParts
 pub mod Combinations
 pub mod Differences

@@ -8,8 +8,8 @@ use native.Mathlib.Omega.{arith}
 use borrow.Author.Tests.{ne-eqb}
 use lib.ListN.{length, take, drop, length-append, length-drop, take-append-drop}
 use lib.Seq.{take-append-seam, drop-append-seam}
-use Rattle.lattice.specs.declared.Opened.{Opened}
-use Rattle.lattice.specs.Reply.{opened}
+use Rattle.acceptance.specs.declared.Opened.{Opened}
+use Rattle.acceptance.specs.Reply.{opened}
 use Rattle.replies.specs.Reply.{Result, lengthOf, resulting}
 use Rattle.calls.specs.Calls.{checked}
 use Rattle.demands.specs.Demand.{WrittenRecord, Leaves}

@@ -11,11 +11,11 @@ use Rattle.graphs.specs.Rows.{Row}
 use Rattle.graphs.proofs.Below.{same-refl}
 use Rattle.lattice.specs.Label.{Label}
 use Rattle.lattice.specs.Table as table
-use Rattle.lattice.specs.declared.Opened.the-variants.{Accepted}
-use Rattle.lattice.specs.Reply.{opened}
+use Rattle.acceptance.specs.declared.Opened.the-variants.{Accepted}
+use Rattle.acceptance.specs.Reply.{opened}
 use Rattle.lattice.specs.Labels.{tableLabels, OfAnySize}
 use Rattle.lattice.proofs.AnySize.{below-transitive, below-both}
-use Rattle.lattice.proofs.Acceptance.{opened-accepted}
+use Rattle.acceptance.proofs.Acceptance.{opened-accepted}
 use Rattle.record.specs.Read.{Reading, refused, accepted, reading, graphOfRows}
 use Rattle.record.proofs.Theorems.{accepted-of-any-size}
 use Rattle.replies.specs.Reply.{Result, lengthOf}

@@ -8,9 +8,9 @@ use Prim.Native.Nat.{ℕ, _≤_}
 use lib.ListN.{length}
 use Rattle.graphs.specs.Rows.{Row}
 use Rattle.lattice.specs.Label.{Label}
-use Rattle.lattice.specs.declared.TableFault.{TableFault}
-use Rattle.lattice.specs.declared.Opened.the-variants.{Refused}
-use Rattle.lattice.specs.Reply.{opened}
+use Rattle.acceptance.specs.declared.TableFault.{TableFault}
+use Rattle.acceptance.specs.declared.Opened.the-variants.{Refused}
+use Rattle.acceptance.specs.Reply.{opened}
 use Rattle.encode.specs.Encode.{fitted}
 use Rattle.record.specs.Read.{reading, accepted}
 use Rattle.replies.specs.declared.Reply.the-variants.{Length, Table, NoRoom, NothingGathered}

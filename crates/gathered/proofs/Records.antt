@@ -15,8 +15,8 @@ use Rattle.graphs.specs.Number.{Canonical, canonical, manyNodes, manyLinks, wri
 use Rattle.graphs.specs.Rows.{Row}
 use Rattle.graphs.specs.OfRows.{samePair}
 use Rattle.lattice.specs.Label.{Label}
-use Rattle.lattice.specs.declared.Opened.the-variants.{Accepted}
-use Rattle.lattice.specs.Reply.{opened}
+use Rattle.acceptance.specs.declared.Opened.the-variants.{Accepted}
+use Rattle.acceptance.specs.Reply.{opened}
 use Rattle.encoder.specs.Encode.{encoded}
 use Rattle.encode.specs.declared.Written.the-variants as outcome
 use Rattle.encode.specs.Encode.{fitted, yielding, writtenOut}

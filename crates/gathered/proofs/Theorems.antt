@@ -13,9 +13,9 @@ use lib.ListN.{length, take, drop, length-drop}
 use Rattle.graphs.specs.Rows.{Row}
 use Rattle.graphs.specs.Number.{canonical}
 use Rattle.lattice.specs.Label.{Label}
-use Rattle.lattice.specs.declared.Opened.{Opened}
-use Rattle.lattice.specs.declared.Opened.the-variants as table
-use Rattle.lattice.specs.Reply.{opened}
+use Rattle.acceptance.specs.declared.Opened.{Opened}
+use Rattle.acceptance.specs.declared.Opened.the-variants as table
+use Rattle.acceptance.specs.Reply.{opened}
 use Rattle.encode.specs.declared.Written.{Written}
 use Rattle.encode.specs.declared.Written.the-variants as outcome
 use Rattle.encode.specs.Encode.{yielding, fitted, writtenOut}
@@ -28,7 +28,7 @@ use Rattle.replies.specs.declared.Reply.the-variants.{Length, NoRoom, NothingGa
 use Rattle.replies.specs.Reply.{Result, resulting, refusing, replyOf, resultOf, refusal, lengthOf}
 use Rattle.pairs.specs.Pair.{readBoth}
 use Rattle.subsume.specs.Promise.{rowsBelow}
-use Rattle.engine.specs.Ordering.{compared, ordered}
+use Rattle.orders.specs.Ordering.{compared, ordered}
 use Rattle.engine.proofs.Tables.{few-types}
 use Rattle.calls.specs.Calls.{checked, ordering, rewriting}
 use Rattle.demands.specs.Demand.{WrittenRecord, Rewritten}

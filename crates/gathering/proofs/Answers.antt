@@ -10,10 +10,10 @@ use lib.ListN.{take, drop}
 use Rattle.graphs.specs.Rows.{Row}
 use Rattle.lattice.specs.Label.{Label}
 use Rattle.layout.specs.Layout.{rowsOf}
-use Rattle.lattice.specs.declared.TableFault.{TableFault}
-use Rattle.lattice.specs.declared.Opened.{Opened}
-use Rattle.lattice.specs.declared.Opened.the-variants as table
-use Rattle.lattice.specs.Reply.{opened}
+use Rattle.acceptance.specs.declared.TableFault.{TableFault}
+use Rattle.acceptance.specs.declared.Opened.{Opened}
+use Rattle.acceptance.specs.declared.Opened.the-variants as table
+use Rattle.acceptance.specs.Reply.{opened}
 use Rattle.record.specs.declared.GraphFault.{GraphFault}
 use Rattle.record.specs.declared.reading.Verdict.{Verdict}
 use Rattle.record.specs.declared.reading.Verdict.the-variants.{Accepted, Refused}
@@ -24,7 +24,7 @@ use Rattle.replies.specs.declared.Reply.the-variants.{Table, Graph, NothingGath
 use Rattle.replies.specs.Reply.{resulting, refusing}
 use Rattle.pairs.specs.Pair.{readBoth}
 use Rattle.pairs.proofs.Readings.{told-refused, told-accepted, told-loaded, tells-plain}
-use Rattle.engine.specs.Ordering.{ordered}
+use Rattle.orders.specs.Ordering.{ordered}
 use Rattle.engine.specs.Rewriting.{rewrittenRows}
 use Rattle.engine.specs.Generalizing.{generalized}
 use Rattle.calls.specs.Calls.{checked, ordering}

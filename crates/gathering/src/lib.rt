@@ -3,7 +3,7 @@
 // written record of that common part, and room for the longest record. Bytes that hold no gathering are refused by what is wrong with them. A
 // refused call changes no byte.
 
-use lattice::Opened;
+use acceptance::Opened;
 use record::reading::Verdict;
 use replies::Reply;
 use replies::Side;
@@ -22,7 +22,7 @@ pub const LONGEST: usize = 4854;
 pub fn begin(n: usize, table: &[u8], state: &mut [u8]) -> Reply
     ensures { λ r. ⌜ resulting r (now (state .exit)) ≡ begun n (now (table .entry)) (now (state .entry)) ⌝ }
 {
-    let opened = lattice::accept(n, table);
+    let opened = acceptance::accept(n, table);
     match opened {
         Opened::Refused(fault) => Reply::Table(fault),
         Opened::Accepted => {
@@ -70,14 +70,14 @@ pub fn order(state: &[u8], bytes: &[u8]) -> Reply
     let end = found.end;
     let room = found.room;
     let last = found.last;
-    let opened = lattice::accept(n, &state[start..end]);
+    let opened = acceptance::accept(n, &state[start..end]);
     match opened {
         Opened::Refused(fault) => Reply::Table(fault),
         Opened::Accepted => {
             if found.gathered == 0 {
                 return nothing_after(n, bytes);
             }
-            engine::ordering::of_records(n, &state[start..end], bytes, &state[room..last])
+            orders::of_records(n, &state[start..end], bytes, &state[room..last])
         }
     }
 }
@@ -104,7 +104,7 @@ pub fn finish(state: &[u8], out: &mut [u8]) -> Reply
     let end = found.end;
     let room = found.room;
     let last = found.last;
-    let opened = lattice::accept(n, &state[start..end]);
+    let opened = acceptance::accept(n, &state[start..end]);
     match opened {
         Opened::Refused(fault) => Reply::Table(fault),
         Opened::Accepted => {

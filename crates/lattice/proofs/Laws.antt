@@ -13,7 +13,7 @@ use Rattle.lattice.specs.Table.{every, found, implies, below, sized, ord
 use Rattle.lattice.specs.Words.{related, Words, Sided}
 use Rattle.lattice.proofs.Every.{and-left, and-right, and-both, implies-at, implies-from, every-at, every-all, last-passes, last-found, found-some}
 use Rattle.lattice.proofs.OrderLaws.{Ordered, ordered-facts, side, sided}
-use Rattle.lattice.proofs.Acceptance.{size-facts}
+use Rattle.lattice.proofs.Sizes.{size-facts}
 use Rattle.lattice.proofs.Rows.{getD-overwrite, row-bound}
 
 -- m is the meet of a and b: their greatest lower bound

@@ -8,9 +8,7 @@ pub mod BoundLaws
 pub mod Rows
 pub mod Seeking
 pub mod Turning
-pub mod Covering
-pub mod Spanning
-pub mod Acceptance
+pub mod Sizes
 pub mod Laws
 pub mod Restoring
 pub mod Lawful

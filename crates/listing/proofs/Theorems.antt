@@ -12,14 +12,14 @@ use lib.ListN.{length, drop}
 use Rattle.graphs.specs.Graph.{Graph as GraphOn, TellsApart, Reached, SameMeaning}
 use Rattle.graphs.specs.Rows.{Row}
 use Rattle.graphs.specs.Number.{canonical, written}
-use Rattle.lattice.specs.declared.TableFault.{TableFault}
-use Rattle.lattice.specs.declared.Opened.{Opened}
-use Rattle.lattice.specs.declared.Opened.the-variants as opened
+use Rattle.acceptance.specs.declared.TableFault.{TableFault}
+use Rattle.acceptance.specs.declared.Opened.{Opened}
+use Rattle.acceptance.specs.declared.Opened.the-variants as opened
 use Rattle.lattice.specs.Label.{Label, isFull}
 use Rattle.lattice.specs.Labels.{tableLabels, OfAnySize}
-use Rattle.lattice.specs.Reply as table
+use Rattle.acceptance.specs.Reply as table
 use Rattle.lattice.proofs.Laws.{accepted-size}
-use Rattle.lattice.proofs.Acceptance.{opened-accepted}
+use Rattle.acceptance.proofs.Acceptance.{opened-accepted}
 use Rattle.encoder.specs.Encode.{encoded}
 use Rattle.encode.specs.declared.Written.the-variants as outcome
 use Rattle.encode.specs.Encode.{yielding, fitted}

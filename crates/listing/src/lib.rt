@@ -2,7 +2,7 @@
 // record for no bytes. Seven numbers state a listed record (`numbers`). Each number is within a span that the numbers before it give (`spans`),
 // and raising the numbers gives the next record (`raising`).
 
-use lattice::Opened;
+use acceptance::Opened;
 use numbers::Numbers;
 use record::reading::Verdict;
 use replies::Reply;
@@ -105,7 +105,7 @@ fn next_over(n: usize, features: usize, bytes: &[u8], out: &mut [u8]) -> Reply
 pub fn next(n: usize, table: &[u8], features: usize, bytes: &[u8], out: &mut [u8]) -> Reply
     ensures { λ r. ⌜ resulting r (now (out .exit)) ≡ stepping n (now (table .entry)) features (now (bytes .entry)) (now (out .entry)) ⌝ }
 {
-    let opened = lattice::accept(n, table);
+    let opened = acceptance::accept(n, table);
     match opened {
         Opened::Refused(fault) => Reply::Table(fault),
         Opened::Accepted => next_over(n, features, bytes, out),

@@ -15,10 +15,10 @@ use Rattle.graphs.specs.Large.{linksIn}
 use Rattle.graphs.specs.Number.{Canonical, written}
 use Rattle.graphs.proofs.Search.{both-true, true-both, not-true}
 use Rattle.lattice.specs.Label.{Label}
-use Rattle.lattice.specs.declared.TableFault.{TableFault}
-use Rattle.lattice.specs.declared.Opened.{Opened}
-use Rattle.lattice.specs.declared.Opened.the-variants as opened
-use Rattle.lattice.specs.Reply as table
+use Rattle.acceptance.specs.declared.TableFault.{TableFault}
+use Rattle.acceptance.specs.declared.Opened.{Opened}
+use Rattle.acceptance.specs.declared.Opened.the-variants as opened
+use Rattle.acceptance.specs.Reply as table
 use Rattle.record.specs.declared.GraphFault.{GraphFault}
 use Rattle.record.specs.Read.{Reading, refused, accepted, reading}
 use Rattle.record.proofs.Theorems.{accepted-fits}

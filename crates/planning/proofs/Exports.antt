@@ -16,9 +16,9 @@ use Rattle.graphs.proofs.Lists.{tells-eqb}
 use Rattle.graphs.proofs.Form.Rules.{form-links}
 use Rattle.graphs.proofs.Search.{true-false}
 use Rattle.lattice.specs.Label.{Label}
-use Rattle.lattice.specs.declared.TableFault.{TableFault}
-use Rattle.lattice.specs.declared.Opened.the-variants as opened
-use Rattle.lattice.specs.Reply as table
+use Rattle.acceptance.specs.declared.TableFault.{TableFault}
+use Rattle.acceptance.specs.declared.Opened.the-variants as opened
+use Rattle.acceptance.specs.Reply as table
 use Rattle.layout.specs.Layout.{Sound, size, rowsOf, graphIn}
 use Rattle.layout.proofs.Places.{link-known}
 use Rattle.layout.proofs.Reaching.{reached-inside}

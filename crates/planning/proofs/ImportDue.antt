@@ -18,11 +18,11 @@ use Rattle.graphs.proofs.Search.{not-true, true-false}
 use Rattle.graphs.proofs.Form.Rules.{form-nodes}
 use Rattle.graphs.proofs.Form.Large.{canonical-fits}
 use Rattle.lattice.specs.Label.{Label}
-use Rattle.lattice.specs.declared.TableFault.{TableFault}
-use Rattle.lattice.specs.declared.Opened.{Opened}
-use Rattle.lattice.specs.declared.Opened.the-variants as opened
-use Rattle.lattice.specs.Reply.{tableNumber}
-use Rattle.lattice.specs.Reply as table
+use Rattle.acceptance.specs.declared.TableFault.{TableFault}
+use Rattle.acceptance.specs.declared.Opened.{Opened}
+use Rattle.acceptance.specs.declared.Opened.the-variants as opened
+use Rattle.acceptance.specs.Reply.{tableNumber}
+use Rattle.acceptance.specs.Reply as table
 use Rattle.lattice.proofs.Every.{below-suc}
 use Rattle.encoder.specs.Encode.{encoded}
 use Rattle.encode.specs.declared.Written.the-variants as outcome

@@ -16,9 +16,9 @@ use Rattle.graphs.specs.Large.{linksIn}
 use Rattle.graphs.proofs.Lists.{from-member}
 use Rattle.graphs.proofs.Search.{not-true}
 use Rattle.lattice.specs.Label.{Label}
-use Rattle.lattice.specs.declared.TableFault.{TableFault}
-use Rattle.lattice.specs.declared.Opened.the-variants as opened
-use Rattle.lattice.specs.Reply as table
+use Rattle.acceptance.specs.declared.TableFault.{TableFault}
+use Rattle.acceptance.specs.declared.Opened.the-variants as opened
+use Rattle.acceptance.specs.Reply as table
 use Rattle.layout.specs.Layout.{rowsOf}
 use Rattle.record.specs.declared.GraphFault.the-variants.{Malformed, OutOfRange, Cyclic, Unreached}
 use Rattle.record.specs.declared.reading.Verdict.{Verdict}

@@ -17,10 +17,10 @@ use Rattle.graphs.specs.Rows.{Row}
 use Rattle.graphs.specs.Large.{linksIn}
 use Rattle.graphs.specs.Number.{Canonical, canonical, written}
 use Rattle.graphs.proofs.Search.{both-true, true-both}
-use Rattle.lattice.specs.declared.Opened.the-variants as opened
+use Rattle.acceptance.specs.declared.Opened.the-variants as opened
 use Rattle.lattice.specs.Label.{Label, isFull}
 use Rattle.lattice.specs.Labels.{tableLabels}
-use Rattle.lattice.specs.Reply as table
+use Rattle.acceptance.specs.Reply as table
 use Rattle.encoder.specs.Encode.{encoded}
 use Rattle.encode.specs.declared.Written.the-variants as outcome
 use Rattle.encode.specs.Encode.{writtenOut, fitted, yielding}

@@ -7,7 +7,7 @@ use Prim.Native.Nat.{ℕ}
 use lib.ListN.{length}
 use Rattle.graphs.specs.Rows.{Row}
 use Rattle.lattice.specs.Label.{Label}
-use Rattle.lattice.specs.Reply as table
+use Rattle.acceptance.specs.Reply as table
 use Rattle.record.specs.declared.GraphFault.the-variants.{Malformed}
 use Rattle.record.specs.Read.{judged}
 use Rattle.rows.specs.declared.Row as lent

@@ -11,7 +11,7 @@ use Rattle.graphs.specs.Rows.{Row}
 use Rattle.graphs.specs.Large.{linksIn}
 use Rattle.graphs.specs.Number.{Canonical, canonical, manyNodes, manyLinks, written}
 use Rattle.lattice.specs.Label.{Label}
-use Rattle.lattice.specs.Reply as table
+use Rattle.acceptance.specs.Reply as table
 use Rattle.record.specs.declared.GraphFault.the-variants.{Malformed}
 use Rattle.record.specs.Read.{Reading, refused, accepted, reading, judged, graphOfRows}
 use Rattle.rows.specs.declared.Row as lent

@@ -1,6 +1,6 @@
 // Export: makes the rows and node bytes of a record's graph, numbered as in the written record.
 
-use lattice::Opened;
+use acceptance::Opened;
 use record::reading::Verdict;
 use replies::Reply;
 use replies::Side;
@@ -76,7 +76,7 @@ fn export_accepted(n: usize, bytes: &[u8], room: usize, nodes: &mut [u8]) -> Mad
 pub fn export_made(n: usize, table: &[u8], bytes: &[u8], room: usize, nodes: &mut [u8]) -> Made
     ensures { λ r. ⌜ Makes (λ rows. exporting n (now (table .entry)) (now (bytes .entry)) rows (now (nodes .entry))) room (r .answer) (r .count) (r .at) (now (nodes .exit)) ⌝ }
 {
-    let opened = lattice::accept(n, table);
+    let opened = acceptance::accept(n, table);
     match opened {
         Opened::Refused(fault) => refuse(Reply::Table(fault)),
         Opened::Accepted => export_accepted(n, bytes, room, nodes),

@@ -1,6 +1,6 @@
 // Import: writes the record of the graph that rows and node bytes state.
 
-use lattice::Opened;
+use acceptance::Opened;
 use record::GraphFault;
 use record::reading::Verdict;
 use replies::Reply;
@@ -86,7 +86,7 @@ pub fn import_loaded(
 ) -> Reply
     ensures { λ r. ⌜ resulting r (now (out .exit)) ≡ importing n (now (table .entry)) count (take count all) (now (nodes .entry)) (now (out .entry)) ⌝ }
 {
-    let opened = lattice::accept(n, table);
+    let opened = acceptance::accept(n, table);
     match opened {
         Opened::Refused(fault) => Reply::Table(fault),
         Opened::Accepted => import_accepted(n, all, count, nodes, out),

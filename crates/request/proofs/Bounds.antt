@@ -18,9 +18,9 @@ use Rattle.graphs.specs.Unify.{Unified, cycle, clash, unified, unification}
 use Rattle.graphs.specs.OfRows.{samePair, sameEither}
 use Rattle.graphs.proofs.Walk.{none-some}
 use Rattle.lattice.specs.Label.{Label}
-use Rattle.lattice.specs.declared.Opened.{Opened}
-use Rattle.lattice.specs.declared.Opened.the-variants as opened
-use Rattle.lattice.specs.Reply as table
+use Rattle.acceptance.specs.declared.Opened.{Opened}
+use Rattle.acceptance.specs.declared.Opened.the-variants as opened
+use Rattle.acceptance.specs.Reply as table
 use Rattle.lattice.specs.Labels.{tableLabels}
 use Rattle.record.specs.Read as graph
 use Rattle.encoder.specs.Encode.{encoded}
@@ -37,7 +37,7 @@ use Rattle.subsume.specs.Promise.{rowsBelow}
 use Rattle.calls.specs.Calls.{checked, generalizing, ordering, unifying, differing}
 use Rattle.pairs.specs.Pair.{readBoth}
 use Rattle.engine.specs.Generalizing.{generalized}
-use Rattle.engine.specs.Ordering.{compared, ordered}
+use Rattle.orders.specs.Ordering.{compared, ordered}
 use Rattle.engine.specs.Unifying.{combined, unifiedRows}
 use Rattle.difference.specs.Difference.{allWanted, differenceRows, differed, numbered, differedRows}
 use Rattle.replies.proofs.Numbers.{numberIn, number-small, answer-bounded}

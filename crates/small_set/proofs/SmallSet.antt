@@ -53,15 +53,15 @@ use Rattle.graphs.specs.Difference.{
 }
 use Rattle.graphs.specs.Reasons.{reasonAt, writtenOrder, alongLinks}
 use Rattle.graphs.specs.OfRows.{samePair}
-use Rattle.lattice.specs.declared.TableFault.the-variants.{Bounds}
-use Rattle.lattice.specs.declared.Opened.the-variants.{Accepted, Refused}
+use Rattle.acceptance.specs.declared.TableFault.the-variants.{Bounds}
+use Rattle.acceptance.specs.declared.Opened.the-variants.{Accepted, Refused}
 use Rattle.lattice.specs.Table.{every, last, below, sized, confined, reflexive, antisymmetric, transitive, least, greatest, ordered, isMeet, isJoin, meet, join, bounded, restores, isWanted, wanted, implies, found, upto}
 use Rattle.lattice.specs.Words.{word}
 use Rattle.bounds.specs.Sets.{distributive, irreducible, setOf}
-use Rattle.lattice.specs.Reply.{opened}
+use Rattle.acceptance.specs.Reply.{opened}
 use Rattle.lattice.specs.Labels.{tableLabels, wantedLabel}
 use Rattle.lattice.proofs.Every.{and-both, implies-at, every-at, found-some}
-use Rattle.lattice.proofs.Acceptance.{opened-accepted}
+use Rattle.acceptance.proofs.Acceptance.{opened-accepted}
 use Rattle.lattice.proofs.Lawful.{inside}
 use Rattle.decode.specs.Decode.{bitOf, labelLength, labelOf, takeLinks, takeRow, takeRows, decoded}
 use Rattle.encoder.specs.Encode.{bitsFrom, isFull, encodedLabel, encodedRow, encodedRows, encoded}
@@ -75,7 +75,7 @@ use Rattle.link_orders.specs.LinkOrders.{isReadingOrder}
 use Rattle.difference.specs.Promise.{wantedAlong, allWantedAlong, differenceAlong, reasonsAlong}
 use Rattle.calls.specs.Calls.{rewriting, generalizing, ordering, unifying, differing, differingBy}
 use Rattle.engine.specs.Generalizing.{generalized}
-use Rattle.engine.specs.Ordering.{ordered as comparing}
+use Rattle.orders.specs.Ordering.{ordered as comparing}
 use Rattle.engine.specs.Unifying.{unifiedRows}
 use Rattle.calls.specs.Appropriate.{rewritingAppropriate, generalizingAppropriate}
 use Rattle.difference.specs.Difference.{firstAt, over, wantedAt, allWanted, differenceRows, differed, differedRows}

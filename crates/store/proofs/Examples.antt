@@ -11,7 +11,7 @@ use Rattle.graphs.specs.Unify.{unificationBy, classGraph, className, hasCycle, 
 use Rattle.graphs.specs.Difference.{difference, keptLink, keeps, keptItself, differ, lead, leaders, groupOf, spread, touch, bare, covers, incoming, select, linksFrom, leastOf, meetOver, meetWhere, byNumber}
 use Rattle.graphs.specs.OfRows.{samePair}
 use Rattle.lattice.specs.Table.{every, last, below, sized, confined, reflexive, antisymmetric, transitive, least, greatest, ordered, isMeet, isJoin, meet, join, bounded, restores, isWanted, wanted}
-use Rattle.lattice.specs.Reply.{opened}
+use Rattle.acceptance.specs.Reply.{opened}
 use Rattle.lattice.specs.Labels.{wantedLabel}
 use Rattle.decode.specs.Decode.{bitOf, labelLength, labelOf, takeLinks, takeRow, takeRows, decoded}
 use Rattle.encoder.specs.Encode.{bitsFrom, isFull, encodedLabel, encodedRow, encodedRows, encoded}

@@ -7,10 +7,10 @@ use Prim.Native.Nat.{ℕ, _<_}
 use borrow.Author.Tests.{lt-leb}
 use lib.Dec.{leb}
 use lib.ListN.{length, getD}
-use Rattle.lattice.specs.declared.TableFault.{TableFault}
-use Rattle.lattice.specs.declared.Opened.{Opened}
-use Rattle.lattice.specs.declared.Opened.the-variants.{Accepted, Refused}
-use Rattle.lattice.specs.Reply.{opened}
+use Rattle.acceptance.specs.declared.TableFault.{TableFault}
+use Rattle.acceptance.specs.declared.Opened.{Opened}
+use Rattle.acceptance.specs.declared.Opened.the-variants.{Accepted, Refused}
+use Rattle.acceptance.specs.Reply.{opened}
 use Rattle.record.specs.declared.GraphFault.the-variants.{Malformed}
 use Rattle.replies.specs.declared.Side.the-variants.{First}
 use Rattle.replies.specs.declared.Reply.the-variants.{Table, Graph}

@@ -4,7 +4,7 @@ use mathlib.Core.List.{List, _++_}
 use mathlib.Core.Option.{none}
 use Prim.Native.Nat.{ℕ}
 use lib.ListN.{length, drop, getD}
-use Rattle.lattice.specs.Reply.{opened}
+use Rattle.acceptance.specs.Reply.{opened}
 use Rattle.replies.specs.declared.Reply.the-variants.{Length}
 use Rattle.replies.specs.Reply.{Result, resulting, refusing}
 use Rattle.calls.specs.Calls.{checked}

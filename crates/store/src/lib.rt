@@ -2,7 +2,7 @@
 // from it. The caller lends the buffer; a refused call changes no byte of it. A buffer is trusted only where the way of its programs ends in its
 // first bytes. It knows tables, records and the operations on them.
 
-use lattice::Opened;
+use acceptance::Opened;
 use record::GraphFault;
 use replies::Reply;
 use replies::Side;

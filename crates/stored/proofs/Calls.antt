@@ -12,9 +12,9 @@ use lib.ListN.{length, getD, set, drop, length-append, length-drop, length-set}
 use lib.Seq.{drop-append-seam}
 use Rattle.graphs.specs.Rows.{Row}
 use Rattle.lattice.specs.Label.{Label}
-use Rattle.lattice.specs.declared.Opened.the-variants.{Accepted}
-use Rattle.lattice.specs.declared.Opened.{Opened}
-use Rattle.lattice.specs.Reply.{opened}
+use Rattle.acceptance.specs.declared.Opened.the-variants.{Accepted}
+use Rattle.acceptance.specs.declared.Opened.{Opened}
+use Rattle.acceptance.specs.Reply.{opened}
 use Rattle.record.specs.Read.{Reading, refused, accepted, reading}
 use Rattle.replies.specs.declared.Reply.the-variants.{WrongVersion}
 use Rattle.replies.specs.Reply.{Result, lengthOf}

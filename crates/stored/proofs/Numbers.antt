@@ -8,10 +8,10 @@ use native.Mathlib.Omega.{arith}
 use lib.ListN.{length, getD, set}
 use Rattle.graphs.specs.Rows.{Row}
 use Rattle.lattice.specs.Label.{Label}
-use Rattle.lattice.specs.declared.TableFault.{TableFault}
-use Rattle.lattice.specs.declared.TableFault.the-variants.{Size, Order, Bounds}
-use Rattle.lattice.specs.declared.Opened.the-variants.{Accepted, Refused}
-use Rattle.lattice.specs.Reply.{tableNumber, opened}
+use Rattle.acceptance.specs.declared.TableFault.{TableFault}
+use Rattle.acceptance.specs.declared.TableFault.the-variants.{Size, Order, Bounds}
+use Rattle.acceptance.specs.declared.Opened.the-variants.{Accepted, Refused}
+use Rattle.acceptance.specs.Reply.{tableNumber, opened}
 use Rattle.record.specs.declared.GraphFault.{GraphFault}
 use Rattle.record.specs.declared.GraphFault.the-variants.{Malformed}
 use Rattle.record.specs.Read.{refused, accepted, reading}

@@ -14,9 +14,9 @@ use Rattle.graphs.specs.Rows.{Row}
 use Rattle.lattice.specs.Label.{Label}
 use Rattle.lattice.specs.Labels.{tableLabels}
 use Rattle.lattice.specs.Table.{admits}
-use Rattle.lattice.specs.declared.TableFault.{TableFault}
-use Rattle.lattice.specs.declared.Opened.the-variants.{Accepted, Refused}
-use Rattle.lattice.specs.Reply.{opened}
+use Rattle.acceptance.specs.declared.TableFault.{TableFault}
+use Rattle.acceptance.specs.declared.Opened.the-variants.{Accepted, Refused}
+use Rattle.acceptance.specs.Reply.{opened}
 use Rattle.encode.specs.Encode.{fitted}
 use Rattle.record.specs.declared.GraphFault.{GraphFault}
 use Rattle.record.specs.declared.GraphFault.the-variants.{Malformed}

@@ -11,8 +11,8 @@ use lib.ListN.{length, getD, set, drop, replicate, length-append}
 use lib.Seq.{append-snoc, set-append-seam, getD-append-seam, take-append-seam}
 use Rattle.graphs.specs.Number.{Canonical}
 use Rattle.lattice.specs.Label.{Label}
-use Rattle.lattice.specs.declared.Opened.the-variants.{Accepted}
-use Rattle.lattice.specs.Reply.{opened}
+use Rattle.acceptance.specs.declared.Opened.the-variants.{Accepted}
+use Rattle.acceptance.specs.Reply.{opened}
 use Rattle.encoder.specs.Encode.{encoded}
 use Rattle.record.specs.Read.{Reading}
 use Rattle.difference.specs.Difference.{numbered}

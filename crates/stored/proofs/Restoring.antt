@@ -10,8 +10,8 @@ use borrow.Author.Tests.{ne-eqb}
 use lib.ListN.{length, getD, replicate}
 use lib.Seq.{append-snoc}
 use Rattle.graphs.specs.Number.{countSome}
-use Rattle.lattice.specs.declared.Opened.the-variants.{Accepted}
-use Rattle.lattice.specs.Reply.{opened}
+use Rattle.acceptance.specs.declared.Opened.the-variants.{Accepted}
+use Rattle.acceptance.specs.Reply.{opened}
 use Rattle.demands.specs.Demand.{WrittenRecord}
 use Rattle.versions.specs.State.{
   Made,

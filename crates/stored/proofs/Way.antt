@@ -10,8 +10,8 @@ use borrow.Author.Tests.{le-leb, leb-true}
 use lib.Dec.{leb}
 use lib.ListN.{length, getD, replicate}
 use lib.Seq.{append-snoc, getD-append-seam}
-use Rattle.lattice.specs.declared.Opened.the-variants.{Accepted}
-use Rattle.lattice.specs.Reply.{opened}
+use Rattle.acceptance.specs.declared.Opened.the-variants.{Accepted}
+use Rattle.acceptance.specs.Reply.{opened}
 use Rattle.demands.specs.Demand.{WrittenRecord}
 use Rattle.replies.specs.declared.Reply.the-variants.{NoStoreRoom}
 use Rattle.gathering.proofs.Told.{none-some}

@@ -7,8 +7,8 @@ use native.Mathlib.Omega.{arith}
 use lib.ListN.{length, take, replicate}
 use Rattle.graphs.proofs.Search.{true-false}
 use Rattle.lattice.specs.Table.{accepted}
-use Rattle.lattice.specs.declared.Opened.{Opened}
-use Rattle.lattice.proofs.Acceptance.{accepted-opened}
+use Rattle.acceptance.specs.declared.Opened.{Opened}
+use Rattle.acceptance.proofs.Acceptance.{accepted-opened}
 use Rattle.replies.specs.declared.Reply.{Reply}
 use Rattle.replies.specs.declared.Reply.the-variants.{Length}
 use Rattle.replies.specs.Reply.{resulting, refusing}

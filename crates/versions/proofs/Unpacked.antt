@@ -10,11 +10,11 @@ use lib.Dec.{eqb}
 use lib.ListN.{length, take, drop, set, length-drop}
 use lib.Seq.{take-all, take-suc-set, drop-drop}
 use Rattle.graphs.proofs.Search.{true-false}
-use Rattle.lattice.specs.declared.TableFault.{TableFault}
-use Rattle.lattice.specs.declared.Opened.the-variants.{Accepted, Refused}
+use Rattle.acceptance.specs.declared.TableFault.{TableFault}
+use Rattle.acceptance.specs.declared.Opened.the-variants.{Accepted, Refused}
 use Rattle.lattice.specs.Table.{accepted}
-use Rattle.lattice.specs.Reply.{opened}
-use Rattle.lattice.proofs.Acceptance.{accepted-opened}
+use Rattle.acceptance.specs.Reply.{opened}
+use Rattle.acceptance.proofs.Acceptance.{accepted-opened}
 use Rattle.replies.specs.declared.Reply.{Reply}
 use Rattle.gathering.specs.Gathering.{lengthAt}
 use Rattle.gathering.proofs.Told.{none-some}

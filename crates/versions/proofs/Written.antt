@@ -19,9 +19,9 @@ use Rattle.graphs.specs.Unify.{Unified, cycle, clash, unified, unification}
 use Rattle.graphs.specs.Difference.{byNumber}
 use Rattle.lattice.specs.Label.{Label}
 use Rattle.lattice.specs.Labels.{tableLabels}
-use Rattle.lattice.specs.declared.Opened.{Opened}
-use Rattle.lattice.specs.declared.Opened.the-variants as table
-use Rattle.lattice.specs.Reply.{opened}
+use Rattle.acceptance.specs.declared.Opened.{Opened}
+use Rattle.acceptance.specs.declared.Opened.the-variants as table
+use Rattle.acceptance.specs.Reply.{opened}
 use Rattle.encoder.specs.Encode.{encoded}
 use Rattle.encode.specs.declared.Written.the-variants as outcome
 use Rattle.encode.specs.Encode.{yielding, fitted, writtenOut}

@@ -1,6 +1,6 @@
 // Unpacks the programs of a buffer: each is the common part combined with a difference.
 
-use lattice::Opened;
+use acceptance::Opened;
 use replies::Reply;
 ghost use mathlib.Core.Path.{_≡_};
 ghost use mathlib.Core.Bool.{true, false, cond};

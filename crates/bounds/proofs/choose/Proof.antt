@@ -5,7 +5,8 @@ use mathlib.Core.List.{[]}
 use native.Mathlib.Omega.{arith}
 use borrow.Author.Tests.{not-true, not-false}
 use Rattle.lattice.proofs.Every.{refuted, held}
-use Rattle.lattice.proofs.Acceptance.{size-facts, answer-size, answer-order, order-words, table-size, lower-words, side-sided}
+use Rattle.lattice.proofs.Sizes.{size-facts}
+use Rattle.acceptance.proofs.Acceptance.{answer-size, answer-order, order-words, table-size, lower-words, side-sided}
 use Rattle.bounds.proofs.Opening.{chooses-refused, chooses-sets, chooses-cells, cells-needed, bounds-refused, sets-held}
 use borrow.Author.Needs.{needs}
 use Rattle.bounds.proofs.choose.Statement.{statement}

@@ -1,5 +1,5 @@
 -- `fill` meets its contract: the cells hold the bounds of one side. The table is accepted where every two types have a bound.
-use Rattle.lattice.proofs.Acceptance.{table-size, up-words, side-sided}
+use Rattle.acceptance.proofs.Acceptance.{table-size, up-words, side-sided}
 use mathlib.Core.Bool.{true, false}
 use Rattle.bounds.proofs.Opening.{words-ordered, fills-found}
 use borrow.Author.Needs.{needs}

@@ -11,11 +11,11 @@ use Rattle.graphs.specs.Rows.{Row}
 use Rattle.graphs.specs.Difference.{byNumber, byReading}
 use Rattle.graphs.proofs.Walk.{some-injective}
 use Rattle.lattice.specs.Label.{Label}
-use Rattle.lattice.specs.declared.TableFault.{TableFault}
-use Rattle.lattice.specs.declared.TableFault.the-variants.{Size, Order, Bounds}
-use Rattle.lattice.specs.declared.Opened.{Opened}
-use Rattle.lattice.specs.declared.Opened.the-variants.{Accepted, Refused}
-use Rattle.lattice.specs.Reply.{opened}
+use Rattle.acceptance.specs.declared.TableFault.{TableFault}
+use Rattle.acceptance.specs.declared.TableFault.the-variants.{Size, Order, Bounds}
+use Rattle.acceptance.specs.declared.Opened.{Opened}
+use Rattle.acceptance.specs.declared.Opened.the-variants.{Accepted, Refused}
+use Rattle.acceptance.specs.Reply.{opened}
 use Rattle.record.specs.declared.GraphFault.{GraphFault}
 use Rattle.record.specs.declared.GraphFault.the-variants.{Malformed, OutOfRange, Cyclic, Unreached, Inappropriate}
 use Rattle.record.specs.Read.{Reading, refused, accepted, reading}

@@ -16,11 +16,11 @@ use Rattle.graphs.specs.OfRows.{samePair, sameEither}
 use Rattle.graphs.proofs.Search.{not-true}
 use Rattle.graphs.proofs.Difference.ByNumber.{by-number-order}
 use Rattle.lattice.specs.Label.{Label}
-use Rattle.lattice.specs.declared.Opened.{Opened}
-use Rattle.lattice.specs.declared.Opened.the-variants as opened
+use Rattle.acceptance.specs.declared.Opened.{Opened}
+use Rattle.acceptance.specs.declared.Opened.the-variants as opened
 use Rattle.lattice.specs.Labels.{tableLabels}
-use Rattle.lattice.specs.Reply as table
-use Rattle.lattice.proofs.Acceptance.{opened-accepted}
+use Rattle.acceptance.specs.Reply as table
+use Rattle.acceptance.proofs.Acceptance.{opened-accepted}
 use Rattle.encode.specs.declared.Written.{Written}
 use Rattle.encode.specs.declared.Written.the-variants as written
 use Rattle.encode.specs.Encode.{writtenOut}

@@ -13,15 +13,15 @@ use Rattle.graphs.specs.Number.{canonical}
 use Rattle.graphs.specs.Order.{subsumes}
 use Rattle.graphs.specs.Difference.{byNumber, meetOver, difference}
 use Rattle.lattice.specs.Label.{Label, noLabel}
-use Rattle.lattice.specs.declared.Opened.{Opened}
-use Rattle.lattice.specs.declared.Opened.the-variants.{Accepted, Refused}
+use Rattle.acceptance.specs.declared.Opened.{Opened}
+use Rattle.acceptance.specs.declared.Opened.the-variants.{Accepted, Refused}
 use Rattle.lattice.specs.Table as table
-use Rattle.lattice.specs.Reply.{opened}
+use Rattle.acceptance.specs.Reply.{opened}
 use Rattle.lattice.specs.Labels.{tableLabels, wantedRange, wantedLabel}
 use Rattle.lattice.proofs.Every.{every-all}
 use Rattle.lattice.proofs.Lawful.{inside}
 use Rattle.lattice.proofs.Laws.{zero-type, residual-exists, wanted-residual}
-use Rattle.lattice.proofs.Acceptance.{opened-accepted}
+use Rattle.acceptance.proofs.Acceptance.{opened-accepted}
 use Rattle.encoder.specs.Encode.{encoded}
 use Rattle.encode.specs.Encode.{Outcome, writtenOut}
 use Rattle.record.specs.Read.{Reading, refused, accepted, graphOfRows, reading}

@@ -20,9 +20,9 @@ use Rattle.graphs.proofs.Form.Invariant.{same-canonical}
 use Rattle.graphs.proofs.Unification.Beside.{same-beside}
 use Rattle.lattice.specs.Label.{Label}
 use Rattle.lattice.specs.Table as table
-use Rattle.lattice.specs.Reply.{opened}
+use Rattle.acceptance.specs.Reply.{opened}
 use Rattle.lattice.specs.Labels.{tableLabels, OfAnySize, GreatestOfAnySize, IsCombination, LabelClash}
-use Rattle.lattice.proofs.Acceptance.{opened-accepted}
+use Rattle.acceptance.proofs.Acceptance.{opened-accepted}
 use Rattle.lattice.proofs.AnySize.{
   answer,
   unification-combination,

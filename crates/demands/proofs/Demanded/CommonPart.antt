@@ -11,9 +11,9 @@ use Rattle.graphs.specs.OfRows.{samePair}
 use Rattle.graphs.proofs.Product.{product-is-generalization, same-generalization}
 use Rattle.lattice.specs.Label.{Label}
 use Rattle.lattice.specs.Table as table
-use Rattle.lattice.specs.Reply.{opened}
+use Rattle.acceptance.specs.Reply.{opened}
 use Rattle.lattice.specs.Labels.{tableLabels, LeastOfAnySize}
-use Rattle.lattice.proofs.Acceptance.{opened-accepted}
+use Rattle.acceptance.proofs.Acceptance.{opened-accepted}
 use Rattle.lattice.proofs.AnySize.{generalization-least, same-least}
 use Rattle.record.specs.Read.{reading, accepted, graphOfRows}
 use Rattle.record.proofs.Theorems.{accepted-of-any-size}

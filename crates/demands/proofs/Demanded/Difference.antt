@@ -18,10 +18,10 @@ use Rattle.graphs.proofs.Search.{true-false, not-true}
 use Rattle.graphs.proofs.Below.{same-refl, same-sym}
 use Rattle.lattice.specs.Label.{Label}
 use Rattle.lattice.specs.Table as table
-use Rattle.lattice.specs.Reply.{opened}
+use Rattle.acceptance.specs.Reply.{opened}
 use Rattle.lattice.specs.Labels.{tableLabels}
 use Rattle.lattice.proofs.Every.{not-false-true}
-use Rattle.lattice.proofs.Acceptance.{opened-accepted}
+use Rattle.acceptance.proofs.Acceptance.{opened-accepted}
 use Rattle.lattice.proofs.Relabel.{same-below-left, same-below-right}
 use Rattle.lattice.proofs.Transfer.{same-of-any-size}
 use Rattle.lattice.proofs.AnySize.{same-greatest, greatest-sides}

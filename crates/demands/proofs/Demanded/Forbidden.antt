@@ -16,10 +16,10 @@ use Rattle.graphs.specs.Unify.{Unified, cycle, clash, unified, unification}
 use Rattle.graphs.specs.OfRows.{samePair, sameEither}
 use Rattle.graphs.proofs.Search.{true-false}
 use Rattle.lattice.specs.Label.{Label}
-use Rattle.lattice.specs.declared.Opened.{Opened}
-use Rattle.lattice.specs.declared.Opened.the-variants as opened
+use Rattle.acceptance.specs.declared.Opened.{Opened}
+use Rattle.acceptance.specs.declared.Opened.the-variants as opened
 use Rattle.lattice.specs.Labels.{tableLabels}
-use Rattle.lattice.specs.Reply as table
+use Rattle.acceptance.specs.Reply as table
 use Rattle.encode.specs.Encode.{writtenOut}
 use Rattle.decode.specs.Decode.{decoded}
 use Rattle.record.specs.declared.GraphFault.{GraphFault}

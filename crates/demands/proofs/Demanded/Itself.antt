@@ -24,16 +24,16 @@ use Rattle.graphs.proofs.Order.{subsumes-exact}
 use Rattle.graphs.proofs.Form.Large.{canonical-fits}
 use Rattle.graphs.proofs.Form.Canonical.{canonical-exact}
 use Rattle.lattice.specs.Label.{Label, plain}
-use Rattle.lattice.specs.declared.Opened.the-variants.{Accepted}
+use Rattle.acceptance.specs.declared.Opened.the-variants.{Accepted}
 use Rattle.lattice.specs.Table as table
-use Rattle.lattice.specs.Reply.{opened}
+use Rattle.acceptance.specs.Reply.{opened}
 use Rattle.lattice.specs.Labels.{typeLabels, tableLabels, Known, OfAnySize}
 use Rattle.lattice.proofs.Every.{not-false-true}
 use Rattle.lattice.proofs.Laws.{accepted-size, top-type, top-greatest, below-reflexive, wanted-sound, wanted-of-same}
 use Rattle.lattice.proofs.Lawful.{inside-le, le-antisymmetric, le-reflexive, plain-known}
 use Rattle.lattice.proofs.Plain.{contradiction-plain}
 use Rattle.lattice.proofs.Relabel.{same-below-right}
-use Rattle.lattice.proofs.Acceptance.{opened-accepted}
+use Rattle.acceptance.proofs.Acceptance.{opened-accepted}
 use Rattle.encoder.specs.Encode.{bitsFrom, isFull, encodedLabel, encodedRow, encodedRows, encoded}
 use Rattle.encode.specs.Encode.{fitted, writtenOut}
 use Rattle.record.specs.Read.{reading, accepted, graphOfRows}

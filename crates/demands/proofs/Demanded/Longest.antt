@@ -20,8 +20,8 @@ use Rattle.graphs.proofs.Lists.{from-range}
 use Rattle.lattice.specs.Label.{Label, noLabel}
 use Rattle.lattice.specs.Labels.{Known}
 use Rattle.lattice.specs.Table.{every, last, below, sized, confined, reflexive, antisymmetric, transitive, least, greatest, ordered, isMeet, isJoin, meet, join, bounded}
-use Rattle.lattice.specs.declared.Opened.the-variants.{Accepted}
-use Rattle.lattice.specs.Reply.{opened}
+use Rattle.acceptance.specs.declared.Opened.the-variants.{Accepted}
+use Rattle.acceptance.specs.Reply.{opened}
 use Rattle.encoder.specs.Encode.{isFull, encodedLabel, encodedRow, encodedRows, encoded}
 use Rattle.encode.specs.Encode.{fitted}
 use Rattle.record.specs.Read.{graphOfRows}

@@ -15,10 +15,10 @@ use Rattle.graphs.proofs.Lists.{tells-eqb}
 use Rattle.graphs.proofs.Below.{same-sym}
 use Rattle.graphs.proofs.Form.Invariant.{same-canonical}
 use Rattle.lattice.specs.Label.{Label}
-use Rattle.lattice.specs.declared.Opened.the-variants.{Accepted}
-use Rattle.lattice.specs.Reply.{opened}
+use Rattle.acceptance.specs.declared.Opened.the-variants.{Accepted}
+use Rattle.acceptance.specs.Reply.{opened}
 use Rattle.lattice.specs.Labels.{tableLabels}
-use Rattle.lattice.proofs.Acceptance.{opened-accepted}
+use Rattle.acceptance.proofs.Acceptance.{opened-accepted}
 use Rattle.lattice.proofs.AnySize.{below-both}
 use Rattle.encoder.specs.Encode.{encoded}
 use Rattle.encode.specs.Encode.{fitted, writtenOut}

@@ -11,9 +11,9 @@ use Rattle.graphs.specs.Rows.{Row}
 use Rattle.graphs.proofs.Search.{true-false, not-true}
 use Rattle.graphs.proofs.Walk.{none-some}
 use Rattle.lattice.specs.Label.{Label}
-use Rattle.lattice.specs.declared.Opened.{Opened}
-use Rattle.lattice.specs.declared.Opened.the-variants as opened
-use Rattle.lattice.specs.Reply as table
+use Rattle.acceptance.specs.declared.Opened.{Opened}
+use Rattle.acceptance.specs.declared.Opened.the-variants as opened
+use Rattle.acceptance.specs.Reply as table
 use Rattle.lattice.specs.Labels.{tableLabels}
 use Rattle.record.specs.Read.{Reading, refused, accepted, reading, graphOfRows}
 use Rattle.record.specs.declared.GraphFault.{GraphFault}
@@ -27,7 +27,7 @@ use Rattle.replies.specs.Reply.{answerOf}
 use Rattle.subsume.specs.Promise.{rowsBelow}
 use Rattle.calls.specs.Calls.{checked, ordering}
 use Rattle.pairs.specs.Pair.{readBoth}
-use Rattle.engine.specs.Ordering.{compared, ordered}
+use Rattle.orders.specs.Ordering.{compared, ordered}
 use Rattle.demands.specs.Demand.{Given, AnswersBelow, AnswersNotBelow}
 use Rattle.record.proofs.Ordered.{order-test}
 

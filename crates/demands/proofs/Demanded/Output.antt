@@ -17,12 +17,12 @@ use Rattle.graphs.proofs.Lists.{tells-eqb}
 use Rattle.graphs.proofs.Difference.ByNumber.{by-number-order}
 use Rattle.graphs.proofs.Difference.ByReading.{by-reading-order}
 use Rattle.lattice.specs.Label.{Label}
-use Rattle.lattice.specs.declared.TableFault.{TableFault}
-use Rattle.lattice.specs.declared.Opened.{Opened}
-use Rattle.lattice.specs.declared.Opened.the-variants as opened
+use Rattle.acceptance.specs.declared.TableFault.{TableFault}
+use Rattle.acceptance.specs.declared.Opened.{Opened}
+use Rattle.acceptance.specs.declared.Opened.the-variants as opened
 use Rattle.lattice.specs.Table as types
-use Rattle.lattice.specs.Reply as table
-use Rattle.lattice.proofs.Acceptance.{opened-accepted}
+use Rattle.acceptance.specs.Reply as table
+use Rattle.acceptance.proofs.Acceptance.{opened-accepted}
 use Rattle.lattice.specs.Labels.{OfAnySize}
 use Rattle.encoder.specs.Encode.{encoded}
 use Rattle.encoder.proofs.Lengths.{longest}

@@ -26,10 +26,10 @@ use Rattle.graphs.proofs.Difference.Renamed.{walk-to, walk-from, reason-from}
 use Rattle.lattice.specs.Label.{Label, noLabel}
 use Rattle.lattice.specs.Labels.{tableLabels}
 use Rattle.lattice.specs.Table as types
-use Rattle.lattice.specs.declared.TableFault.{TableFault}
-use Rattle.lattice.specs.declared.Opened.{Opened}
-use Rattle.lattice.specs.declared.Opened.the-variants as opened
-use Rattle.lattice.specs.Reply as table
+use Rattle.acceptance.specs.declared.TableFault.{TableFault}
+use Rattle.acceptance.specs.declared.Opened.{Opened}
+use Rattle.acceptance.specs.declared.Opened.the-variants as opened
+use Rattle.acceptance.specs.Reply as table
 use Rattle.encode.specs.Encode.{Outcome, writtenOut}
 use Rattle.record.specs.declared.GraphFault.{GraphFault}
 use Rattle.record.specs.declared.GraphFault.the-variants as faults

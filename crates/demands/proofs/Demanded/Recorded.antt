@@ -14,10 +14,10 @@ use Rattle.graphs.proofs.Below.{same-sym, same-trans}
 use Rattle.graphs.proofs.Form.Invariant.{same-canonical}
 use Rattle.graphs.proofs.Form.Large.{canonical-many-nodes, canonical-many-links, canonical-fits}
 use Rattle.lattice.specs.Label.{Label}
-use Rattle.lattice.specs.declared.Opened.the-variants.{Accepted}
-use Rattle.lattice.specs.Reply.{opened}
+use Rattle.acceptance.specs.declared.Opened.the-variants.{Accepted}
+use Rattle.acceptance.specs.Reply.{opened}
 use Rattle.lattice.specs.Labels.{tableLabels, OfAnySize}
-use Rattle.lattice.proofs.Acceptance.{opened-accepted}
+use Rattle.acceptance.proofs.Acceptance.{opened-accepted}
 use Rattle.record.specs.Read.{reading, accepted, graphOfRows}
 use Rattle.record.proofs.Rewritten.{form-again}
 use Rattle.record.proofs.Theorems.{written-reads}

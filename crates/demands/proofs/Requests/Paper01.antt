@@ -10,10 +10,10 @@ use Rattle.graphs.specs.Graph.{Graph, TellsApart, Below}
 use Rattle.graphs.specs.Rows.{Row}
 use Rattle.graphs.specs.Generalize.{generalization}
 use Rattle.lattice.specs.Label.{Label}
-use Rattle.lattice.specs.declared.Opened.the-variants.{Accepted}
-use Rattle.lattice.specs.Reply.{opened}
+use Rattle.acceptance.specs.declared.Opened.the-variants.{Accepted}
+use Rattle.acceptance.specs.Reply.{opened}
 use Rattle.lattice.specs.Labels.{tableLabels, OfAnySize, LeastOfAnySize, GreatestOfAnySize, IsCombination}
-use Rattle.lattice.proofs.Acceptance.{opened-accepted}
+use Rattle.acceptance.proofs.Acceptance.{opened-accepted}
 use Rattle.lattice.proofs.AnySize.{generalization-least, least-monotone, greatest-monotone, combines-broader, combines-not-refuted}
 use Rattle.record.specs.Read.{reading, accepted, graphOfRows}
 use Rattle.replies.specs.declared.Reply.the-variants.{Length, Cycle, Clash}

@@ -13,11 +13,11 @@ use Rattle.graphs.specs.Graph.{SameMeaning}
 use Rattle.graphs.specs.Rows.{Row}
 use Rattle.graphs.specs.Large.{linksIn}
 use Rattle.graphs.specs.Number.{canonical, written}
-use Rattle.lattice.specs.declared.TableFault.{TableFault}
-use Rattle.lattice.specs.declared.Opened.the-variants.{Accepted, Refused}
+use Rattle.acceptance.specs.declared.TableFault.{TableFault}
+use Rattle.acceptance.specs.declared.Opened.the-variants.{Accepted, Refused}
 use Rattle.lattice.specs.Label.{Label, isFull}
 use Rattle.lattice.specs.Labels.{tableLabels}
-use Rattle.lattice.specs.Reply.{opened}
+use Rattle.acceptance.specs.Reply.{opened}
 use Rattle.record.specs.declared.GraphFault.{GraphFault}
 use Rattle.record.specs.declared.GraphFault.the-variants.{Malformed, OutOfRange, Cyclic, Unreached}
 use Rattle.record.specs.Read.{reading, refused, accepted, graphOfRows}

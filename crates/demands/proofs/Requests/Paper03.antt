@@ -8,8 +8,8 @@ use lib.ListN.{take}
 use Rattle.graphs.specs.Graph.{Below, SameMeaning}
 use Rattle.graphs.specs.Rows.{Row}
 use Rattle.lattice.specs.Label.{Label}
-use Rattle.lattice.specs.declared.Opened.the-variants.{Accepted}
-use Rattle.lattice.specs.Reply.{opened}
+use Rattle.acceptance.specs.declared.Opened.the-variants.{Accepted}
+use Rattle.acceptance.specs.Reply.{opened}
 use Rattle.lattice.specs.Labels.{tableLabels}
 use Rattle.record.specs.declared.GraphFault.{GraphFault}
 use Rattle.record.specs.Read.{reading, accepted, graphOfRows}

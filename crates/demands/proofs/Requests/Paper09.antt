@@ -9,10 +9,10 @@ use Rattle.graphs.specs.Graph.{Graph}
 use Rattle.graphs.specs.Rows.{Row}
 use Rattle.graphs.specs.Generalize.{IsGeneralization}
 use Rattle.lattice.specs.Label.{Label}
-use Rattle.lattice.specs.declared.Opened.the-variants.{Accepted}
-use Rattle.lattice.specs.Reply.{opened}
+use Rattle.acceptance.specs.declared.Opened.the-variants.{Accepted}
+use Rattle.acceptance.specs.Reply.{opened}
 use Rattle.lattice.specs.Labels.{tableLabels, OfAnySize, LeastOfAnySize, GreatestOfAnySize, IsCombination}
-use Rattle.lattice.proofs.Acceptance.{opened-accepted}
+use Rattle.acceptance.proofs.Acceptance.{opened-accepted}
 use Rattle.record.specs.declared.GraphFault.the-variants.{Inappropriate}
 use Rattle.record.specs.Read.{reading, accepted, graphOfRows}
 use Rattle.record.specs.Appropriate.{listAccepted, appropriate, Appropriate}

@@ -6,7 +6,7 @@ use mathlib.Core.Option.{Option}
 use Prim.Native.Nat.{ℕ, _<_}
 use lib.Bits.{bitAnd, bitOr}
 use lib.ListN.{length}
-use Rattle.lattice.specs.declared.Opened.{Opened}
+use Rattle.acceptance.specs.declared.Opened.{Opened}
 use Rattle.bounds.specs.declared.Form.{Form}
 use Rattle.bounds.specs.declared.Form.the-variants.{AsSets, AsCells}
 use Rattle.bounds.specs.Opening.{Chooses, Opening}

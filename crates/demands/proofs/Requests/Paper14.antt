@@ -10,13 +10,13 @@ use lib.ListN.{length, drop}
 use Rattle.graphs.specs.Graph.{Graph, TellsApart, Reached}
 use Rattle.graphs.specs.Rows.{Row}
 use Rattle.graphs.specs.Number.{canonical, written}
-use Rattle.lattice.specs.declared.TableFault.{TableFault}
-use Rattle.lattice.specs.declared.Opened.the-variants.{Accepted, Refused}
+use Rattle.acceptance.specs.declared.TableFault.{TableFault}
+use Rattle.acceptance.specs.declared.Opened.the-variants.{Accepted, Refused}
 use Rattle.lattice.specs.Label.{Label, isFull}
 use Rattle.lattice.specs.Labels.{OfAnySize}
-use Rattle.lattice.specs.Reply.{opened}
+use Rattle.acceptance.specs.Reply.{opened}
 use Rattle.lattice.proofs.Laws.{accepted-size}
-use Rattle.lattice.proofs.Acceptance.{opened-accepted}
+use Rattle.acceptance.proofs.Acceptance.{opened-accepted}
 use Rattle.encoder.specs.Encode.{encoded}
 use Rattle.encode.specs.Encode.{fitted}
 use Rattle.record.specs.declared.GraphFault.{GraphFault}

@@ -5,7 +5,7 @@ use mathlib.Core.Bool.{true}
 use mathlib.Core.Logic.{⊎-elim, inl, inr}
 use lib.ListN.{length-replicate}
 use borrow.Author.Tests.{not-true, not-false}
-use Rattle.lattice.proofs.Acceptance.{accepted-opened}
+use Rattle.acceptance.proofs.Acceptance.{accepted-opened}
 use Rattle.bounds.proofs.Opening.{opened-sets}
 use Rattle.record.specs.Appropriate.{listAccepted}
 use Rattle.engine.specs.Generalizing.{generalizedBeside}

@@ -2,7 +2,7 @@
 use mathlib.Core.Path.{refl, sym, _∙_}
 use mathlib.Core.Logic.{⊎-elim, inl, inr}
 use borrow.Author.Tests.{not-true, not-false}
-use Rattle.lattice.proofs.Acceptance.{opened-accepted}
+use Rattle.acceptance.proofs.Acceptance.{opened-accepted}
 use Rattle.record.specs.Appropriate.{listAccepted}
 use Rattle.calls.proofs.Listed.{table-before-list, list-refused, list-passed}
 use Rattle.calls.proofs.Beside.{beside-checked, optional-passed, test-passed, test-failed}

@@ -1,7 +1,7 @@
 -- `packing::part_from` meets its contract: it is the difference of two records by number, without reasons.
 use mathlib.Core.Bool.{false}
 use mathlib.Core.List.{[]}
-use Rattle.lattice.proofs.Acceptance.{accepted-opened}
+use Rattle.acceptance.proofs.Acceptance.{accepted-opened}
 use Rattle.calls.proofs.Differences.{plain-part, differing-accepted}
 use borrow.Author.Needs.{needs}
 use Rattle.versions.proofs.packing.part_from.Statement.{statement}

@@ -1,0 +1,2 @@
+-- This file defines what opening a table returns.
+pub mod Reply

@@ -1,0 +1,2 @@
+-- The law of the order over an accepted table.
+pub mod Orders
