@@ -34,7 +34,7 @@ returns c =
     (test-failed (a .listed) (listAccepted (a .n) (a .list .now)) (c .before .before .if1 .taken) (sym (c .before .is-list-accepted .ensures) ∙ not-true (c .before .is-list-accepted .result) (c .if2 .taken)))
 
 slice-aggregate-of-records : tie.Need-slice-aggregate-of-records
-slice-aggregate-of-records c = c .before .before .before .before .fill .ensures .long
+slice-aggregate-of-records c = sym (c .before .before .before .before .fill .ensures .long)
 
 of-records-requires : tie.Need-of-records-requires
 of-records-requires c κs =
