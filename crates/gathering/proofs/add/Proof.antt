@@ -1,5 +1,5 @@
 -- `add` meets its contract: the table in the state is opened; then the program is joined with what is gathered, and the length is put.
-use mathlib.Core.Path.{refl, _∙_}
+use mathlib.Core.Path.{refl, sym, _∙_}
 use Rattle.acceptance.proofs.Acceptance.{opened-accepted}
 use Rattle.gathering.proofs.Joins.{add-refused, settle-fits, add-accepted}
 use borrow.Author.Needs.{needs}
@@ -26,6 +26,9 @@ enum-known-opened c = search needs
 
 enum-told : tie.Need-enum-told
 enum-told c = search needs
+
+slice-aggregate-join : tie.Need-slice-aggregate-join
+slice-aggregate-join c = sym (c .before .before .before .before .«open» .ensures .long)
 
 sub-join : tie.Need-sub-join
 sub-join c = search needs
@@ -75,6 +78,7 @@ add-spec =
     open-requires
     enum-known-opened
     enum-told
+    slice-aggregate-join
     sub-join
     part-join-start
     part-join-end
