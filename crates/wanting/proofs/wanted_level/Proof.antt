@@ -3,8 +3,8 @@ use mathlib.Core.Bool.{Bool, cond}
 use mathlib.Core.Path.{sym, ap}
 use native.Mathlib.Omega.{arith}
 use borrow.Author.Tests.{eq-eqb, ne-eqb}
-use Rattle.difference.proofs.wanted.wanted_level.Statement.{statement}
-use Rattle.difference.proofs.wanted.wanted_level.Tie as tie
+use Rattle.wanting.proofs.wanted_level.Statement.{statement}
+use Rattle.wanting.proofs.wanted_level.Tie as tie
 
 returns : tie.Need-returns
 returns c =

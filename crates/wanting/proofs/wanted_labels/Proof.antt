@@ -5,12 +5,12 @@ use native.Mathlib.Omega.{arith}
 use lib.ListN.{length-replicate, getD-replicate}
 use Rattle.lattice.specs.Label.{Label}
 use Rattle.lattice.proofs.Laws.{accepted-size}
-use Rattle.difference.proofs.Wanting.{Wanting, wants-start, wants-next, wants-none, wants-done}
-use Rattle.difference.proofs.Result.{asked-labels}
-use Rattle.difference.proofs.wanted.wanted_labels.Statement.{statement}
-use Rattle.difference.proofs.wanted.wanted_labels.Tie as tie
-use Rattle.difference.proofs.wanted.meet_over.Reads as meet-over-reads
-use Rattle.difference.proofs.wanted.wanted_label.Reads as wanted-label-reads
+use Rattle.wanting.proofs.Wanting.{Wanting, wants-start, wants-next, wants-none, wants-done}
+use Rattle.wanting.proofs.Asked.{asked-labels}
+use Rattle.wanting.proofs.wanted_labels.Statement.{statement}
+use Rattle.wanting.proofs.wanted_labels.Tie as tie
+use Rattle.wanting.proofs.meet_over.Reads as meet-over-reads
+use Rattle.wanting.proofs.wanted_label.Reads as wanted-label-reads
 use Rattle.lattice.proofs.words.read_words.Reads as read-words-reads
 use Rattle.layout.proofs.label_at.Reads as label-at-reads
 use Rattle.layout.proofs.put_label.Reads as put-label-reads

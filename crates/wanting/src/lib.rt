@@ -1,6 +1,6 @@
-// The wanted labels of the nodes of s (document 01, "Difference"; document 02, Papers 6 and 7). The wanted label of a node is the greatest
-// label whose meet with the meet of all g labels over the node equals the node's label in s. The difference is refused where a node has no
-// wanted label.
+// This crate finds the wanted labels of the nodes of s (document 01, "Difference"; document 02, Papers 6 and 7). The wanted label of a node is
+// the greatest label whose meet with the meet of all g labels over the node equals the node's label in s. The difference is refused where a
+// node has no wanted label. This crate knows graphs in words and an accepted table; it knows no reply and no record's bytes.
 
 use layout::Label;
 ghost use mathlib.Core.Path.{_≡_};
@@ -8,8 +8,8 @@ ghost use Prim.Native.Nat.{ℕ, _≤_, _<_};
 ghost use lib.ListN.{length, getD};
 ghost use Rattle.lattice.specs.Labels.{wantedLevel};
 ghost use Rattle.layout.specs.Builder.{stated};
-ghost use Rattle.difference.specs.Asked.{Asked};
-ghost use Rattle.difference.specs.Wanted.{LabelsOver, MetBy, MetLong, WantedLabelOver, WantsAll};
+ghost use Rattle.wanting.specs.Asked.{Asked};
+ghost use Rattle.wanting.specs.Wanted.{LabelsOver, MetBy, MetLong, WantedLabelOver, WantsAll};
 
 // Stores `value` in each of the first `nodes` words.
 fn clear(value: u64, nodes: usize, words: &mut [u64; 255])

@@ -3,10 +3,10 @@ use borrow.Author.Needs.{needs}
 use mathlib.Core.Path.{ap}
 use native.Mathlib.Omega.{arith}
 use Rattle.lattice.specs.Label.{Label}
-use Rattle.difference.proofs.Wanting.{Meeting, met-start, met-down-as, met-done, turn-known}
-use Rattle.difference.proofs.wanted.meet_over.Statement.{statement}
-use Rattle.difference.proofs.wanted.meet_over.Tie as tie
-use Rattle.difference.proofs.wanted.clear.Reads as clear-reads
+use Rattle.wanting.proofs.Wanting.{Meeting, met-start, met-down-as, met-done, turn-known}
+use Rattle.wanting.proofs.meet_over.Statement.{statement}
+use Rattle.wanting.proofs.meet_over.Tie as tie
+use Rattle.wanting.proofs.clear.Reads as clear-reads
 use Rattle.layout.proofs.label_at.Reads as label-at-reads
 
 abbrev Inv-loop : tie.InvT-loop

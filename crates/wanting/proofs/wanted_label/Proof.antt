@@ -3,10 +3,10 @@ use borrow.Author.Needs.{needs}
 use mathlib.Core.Path.{_∙_, ap}
 use Rattle.lattice.specs.Labels.{wantedLevel}
 use Rattle.layout.specs.Builder.{stated}
-use Rattle.difference.proofs.Wanting.{wanted-tells}
-use Rattle.difference.proofs.wanted.wanted_label.Statement.{statement}
-use Rattle.difference.proofs.wanted.wanted_label.Tie as tie
-use Rattle.difference.proofs.wanted.wanted_level.Reads as wanted-level-reads
+use Rattle.wanting.proofs.Wanting.{wanted-tells}
+use Rattle.wanting.proofs.wanted_label.Statement.{statement}
+use Rattle.wanting.proofs.wanted_label.Tie as tie
+use Rattle.wanting.proofs.wanted_level.Reads as wanted-level-reads
 use Rattle.lattice.proofs.wanted.wanted.Reads as wanted-reads
 
 cast-wanted : tie.Need-cast-wanted

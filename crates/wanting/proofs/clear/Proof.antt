@@ -2,9 +2,9 @@
 use Prim.Native.Nat.{_-_, _≤_}
 use native.Mathlib.Omega.{arith}
 use borrow.Author.Needs.{needs}
-use Rattle.difference.proofs.Wanting.{Filling, filling-next}
-use Rattle.difference.proofs.wanted.clear.Statement.{statement}
-use Rattle.difference.proofs.wanted.clear.Tie as tie
+use Rattle.wanting.proofs.Wanting.{Filling, filling-next}
+use Rattle.wanting.proofs.clear.Statement.{statement}
+use Rattle.wanting.proofs.clear.Tie as tie
 
 abbrev Inv-loop : tie.InvT-loop
 Inv-loop value nodes words₀ v₀ words v =

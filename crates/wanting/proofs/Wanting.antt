@@ -1,8 +1,8 @@
 -- Lemmas about the wanted labels. The loop of `meet_over` meets the labels of g's nodes from the last to the first, and the loop of
 -- `wanted_labels` searches once for each node of s.
-use mathlib.Core.Path.{_≡_, refl, sym, _∙_, ap, ap₂, subst}
+use mathlib.Core.Path.{_≡_, refl, sym, _∙_, ap, subst}
 use mathlib.Core.Bool.{Bool, true, false, cond}
-use mathlib.Core.List.{List, [], _∷_, List·Memᴰ, List·Memᴰ·head, List·Memᴰ·tail}
+use mathlib.Core.List.{List}
 use mathlib.Core.Option.{Option, none, some, Option·map, map-eq-some-iff}
 use Prim.Native.Nat.{ℕ, zero, suc, _+_, _-_, _*_, _≤_, _<_, min, max}
 use native.Mathlib.Decide.{ℕ-discrete}
@@ -12,7 +12,6 @@ use lib.Dec.{eqb}
 use lib.Bits.{bitAnd}
 use lib.ListN.{length, getD, set, length-set}
 use lib.Seq.{getD-set-same, getD-set-other}
-use Rattle.graphs.specs.Label.{Labels}
 use Rattle.graphs.specs.Rows.{from}
 use Rattle.graphs.specs.Difference.{meetWhere}
 use Rattle.lattice.specs.Label.{Label}
@@ -26,9 +25,8 @@ use Rattle.lattice.proofs.Restoring.{meet-word}
 use Rattle.layout.specs.Layout.{header, labelFrom, size, labelAt, Shaped}
 use Rattle.layout.specs.Builder.{putLabel}
 use Rattle.layout.proofs.Builder.{label-same, length-put, put-before, label-put}
-use Rattle.keeping.specs.Keeping.{NodeLabels}
-use Rattle.difference.specs.Asked.{Asked}
-use Rattle.difference.specs.Wanted.{LabelsOver, MetLong, MetPart, wordOf, Met, MetBy, LabelHeld, WantedLabelOver, wantedAt, Wants, WantsAll, metFrom}
+use Rattle.wanting.specs.Asked.{Asked}
+use Rattle.wanting.specs.Wanted.{LabelsOver, MetLong, MetPart, wordOf, Met, MetBy, LabelHeld, WantedLabelOver, wantedAt, Wants, WantsAll, metFrom}
 
 -- The first k words have the value.
 pub record Filling (value k : ℕ) (types : List ℕ) : Type 0 where
@@ -237,7 +235,7 @@ level-most widest p q a b = go (eqb p q)
     go false = b
 
 -- a wanted label is a label of the table
-wanted-known : (n : ℕ) (t : List ℕ) (p q c : Label) → Known n p → wantedLabel n t p q ≡ some c → Known n c
+pub wanted-known : (n : ℕ) (t : List ℕ) (p q c : Label) → Known n p → wantedLabel n t p q ≡ some c → Known n c
 unfolding wantedLabel
 wanted-known n t p q c k e =
     let (a, d, f) = map-eq-some-iff (wantedOf p q) (wanted n t (p .type) (q .type)) .0 e in
@@ -336,26 +334,3 @@ module _ {n : ℕ} {t ws s g map over lowest highest : List ℕ} where
         answers = sym (every-all (λ v. found (wantedAt n t s g map v)) (size s) λ v l. ap found (w .wants .each v (omega arith)));
         wants = λ q. record { long = w .wants .long; each = λ v l. w .wants .each v (omega arith) };
       }
-
--- wanted labels are labels of the table
-pub wants-known : {n : ℕ} {t s g map labels : List ℕ} → Asked n t g s map → Wants n t s g map (size s) labels → NodeLabels n (size s) labels
-wants-known {n} {t} {s} {g} {map} {labels} asked w =
-    record {
-      long = w .long;
-      known = λ v h.
-          wanted-known n t (labelAt s v) (metFrom n t g map 0 (size g) v) (labelFrom labels (2 * v)) (asked .lower-typed v h) (w .each v h);
-    }
-
--- The meet depends on the labels of the listed nodes alone.
-pub meetWhere-same : (𝓛 : Labels) {B : Type 0} (test : B → Bool) (label label′ : B → 𝓛 .L) (ys : List B) →
-    ((y : B) → List·Memᴰ y ys → label y ≡ label′ y) → meetWhere 𝓛 test label ys ≡ meetWhere 𝓛 test label′ ys
-unfolding meetWhere
-meetWhere-same 𝓛 test label label′ [] same = refl
-meetWhere-same 𝓛 test label label′ (y ∷ ys) same =
-    go (test y) (meetWhere-same 𝓛 test label label′ ys (λ z m. same z (List·Memᴰ·tail m)))
-  where
-    go : (b : Bool) → meetWhere 𝓛 test label ys ≡ meetWhere 𝓛 test label′ ys →
-        cond b (𝓛 .meet (label y) (meetWhere 𝓛 test label ys)) (meetWhere 𝓛 test label ys) ≡
-        cond b (𝓛 .meet (label′ y) (meetWhere 𝓛 test label′ ys)) (meetWhere 𝓛 test label′ ys)
-    go true e = ap₂ (𝓛 .meet) (same y (List·Memᴰ·head refl)) e
-    go false e = e
