@@ -6,26 +6,13 @@ use Prim.Native.Nat.{ℕ, _+_, _*_, _≤_, _<_}
 use lib.ListN.{length, getD}
 use Rattle.graphs.specs.Generalize.{both}
 use Rattle.graphs.specs.Large.{Ascending}
-use Rattle.layout.specs.Layout.{graphIn, linksBetween, longest}
+use Rattle.layout.specs.Layout.{graphIn, linksBetween}
 use Rattle.layout.specs.Builder.{Same}
-use Rattle.encode.specs.declared.Written.{Written}
-use Rattle.encode.specs.Encode.{Outcome, yielding}
-use Rattle.generalize.specs.declared.Spread.{Spread}
-use Rattle.generalize.specs.declared.Common.{Common}
-use Rattle.generalize.specs.declared.Common.the-variants as variants
+use Rattle.product.specs.declared.Spread.{Spread}
 
 -- a pair of nodes as one number
 abbrev pub codeOf : ℕ × ℕ → ℕ
 codeOf x = x .0 * 255 + x .1
-
--- the number of words that a result is built in
-abbrev pub room : ℕ
-room = longest + 64
-
--- What building in so many words leaves: the outcome; or the output as it was, if fewer than `room` words were lent.
-pub record Found (r : Common) (outcome : Outcome) (words : ℕ) (old new : List ℕ) : Type 0 where
-  pub written : (w : Written) → r ≡ variants.Written w → yielding w new ≡ outcome
-  pub too-few : r ≡ variants.TooFew → (new ≡ old) × (words < room)
 
 -- the mark of a pair that has no number
 abbrev pub clear : ℕ

@@ -1,9 +1,9 @@
 -- `enlist` meets its contract: a marked pair has a number, and any other pair gets the next one.
-use Rattle.generalize.proofs.Marking.{enlist-old, enlist-new}
+use Rattle.product.proofs.Marking.{enlist-old, enlist-new}
 use native.Mathlib.Omega.{arith}
 use borrow.Author.Needs.{needs}
-use Rattle.generalize.proofs.enlist.Statement.{statement}
-use Rattle.generalize.proofs.enlist.Tie as tie
+use Rattle.product.proofs.enlist.Statement.{statement}
+use Rattle.product.proofs.enlist.Tie as tie
 
 element-copy-out-mark : tie.Need-element-copy-out-mark
 element-copy-out-mark c = search needs

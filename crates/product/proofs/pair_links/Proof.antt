@@ -4,10 +4,10 @@ use mathlib.Core.Logic.{inl, inr}
 use Prim.Native.Nat.{_+_, _-_}
 use native.Mathlib.Omega.{arith}
 use Rattle.layout.specs.Layout.{rowEnd}
-use Rattle.generalize.proofs.Merging.{Merging, merge-start, merge-ended, merge-left, merge-right, merge-room, merge-nodes, merge-full, merge-both, merge-spreads}
+use Rattle.product.proofs.Merging.{Merging, merge-start, merge-ended, merge-left, merge-right, merge-room, merge-nodes, merge-full, merge-both, merge-spreads}
 use borrow.Author.Needs.{needs}
-use Rattle.generalize.proofs.pair_links.Statement.{statement}
-use Rattle.generalize.proofs.pair_links.Tie as tie
+use Rattle.product.proofs.pair_links.Statement.{statement}
+use Rattle.product.proofs.pair_links.Tie as tie
 
 abbrev Inv-loop : tie.InvT-loop
 Inv-loop a b u v marks₀ queue₀ words₀ a-end b-end i₀ j₀ at₀ count₀ marks queue words i j at count =

@@ -28,8 +28,8 @@ use Rattle.layout.specs.Layout.{Recorded, Sound, size, linksFrom, rowEnd, featu
 use Rattle.layout.proofs.Spans.{links-none, features-rise}
 use Rattle.layout.proofs.Places.{link-at, link-place}
 use Rattle.layout.proofs.Builder.{links-put}
-use Rattle.generalize.specs.declared.Spread.{Spread}
-use Rattle.generalize.specs.Queue.{clear, codeOf, Marked, Enlisted, common, Numbered, Matched, Adds, Full, Spreads}
+use Rattle.product.specs.declared.Spread.{Spread}
+use Rattle.product.specs.Queue.{clear, codeOf, Marked, Enlisted, common, Numbered, Matched, Adds, Full, Spreads}
 
 -- The links of a pair.
 

@@ -7,7 +7,7 @@ use native.Mathlib.Omega.{arith}
 use lib.ListN.{length, getD, set, length-set}
 use lib.Seq.{getD-set-same, getD-set-other}
 use Rattle.layout.proofs.Numbering.{number-next}
-use Rattle.generalize.specs.Queue.{clear, Marked, Enlisted}
+use Rattle.product.specs.Queue.{clear, Marked, Enlisted}
 
 -- The queue with the first pair alone.
 pub mark-root : (marks queue : List ℕ) → length marks ≡ 65025 → length queue ≡ 255 → getD queue 0 0 ≡ 0 →
