@@ -44,10 +44,11 @@ use Rattle.link_orders.specs.LinkOrders.{earlierBy}
 use Rattle.groups.specs.Marks.{Marked as MarkedBy}
 use Rattle.groups.proofs.Ordering.{earlier-by-order}
 use Rattle.reasons.specs.Explaining.{Made, Explains}
+use Rattle.wanting.specs.Asked.{Asked}
+use Rattle.wanting.specs.Wanted.{WantsAll}
 use Rattle.difference.specs.declared.Options.{Options}
-use Rattle.difference.specs.Asked.{Asked, Prepared}
+use Rattle.difference.specs.Prepared.{Prepared}
 use Rattle.difference.specs.Comparable.{Comparable}
-use Rattle.difference.specs.Wanted.{WantsAll}
 use Rattle.difference.specs.Promise.{allWantedAlong, differenceAlong}
 use Rattle.difference.specs.Difference.{allWanted, differenceRows, differed}
 use Rattle.difference.specs.Explained.{Explained, explainedResult, lengthWithReasons, withReasons, withReasonsIf, reasonsRows, differedWords, markedReply}

@@ -1,5 +1,5 @@
 -- Laws of the difference: the code's steps give the difference that the definitions describe.
-pub mod Wanting
+pub mod Labels
 pub mod Result
 pub mod Over
 pub mod Along

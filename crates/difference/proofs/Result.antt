@@ -16,7 +16,6 @@ use Rattle.graphs.specs.Number.{canonical}
 use Rattle.graphs.specs.Difference.{Link, StrictOrder, difference, bare, differ, lead, leaders, meetOver}
 use Rattle.graphs.specs.Reasons.{reasonAt, alongLinks, writtenOrder}
 use Rattle.graphs.proofs.Walk.{none-some, some-unique, reached-link}
-use Rattle.graphs.proofs.Below.{walk-map}
 use Rattle.graphs.proofs.Lists.{from-member, from-range, tells-eqb}
 use Rattle.graphs.proofs.Search.{true-false}
 use Rattle.graphs.proofs.Form.Bisimilar.{Alike, absent, present, Bisimilar}
@@ -45,12 +44,14 @@ use Rattle.cover.specs.Cover.{Lying}
 use Rattle.groups.specs.Marks.{At, Marked}
 use Rattle.groups.proofs.Leading.{at-one, one-at, at-link, link-stands, Says, follows-it, leads-covered, leads-bare, mark-says}
 use Rattle.difference.specs.Promise.{wantedAlong, differenceAlong, reasonsAlong, allWantedAlong}
-use Rattle.difference.specs.Wanted.{LabelsOver, wantedAt, Wants, WantsAll, metFrom}
+use Rattle.wanting.specs.Asked.{Asked}
+use Rattle.wanting.specs.Wanted.{wantedAt, Wants, WantsAll, metFrom}
+use Rattle.wanting.proofs.Asked.{over-inside}
 use Rattle.keeping.specs.Keeping.{Cause, Leads, several, alone, Stays, Why, isRoot, caused, untop, onward, Keeps, Markable}
 use Rattle.keeping.specs.Thinning.{Kept}
 use Rattle.reasons.specs.Explaining.{Made, Copied, Explains, reasonBy}
-use Rattle.difference.specs.Asked.{Asked, Prepared}
-use Rattle.difference.proofs.Wanting.{wants-known, meetWhere-same}
+use Rattle.difference.specs.Prepared.{Prepared}
+use Rattle.difference.proofs.Labels.{wants-known, meetWhere-same}
 use Rattle.keeping.proofs.Thinning.{rows-sound, copied-feature, copied-target}
 use Rattle.reasons.proofs.Explaining.{reason-one, reason-two, reason-three}
 
@@ -116,39 +117,20 @@ module _ {n : ℕ} {t gw sw map : List ℕ} (asked : Asked n t gw sw map) where
         };
       }
 
-  pub over-inside : (y : ℕ) → y < size gw → over y < size sw
-  over-inside y h =
-      let r = asked .upper-reached y h in
-      reached-inside s-sound (over y) (r .0, walk-map (asked .lies) (r .0) y (r .1))
-
-  -- The two graphs meet what `meet_over` requires.
-  pub asked-labels : LabelsOver n (size sw) gw map
-  asked-labels =
-      let size = accepted-size n t (asked .ok) in
-      record {
-        two = size .0;
-        few = size .1;
-        small = asked .lower .small;
-        sound = g-sound;
-        upper-small = asked .upper .small;
-        mapped = over-inside;
-        known = asked .upper-typed;
-      }
-
   pub acyclic-lower : (v : ℕ) → Reaches sw v v → ⊥
   acyclic-lower = acyclic-words s-sound n t (asked .any-size) (asked .lower-reached)
 
   pub lying-words : Lying sw gw map
   lying-words =
-      record { lower = asked .lower; upper = asked .upper; short = asked .short; mapped = over-inside; found = found }
+      record { lower = asked .lower; upper = asked .upper; short = asked .short; mapped = over-inside asked; found = found }
     where
       found : (y i : ℕ) → Place gw y i → (j : ℕ) × Place sw (over y) j × (featureAt sw j ≡ featureAt gw i)
       found y i p =
           let (j, a, b, e, _) =
-          link-place s-sound (over y) (featureAt gw i) (over (targetAt gw i)) (over-inside y (p .inside))
+          link-place s-sound (over y) (featureAt gw i) (over (targetAt gw i)) (over-inside asked y (p .inside))
           (asked .lies .links y (targetAt gw i) (featureAt gw i) (asked .upper-reached y (p .inside))
           (link-at g-sound y i (p .inside) (p .low) (p .high))) in
-          (j, record { inside = over-inside y (p .inside); low = a; high = b }, e)
+          (j, record { inside = over-inside asked y (p .inside); low = a; high = b }, e)
 
   pub markable-words : {marks keep : List ℕ} → length marks ≡ length sw → length keep ≡ 255 → Markable sw marks keep
   markable-words a b =

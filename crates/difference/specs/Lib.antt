@@ -1,6 +1,5 @@
 -- The difference that a call writes, and what its steps require and promise.
-pub mod Wanted
-pub mod Asked
+pub mod Prepared
 pub mod Promise
 pub mod Comparable
 pub mod Difference

@@ -1,8 +1,7 @@
 // The difference of g and s (document 01, "Difference"). The difference has the links of s that lead their groups and enter a kept node, and
-// kept nodes carry their wanted labels. This crate writes the record of the difference for `engine` and, if a call asks for them, the reasons
-// for the links of the difference (document 02, Paper 13). This crate knows graphs in words, an accepted table and replies; it reads no record.
-
-pub mod wanted;
+// kept nodes carry their wanted labels, which `wanting` finds. This crate writes the record of the difference for `engine` and, if a call asks
+// for them, the reasons for the links of the difference (document 02, Paper 13). This crate knows graphs in words, an accepted table and
+// replies; it reads no record.
 
 use encode::Marked;
 use link_orders::LinkOrder;
@@ -15,7 +14,7 @@ ghost use lib.ListN.{length};
 ghost use Rattle.link_orders.specs.LinkOrders.{Fitting};
 ghost use Rattle.keeping.specs.Keeping.{Markable};
 ghost use Rattle.reasons.specs.Explaining.{Copied, Made};
-ghost use Rattle.difference.specs.Asked.{Preparable};
+ghost use Rattle.difference.specs.Prepared.{Preparable};
 ghost use Rattle.difference.specs.Comparable.{Comparable};
 ghost use Rattle.difference.specs.Explained.{differedWords, explainedResult, markedReply};
 ghost use Rattle.difference.specs.Writing.{WritesRows};
@@ -73,7 +72,7 @@ fn difference_in<'a>(
     };
     let map = ordered.map;
     let mut labels = [0u16; 510];
-    if !wanted::wanted_labels(n, table, g, s, &map, &mut labels) {
+    if !wanting::wanted_labels(n, table, g, s, &map, &mut labels) {
         return Reply::NoWantedType;
     }
     groups::mark_links(s, g, &map, options.order, marks);

@@ -16,12 +16,12 @@ use Rattle.layout.specs.Layout.{Recorded, Node, header, size, labelFrom, labelA
 use Rattle.layout.specs.Builder.{Built, Open, Same, putLabel}
 use Rattle.layout.proofs.Rows.{row-at, length-rows}
 use Rattle.layout.proofs.Builder.{put-before, label-put, label-same, length-put, built-begin, built-kept, rows-kept, row-closes, closed-rows}
-use Rattle.generalize.specs.declared.Spread.{Spread}
+use Rattle.product.specs.declared.Spread.{Spread}
+use Rattle.product.specs.Queue.{clear, common, Marked, Matched, Numbered, Adds}
+use Rattle.product.proofs.Marking.{mark-root}
+use Rattle.product.proofs.Merging.{matched-on}
 use Rattle.generalize.specs.Pairs.{Joinable}
 use Rattle.generalize.specs.Product.{product}
-use Rattle.generalize.specs.Queue.{clear, common, Marked, Matched, Numbered, Adds}
-use Rattle.generalize.proofs.Marking.{mark-root}
-use Rattle.generalize.proofs.Merging.{matched-on}
 use Rattle.generalize.proofs.Sides.{pairOf, product-root, product-link, common-known}
 
 -- where the rows begin: behind the number of nodes and 256 places

@@ -1,6 +1,4 @@
 -- Laws of building the common part of two graphs.
-pub mod Marking
-pub mod Merging
 pub mod Sides
 pub mod Building
 pub mod Result

@@ -29,8 +29,9 @@ use Rattle.layout.proofs.Builder.{Orderly, Aimed, size-kept, size-rows, size-is
 use Rattle.encode.specs.Encode.{Outcome, yielding, writtenOut}
 use Rattle.encode.specs.declared.Written.{Written}
 use Rattle.encode.specs.declared.Written.the-variants as outcome
+use Rattle.product.specs.Queue.{clear, codeOf, common, Marked, Numbered, Full}
 use Rattle.generalize.specs.Product.{product, productOut}
-use Rattle.generalize.specs.Queue.{clear, codeOf, common, room, Found, Marked, Numbered, Full}
+use Rattle.generalize.specs.Found.{room, Found}
 use Rattle.generalize.specs.declared.Common.{Common}
 use Rattle.generalize.specs.declared.Common.the-variants as variants
 use Rattle.generalize.proofs.Sides.{pairOf, product-root, product-link, product-label, common-known, tells-pair}

@@ -14,8 +14,8 @@ use Rattle.graphs.proofs.Search.{both-true}
 use Rattle.lattice.specs.Labels.{joinRanged}
 use Rattle.layout.specs.Layout.{Recorded, size, labelAt, graphIn}
 use Rattle.layout.proofs.Places.{label-at, link-inside}
+use Rattle.product.specs.Queue.{common}
 use Rattle.generalize.specs.Product.{product}
-use Rattle.generalize.specs.Queue.{common}
 
 -- the pair with a number
 abbrev pub pairOf : ℕ → ℕ × ℕ

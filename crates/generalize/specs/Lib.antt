@@ -1,4 +1,4 @@
--- Joins of labels, the common part of two graphs, and the queue of pairs of nodes.
+-- Joins of labels, the common part of two graphs, and what building it leaves.
 pub mod Pairs
 pub mod Product
-pub mod Queue
+pub mod Found

@@ -5,7 +5,7 @@ use borrow.Author.Needs.{needs}
 use lib.ListN.{length-replicate, getD-replicate}
 use Rattle.lattice.proofs.Laws.{accepted-size}
 use Rattle.lattice.proofs.Lawful.{known-more}
-use Rattle.difference.proofs.Wanting.{wants-known}
+use Rattle.difference.proofs.Labels.{wants-known}
 use Rattle.difference.proofs.Result.{acyclic-lower, markable-words}
 use Rattle.difference.proofs.make.Statement.{statement}
 use Rattle.difference.proofs.make.Tie as tie

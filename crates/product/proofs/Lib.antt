@@ -1,0 +1,3 @@
+-- Laws of the queue of pairs, and of merging two rows of links.
+pub mod Marking
+pub mod Merging

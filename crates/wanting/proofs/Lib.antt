@@ -1,0 +1,3 @@
+-- Laws of the wanted labels.
+pub mod Asked
+pub mod Wanting
