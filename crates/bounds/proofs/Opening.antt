@@ -10,13 +10,14 @@ use Rattle.acceptance.specs.declared.TableFault.{TableFault}
 use Rattle.acceptance.specs.declared.TableFault.the-variants.{Bounds}
 use Rattle.acceptance.specs.declared.Opened.{Opened}
 use Rattle.acceptance.specs.declared.Opened.the-variants.{Accepted, Refused}
-use Rattle.lattice.specs.Table.{every, accepted, sideBound, boundRow, overwrite, filled}
+use Rattle.lattice.specs.Table.{every, sized, ordered, accepted, sideBound, boundRow, overwrite, filled}
 use Rattle.acceptance.specs.Reply.{opened}
 use Rattle.lattice.specs.Words.{Words, wordBound, allFound, OrderWords}
 use Rattle.lattice.proofs.Every.{true-not-false}
+use Rattle.lattice.proofs.Sizes.{size-facts}
 use Rattle.lattice.proofs.OrderLaws.{facts-ordered, rows-ordered}
 use Rattle.lattice.proofs.Rows.{overwrite-same, length-overwrite}
-use Rattle.acceptance.proofs.Acceptance.{accepted-opened, opened-accepted, table-size, table-ordered, side-bound, answer-found}
+use Rattle.acceptance.proofs.Acceptance.{accepted-opened, opened-accepted, table-ordered, side-bound, answer-found}
 use Rattle.bounds.specs.declared.Form.{Form}
 use Rattle.bounds.specs.declared.Form.the-variants as forms
 use Rattle.bounds.specs.Primes.{wordPrime}
@@ -103,14 +104,10 @@ module _ (up : Bool) (n : ℕ) (t sets : List ℕ) (cells₀ : List (List ℕ)) 
         holds = λ ok. cells-held up n t sets needed ok cells₀ cells long (fills .filled-cells ok);
       }
 
--- the words of an ordered table, read again
-pub words-ordered : (n : ℕ) (t down : List ℕ) → OrderWords n t down → (ws : List ℕ) → Words n t false ws → OrderWords n t ws
-words-ordered n t down passed ws words =
-    record {
-      size = passed .size;
-      words = words;
-      order = rows-ordered n t ws (table-size n t down passed .1) words ∙ sym (rows-ordered n t down (table-size n t down passed .1) (passed .words)) ∙ passed .order;
-    }
+-- the words of a table that passes the tests of refusals 1 and 2
+pub words-ordered : (n : ℕ) (t : List ℕ) → sized n t ≡ true → ordered n t ≡ true → (ws : List ℕ) → Words n t false ws → OrderWords n t ws
+words-ordered n t size order ws words =
+    record { size = size; words = words; order = rows-ordered n t ws (size-facts n t size .1) words ∙ order }
 
 -- The rows are an order. The answer depends on whether all bounds of one side are found.
 module _ (n : ℕ) (t down : List ℕ) (passed : OrderWords n t down) (up : Bool) (ws : List ℕ) (made : Words n t up ws) where
@@ -136,7 +133,12 @@ module _ (n : ℕ) (t down : List ℕ) (passed : OrderWords n t down) (up : Bool
 module _ (n : ℕ) (t down : List ℕ) (passed : OrderWords n t down) (up : Bool) (sets : List ℕ) where
   pub cells-needed : every n (wordPrime n down) ≡ false → setIn sets (n - 1) ≡ 0 → CellsNeeded n t sets
   cells-needed prime none =
-      record { ordered = (down, passed); other = λ ok. sym (primes-distributive n t ok down (passed .words)) ∙ prime; no-set = none }
+      record {
+        size = passed .size;
+        order = facts-ordered n t (table-ordered n t down passed);
+        other = λ ok. sym (primes-distributive n t ok down (passed .words)) ∙ prime;
+        no-set = none;
+      }
 
   -- the test of bounds refuses a table whose types are held as sets
   pub bounds-refused : false ≡ allFound n (wordBound n down) → Refused Bounds ≡ opened n t

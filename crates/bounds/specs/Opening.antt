@@ -8,8 +8,7 @@ use lib.ListN.{length}
 use Rattle.acceptance.specs.declared.TableFault.{TableFault}
 use Rattle.acceptance.specs.declared.Opened.{Opened}
 use Rattle.acceptance.specs.declared.Opened.the-variants as answers
-use Rattle.lattice.specs.Table.{accepted, sideBound, filled}
-use Rattle.lattice.specs.Words.{OrderWords}
+use Rattle.lattice.specs.Table.{sized, ordered, accepted, sideBound, filled}
 use Rattle.acceptance.specs.Reply.{opened}
 use Rattle.bounds.specs.declared.Form.{Form}
 use Rattle.bounds.specs.declared.Form.the-variants.{Refused, AsSets, AsCells}
@@ -30,7 +29,8 @@ pub record SetsHeld (up : Bool) (n : ℕ) (t sets : List ℕ) : Type 0 where
 
 -- The table passes the tests of refusals 1 and 2, and is not distributive if it is accepted. The words say that they hold no sets.
 pub record CellsNeeded (n : ℕ) (t sets : List ℕ) : Type 0 where
-  pub ordered : (down : List ℕ) × OrderWords n t down
+  pub size : sized n t ≡ true
+  pub order : ordered n t ≡ true
   pub other : accepted n t ≡ true → distributive n t ≡ false
   pub no-set : setIn sets (n - 1) ≡ 0
 

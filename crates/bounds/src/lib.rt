@@ -2,11 +2,9 @@
 // by 1, 2 or 3. After acceptance the sets or cells that the caller lends hold the bounds of one side. The crate knows tables, and
 // nothing of records.
 ghost use mathlib.Core.Path.{_≡_};
-ghost use mathlib.Core.List.{List};
-ghost use Prim.Native.Nat.{ℕ};
+ghost use mathlib.Core.Bool.{true};
 ghost use lib.ListN.{length};
-ghost use Rattle.lattice.specs.Table.{sideBound};
-ghost use Rattle.lattice.specs.Words.{OrderWords};
+ghost use Rattle.lattice.specs.Table.{sized, ordered, sideBound};
 ghost use Rattle.bounds.specs.Opening.{Chooses, Fills, Opening};
 use acceptance::Opened;
 use acceptance::TableFault;
@@ -47,7 +45,7 @@ pub fn choose(n: usize, table: &[u8], up: bool, sets: &mut [u64; sets::WORDS]) -
 // Fills the cells of an ordered table with joins for `up`, else with meets, and answers whether the table is accepted. The bounds of one
 // side are enough for refusal 3: if every two types have one on one side, every two have one on the other.
 pub fn fill(n: usize, table: &[u8], up: bool, cells: &mut [[u8; 64]; 64]) -> Opened
-    requires { ⌜ ((down : List ℕ) × OrderWords n (now table) down) ⌝ }
+    requires { ⌜ (sized n (now table) ≡ true) × (ordered n (now table) ≡ true) ⌝ }
     ensures { λ r. ⌜ Fills up n (now (table .entry)) r (now (cells .entry)) (now (cells .exit)) ⌝ }
 {
     let down = lattice::words::read_words(n, table);

@@ -1,4 +1,5 @@
 -- `fill` meets its contract: the cells hold the bounds of one side. The table is accepted where every two types have a bound.
+use Rattle.lattice.proofs.Sizes.{size-facts}
 use Rattle.acceptance.proofs.Acceptance.{table-size, up-words, side-sided}
 use mathlib.Core.Bool.{true, false}
 use Rattle.bounds.proofs.Opening.{words-ordered, fills-found}
@@ -7,10 +8,10 @@ use Rattle.bounds.proofs.fill.Statement.{statement}
 use Rattle.bounds.proofs.fill.Tie as tie
 
 read-words-requires : tie.Need-read-words-requires
-read-words-requires c κs = table-size _ _ _ (c .before .pre .1) .1
+read-words-requires c κs = size-facts _ _ (c .before .pre .0) .1
 
 turn-words-requires : tie.Need-turn-words-requires
-turn-words-requires c κs = table-size _ _ _ (c .before .before .before .before .pre .1) .1
+turn-words-requires c κs = size-facts _ _ (c .before .before .before .before .pre .0) .1
 
 fill-requires : tie.Need-fill-requires
 fill-requires c κs =

@@ -18,7 +18,7 @@ enum-told-2 : tie.Need-enum-told-2
 enum-told-2 c = search needs
 
 fill-requires : tie.Need-fill-requires
-fill-requires c κs = c .before .before .before .choose .ensures .as-cells (c .before .enum-told2 .given .1) .ordered
+fill-requires c κs = let needed = c .before .before .before .choose .ensures .as-cells (c .before .enum-told2 .given .1) in (needed .size, needed .order)
 
 returns : tie.Need-returns
 returns c =

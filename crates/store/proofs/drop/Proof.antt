@@ -24,11 +24,14 @@ returns c =
     let a = c .before .before .before .before .before .before .before .before .args in
     drop-long (a .n) (a .table .now) (c .before .before .before .«open» .ensures .answers) (a .store .now) (a .version) (c .before .enum-told .given .1) (c .if1 .taken)
 
+slice-aggregate-drop-among : tie.Need-slice-aggregate-drop-among
+slice-aggregate-drop-among c = sym (c .before .before .before .before .before .«open» .ensures .long)
+
 array-borrow-prefix-state : tie.Need-array-borrow-prefix-state
 array-borrow-prefix-state c = search needs
 
-slice-aggregate-drop-among : tie.Need-slice-aggregate-drop-among
-slice-aggregate-drop-among c = sym (blank-room _ (omega (arith, c .before .before .before .before .if1 .left)))
+slice-aggregate-drop-among-2 : tie.Need-slice-aggregate-drop-among-2
+slice-aggregate-drop-among-2 c = sym (blank-room _ (omega (arith, c .before .before .before .before .if1 .left)))
 
 drop-among-requires : tie.Need-drop-among-requires
 drop-among-requires c κs =
@@ -68,8 +71,9 @@ drop-spec =
     enum-known-opened
     enum-told
     returns
-    array-borrow-prefix-state
     slice-aggregate-drop-among
+    array-borrow-prefix-state
+    slice-aggregate-drop-among-2
     drop-among-requires
     array-share-prefix-state
     slice-aggregate-settle

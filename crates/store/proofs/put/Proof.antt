@@ -24,11 +24,14 @@ returns c =
     let a = c .before .before .before .before .before .before .before .before .before .args in
     put-long (a .n) (a .table .now) (c .before .before .before .«open» .ensures .answers) (a .store .now) (a .version) (a .bytes .now) (c .before .enum-told .given .1) (c .if1 .taken)
 
+slice-aggregate-put-among : tie.Need-slice-aggregate-put-among
+slice-aggregate-put-among c = sym (c .before .before .before .before .before .«open» .ensures .long)
+
 array-borrow-prefix-state : tie.Need-array-borrow-prefix-state
 array-borrow-prefix-state c = search needs
 
-slice-aggregate-put-among : tie.Need-slice-aggregate-put-among
-slice-aggregate-put-among c = sym (blank-room _ (omega (arith, c .before .before .before .before .if1 .left)))
+slice-aggregate-put-among-2 : tie.Need-slice-aggregate-put-among-2
+slice-aggregate-put-among-2 c = sym (blank-room _ (omega (arith, c .before .before .before .before .if1 .left)))
 
 put-among-requires : tie.Need-put-among-requires
 put-among-requires c κs =
@@ -68,8 +71,9 @@ put-spec =
     enum-known-opened
     enum-told
     returns
-    array-borrow-prefix-state
     slice-aggregate-put-among
+    array-borrow-prefix-state
+    slice-aggregate-put-among-2
     put-among-requires
     array-share-prefix-state
     slice-aggregate-settle

@@ -1,5 +1,5 @@
 -- The table is opened; then the buffer.
-use mathlib.Core.Path.{refl, _∙_}
+use mathlib.Core.Path.{refl, sym, _∙_}
 use native.Mathlib.Omega.{arith}
 use Rattle.acceptance.proofs.Acceptance.{opened-accepted}
 use Rattle.store.proofs.Opening.{read-table, read-long, read-made}
@@ -20,6 +20,9 @@ returns : tie.Need-returns
 returns c =
     let a = c .before .before .before .before .before .before .before .before .before .args in
     read-long (a .n) (a .table .now) (c .before .before .before .«open» .ensures .answers) (a .store .now) (a .version) (a .out .now) (c .before .enum-told .given .1) (c .if1 .taken)
+
+slice-aggregate-read-among : tie.Need-slice-aggregate-read-among
+slice-aggregate-read-among c = sym (c .before .before .before .before .before .«open» .ensures .long)
 
 read-among-requires : tie.Need-read-among-requires
 read-among-requires c κs =
@@ -48,6 +51,7 @@ read-spec =
     enum-known-opened
     enum-told
     returns
+    slice-aggregate-read-among
     read-among-requires
     returns-2
     same-length

@@ -15,7 +15,7 @@ use Rattle.calls.proofs.generalizing.generalize_by_cells.Statement.{sta
 use Rattle.calls.proofs.generalizing.generalize_by_cells.Tie as tie
 
 fill-requires : tie.Need-fill-requires
-fill-requires c κs = c .before .before .before .before .before .before .pre .0 .ordered
+fill-requires c κs = let needed = c .before .before .before .before .before .before .pre .0 in (needed .size, needed .order)
 
 enum-known-opened : tie.Need-enum-known-opened
 enum-known-opened c = search needs

@@ -33,6 +33,9 @@ enum-known-opened c = search needs
 enum-told : tie.Need-enum-told
 enum-told c = search needs
 
+slice-aggregate-restore-all : tie.Need-slice-aggregate-restore-all
+slice-aggregate-restore-all c = sym (c .before .before .before .before .«open» .ensures .long)
+
 sub-restore-all : tie.Need-sub-restore-all
 sub-restore-all c = omega (arith, c .before .before .before .before .before .before .before .before .end-at .ensures .whole (c .before .before .before .before .before .before .before .if2 .left))
 
@@ -79,6 +82,7 @@ unpack-spec =
     open-requires
     enum-known-opened
     enum-told
+    slice-aggregate-restore-all
     sub-restore-all
     part-restore-all-start
     part-restore-all-end
