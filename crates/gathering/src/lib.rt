@@ -1,7 +1,8 @@
 // Gathering while the session is open (document 02, Paper 4): programs are added one after another, and their common part is kept. A gathering is
 // bytes that the caller lends: the number of types, the table, the length of the common part so far, which is 0 before the first addition, the
 // written record of that common part, and room for the longest record. Bytes that hold no gathering are refused by what is wrong with them. A
-// refused call changes no byte.
+// refused call changes no byte. This crate knows the bytes of a gathering; `acceptance` and `bounds` open its table, and `record`, `engine` and
+// `orders` work on records.
 
 use acceptance::Opened;
 use record::reading::Verdict;

@@ -1,6 +1,7 @@
 // Every small graph in the order of its record's bytes (document 02, Paper 14): the call gives the next record after a listed one, and the first
 // record for no bytes. Seven numbers state a listed record (`numbers`). Each number is within a span that the numbers before it give (`spans`),
-// and raising the numbers gives the next record (`raising`).
+// and raising the numbers gives the next record (`raising`). This crate knows an accepted table, records and the list of `listed`; it computes
+// on no graph.
 
 use acceptance::Opened;
 use numbers::Numbers;
