@@ -5,7 +5,6 @@ use mathlib.Core.Bool.{Bool, true, false, cond, _&&_}
 use mathlib.Core.List.{List}
 use native.Mathlib.Omega.{arith}
 use lib.ListN.{length, getD}
-use Rattle.acceptance.specs.declared.TableFault.{TableFault}
 use Rattle.acceptance.specs.declared.TableFault.the-variants.{Size, Order, Bounds}
 use Rattle.acceptance.specs.declared.Opened.{Opened}
 use Rattle.acceptance.specs.declared.Opened.the-variants.{Accepted, Refused}

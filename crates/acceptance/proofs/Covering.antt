@@ -17,7 +17,7 @@ use Rattle.lattice.specs.Table.{every, found}
 use Rattle.lattice.specs.Words.{bit, without, strictly, Under, holder, wordBound, allFound, Sided, Inside, Lower, Covered, BoundsWith, BoundsWithin}
 use Rattle.lattice.proofs.Every.{and-left, and-right, every-all, every-none, every-fails, below-or-not, true-not-false, found-some, last-passes, last-found}
 use Rattle.lattice.proofs.BoundLaws.{bound-turned}
-use Rattle.lattice.proofs.Bits.{bits-same, no-bit, and-bit, without-bit, cleared-bit, cleared-less, without-less, one-bit, or-bit}
+use Rattle.lattice.proofs.Bits.{bits-same, no-bit, and-bit, without-bit, cleared-bit, cleared-less, one-bit, or-bit}
 
 pub strictly-under : (ws : List ℕ) (i j : ℕ) → bit (strictly ws i) j ≡ true → Under ws i j
 strictly-under ws i j e =
@@ -313,9 +313,6 @@ module _ {n : ℕ} {ws : List ℕ} (low : Lower n ws) {i : ℕ} (li : i < n) whe
   module _ {left word : ℕ} (t : Taking n ws i left word) (c : ℕ) (small : c < 64) (stands : bit left c ≡ true) where
     taken : c < n
     taken = low .sided .inside i c li small (t .left-part c stands .below)
-
-    pub take-less : without left (getD ws c 0) < left
-    take-less = without-less left (getD ws c 0) c stands (low .sided .own c taken)
 
     one-more : (j : ℕ) → bit (bitOr (without word (getD ws c 0)) (2 ^ c)) j ≡ ((bit word j && not (bit (getD ws c 0) j)) || eqb j c)
     one-more j =

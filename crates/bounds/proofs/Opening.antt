@@ -4,7 +4,6 @@ use mathlib.Core.Path.{_≡_, refl, sym, ap, _∙_}
 use mathlib.Core.Bool.{Bool, true, false, cond}
 use mathlib.Core.List.{List, []}
 use lib.ListN.{length}
-use mathlib.Core.Option.{Option}
 use native.Mathlib.Omega.{arith}
 use Rattle.acceptance.specs.declared.TableFault.{TableFault}
 use Rattle.acceptance.specs.declared.TableFault.the-variants.{Bounds}

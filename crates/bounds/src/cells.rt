@@ -10,7 +10,7 @@ ghost use Rattle.lattice.specs.Words.{wordBound, allFound, Sided};
 ghost use Rattle.bounds.specs.Cells.{Columns};
 
 // The bound of types a and b, or 64 where there is none. Fast paths: the end bit's type, a, or b.
-pub fn bound(words: &[u64; 64], low: bool, a: usize, b: usize) -> u8
+fn bound(words: &[u64; 64], low: bool, a: usize, b: usize) -> u8
     requires { ⌜ (a < 64) × (b < 64) ⌝ }
     ensures { λ r. ⌜ ((n : ℕ) → n ≤ 64 → Sided n (now (words .entry)) → a < n → b < n → r ≡ cell (wordBound n (now (words .entry)) a b)) ⌝ }
 {

@@ -1,6 +1,6 @@
 -- The definition of an operation with a list or without one gives both calls: the call with a list of types for features, and the call without
 -- one, for which the list is empty.
-use mathlib.Core.Path.{_≡_, refl, sym, _∙_, ap, ap₂}
+use mathlib.Core.Path.{_≡_, refl, ap, ap₂}
 use mathlib.Core.Bool.{Bool, true, false, cond}
 use mathlib.Core.List.{List}
 use mathlib.Core.Logic.{_⊎_, inl, inr}

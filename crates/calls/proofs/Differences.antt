@@ -14,7 +14,7 @@ use Rattle.replies.specs.declared.Reply.{Reply}
 use Rattle.replies.specs.declared.Reply.the-variants.{Table, ReadingOrder}
 use Rattle.replies.specs.Reply.{Result, resulting, refusing}
 use Rattle.engine.specs.Differing.{parting, reasonsOf}
-use Rattle.calls.specs.Calls.{differing, differingBy}
+use Rattle.calls.specs.Calls.{differing}
 use Rattle.calls.specs.Explained.{explaining, explainingBy, differingWith, differingByWith}
 use Rattle.calls.proofs.Tables.{table-refused, table-accepted}
 use Rattle.calls.proofs.Listed.{table-before-list, list-refused, list-passed, differing-checked}

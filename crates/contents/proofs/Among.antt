@@ -7,7 +7,6 @@ use Prim.Native.Nat.{ℕ, zero, suc, _+_, _-_, _*_, _≤_, _<_}
 use native.Mathlib.Nat.{zero-add}
 use native.Mathlib.Omega.{arith}
 use borrow.Author.Tests.{le-leb, lt-leb, lt-ltb, le-ltb}
-use lib.Dec.{ltb, leb}
 use lib.ListN.{length, take, drop, getD, set, List·getD-eq-default, length-drop}
 use lib.Seq.{paste, take-length, set-split, take-set-le, getD-set-same, getD-drop}
 use Rattle.encode.specs.declared.Written.the-variants as outcome
@@ -21,7 +20,7 @@ use Rattle.replies.specs.Reply.{Result, resulting, resultOf, lengthOf, Bounded}
 use Rattle.gathering.specs.Gathering.{lengthAt}
 use Rattle.gathering.proofs.Told.{none-some}
 use Rattle.versions.specs.State.{Made, made, stopped, andThen, takenBy, taken, Programs, emptyState, wayFrom, way, unpacked, held}
-use Rattle.versions.specs.Slots.{measuredIn, programsIn, slotAt, Slotted}
+use Rattle.versions.specs.Slots.{measuredIn, programsIn, Slotted}
 use Rattle.versions.specs.Promise.{onwardBy, onward, NoneFrom, Puts}
 use Rattle.versions.proofs.Lengths.{none-bounded, none-taken}
 use Rattle.versions.proofs.SlotLaws.{programs-length, program-at, slot-none, slot-some, recordAt, record-length, put-slot}

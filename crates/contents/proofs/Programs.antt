@@ -1,12 +1,11 @@
 -- The program of a put: its refusals, as those of the second graph, and its written record.
-use mathlib.Core.Path.{_≡_, refl, sym, _∙_, ap}
-use mathlib.Core.Bool.{Bool, true, cond}
+use mathlib.Core.Path.{_≡_, sym, _∙_, ap}
+use mathlib.Core.Bool.{Bool, cond}
 use mathlib.Core.List.{List, [], _++_}
-use mathlib.Core.Option.{some}
 use Prim.Native.Nat.{ℕ, _+_, _-_, _≤_}
 use native.Mathlib.Omega.{arith}
 use borrow.Author.Tests.{le-leb}
-use lib.Dec.{eqb, leb}
+use lib.Dec.{eqb}
 use lib.ListN.{length, take, drop, length-append, length-drop}
 use lib.Seq.{take-append-seam, length-take-le}
 use Rattle.graphs.specs.Rows.{Row}
@@ -18,8 +17,8 @@ use Rattle.encode.specs.Encode.{yielding, fitted, writtenOut}
 use Rattle.encoder.proofs.Lengths.{longest}
 use Rattle.record.specs.declared.GraphFault.{GraphFault}
 use Rattle.record.specs.declared.reading.Verdict.{Verdict}
-use Rattle.record.specs.declared.reading.Verdict.the-variants.{Accepted, Refused}
-use Rattle.record.specs.Read.{Reading, refused, accepted, reading, graphOfRows}
+use Rattle.record.specs.declared.reading.Verdict.the-variants.{Refused}
+use Rattle.record.specs.Read.{Reading, accepted, reading, graphOfRows}
 use Rattle.record.specs.Reads.{Reads}
 use Rattle.record.proofs.Accepted.{accepted-rules}
 use Rattle.record.proofs.Theorems.{accepted-fits, written-accepted}
@@ -30,7 +29,7 @@ use Rattle.replies.specs.declared.Reply.the-variants.{Length, Graph}
 use Rattle.replies.specs.Reply.{Result, resulting, resultOf}
 use Rattle.pairs.proofs.Readings.{told-refused}
 use Rattle.engine.specs.Rewriting.{rewrittenRows}
-use Rattle.versions.specs.State.{Made, made, taken}
+use Rattle.versions.specs.State.{made, taken}
 use Rattle.contents.specs.Contents.{onProgram}
 use Rattle.contents.specs.Promise.{Programmed}
 

@@ -15,7 +15,7 @@ pub const NONE: u16 = 0xFFFF;
 
 // Notes that a link of g over place j enters z. If place j has no owner, z becomes its owner; else the classes of the owner and of z
 // become one.
-pub fn own(owner: &mut [u16], parent: &mut [u16; 510], j: usize, z: u16)
+fn own(owner: &mut [u16], parent: &mut [u16; 510], j: usize, z: u16)
     requires { ⌜ j < length (now owner) ⌝ }
     requires { ⌜ ((nodes : ℕ) × Forest nodes (now parent) × (z < nodes) × ((getD (now owner) j 0 ≡ 65535 → ⊥) → getD (now owner) j 0 < nodes)) ⌝ }
     ensures { λ _. ⌜ Owns (now (owner .entry)) (now (parent .entry)) j z (now (owner .exit)) (now (parent .exit)) ⌝ }

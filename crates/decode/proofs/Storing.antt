@@ -23,9 +23,9 @@ use Rattle.layout.proofs.Spans.{links-none}
 use Rattle.layout.proofs.Builder.{same-before, same-trans, label-same, length-put, put-before, label-put, links-put, built-kept, rows-kept, built-begin, row-closes, closed-rows, built-shaped}
 use Rattle.decode.specs.declared.rows.RowEnd.{RowEnd}
 use Rattle.decode.specs.declared.rows.RowEnd.the-variants.{At, Short}
-use Rattle.decode.specs.Answers.{Held, Parses, Roomy}
+use Rattle.decode.specs.Answers.{Parses, Roomy}
 use Rattle.decode.specs.Decode.{Taken, changed, takeTarget, takeRow, takeRows, whole, decoded}
-use Rattle.decode.specs.Storing.{RowsFit, Stored, Took, TookLinks, TookRow, rowBetween}
+use Rattle.decode.specs.Storing.{RowsFit, Stored, Took, rowBetween}
 use Rattle.decode.specs.Word.{takeWord}
 use Rattle.decode.proofs.Decoded.{are-bytes, decoded-says, decoded-orderly}
 use Rattle.decode.proofs.Labels.{label-known}

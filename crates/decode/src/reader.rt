@@ -34,7 +34,7 @@ fn wide(x: u8) -> u64
 }
 
 // The feature map at a place, bit f for feature f.
-pub fn map_at(bytes: &[u8], at: usize) -> u64
+fn map_at(bytes: &[u8], at: usize) -> u64
     requires { ⌜ at + 8 ≤ length (now bytes) ⌝ }
     ensures { λ r. ⌜ r ≡ wordOf 8 (drop at (now (bytes .entry))) ⌝ }
 {
@@ -48,7 +48,7 @@ pub fn map_at(bytes: &[u8], at: usize) -> u64
 }
 
 // The byte at a place, or the end.
-pub fn byte_at(bytes: &[u8], at: usize) -> Step
+fn byte_at(bytes: &[u8], at: usize) -> Step
     ensures { λ r. ⌜ r ≡ byteStep (now (bytes .entry)) at ⌝ }
 {
     if bytes.len() <= at {
@@ -58,7 +58,7 @@ pub fn byte_at(bytes: &[u8], at: usize) -> Step
 }
 
 // The feature map at a place, or `Cut` where fewer than eight bytes are left.
-pub fn whole_map_at(bytes: &[u8], at: usize) -> MapStep
+fn whole_map_at(bytes: &[u8], at: usize) -> MapStep
     ensures { λ r. ⌜ r ≡ mapStep (now (bytes .entry)) at ⌝ }
 {
     if bytes.len() <= at {
@@ -71,14 +71,14 @@ pub fn whole_map_at(bytes: &[u8], at: usize) -> MapStep
 }
 
 // Takes the next byte.
-pub fn byte<'a>(r: Reader<'a>) -> Step
+fn byte<'a>(r: Reader<'a>) -> Step
     ensures { λ s. ⌜ s ≡ byteStep (now (r .entry .bytes)) (r .entry .next) ⌝ }
 {
     byte_at(r.bytes, r.next)
 }
 
 // Takes the next feature map.
-pub fn map<'a>(r: Reader<'a>) -> MapStep
+fn map<'a>(r: Reader<'a>) -> MapStep
     ensures { λ s. ⌜ s ≡ mapStep (now (r .entry .bytes)) (r .entry .next) ⌝ }
 {
     whole_map_at(r.bytes, r.next)

@@ -31,7 +31,7 @@ pub enum LabelStep {
 }
 
 // Takes the label at a byte: the type, and where its bit 7 is set the lowest and the highest level.
-pub fn take_label(bytes: &[u8], start: usize) -> LabelStep
+fn take_label(bytes: &[u8], start: usize) -> LabelStep
     ensures { λ r. ⌜ r ≡ labelStep (now (bytes .entry)) start ⌝ }
 {
     let step = byte_from(bytes, start);
@@ -63,7 +63,7 @@ pub fn take_label(bytes: &[u8], start: usize) -> LabelStep
 }
 
 // Takes a target byte for each set bit of the map, lowest first, and stores the links from place `at` on, all below place `limit`.
-pub fn take_links(
+fn take_links(
     bytes: &[u8],
     map: u64,
     start: usize,
@@ -94,7 +94,7 @@ pub fn take_links(
 }
 
 // Takes the row that begins at byte `start`, and stores it from place `at` on, its links below place `limit`.
-pub fn take_row(bytes: &[u8], start: usize, graph: &mut [u16], at: usize, limit: usize) -> RowEnd
+fn take_row(bytes: &[u8], start: usize, graph: &mut [u16], at: usize, limit: usize) -> RowEnd
     requires { ⌜ RowsFit (now bytes) start (at + header) limit (now graph) ⌝ }
     ensures { λ r. ⌜ TookRow (now (bytes .entry)) start at limit (now (graph .entry)) r (now (graph .exit)) ⌝ }
 {

@@ -3,13 +3,11 @@ use mathlib.Core.Path.{_≡_, refl, sym, _∙_, ap, ap₂}
 use mathlib.Core.Bool.{Bool, true, false, cond}
 use mathlib.Core.List.{List, [], _++_}
 use mathlib.Core.Option.{Option, none}
-use Prim.Native.Nat.{ℕ, _≤_, _<_}
+use Prim.Native.Nat.{ℕ, _≤_}
 use native.Mathlib.Omega.{arith}
 use lib.Dec.{eqb, leb}
 use lib.ListN.{length, getD, take, drop, replicate, length-replicate}
 use lib.Seq.{length-take-le}
-use Rattle.graphs.specs.Graph.{Reached}
-use Rattle.graphs.specs.Rows.{Row}
 use Rattle.graphs.specs.Number.{Canonical, canonical, manyNodes, manyLinks, written as canonicalRows}
 use Rattle.graphs.specs.Order.{subsumes}
 use Rattle.graphs.specs.Difference.{Link}
@@ -18,10 +16,8 @@ use Rattle.graphs.proofs.Search.{true-false}
 use Rattle.graphs.proofs.Below.{map-below}
 use Rattle.lattice.specs.Label.{Label}
 use Rattle.lattice.specs.Labels.{tableLabels}
-use Rattle.lattice.proofs.Lawful.{known-more}
 use Rattle.lattice.proofs.Laws.{accepted-size}
-use Rattle.layout.specs.Layout.{Recorded, size, graphIn, rowsOf}
-use Rattle.layout.proofs.Rows.{length-rows}
+use Rattle.layout.specs.Layout.{Recorded, graphIn, rowsOf}
 use Rattle.encoder.specs.Encode.{encoded}
 use Rattle.encode.specs.declared.Written.{Written}
 use Rattle.encode.specs.declared.Written.the-variants as outcome
@@ -29,7 +25,7 @@ use Rattle.encode.specs.declared.Marked.{Marked}
 use Rattle.encode.specs.declared.Marked.the-variants as marked
 use Rattle.encode.specs.Encode.{fitted, writtenOut, yielding}
 use Rattle.encode.specs.Marks.{Noted, noting, fittedBoth, markedOut, marksAlong}
-use Rattle.record.proofs.Accepted.{Rules, accepted-rules, rules-of-any-size}
+use Rattle.record.proofs.Accepted.{rules-of-any-size}
 use Rattle.record.specs.Reads.{Loaded}
 use Rattle.record.proofs.Loaded.{loaded-rules, loaded-reached, loaded-recorded}
 use Rattle.record.proofs.Ordered.{order-test}

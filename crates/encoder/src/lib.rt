@@ -65,7 +65,7 @@ fn put_label(label: Label, at: usize, out: &mut [u8]) -> usize
 }
 
 // Writes the row of node v from a place on: the label, the feature map and the targets' numbers. Answers the next place.
-pub fn encode_row<'a>(
+fn encode_row<'a>(
     graph: &'a [u16],
     numbers: &'a [u16; 510],
     v: usize,
@@ -97,7 +97,7 @@ pub fn encode_row<'a>(
 }
 
 // Writes the eight bytes of a feature map from a place on, lowest byte first.
-pub fn put_map(map: u64, at: usize, out: &mut [u8])
+fn put_map(map: u64, at: usize, out: &mut [u8])
     requires { ⌜ at + 8 ≤ length (now out) ⌝ }
     ensures { λ r. ⌜ now (out .exit) ≡ sets (now (out .entry)) at (lowBytes 8 map) ⌝ }
 {

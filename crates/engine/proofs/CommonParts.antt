@@ -1,6 +1,6 @@
 -- The code makes the common part by the joins that the words and cells hold. These are the joins of the accepted table, so the result is the one
 -- that is defined.
-use mathlib.Core.Path.{_≡_, refl, sym, _∙_, ap}
+use mathlib.Core.Path.{_≡_, refl, _∙_, ap}
 use mathlib.Core.Bool.{true}
 use mathlib.Core.List.{List}
 use Prim.Native.Nat.{ℕ}

@@ -3,7 +3,7 @@
 use mathlib.Core.Path.{_≡_, refl, sym, _∙_, ap, ap₂, subst}
 use mathlib.Core.Bool.{Bool}
 use mathlib.Core.List.{List, [], List·Memᴰ}
-use Prim.Native.Nat.{ℕ, _≤_, _<_}
+use Prim.Native.Nat.{ℕ, _<_}
 use native.Mathlib.Omega.{arith}
 use lib.Dec.{eqb}
 use Rattle.graphs.specs.Rows.{Row}
@@ -33,7 +33,7 @@ use Rattle.pairs.specs.declared.PairVerdict.{PairVerdict}
 use Rattle.pairs.specs.declared.PairVerdict.the-variants as pair
 use Rattle.pairs.specs.Pair.{ReadsBoth}
 use Rattle.pairs.proofs.Readings.{both-next, both-refused}
-use Rattle.engine.specs.Differing.{ReadsNumbered, parting, partingWith, reasonsOf}
+use Rattle.engine.specs.Differing.{ReadsNumbered, partingWith, reasonsOf}
 
 -- The words hold the written form of the graph with these rows, and its record is accepted.
 pub record Renumbered (n : ℕ) (rows : List (Row Label)) (ws : List ℕ) : Type 0 where

@@ -13,7 +13,7 @@ use Rattle.record.specs.Reads.{ReadsAs}
 use Rattle.replies.specs.declared.Side.the-variants.{First}
 use Rattle.replies.specs.declared.Reply.{Reply}
 use Rattle.replies.specs.declared.Reply.the-variants.{Graph}
-use Rattle.replies.specs.Reply.{Result, resulting, replyOf, resultOf}
+use Rattle.replies.specs.Reply.{resulting, replyOf, resultOf}
 use Rattle.pairs.proofs.Readings.{told-refused, told-accepted}
 use Rattle.engine.specs.Rewriting.{rewritten, rewrittenRows}
 

@@ -32,7 +32,6 @@ use Rattle.encode.specs.declared.Written.the-variants as outcome
 use Rattle.product.specs.Queue.{clear, codeOf, common, Marked, Numbered, Full}
 use Rattle.generalize.specs.Product.{product, productOut}
 use Rattle.generalize.specs.Found.{room, Found}
-use Rattle.generalize.specs.declared.Common.{Common}
 use Rattle.generalize.specs.declared.Common.the-variants as variants
 use Rattle.generalize.proofs.Sides.{pairOf, product-root, product-link, product-label, common-known, tells-pair}
 use Rattle.generalize.proofs.Building.{Building, base, joined-known, pair-numbered, link-reached, pairs-reached}

@@ -14,7 +14,6 @@ pub mod Wanted
 pub mod Restores
 pub mod MostGeneral
 pub mod Consequences
-pub mod Unique
 pub mod Agree
 pub mod Computed
 pub mod Relations

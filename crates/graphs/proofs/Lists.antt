@@ -27,6 +27,7 @@ use mathlib.Core.List.{
 use mathlib.Core.Logic.{_⊎_, inl, inr, ⊎-elim}
 use Prim.Native.Nat.{ℕ, zero, suc, _+_, _≤_, _<_, zero-le}
 use native.Mathlib.Decide.{ℕ-discrete}
+use native.Mathlib.Nat.{add-zero, suc-add, add-suc}
 use native.Mathlib.Omega.{arith}
 use borrow.Author.Tests.{eqb-true, eq-eqb}
 use lib.Dec.{eqb}
@@ -56,6 +57,13 @@ pub length-from : (f k : ℕ) → length (from f k) ≡ k
 unfolding from
 length-from f zero = refl
 length-from f (suc k) = ap suc (length-from (suc f) k)
+
+-- what a function makes of the numbers in a row, at a place
+pub getD-from : {X : Type 0} (g : ℕ → X) (d : X) (n k i : ℕ) → i < n → getD (map g (from k n)) i d ≡ g (k + i)
+unfolding from
+getD-from g d zero k i h = absurd (omega arith)
+getD-from g d (suc n) k zero h = ap g (sym (add-zero k))
+getD-from g d (suc n) k (suc i) h = getD-from g d n (suc k) i (omega arith) ∙ ap g (suc-add k i ∙ sym (add-suc k i))
 
 -- every feature is listed
 pub mem-features : (f : ℕ) → f < 64 → List·Memᴰ f features

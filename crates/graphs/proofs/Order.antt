@@ -11,6 +11,7 @@ use native.Mathlib.Omega.{arith}
 use lib.ListN.{length}
 use Rattle.graphs.specs.Label.{Labels}
 use Rattle.graphs.specs.Graph.{Graph, TellsApart, follow, walk, Reached, Below}
+use Rattle.graphs.specs.Relations.{LiesOver}
 use Rattle.graphs.specs.Rows.{features}
 use Rattle.graphs.specs.Generalize.{both, generalizationBy, generalization}
 use Rattle.graphs.specs.Order.{allOf, meetings, there, fitsAt, sharesAt, subsumes}
@@ -54,7 +55,7 @@ module _ (𝓛 : Labels) {A B : Type 0} (sameA : A → A → Bool) (sameB : B �
     (short : (p : List ℕ) (v : B) → walk g p ≡ some v → length p < k) where
   -- one path leads to both nodes of the pair
   abbrev pub Together : A × B → Type 0
-  Together x = (p : List ℕ) × (walk s p ≡ some (x .0)) × (walk g p ≡ some (x .1))
+  Together x = LiesOver g s (x .0) (x .1)
 
   pub listed-together : (x : A × B) → List·Memᴰ x (meetings s g k) → Together x
   unfolding generalizationBy

@@ -61,7 +61,7 @@ fn mark_place<'a>(
 }
 
 // Marks the links of s, given the owner of each link, the classes of the owners and the rank of each feature.
-pub fn mark<'a>(
+fn mark<'a>(
     s: &'a [u16],
     owner: &'a [u16],
     parent: &'a [u16; 510],

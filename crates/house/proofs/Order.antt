@@ -1,14 +1,13 @@
 -- The type table states the order by grades, is accepted, has the lessers as its meets, and admits differences.
-use Prim.Native.Nat.{ℕ, _+_, _*_, _-_, _/_, _%_, _^_, _<_, _≤_}
-use mathlib.Core.Path.{_≡_, refl, sym, ap, subst, _∙_}
-use mathlib.Core.Bool.{Bool, true, false, _&&_}
-use mathlib.Core.Option.{Option, some}
+use Prim.Native.Nat.{ℕ, _+_, _*_, _-_, _/_, _%_, _<_}
+use mathlib.Core.Path.{_≡_, sym, ap, subst, _∙_}
+use mathlib.Core.Bool.{true, false, _&&_}
+use mathlib.Core.Option.{some}
 use native.Mathlib.Omega.{arith}
 use lib.ListN.{length, getD}
-use lib.Dec.{leb, eqb}
 use borrow.Author.Tests.{eq-eqb}
-use Rattle.lattice.specs.Table.{every, found, implies, below, sized, ordered, bounded, accepted, isMeet, isJoin, meet, join, residual, admits}
-use Rattle.lattice.specs.Words.{word, bit}
+use Rattle.lattice.specs.Table.{found, below, sized, ordered, bounded, accepted, isMeet, meet, join, residual, admits}
+use Rattle.lattice.specs.Words.{bit}
 use Rattle.lattice.proofs.Bits.{bit-word}
 use Rattle.lattice.proofs.Every.{and-left, and-right, and-both, implies-from, every-all, last-found}
 use Rattle.lattice.proofs.OrderLaws.{Ordered, facts-ordered}

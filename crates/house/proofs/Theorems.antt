@@ -9,7 +9,7 @@ use native.Mathlib.Omega.{arith}
 use lib.ListN.{length, getD}
 use Rattle.lattice.specs.Table.{below, accepted, meet, admits, filled}
 use Rattle.lattice.proofs.Laws.{Meet, meets-cell}
-use Rattle.house.specs.House.{first, second, third, less, lesser, under, entryOf, meets, houseTable}
+use Rattle.house.specs.House.{lesser, under, entryOf, meets, houseTable}
 use Rattle.house.proofs.Entries.{getD-listed}
 use Rattle.house.proofs.Grades.{IsLesser, lesser-grades}
 use Rattle.house.proofs.Order.{table-below, table-accepted, table-meet, table-admits}

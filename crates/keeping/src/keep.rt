@@ -57,7 +57,7 @@ pub fn keep_entered<'a>(s: &'a [u16], marks: &'a [u8], keep: &mut [u8; 255])
 }
 
 // Keeps the nodes whose wanted label is not top.
-pub fn keep_labelled<'a>(
+fn keep_labelled<'a>(
     n: usize,
     table: &'a [u8],
     nodes: usize,
@@ -95,7 +95,7 @@ pub fn is_kept<'a>(s: &'a [u16], marks: &'a [u8], keep: &'a [u8; 255], k: usize)
 }
 
 // Whether a link between two places is kept.
-pub fn has_kept_link<'a>(
+fn has_kept_link<'a>(
     s: &'a [u16],
     marks: &'a [u8],
     keep: &'a [u8; 255],
@@ -117,7 +117,7 @@ pub fn has_kept_link<'a>(
 }
 
 // Keeps the nodes that a kept link leaves. The order goes through the nodes with targets first.
-pub fn keep_parents<'a>(s: &'a [u16], marks: &'a [u8], order: &'a [u16; 510], keep: &mut [u8; 255])
+fn keep_parents<'a>(s: &'a [u16], marks: &'a [u8], order: &'a [u16; 510], keep: &mut [u8; 255])
     requires { ⌜ Markable (now s) (now marks) (now keep) × Sorted (now s) (now order) × (length (now order) ≡ 510) ⌝ }
     ensures { λ _. ⌜ Settled (λ v. Unit {0}) (now (s .entry)) (now (marks .entry)) (now (keep .entry)) (now (keep .exit)) ⌝ }
 {

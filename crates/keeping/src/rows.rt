@@ -9,7 +9,7 @@ ghost use Rattle.keeping.specs.Keeping.{Markable};
 ghost use Rattle.keeping.specs.Thinning.{Kept, Thinned};
 
 // Copies the kept links of node v to the words from `at` on. Answers the next place.
-pub fn keep_row<'a>(
+fn keep_row<'a>(
     s: &'a [u16],
     marks: &'a [u8],
     keep: &'a [u8; 255],

@@ -1,7 +1,7 @@
 -- This file is about labels without ranges: types with the full range have the order, meets, joins, greatest label, contradiction and wanted
 -- labels of the types alone, and graphs with such labels have the results of the graphs of types. "Records without ranges must give the bytes
 -- they gave before" (document 02, Paper 7) rests on this. For the types of a table, `withRanges` gives `tableLabels`.
-use Prim.Native.Nat.{ℕ, _<_}
+use Prim.Native.Nat.{ℕ}
 use mathlib.Core.Path.{_≡_, refl, ap, fun-ext}
 use mathlib.Core.Bool.{Bool, true, false, _&&_, _||_}
 use mathlib.Core.List.{List, [], map}
@@ -9,7 +9,7 @@ use mathlib.Core.Logic.{_↔_}
 use mathlib.Core.Option.{Option·map}
 use lib.ListN.{List·getD-map}
 use Rattle.graphs.specs.Label.{Labels}
-use Rattle.graphs.specs.Graph.{Graph, Reached, Below, SameMeaning, AnySize}
+use Rattle.graphs.specs.Graph.{Graph, Below, AnySize}
 use Rattle.graphs.specs.Rows.{Row, target, graphOf}
 use Rattle.graphs.specs.Number.{canonical}
 use Rattle.graphs.specs.Order.{subsumes}
@@ -18,20 +18,9 @@ use Rattle.graphs.specs.Unify.{unification}
 use Rattle.graphs.specs.Difference.{Link, difference, meetOver}
 use Rattle.lattice.specs.Label.{Ranged, Label, plain, graphOfRows}
 use Rattle.lattice.specs.Table.{wanted}
-use Rattle.lattice.specs.Labels.{typeLabels, withRanges, OfAnySize, wantedLabel}
-use Rattle.lattice.proofs.Lawful.{plain-known}
+use Rattle.lattice.specs.Labels.{withRanges, wantedLabel}
 use Rattle.lattice.proofs.Relabel.{relabel, relabelRow, relabelForm, relabelUnified, canonical-relabel}
-use Rattle.lattice.proofs.Embedding.{
-  Embedding,
-  below-embedded,
-  subsumes-embedded,
-  meaning-embedded,
-  any-size-embedded,
-  generalization-embedded,
-  unification-embedded,
-  meetOver-embedded,
-  difference-embedded,
-}
+use Rattle.lattice.proofs.Embedding.{Embedding, below-embedded, subsumes-embedded, any-size-embedded, generalization-embedded, unification-embedded, meetOver-embedded, difference-embedded}
 
 -- the full range lies inside the full range, and is not empty
 and-true : (b : Bool) → b && true && true ≡ b
@@ -72,9 +61,6 @@ module _ (𝓣 : Labels) where
   module _ {A B : Type 0} (s : Graph (𝓣 .L) A) (g : Graph (𝓣 .L) B) where
     pub below-plain : Below 𝓣 s g ↔ Below (withRanges 𝓣) (relabel plain s) (relabel plain g)
     below-plain = below-embedded plain-embedding
-
-    pub meaning-plain : SameMeaning 𝓣 s g ↔ SameMeaning (withRanges 𝓣) (relabel plain s) (relabel plain g)
-    meaning-plain = meaning-embedded plain-embedding
 
     pub generalization-plain : generalization (withRanges 𝓣) (relabel plain s) (relabel plain g) ≡ relabel plain (generalization 𝓣 s g)
     generalization-plain = generalization-embedded plain-embedding s g
@@ -118,11 +104,6 @@ rows-plain rows =
 -- Over a table.
 
 module _ (n : ℕ) (t : List ℕ) where
-  pub of-any-size-plain : {A : Type 0} (g : Graph ℕ A) → AnySize (typeLabels n t) g → ((v : A) → Reached g v → g .label v < n) →
-      OfAnySize n t (relabel plain g)
-  of-any-size-plain g size below =
-      record { any-size = any-size-plain (typeLabels n t) g .0 size; typed = λ v r. plain-known n (g .label v) (below v r) }
-
   -- the wanted label of types is the wanted type
   pub wanted-plain : (p q : ℕ) → wantedLabel n t (plain p) (plain q) ≡ Option·map plain (wanted n t p q)
   unfolding wantedLabel

@@ -21,6 +21,10 @@ both-ways : (b : Bool) → (b && not b) ≡ false
 both-ways true = refl
 both-ways false = refl
 
+and-with-true : (b : Bool) → (b && true) ≡ b
+and-with-true true = refl
+and-with-true false = refl
+
 module _ (word j : ℕ) (old : List ℕ) where
   -- before the first bit
   pub spread-begin : length old ≡ 64 → Spread word j old word old
@@ -61,21 +65,13 @@ module _ (word j : ℕ) (old : List ℕ) where
         go k s (no other) =
             getD-set-other new i k v 0 other ∙ so-far .spread k s ∙
             sym (ap (λ (b : Bool). digit (bit word k && not b) * 2 ^ j + getD old k 0)
-            (cleared-bit left i k ∙ ap (λ (b : Bool). bit left k && not b) (ne-eqb k i other) ∙ and-true (bit left k)))
-          where
-            and-true : (b : Bool) → (b && true) ≡ b
-            and-true true = refl
-            and-true false = refl
+            (cleared-bit left i k ∙ ap (λ (b : Bool). bit left k && not b) (ne-eqb k i other) ∙ and-with-true (bit left k)))
 
 -- after the last bit
 pub spread-end : (word j : ℕ) (old new : List ℕ) → Spread word j old 0 new → (i : ℕ) → i < 64 → getD new i 0 ≡ digit (bit word i) * 2 ^ j + getD old i 0
 spread-end word j old new done i l =
     done .spread i l ∙
-    ap (λ (b : Bool). digit b * 2 ^ j + getD old i 0) (ap (λ (b : Bool). bit word i && not b) (no-bit i) ∙ and-true (bit word i))
-  where
-    and-true : (b : Bool) → (b && true) ≡ b
-    and-true true = refl
-    and-true false = refl
+    ap (λ (b : Bool). digit b * 2 ^ j + getD old i 0) (ap (λ (b : Bool). bit word i && not b) (no-bit i) ∙ and-with-true (bit word i))
 
 -- The words that are turned, row by row.
 

@@ -8,14 +8,14 @@ use mathlib.Core.Logic.{_↔_, _⊎_, inl, inr, ⊎-elim}
 use mathlib.Core.Option.{Option, none, some, Option·map}
 use native.Mathlib.Omega.{arith}
 use lib.Dec.{eqb}
-use borrow.Author.Tests.{eq-eqb, eqb-true, eqb-false}
+use borrow.Author.Tests.{eqb-true, eqb-false}
 use Rattle.graphs.specs.Graph.{Graph}
 use Rattle.graphs.specs.Difference.{IsWanted}
 use Rattle.graphs.proofs.Walk.{some-injective, none-some}
 use Rattle.lattice.specs.Label.{Label, plain}
-use Rattle.lattice.specs.Table.{found, accepted, meet, cell, wanted}
+use Rattle.lattice.specs.Table.{accepted, meet, cell, wanted}
 use Rattle.lattice.specs.Labels.{tableLabels, Known, wantedLevel, wantedRange, wantedLabel, MeetOver, WantedAt}
-use Rattle.lattice.proofs.Laws.{Wanted, wanted-sound, wanted-unique, wanted-of-same, wanted-by-top}
+use Rattle.lattice.proofs.Laws.{Wanted, wanted-sound, wanted-unique, wanted-by-top}
 use Rattle.lattice.proofs.Lawful.{
   KnownLabel,
   label-path,
@@ -68,23 +68,6 @@ highest-greatest : (p q d : ℕ) → d ≤ 255 → min d q ≡ p → d ≤ wante
 highest-greatest p q d l e =
     ⊎-elim (λ (_, w). subst (λ (x : ℕ). d ≤ x) (sym w) l) (λ (f, w). subst (λ (x : ℕ). d ≤ x) (sym w) (omega arith))
     (level-cases 255 p q)
-
--- There is no wanted label exactly where there is no wanted type.
-pub wanted-label-type : (n : ℕ) (t : List ℕ) (p q : Label) → (wantedLabel n t p q ≡ none) ↔ (wanted n t (p .type) (q .type) ≡ none)
-unfolding wantedLabel
-wanted-label-type n t p q = (go (wanted n t (p .type) (q .type)), λ e. ap (Option·map (wantedRange p q)) e)
-  where
-    go : (o : Option ℕ) → Option·map (wantedRange p q) o ≡ none → o ≡ none
-    go none e = refl
-    go (some c) e = none-some (sym e)
-
-pub wanted-label-found : (n : ℕ) (t : List ℕ) (p q : Label) → found (wantedLabel n t p q) ≡ found (wanted n t (p .type) (q .type))
-unfolding wantedLabel
-wanted-label-found n t p q = go (wanted n t (p .type) (q .type))
-  where
-    go : (o : Option ℕ) → found (Option·map (wantedRange p q) o) ≡ found o
-    go none = refl
-    go (some c) = refl
 
 module _ (n : ℕ) (t : List ℕ) (ok : accepted n t ≡ true) where
   module _ (p q : Label) (k : Known n p) (l : Known n q) (under : tableLabels n t .le p q ≡ true) where
@@ -139,24 +122,6 @@ module _ (n : ℕ) (t : List ℕ) (ok : accepted n t ≡ true) where
             ap some
             (le-antisymmetric n t ok (wantedRange p q (c .type)) c (i .known) (w .known) (w .greatest (wantedRange p q (c .type)) (i .known) (i .restores))
             (i .greatest c (w .known) (w .restores)))
-
-    -- There is none exactly where no label is the greatest.
-    pub wanted-label-none : (wantedLabel n t p q ≡ none) ↔ ((c : Label) → IsWantedLabel n t p q c → ⊥)
-    wanted-label-none = (λ e c w. none-some (sym e ∙ wanted-label c .1 w), go (wantedLabel n t p q) refl)
-      where
-        go : (o : Option Label) → wantedLabel n t p q ≡ o → ((c : Label) → IsWantedLabel n t p q c → ⊥) → o ≡ none
-        go none e no-label = refl
-        go (some c) e no-label = absurd (no-label c (wanted-label c .0 e))
-
-  -- where q is p, the wanted label is the greatest label
-  pub wanted-label-of-same : (p : Label) → Known n p → wantedLabel n t p p ≡ some (plain (n - 1))
-  unfolding wantedLabel
-  wanted-label-of-same p k =
-      ap (Option·map (wantedRange p p)) (wanted-of-same n t ok (p .type) (k .type)) ∙
-      ap some (label-parts refl (same 0 (p .lowest)) (same 255 (p .highest)))
-    where
-      same : (widest a : ℕ) → wantedLevel widest a a ≡ widest
-      same widest a = ap (λ (b : Bool). cond b widest a) (eq-eqb a a refl)
 
   -- where q is the greatest label, the wanted label is p
   pub wanted-label-by-top : (p : Label) → Known n p → wantedLabel n t p (plain (n - 1)) ≡ some p

@@ -73,7 +73,7 @@ pub fn with_bit(word: u64, j: usize, stands: bool) -> u64
 }
 
 // The byte at a place, or 0 past the end of the table.
-pub fn byte_at(table: &[u8], at: usize) -> u64
+fn byte_at(table: &[u8], at: usize) -> u64
     ensures { λ r. ⌜ (r ≡ getD (now (table .entry)) at 0) × (r < 256) ⌝ }
 {
     if at < table.len() {
@@ -114,7 +114,7 @@ fn read_cut(table: &[u8], i: usize) -> u64
 }
 
 // The word of the types below type i.
-pub fn read_word(table: &[u8], i: usize) -> u64
+fn read_word(table: &[u8], i: usize) -> u64
     requires { ⌜ i < 64 ⌝ }
     ensures { λ r. ⌜ r ≡ word 64 (related (now (table .entry)) false i) ⌝ }
 {

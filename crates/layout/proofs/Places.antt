@@ -10,11 +10,11 @@ use native.Mathlib.Nat.{lt-irrefl}
 use native.Mathlib.Omega.{arith}
 use borrow.Author.Tests.{eq-eqb, ne-eqb, eqb-true}
 use lib.Dec.{eqb}
-use lib.ListN.{length, getD, List·getD-eq-default}
+use lib.ListN.{length, List·getD-eq-default}
 use Rattle.graphs.specs.Rows.{Row, target}
 use Rattle.graphs.proofs.Walk.{some-injective, none-some}
 use Rattle.lattice.specs.Label.{Label, noLabel}
-use Rattle.layout.specs.Layout.{Sound, size, rowFrom, linksFrom, rowEnd, labelAt, featureAt, targetAt, linksBetween, linksAt, rowsOf, graphIn}
+use Rattle.layout.specs.Layout.{Sound, size, linksFrom, rowEnd, labelAt, featureAt, targetAt, linksBetween, linksAt, rowsOf, graphIn}
 use Rattle.layout.proofs.Rows.{row-at, length-rows}
 use Rattle.layout.proofs.Spans.{links-none, links-cons, features-rise}
 

@@ -6,10 +6,9 @@ use Prim.Native.Nat.{ℕ, zero, suc, _+_, _-_, _≤_, _<_}
 use native.Mathlib.Nat.{add-zero}
 use native.Mathlib.Omega.{arith}
 use lib.ListN.{length, getD}
-use lib.Seq.{slice}
 use Rattle.graphs.specs.Rows.{Row}
 use Rattle.lattice.specs.Label.{Label}
-use Rattle.layout.specs.Layout.{header, rowFrom, rowEnd, linksFrom, labelAt, labelFrom, linksBetween, linksAt, rowsFrom, rowsOf, linkOf}
+use Rattle.layout.specs.Layout.{labelAt, linksAt, rowsFrom}
 
 pub row-at : (ws : List ℕ) (k u i v : ℕ) (d : Row Label) → u + i ≡ v → i < k →
     getD (rowsFrom ws u k) i d ≡ (labelAt ws v, linksAt ws v)

@@ -3,14 +3,14 @@
 use mathlib.Core.Path.{_≡_, refl, sym, _∙_, ap, ap₂, subst}
 use mathlib.Core.List.{List, [], _∷_, _++_, map, List·Memᴰ, List·Memᴰ·head, List·Memᴰ·tail, List·Memᴰ·not-nil, List·Memᴰ·cases-cons}
 use mathlib.Core.Logic.{⊎-elim}
-use Prim.Native.Nat.{ℕ, zero, suc, _+_, _-_, _*_, _/_, _%_, _≤_, _<_}
+use Prim.Native.Nat.{ℕ, zero, suc, _+_, _-_, _≤_, _<_}
 use native.Mathlib.Decide.{ℕ-discrete}
 use native.Mathlib.Nat.{lt-trans}
 use native.Mathlib.Omega.{arith}
 use lib.ListN.{length, getD, take, drop, length-map}
 use lib.Seq.{slice, slice-cons, slice-empty, take-suc, drop-append-le, length-take-le, length-slice}
 use Rattle.graphs.specs.Large.{Ascending}
-use Rattle.layout.specs.Layout.{scale, linkOf, linkWord, featureAt, targetAt, linksBetween}
+use Rattle.layout.specs.Layout.{linkOf, featureAt, targetAt, linksBetween}
 use Rattle.layout.specs.Builder.{Same}
 
 -- the link at a place

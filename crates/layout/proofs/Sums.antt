@@ -1,13 +1,13 @@
 -- This file shows where rows end: from the beginning of the first row on, the words are the headers and the links of all rows.
-use mathlib.Core.Path.{_≡_, refl, sym, _∙_, ap}
+use mathlib.Core.Path.{_≡_, _∙_, ap}
 use mathlib.Core.List.{List, [], _∷_, _++_}
-use Prim.Native.Nat.{ℕ, zero, suc, _+_, _-_, _*_, _≤_, _<_}
+use Prim.Native.Nat.{ℕ, zero, suc, _+_, _-_, _*_, _≤_}
 use native.Mathlib.Omega.{arith}
 use lib.ListN.{length, getD}
 use Rattle.graphs.specs.Rows.{Row}
 use Rattle.graphs.specs.Large.{linksIn}
 use Rattle.lattice.specs.Label.{Label}
-use Rattle.layout.specs.Layout.{Shaped, header, size, rowFrom, linksFrom, rowEnd, linksBetween, linksAt, labelAt, rowsFrom, rowsOf, Recorded, rowsEnd}
+use Rattle.layout.specs.Layout.{Shaped, header, size, rowFrom, linksFrom, rowEnd, linksAt, labelAt, rowsFrom, Recorded, rowsEnd}
 use Rattle.layout.proofs.Spans.{length-links}
 use Rattle.layout.proofs.Rows.{rows-more}
 

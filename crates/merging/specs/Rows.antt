@@ -8,7 +8,7 @@ use lib.ListN.{length, getD}
 use Rattle.graphs.specs.Graph.{Reached}
 use Rattle.lattice.specs.Labels.{Known}
 use Rattle.layout.specs.Layout.{Recorded, header, scale, linkWord, size, rowFrom, linksFrom, rowEnd, rowsEnd, labelAt, targetAt, graphIn}
-use Rattle.classes.specs.Classes.{At, rowLength, sumTo, linksOf, Roomy, Closed}
+use Rattle.classes.specs.Classes.{At, rowLength, sumTo, Roomy, Closed}
 use Rattle.merging.specs.Lowered.{Below, ClassLabels, labelOfClass}
 
 -- A graph to combine, over n types: it is that of a record, and all its nodes are reached.

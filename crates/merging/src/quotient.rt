@@ -11,7 +11,7 @@ ghost use Rattle.merging.specs.Lowered.{Below, labelWords};
 ghost use Rattle.merging.specs.Rows.{ClassGraph, Fillable, RowCopied, endOfRow};
 
 // Copies a row to the places from `at` on, with each target replaced by its class. Answers the next place.
-pub fn copy_row<'a>(
+fn copy_row<'a>(
     class: &'a [u16; 510],
     pool: &'a [u16],
     start: usize,

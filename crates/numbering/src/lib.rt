@@ -2,7 +2,6 @@
 // the same order. This serves where the graph is computed on next and no record is asked for. The crate knows graphs in words; it writes
 // no bytes and knows no table.
 
-ghost use mathlib.Core.Path.{_≡_};
 ghost use Prim.Native.Nat.{_+_, _*_, _≤_};
 ghost use lib.Dec.{eqb};
 ghost use lib.ListN.{length, take};

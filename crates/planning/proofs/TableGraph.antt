@@ -1,17 +1,16 @@
 -- The graph of a planning table: the node bytes give its labels, and the rows its links (document 02, Paper 2). A planning table to which none of
 -- 4, 14, 15 and 5 to 7 applies keeps the rules of an accepted record.
 use mathlib.Core.Path.{_≡_, sym, _∙_, ap, subst}
-use mathlib.Core.List.{List, [], map, List·Memᴰ, Memᴰ·map, Memᴰ·of-map}
+use mathlib.Core.List.{List, [], List·Memᴰ, Memᴰ·map, Memᴰ·of-map}
 use mathlib.Core.Logic.{_↔_}
 use mathlib.Core.Option.{some}
-use Prim.Native.Nat.{ℕ, zero, suc, _+_, _≤_, _<_}
+use Prim.Native.Nat.{ℕ, _+_, _≤_, _<_}
 use native.Mathlib.Decide.{decLt}
-use native.Mathlib.Nat.{add-zero, add-suc, suc-add}
 use native.Mathlib.Omega.{arith}
 use lib.ListN.{length, getD, length-map, List·getD-eq-default}
 use Rattle.graphs.specs.Rows.{Row, features, from, target}
 use Rattle.graphs.specs.Large.{Ascending}
-use Rattle.graphs.proofs.Lists.{features-small, from-member, from-range, length-from}
+use Rattle.graphs.proofs.Lists.{features-small, from-member, from-range, length-from, getD-from}
 use Rattle.graphs.proofs.Rows.{linksOf-source, linksOf-ascending, target-linksOf}
 use Rattle.graphs.proofs.Walk.{none-some}
 use Rattle.lattice.specs.Label.{Label, noLabel}
@@ -25,12 +24,6 @@ use Rattle.rows.proofs.AnyOrder.{target-exact}
 use Rattle.rows.proofs.Tables.{stated, table-links, target-row}
 use Rattle.rows.proofs.Tests.{once-exact}
 use Rattle.planning.specs.Importable.{tableGraph, InsideLabel, Importable}
-
-getD-from : {X : Type 0} (g : ℕ → X) (d : X) (n k i : ℕ) → i < n → getD (map g (from k n)) i d ≡ g (k + i)
-unfolding from
-getD-from g d zero k i h = absurd (omega arith)
-getD-from g d (suc n) k zero h = ap g (sym (add-zero k))
-getD-from g d (suc n) k (suc i) h = getD-from g d n (suc k) i (omega arith) ∙ ap g (suc-add k i ∙ sym (add-suc k i))
 
 -- A label inside the range passes the test of a record's labels.
 pub inside-range : (n : ℕ) (l : Label) → InsideLabel n l → LabelInRange n l

@@ -1,7 +1,7 @@
 -- Import and export of a graph as rows and three bytes for each node (document 02, Papers 2 and 7): what each call replies and leaves in its
 -- outputs.
 use mathlib.Core.Path.{_≡_}
-use mathlib.Core.Bool.{Bool, true, cond, _&&_}
+use mathlib.Core.Bool.{Bool, cond, _&&_}
 use mathlib.Core.List.{List, _++_}
 use mathlib.Core.Option.{some}
 use Prim.Native.Nat.{ℕ, _≤_}

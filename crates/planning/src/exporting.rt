@@ -10,7 +10,7 @@ ghost use Prim.Native.Nat.{_≤_};
 ghost use lib.ListN.{length};
 ghost use Rattle.layout.specs.Layout.{Sound, longest, rowsOf};
 ghost use Rattle.record.specs.Read.{reading};
-ghost use Rattle.planning.specs.Planning.{Makes, exportedAs, exportedRows, exported, exporting};
+ghost use Rattle.planning.specs.Planning.{Makes, exportedRows, exported, exporting};
 
 // What export makes: the answer, how many rows are to be stored, and these rows. A refusal has none.
 pub struct Made {

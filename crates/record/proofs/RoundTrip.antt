@@ -17,6 +17,7 @@ use Rattle.graphs.specs.Graph.{Graph, Reached, TellsApart}
 use Rattle.graphs.specs.Rows.{Row, from, target}
 use Rattle.graphs.specs.Number.{countSome, canonical, written}
 use Rattle.graphs.specs.Large.{Ascending, linksIn}
+use Rattle.graphs.proofs.Lists.{getD-from}
 use Rattle.graphs.proofs.Form.Rules.{form-labels}
 use Rattle.lattice.specs.Label.{Label, isFull, graphOfRows}
 use Rattle.decode.specs.Decode.{Taken, changed, takeTarget, takeLinks, takeRow, takeRows, bitOf, whole, decoded}
@@ -49,14 +50,6 @@ bits-at links f (suc k) (suc i) h =
 abbrev stood : List (ℕ × ℕ) → ℕ → Bool
 stood links f = eqb (countSome (target links f)) 1
 
-getD-from : (make : ℕ → ℕ) (j n i : ℕ) → i < n → getD (map make (from j n)) i 0 ≡ make (j + i)
-unfolding from
-getD-from make j zero i h = absurd (omega arith)
-getD-from make j (suc n) zero h = ap make (sym (add-zero j))
-getD-from make j (suc n) (suc i) h =
-    let e : suc j + i ≡ j + suc i = omega arith in
-    getD-from make (suc j) n i (omega arith) ∙ ap make e
-
 -- the eight bytes of a row's map
 abbrev pub mapBytes : List (ℕ × ℕ) → List ℕ
 mapBytes links = map (λ k. bitsFrom links (8 * k) 8) (from 0 8)
@@ -72,7 +65,7 @@ bit-stood links rest f h =
     let place : 8 * (f / 8) + f % 8 ≡ f = omega arith in
     let byte : getD (mapBytes links ++ rest) (f / 8) 0 ≡ bitsFrom links (8 * (f / 8)) 8 =
     List·getD-append (mapBytes links) rest 0 (f / 8) (omega (arith, length-mapBytes links))
-    ∙ getD-from (λ k. bitsFrom links (8 * k) 8) 0 8 (f / 8) low
+    ∙ getD-from (λ k. bitsFrom links (8 * k) 8) 0 8 0 (f / 8) low
     ∙ ap (λ (n : ℕ). bitsFrom links (8 * n) 8) (zero-add (f / 8)) in
     ap (λ (n : ℕ). eqb n 1)
     (ap (λ (n : ℕ). n / 2 ^ (f % 8) % 2) byte

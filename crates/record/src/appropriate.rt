@@ -49,7 +49,7 @@ fn is_row_appropriate(table: &[u8], list: &[u8], graph: &[u16], v: usize) -> boo
 }
 
 // Whether every node may have each of its features.
-pub fn is_appropriate(table: &[u8], list: &[u8], graph: &[u16]) -> bool
+fn is_appropriate(table: &[u8], list: &[u8], graph: &[u16]) -> bool
     requires { ⌜ Listed (now list) ⌝ }
     requires { ⌜ Typed (now graph) ⌝ }
     ensures { λ r. ⌜ r ≡ appropriate (now (table .entry)) (now (list .entry)) (rowsOf (now (graph .entry))) ⌝ }

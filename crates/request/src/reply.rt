@@ -7,7 +7,6 @@ use replies::answers::answer_of;
 use text::put_decimal;
 use text::put_hexadecimal;
 use text::put_word;
-ghost use mathlib.Core.Path.{_≡_};
 ghost use mathlib.Core.List.{_++_};
 ghost use Prim.Native.Nat.{_+_, _<_, _≤_};
 ghost use lib.ListN.{length};

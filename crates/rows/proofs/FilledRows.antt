@@ -1,13 +1,12 @@
 -- This file is about filling words with a graph: the links of a row are stored one after another by feature, and the rows one after
 -- another by the builder. The file shows which rows the words then hold.
 use mathlib.Core.Path.{_≡_, refl, sym, _∙_, ap, ap₂, subst}
-use mathlib.Core.Bool.{Bool, true, false}
+use mathlib.Core.Bool.{true, false}
 use mathlib.Core.List.{List, [], _∷_, _++_, map, append-nil, List·Memᴰ, Memᴰ·of-map}
 use mathlib.Core.Option.{Option, none, some}
 use Prim.Native.Nat.{ℕ, zero, suc, _+_, _-_, _*_, _≤_, _<_}
 use native.Mathlib.Decide.{ℕ-discrete}
 use native.Mathlib.Nat.{add-zero}
-use native.Mathlib.Numerals.{add-one}
 use native.Mathlib.Omega.{arith}
 use lib.ListN.{length, getD, set, length-set, length-append}
 use Rattle.graphs.specs.Rows.{Row, features, from, linksOf, addLink}
@@ -16,7 +15,7 @@ use Rattle.graphs.proofs.Lists.{features-small, from-range}
 use Rattle.graphs.proofs.Rows.{linksOf-source, linksOf-ascending}
 use Rattle.lattice.specs.Label.{Label}
 use Rattle.lattice.specs.Labels.{Known}
-use Rattle.layout.specs.Layout.{Shaped, header, longest, size, labelFrom, linkWord, linksBetween, rowsFrom, rowsOf}
+use Rattle.layout.specs.Layout.{header, longest, labelFrom, linkWord, linksBetween, rowsFrom, rowsOf}
 use Rattle.layout.specs.Builder.{Built, Open, Same, putLabel}
 use Rattle.layout.proofs.Spans.{links-none}
 use Rattle.layout.proofs.Builder.{length-put, label-put, put-before, Orderly, built-begin, built-kept, built-shaped, closed-rows, label-same, links-put, row-closes, rows-kept, same-before, same-trans, size-is, size-kept, size-rows}

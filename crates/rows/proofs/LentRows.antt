@@ -6,7 +6,7 @@ use Prim.Native.Nat.{ℕ, zero, suc, _+_, _-_, _*_, _≤_, _<_}
 use native.Mathlib.Nat.{add-zero}
 use native.Mathlib.Numerals.{add-one}
 use native.Mathlib.Omega.{arith}
-use lib.ListN.{length, getD, set, take, drop, length-set, length-map, length-append}
+use lib.ListN.{length, getD, set, take, drop, length-set}
 use lib.Seq.{sets, sets-eq, take-suc-set}
 use Rattle.graphs.specs.Rows.{Row}
 use Rattle.graphs.specs.Large.{linksIn}
@@ -15,7 +15,7 @@ use Rattle.lattice.specs.Label.{Label}
 use Rattle.layout.specs.Layout.{Shaped, header, size, rowFrom, linksFrom, rowEnd, rowsEnd, labelAt, featureAt, targetAt, linksBetween, linksAt, rowsFrom, rowsOf}
 use Rattle.layout.proofs.Spans.{linkAt, links-none, links-more}
 use Rattle.layout.proofs.Rows.{length-rows, rows-more}
-use Rattle.layout.proofs.Order.{directory, next-row, row-last, rows-inside}
+use Rattle.layout.proofs.Order.{row-last}
 use Rattle.layout.proofs.Sums.{degree, links-of-more, rows-end}
 use Rattle.rows.specs.declared.Row as lent
 use Rattle.rows.specs.Rows.{filled, lentLink, lentFrom, lentRows, lentNodes}

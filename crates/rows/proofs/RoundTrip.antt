@@ -1,7 +1,7 @@
 -- The table that export fills states the rows that it was made of: "Importing what was exported yields the written record."
 use mathlib.Core.Bool.{Bool, true, false, cond}
-use mathlib.Core.Path.{_≡_, refl, sym, _∙_, ap, ap₂, subst}
-use mathlib.Core.List.{List, [], _∷_, _++_, map, List·Memᴰ, List·Memᴰ·head, List·Memᴰ·tail}
+use mathlib.Core.Path.{_≡_, refl, sym, _∙_, ap, ap₂}
+use mathlib.Core.List.{List, [], _∷_, _++_, map}
 use mathlib.Core.Option.{Option, none, some}
 use Prim.Native.Nat.{ℕ, zero, suc, _+_, _*_, _/_, _<_}
 use native.Mathlib.Nat.{suc-add, add-suc, add-zero, zero-add, mul-div-cancel}
@@ -13,7 +13,7 @@ use Rattle.graphs.specs.Rows.{Row, features, from, target, linksOf}
 use Rattle.graphs.proofs.Form.Invariant.{linksOf-cong}
 use Rattle.lattice.specs.Label.{Label, noLabel}
 use Rattle.rows.specs.declared.Row as lent
-use Rattle.rows.specs.Rows.{isOf, targetIn, labelIn, nodesIn, tableRows, lentLink, lentFrom, lentRows, lentNodes}
+use Rattle.rows.specs.Rows.{isOf, targetIn, labelIn, tableRows, lentLink, lentFrom, lentRows, lentNodes}
 use Rattle.rows.proofs.LentRows.{nodes-length}
 
 -- Lists.

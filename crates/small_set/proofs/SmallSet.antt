@@ -1,6 +1,6 @@
 -- Document 01's small set, computed: "The small set is one table proved by one result about the definitions." Each result names the definitions
 -- that its cases unfold.
-use mathlib.Core.Path.{_≡_, refl, ap, _∙_}
+use mathlib.Core.Path.{_≡_, refl, ap}
 use mathlib.Core.Bool.{Bool, true, false, not, _&&_, _||_}
 use mathlib.Core.List.{List, flatMap}
 use mathlib.Core.Option.{bind, orElse}
@@ -78,7 +78,7 @@ use Rattle.engine.specs.Generalizing.{generalized}
 use Rattle.orders.specs.Ordering.{ordered as comparing}
 use Rattle.engine.specs.Unifying.{unifiedRows}
 use Rattle.calls.specs.Appropriate.{rewritingAppropriate, generalizingAppropriate}
-use Rattle.difference.specs.Difference.{firstAt, over, wantedAt, allWanted, differenceRows, differed, differedRows}
+use Rattle.difference.specs.Difference.{firstAt, over, differed, differedRows}
 use Rattle.engine.specs.Differing.{reasonsOf}
 use Rattle.calls.specs.Explained.{explaining, explainingBy}
 use Rattle.replies.specs.declared.Reply.the-variants.{NoWantedType}

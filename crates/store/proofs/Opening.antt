@@ -5,7 +5,6 @@ use mathlib.Core.List.{List}
 use mathlib.Core.Option.{Option, none, some, bind}
 use Prim.Native.Nat.{ℕ, _<_}
 use borrow.Author.Tests.{lt-leb}
-use lib.Dec.{leb}
 use lib.ListN.{length, getD}
 use Rattle.acceptance.specs.declared.TableFault.{TableFault}
 use Rattle.acceptance.specs.declared.Opened.{Opened}

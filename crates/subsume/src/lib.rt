@@ -44,7 +44,7 @@ pub fn seek(graph: &[u16], at: usize, end: usize, f: u16) -> usize
 
 // Maps the targets of v's links, where v is mapped to u. Answers the new length of the queue, or 256 where s lacks a link or a node of g would be
 // mapped to two nodes of s.
-pub fn follow<'a>(
+fn follow<'a>(
     s: &'a [u16],
     g: &'a [u16],
     v: usize,

@@ -1,16 +1,13 @@
 -- Replies that tell no length stop what follows; every other reply tells one length.
-use mathlib.Core.Path.{_≡_, refl, sym, _∙_, ap}
+use mathlib.Core.Path.{_≡_, sym, _∙_, ap}
 use mathlib.Core.List.{List}
-use mathlib.Core.Option.{Option, none, some}
+use mathlib.Core.Option.{Option, none}
 use Prim.Native.Nat.{ℕ, _≤_}
 use native.Mathlib.Omega.{arith}
-use denote.Enum.Declared.{tagOf}
-use types.Run.{OneOf}
 use Rattle.replies.specs.declared.Reply.{Reply}
 use Rattle.replies.specs.declared.Reply.the-variants.{Length}
 use Rattle.replies.specs.Reply.{resulting, lengthOf, Bounded}
-use Rattle.replies.proofs.Reply.{the-type}
-use Rattle.gathering.proofs.Told.{none-some, length-told}
+use Rattle.gathering.proofs.Told.{none-some}
 use Rattle.versions.specs.State.{Made, stopped, takenBy, taken}
 use Rattle.versions.specs.Promise.{onwardBy, onward}
 

@@ -1,20 +1,20 @@
 -- What packing leaves at each step: the bytes that stand in a state, and the differences to come.
 use mathlib.Core.Path.{_≡_, refl, sym, _∙_, ap, ap₂}
 use mathlib.Core.Bool.{Bool, cond}
-use mathlib.Core.List.{List, [], _∷_, _++_, append-assoc}
+use mathlib.Core.List.{List, _∷_, _++_, append-assoc}
 use mathlib.Core.Option.{Option, none, some}
 use Prim.Native.Nat.{ℕ, suc, _+_, _-_, _*_, _≤_, _<_}
 use native.Mathlib.Decide.{decLe}
 use native.Mathlib.Omega.{arith}
 use borrow.Author.Tests.{le-leb, lt-leb}
-use lib.ListN.{length, take, drop, getD, replicate, length-append, length-drop, length-replicate, drop-of-length-le}
+use lib.ListN.{length, take, drop, replicate, length-append, length-drop, length-replicate, drop-of-length-le}
 use lib.Seq.{length-take-le, take-at, drop-cons, getD-take}
 use Rattle.replies.specs.declared.Reply.{Reply}
 use Rattle.replies.specs.declared.Reply.the-variants.{Length, NoStoreRoom}
 use Rattle.replies.specs.Reply.{resulting, lengthOf, Bounded}
 use Rattle.calls.specs.Calls.{differing}
 use Rattle.gathering.specs.Gathering.{lengthAt}
-use Rattle.versions.specs.State.{Made, made, stopped, taken, blank, twoBytes, Programs, mapOf, measured, differenceOf, within, stored}
+use Rattle.versions.specs.State.{Made, taken, blank, twoBytes, Programs, mapOf, measured, differenceOf, within, stored}
 use Rattle.versions.specs.Slots.{slotAt, programsIn}
 use Rattle.versions.specs.Promise.{Puts, standing, onward, packed}
 use Rattle.versions.proofs.SlotLaws.{programs-length, program-at, slot-none, recordAt, slot-some, length-two-bytes, length-measured}

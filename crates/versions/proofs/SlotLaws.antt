@@ -5,7 +5,7 @@ use mathlib.Core.List.{List, [], _∷_, _++_, append-assoc, map}
 use mathlib.Core.Option.{Option, none, some}
 use Prim.Native.Nat.{ℕ, zero, suc, _+_, _-_, _*_, _/_, _%_, _^_, _≤_, _<_}
 use native.Mathlib.Decide.{decLt, ℕ-discrete}
-use native.Mathlib.Nat.{add-zero, suc-add, add-suc, two-pow-succ}
+use native.Mathlib.Nat.{two-pow-succ}
 use native.Mathlib.Omega.{arith}
 use borrow.Author.Tests.{eq-eqb, ne-eqb}
 use lib.Dec.{eqb}
@@ -14,19 +14,13 @@ use lib.Pow.{pow-mono}
 use lib.Seq.{take-nil, take-suc, drop-cons, take-append-seam, drop-append-seam, take-append-le, drop-append-le, drop-at, length-take-le, take-take, drop-drop, getD-take, getD-drop, getD-set-same, getD-set-other, ext-getD, take-length, take-at, paste, length-paste}
 use Rattle.graphs.specs.Rows.{from}
 use Rattle.graphs.specs.Number.{countSome}
-use Rattle.graphs.proofs.Lists.{length-from}
+use Rattle.graphs.proofs.Lists.{length-from, getD-from}
 use Rattle.gathering.specs.Gathering.{twoBytes, lengthAt, firstOf}
 use Rattle.versions.specs.State.{Programs, noPrograms, mapOf, measured}
 use Rattle.versions.specs.Slots.{measuredIn, slotAt, programsIn, Slotted, Parted, Absent}
 use Rattle.versions.specs.Promise.{EndsAt, NoneFrom, Puts}
 
 -- Each program by its number.
-
-getD-from : {X : Type 0} (g : ℕ → X) (d : X) (n k i : ℕ) → i < n → getD (map g (from k n)) i d ≡ g (k + i)
-unfolding from
-getD-from g d zero k i h = absurd (omega arith)
-getD-from g d (suc n) k zero h = ap g (sym (add-zero k))
-getD-from g d (suc n) k (suc i) h = getD-from g d n (suc k) i (omega arith) ∙ ap g (suc-add k i ∙ sym (add-suc k i))
 
 module _ (slots : List ℕ) where
   pub programs-length : length (programsIn slots) ≡ 16
@@ -43,11 +37,6 @@ module _ (slots : List ℕ) where
   take-program v h =
       take-suc (programsIn slots) v none (omega (arith, h, programs-length)) ∙
       ap (λ (p : Option (List ℕ)). take v (programsIn slots) ++ p ∷ []) (program-at v h)
-
-  pub drop-program : (v : ℕ) → v < 16 → drop v (programsIn slots) ≡ slotAt slots v ∷ drop (suc v) (programsIn slots)
-  drop-program v h =
-      drop-cons (programsIn slots) v none (omega (arith, h, programs-length)) ∙
-      ap (λ (p : Option (List ℕ)). p ∷ drop (suc v) (programsIn slots)) (program-at v h)
 
 -- A record behind its length.
 

@@ -202,9 +202,6 @@ module _ (n : ℕ) (t buffer : List ℕ) (two : 2 ≤ length buffer) {bits : ℕ
         }
 
     module _ (whole : end ≡ 0 → ⊥) where
-      pub behind-part : (4 ≤ end) × (end ≤ length buffer)
-      behind-part = (omega (arith, ends .whole whole .0), ends .whole whole .1)
-
       -- The common part is there, and the differences stand behind it.
       pub unpacks-all : {answer : Bool} {slots : List ℕ} → Slotted slots →
           restored n t (take (end - 4) (drop 4 buffer)) 16 bits (take (length buffer - end) (drop end buffer)) ≡ cond answer (some (programsIn slots)) none →

@@ -2,7 +2,7 @@
 -- The file ends with the record that is taken from the output.
 use mathlib.Core.Path.{_≡_, refl, sym, _∙_, ap, subst}
 use mathlib.Core.Bool.{Bool, true, false, cond}
-use mathlib.Core.List.{List, [], _∷_, _++_}
+use mathlib.Core.List.{List, _++_}
 use mathlib.Core.Logic.{_⊎_}
 use mathlib.Core.Option.{Option, none, some}
 use Prim.Native.Nat.{ℕ, _≤_}
@@ -11,8 +11,6 @@ use borrow.Author.Tests.{leb-true}
 use lib.Dec.{eqb, leb}
 use lib.ListN.{length, take, drop, length-append, length-drop, length-replicate}
 use lib.Seq.{length-take-le}
-use denote.Enum.Declared.{tagOf}
-use types.Run.{OneOf, miss}
 use Rattle.graphs.specs.Rows.{Row, from}
 use Rattle.graphs.specs.Number.{Canonical, canonical, manyNodes, manyLinks, written}
 use Rattle.graphs.specs.Unify.{Unified, cycle, clash, unified, unification}
@@ -28,16 +26,14 @@ use Rattle.encode.specs.Encode.{yielding, fitted, writtenOut}
 use Rattle.record.specs.Read.{Reading, refused, accepted, reading, graphOfRows}
 use Rattle.replies.specs.declared.Reply.{Reply}
 use Rattle.replies.specs.declared.Reply.the-variants.{Length, Table, Graph, NoRoom, TooLarge, Cycle, Clash, NotBelow, NoWantedType}
-use Rattle.replies.proofs.Reply.{the-type}
 use Rattle.replies.specs.declared.Side.the-variants.{First, Second}
 use Rattle.replies.specs.Reply.{Result, resulting, resultOf, refusing, lengthOf}
 use Rattle.subsume.specs.Promise.{rowsBelow}
 use Rattle.difference.specs.Difference.{allWanted, differenceRows, differedRows, differed, numbered}
 use Rattle.pairs.specs.Pair.{readBoth}
-use Rattle.engine.specs.Rewriting.{rewritten}
 use Rattle.engine.specs.Generalizing.{generalized}
 use Rattle.engine.specs.Unifying.{combined, unifiedRows}
-use Rattle.calls.specs.Calls.{checked, rewriting, generalizing, unifying, differing}
+use Rattle.calls.specs.Calls.{checked, generalizing, unifying, differing}
 use Rattle.gathering.proofs.Told.{none-some, length-told}
 use Rattle.versions.specs.State.{made, stopped, taken, takenBy, blank}
 
@@ -78,10 +74,6 @@ module _ (out : List ℕ) where
   written-fits manyLinks = refused-fits TooLarge refl
   written-fits (written rows) = fitted-fits rows
 
-  pub rewritten-fits : (i : Reading) → Fitting out (rewritten i out)
-  rewritten-fits (refused fault) = refused-fits (Graph fault First) refl
-  rewritten-fits (accepted rows) = written-fits (canonical eqb (graphOfRows rows))
-
   -- The refusals before the call's operation.
   checked-fits : (o : Opened) (r : Result) → Fitting out r → Fitting out (checked (λ q. refusing q out) o r)
   checked-fits (table.Refused fault) r h = refused-fits (Table fault) refl
@@ -119,10 +111,6 @@ module _ (out : List ℕ) where
             test true true = written-fits (canonical eqb (differenceRows byNumber n t g s))
             test true false = refused-fits NoWantedType refl
             test false w = refused-fits NotBelow refl
-
-    pub rewriting-fits : (bytes : List ℕ) → Fitting out (rewriting n t bytes out)
-    unfolding rewriting
-    rewriting-fits bytes = checked-fits (opened n t) (rewritten (reading n bytes) out) (rewritten-fits (reading n bytes))
 
     module _ (a b : List ℕ) where
       pub generalizing-fits : Fitting out (generalizing n t a b out)

@@ -1,6 +1,6 @@
 -- The visit of crate `graphs` over the rows that words hold is the visit over the targets of each node in their order. In a row the
 -- features ascend and are below 64, so going through the features in turn meets the row's targets in turn.
-use mathlib.Core.Path.{_≡_, refl, sym, _∙_, ap}
+use mathlib.Core.Path.{_≡_, refl, _∙_, ap}
 use mathlib.Core.List.{List, [], _∷_, map}
 use mathlib.Core.Option.{Option, none, some, bind}
 use Prim.Native.Nat.{ℕ, zero, suc, _+_, _-_, _%_, _≤_, _<_}
@@ -9,11 +9,11 @@ use native.Mathlib.Numerals.{add-one}
 use native.Mathlib.Omega.{arith}
 use borrow.Author.Tests.{eq-eqb, ne-eqb}
 use lib.Dec.{eqb, leb}
-use lib.ListN.{length, getD}
+use lib.ListN.{length}
 use lib.Seq.{slice}
 use Rattle.graphs.specs.Rows.{from, target}
 use Rattle.graphs.specs.Number.{member, otherwise, enter, each, visit}
-use Rattle.layout.specs.Layout.{scale, size, linksFrom, rowEnd, linkOf, featureAt, targetAt, linksBetween, linksAt, graphIn, Sound}
+use Rattle.layout.specs.Layout.{scale, size, linksFrom, rowEnd, linkOf, featureAt, linksBetween, linksAt, graphIn, Sound}
 use Rattle.layout.proofs.Places.{links-are}
 use Rattle.layout.proofs.Spans.{links-none, links-cons}
 use Rattle.visits.specs.Walks.{eachTarget, visitTargets, targetsAt}

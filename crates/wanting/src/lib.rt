@@ -26,7 +26,7 @@ fn clear(value: u64, nodes: usize, words: &mut [u64; 255])
 
 // Finds the meet of all g labels over each of the `nodes` nodes of s, top if none. `over` gets the word of the types below the meet of the
 // types, and `lowest` and `highest` get the overlap of the ranges.
-pub fn meet_over<'a>(
+fn meet_over<'a>(
     n: usize,
     down: &'a [u64; 64],
     nodes: usize,

@@ -12,7 +12,7 @@ use Rattle.replies.specs.declared.Reply.the-variants.{Length}
 use Rattle.replies.specs.Reply.{resulting, lengthOf, Bounded}
 use Rattle.gathering.specs.Gathering.{lengthAt}
 use Rattle.gathering.proofs.Told.{none-some}
-use Rattle.versions.specs.State.{Made, made, takenBy, taken, twoBytes, Programs, emptyState, stored, joined, wayFrom, way}
+use Rattle.versions.specs.State.{made, takenBy, taken, twoBytes, Programs, emptyState, stored, joined, wayFrom, way}
 use Rattle.versions.specs.Slots.{measuredIn, slotAt, programsIn, Parted}
 use Rattle.versions.specs.Promise.{onwardBy, onward, NoneFrom}
 use Rattle.versions.proofs.SlotLaws.{programs-length, program-at, take-program, slot-none, recordAt, slot-some, measured-some, part-cleared}

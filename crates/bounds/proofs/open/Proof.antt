@@ -1,5 +1,4 @@
 -- `open` meets its contract: the table is refused, the types are held as sets, or the cells are filled.
-use mathlib.Core.Path.{sym, _∙_}
 use Rattle.bounds.proofs.Opening.{opening-refused, opening-sets, opening-cells}
 use borrow.Author.Needs.{needs}
 use Rattle.bounds.proofs.open.Statement.{statement}

@@ -6,7 +6,6 @@ use lib.ListN.{length-replicate}
 use borrow.Author.Tests.{not-true, not-false}
 use Rattle.versions.proofs.SlotLaws.{absent-replicate, part-blank, clear-slot}
 use Rattle.contents.proofs.Among.{wide, not-held, drop-above, drop-absent, drop-goes}
-use borrow.Author.Needs.{needs}
 use Rattle.contents.proofs.drop_among.Statement.{statement}
 use Rattle.contents.proofs.drop_among.Tie as tie
 

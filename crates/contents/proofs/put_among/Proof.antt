@@ -9,7 +9,6 @@ use Rattle.gathering.proofs.Told.{no-length}
 use Rattle.versions.proofs.SlotLaws.{absent-replicate, part-blank, put-slot}
 use Rattle.contents.proofs.Programs.{told-inside, told-length, told-short, told-some}
 use Rattle.contents.proofs.Among.{put-there, wide, not-held, put-refused, put-above, put-present, put-goes, put-steps}
-use borrow.Author.Needs.{needs}
 use Rattle.contents.proofs.put_among.Statement.{statement}
 use Rattle.contents.proofs.put_among.Tie as tie
 

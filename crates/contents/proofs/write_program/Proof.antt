@@ -1,7 +1,4 @@
 -- A program is read and written.
-use mathlib.Core.Path.{_∙_, ap}
-use Rattle.graphs.specs.Rows.{Row}
-use Rattle.lattice.specs.Label.{Label}
 use Rattle.pairs.proofs.Readings.{told-accepted}
 use Rattle.gathering.proofs.Answers.{reads-loaded}
 use Rattle.contents.proofs.Programs.{program-refused, program-written}

@@ -1,6 +1,6 @@
 -- The calls with a list of types for features (document 02, Paper 9): what they leave in the output, whatever is handed in. 18 is given exactly
 -- where it is due, and tells which graph.
-use mathlib.Core.Path.{_≡_, refl, sym, _∙_, ap, ap₂, subst}
+use mathlib.Core.Path.{_≡_, refl, sym, _∙_, ap, subst}
 use mathlib.Core.Bool.{Bool, true, false, cond}
 use mathlib.Core.List.{List}
 use mathlib.Core.Logic.{_↔_, _⊎_}
@@ -34,7 +34,7 @@ use Rattle.replies.specs.declared.Side.the-variants.{First, Second}
 use Rattle.replies.specs.declared.Reply.{Reply}
 use Rattle.replies.specs.declared.Reply.the-variants.{Graph, Table, TypeList}
 use Rattle.replies.specs.Reply.{Result, refusal, refusing}
-use Rattle.calls.specs.Calls.{checked, rewriting, generalizing, unifying}
+use Rattle.calls.specs.Calls.{rewriting, generalizing, unifying}
 use Rattle.calls.specs.Appropriate.{rewritingAppropriate, generalizingAppropriate, unifyingAppropriate}
 use Rattle.calls.proofs.Tables.{table-accepted}
 use Rattle.calls.proofs.Listed.{Checks, table-before-list, list-refused, list-passed, rewriting-checked, generalizing-checked, unifying-checked}

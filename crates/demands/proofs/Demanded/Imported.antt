@@ -28,7 +28,7 @@ use Rattle.planning.specs.Importable.{tableGraph, Importable}
 use Rattle.planning.proofs.TableGraph.{importable-rules}
 use Rattle.planning.proofs.ImportDue as due
 use Rattle.demands.specs.Lent.{Lent}
-use Rattle.demands.specs.Demand.{Given, WrittenRecord, formBytes, recordOf, writing, RecordOf, Leaves, Rewritten}
+use Rattle.demands.specs.Demand.{Given, formBytes, recordOf, writing, RecordOf, Leaves, Rewritten}
 use Rattle.demands.proofs.Results.{rewriting-is, result-record, record-form}
 use Rattle.demands.proofs.Demanded.Output as Output
 use Rattle.demands.proofs.Demanded.Meaning as Meaning

@@ -6,17 +6,17 @@ use mathlib.Core.List.{List, [], _∷_, _++_, map, List·Memᴰ, Memᴰ·of-map}
 use mathlib.Core.Option.{Option, some, bind}
 use Prim.Native.Nat.{ℕ, zero, suc, _+_, _-_, _≤_, _<_, min}
 use native.Mathlib.Decide.{decLe}
-use native.Mathlib.Nat.{add-zero, zero-add}
+use native.Mathlib.Nat.{zero-add}
 use native.Mathlib.Omega.{arith}
 use borrow.Author.Tests.{eqb-true, le-leb}
 use lib.Dec.{eqb}
-use lib.ListN.{length, getD, replicate}
+use lib.ListN.{length, getD, replicate, length-map, List·getD-eq-default}
 use Rattle.graphs.specs.Graph.{follow, Reached}
 use Rattle.graphs.specs.Rows.{Row, from, target, linksOf}
 use Rattle.graphs.specs.Number.{canonical, written, visit, each, member, rowOf, indexOf, linkCount, outDegree}
 use Rattle.graphs.specs.Large.{linksIn, Ascending}
 use Rattle.graphs.proofs.Walk.{none-some, some-injective, follow-start, reached-root, reached-link}
-use Rattle.graphs.proofs.Lists.{from-range}
+use Rattle.graphs.proofs.Lists.{from-range, length-from, getD-from}
 use Rattle.lattice.specs.Label.{Label, noLabel}
 use Rattle.lattice.specs.Labels.{Known}
 use Rattle.lattice.specs.Table.{every, last, below, sized, confined, reflexive, antisymmetric, transitive, least, greatest, ordered, isMeet, isJoin, meet, join, bounded}
@@ -106,25 +106,14 @@ row-says : (P : Row Label → Type 0) → ((v : ℕ) → v < 255 → P (rowAt v)
 unfolding rows
 row-says P all r m = let (v, i, e) = Memᴰ·of-map rowAt (from 0 255) m in subst P e (all v (from-range 0 255 v i .1))
 
-made-at : (d : Row Label) (j n i : ℕ) → i < n → getD (map rowAt (from j n)) i d ≡ rowAt (j + i)
-unfolding from
-made-at d j zero i h = absurd (omega arith)
-made-at d j (suc n) zero h = ap rowAt (sym (add-zero j))
-made-at d j (suc n) (suc i) h = let e : suc j + i ≡ j + suc i = omega arith in made-at d (suc j) n i (omega arith) ∙ ap rowAt e
-
-made-end : (d : Row Label) (j n i : ℕ) → n ≤ i → getD (map rowAt (from j n)) i d ≡ d
-unfolding from
-made-end d j zero i h = refl
-made-end d j (suc n) zero h = absurd (omega arith)
-made-end d j (suc n) (suc i) h = made-end d (suc j) n i (omega arith)
-
 row-at : (v : ℕ) → v < 255 → getD rows v (noLabel, []) ≡ rowAt v
 unfolding rows
-row-at v h = made-at (noLabel, []) 0 255 v h ∙ ap rowAt (zero-add v)
+row-at v h = getD-from rowAt (noLabel, []) 255 0 v h ∙ ap rowAt (zero-add v)
 
 row-end : (v : ℕ) → 255 ≤ v → getD rows v (noLabel, []) ≡ (noLabel, [])
 unfolding rows
-row-end v h = made-end (noLabel, []) 0 255 v h
+row-end v h =
+    List·getD-eq-default rows (noLabel, []) {n = v} (omega (arith, length-map (from 0 255) rowAt, length-from 0 255))
 
 -- Links lead to higher numbers.
 link-up : (v f w : ℕ) → graphOfRows rows .link v f ≡ some w → v < w

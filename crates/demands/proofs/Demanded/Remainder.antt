@@ -5,12 +5,12 @@ use mathlib.Core.Bool.{Bool, true}
 use mathlib.Core.List.{List}
 use mathlib.Core.Logic.{inl, inr, ⊎-elim}
 use mathlib.Core.Option.{Option, some, Option·getD}
-use Prim.Native.Nat.{ℕ, _<_}
+use Prim.Native.Nat.{ℕ}
 use lib.Dec.{eqb}
 use lib.ListN.{length}
 use Rattle.graphs.specs.Graph.{Graph, walk, Reached, Below}
 use Rattle.graphs.specs.Rows.{Row, from}
-use Rattle.graphs.specs.Difference.{Link, StrictOrder, IsWanted, meetOver, difference}
+use Rattle.graphs.specs.Difference.{Link, StrictOrder, IsWanted, difference}
 use Rattle.graphs.proofs.Walk.{some-injective, snoc-induction, follow-nil, follow-last, reached-root, reached-link}
 use Rattle.graphs.proofs.Below.{same-refl}
 use Rattle.graphs.proofs.Lists.{tells-eqb}

@@ -1,12 +1,12 @@
 -- The difference as demand 3 asks for it, in one theorem: over a table that admits differences, for a record that is below the other.
-use mathlib.Core.Path.{_≡_, refl, sym, _∙_, ap, subst}
+use mathlib.Core.Path.{_≡_, refl, _∙_, ap, subst}
 use mathlib.Core.Bool.{Bool, true, cond}
 use mathlib.Core.List.{List, _++_}
 use mathlib.Core.Option.{Option, none, some}
 use Prim.Native.Nat.{ℕ}
 use native.Mathlib.Omega.{arith}
 use borrow.Author.Tests.{le-leb}
-use lib.Dec.{leb, eqb}
+use lib.Dec.{eqb}
 use lib.ListN.{length, take, drop}
 use lib.Seq.{take-append-seam}
 use Rattle.graphs.specs.Graph.{Below}
@@ -19,7 +19,7 @@ use Rattle.lattice.specs.Label.{Label}
 use Rattle.lattice.specs.Table.{admits}
 use Rattle.lattice.specs.Labels.{tableLabels, OfAnySize}
 use Rattle.encode.specs.declared.Written.the-variants as written
-use Rattle.encode.specs.Encode.{Outcome, yielding, fitted}
+use Rattle.encode.specs.Encode.{yielding, fitted}
 use Rattle.record.specs.Read.{graphOfRows}
 use Rattle.replies.specs.declared.Reply.the-variants.{Length}
 use Rattle.replies.specs.Reply.{Result, resultOf}

@@ -38,7 +38,7 @@ use Rattle.planning.proofs.ImportDue as Import
 use Rattle.planning.proofs.ExportDue as Export
 use Rattle.planning.proofs.RoundTrips as Trips
 use Rattle.demands.specs.Lent.{Lent}
-use Rattle.demands.specs.Demand.{WrittenRecord, recordOf, writing, RecordOf, Leaves}
+use Rattle.demands.specs.Demand.{recordOf, writing, RecordOf, Leaves}
 use Rattle.demands.proofs.Demanded.Imported as Imported
 
 -- The graph of a planning table.

@@ -7,6 +7,7 @@ use mathlib.Core.Option.{Option, none, some}
 use Prim.Native.Nat.{ℕ}
 use Rattle.graphs.specs.Label.{Labels}
 use Rattle.graphs.specs.Graph.{Graph, step, follow, walk, Corefer, SameMeaning}
+use Rattle.graphs.specs.Relations.{LiesOver}
 use Rattle.graphs.proofs.Walk.{some-injective, none-some, follow-snoc, follow-nil}
 
 -- both missing, or both there and related
@@ -20,10 +21,6 @@ pub record Bisimilar {L A B : Type 0} (R : A → B → Type 0) (g : Graph L A) (
   pub links : (v : A) (w : B) (f : ℕ) → R v w → Alike R (g .link v f) (h .link w f)
   pub forth : (v v′ : A) (w w′ : B) → R v w → R v′ w′ → v ≡ v′ → w ≡ w′
   pub back : (v v′ : A) (w w′ : B) → R v w → R v′ w′ → w ≡ w′ → v ≡ v′
-
--- the nodes that one path leads to
-abbrev pub Together : {L A B : Type 0} → Graph L A → Graph L B → A → B → Type 0
-Together g h v w = (p : List ℕ) × (walk g p ≡ some v) × (walk h p ≡ some w)
 
 -- what is there on one side is there on the other, and related
 pub alike-left : {A B : Type 0} {R : A → B → Type 0} {x : Option A} {y : Option B} {v : A} → Alike R x y → x ≡ some v →
@@ -72,13 +69,13 @@ bisimilar-same 𝓛 R g h b =
     }
 
 module _ (𝓛 : Labels) {A B : Type 0} (g : Graph (𝓛 .L) A) (h : Graph (𝓛 .L) B) (m : SameMeaning 𝓛 g h) where
-  together-labels : (v : A) (w : B) → Together g h v w → g .label v ≡ h .label w
-  together-labels v w (p, gp, hp) =
+  over-labels : (v : A) (w : B) → LiesOver h g v w → g .label v ≡ h .label w
+  over-labels v w (p, gp, hp) =
       let (w′, hp′, e) = m .there p v gp in
       e ∙ ap (h .label) (some-injective (sym hp′ ∙ hp))
 
-  together-links : (v : A) (w : B) (f : ℕ) → Together g h v w → Alike (Together g h) (g .link v f) (h .link w f)
-  together-links v w f (p, gp, hp) = go (g .link v f) (h .link w f) refl refl
+  over-links : (v : A) (w : B) (f : ℕ) → LiesOver h g v w → Alike (LiesOver h g) (g .link v f) (h .link w f)
+  over-links v w f (p, gp, hp) = go (g .link v f) (h .link w f) refl refl
     where
       gstep : walk g (p ++ (f ∷ [])) ≡ g .link v f
       gstep = follow-snoc (g .link) (some (g .root)) p f ∙ ap (λ x. step (g .link) x f) gp
@@ -86,7 +83,7 @@ module _ (𝓛 : Labels) {A B : Type 0} (g : Graph (𝓛 .L) A) (h : Graph (𝓛
       hstep : walk h (p ++ (f ∷ [])) ≡ h .link w f
       hstep = follow-snoc (h .link) (some (h .root)) p f ∙ ap (λ x. step (h .link) x f) hp
 
-      go : (x : Option A) (y : Option B) → g .link v f ≡ x → h .link w f ≡ y → Alike (Together g h) x y
+      go : (x : Option A) (y : Option B) → g .link v f ≡ x → h .link w f ≡ y → Alike (LiesOver h g) x y
       go none none ex ey = absent
       go none (some w′) ex ey =
           let (v′, gp′, e) = m .back (p ++ (f ∷ [])) w′ (hstep ∙ ey) in
@@ -96,23 +93,23 @@ module _ (𝓛 : Labels) {A B : Type 0} (g : Graph (𝓛 .L) A) (h : Graph (𝓛
           none-some (sym (hstep ∙ ey) ∙ hp′)
       go (some v′) (some w′) ex ey = present (p ++ (f ∷ []), gstep ∙ ex, hstep ∙ ey)
 
-  together-forth : (v v′ : A) (w w′ : B) → Together g h v w → Together g h v′ w′ → v ≡ v′ → w ≡ w′
-  together-forth v v′ w w′ (p, gp, hp) (q, gq, hq) e =
+  over-forth : (v v′ : A) (w w′ : B) → LiesOver h g v w → LiesOver h g v′ w′ → v ≡ v′ → w ≡ w′
+  over-forth v v′ w w′ (p, gp, hp) (q, gq, hq) e =
       let (x, xp, xq) = m .corefers p q .0 (v, gp, gq ∙ ap some (sym e)) in
       some-injective (sym hp ∙ xp ∙ sym xq ∙ hq)
 
-  together-back : (v v′ : A) (w w′ : B) → Together g h v w → Together g h v′ w′ → w ≡ w′ → v ≡ v′
-  together-back v v′ w w′ (p, gp, hp) (q, gq, hq) e =
+  over-back : (v v′ : A) (w w′ : B) → LiesOver h g v w → LiesOver h g v′ w′ → w ≡ w′ → v ≡ v′
+  over-back v v′ w w′ (p, gp, hp) (q, gq, hq) e =
       let (x, xp, xq) = m .corefers p q .1 (w, hp, hq ∙ ap some (sym e)) in
       some-injective (sym gp ∙ xp ∙ sym xq ∙ gq)
 
   -- Graphs of the same meaning are alike, by the nodes that one path leads to.
-  pub same-bisimilar : Bisimilar (Together g h) g h
+  pub same-bisimilar : Bisimilar (LiesOver h g) g h
   same-bisimilar =
       record {
         root = ([], follow-nil (g .link) (some (g .root)), follow-nil (h .link) (some (h .root)));
-        labels = together-labels;
-        links = together-links;
-        forth = together-forth;
-        back = together-back;
+        labels = over-labels;
+        links = over-links;
+        forth = over-forth;
+        back = over-back;
       }

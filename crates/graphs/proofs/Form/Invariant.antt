@@ -14,7 +14,8 @@ use Rattle.graphs.specs.Graph.{Graph, TellsApart, SameMeaning}
 use Rattle.graphs.specs.Rows.{Row, features, linksOf, addLink}
 use Rattle.graphs.specs.Number.{canonical, counted, countSome, each, enter, indexOf, linkCount, member, otherwise, outDegree, rowOf, visit, written, manyLinks}
 use Rattle.graphs.specs.Reasons.{orderIn, writtenOrder}
-use Rattle.graphs.proofs.Form.Bisimilar.{Alike, absent, present, Bisimilar, Together, same-bisimilar}
+use Rattle.graphs.specs.Relations.{LiesOver}
+use Rattle.graphs.proofs.Form.Bisimilar.{Alike, absent, present, Bisimilar, same-bisimilar}
 
 -- lists of related elements
 pub data Pointwise {A B : Type 0} (R : A → B → Type 0) : List A → List B → Type 0 where
@@ -184,4 +185,4 @@ module _ {L A B : Type 0} (sameA : A → A → Bool) (sameB : B → B → Bool) 
 pub same-canonical : (𝓛 : Labels) {A B : Type 0} (sameA : A → A → Bool) (sameB : B → B → Bool) → TellsApart sameA → TellsApart sameB →
     (g : Graph (𝓛 .L) A) (h : Graph (𝓛 .L) B) → SameMeaning 𝓛 g h → canonical sameA g ≡ canonical sameB h
 same-canonical 𝓛 sameA sameB tellsA tellsB g h m =
-    bisimilar-canonical sameA sameB tellsA tellsB (Together g h) g h (same-bisimilar 𝓛 g h m)
+    bisimilar-canonical sameA sameB tellsA tellsB (LiesOver h g) g h (same-bisimilar 𝓛 g h m)

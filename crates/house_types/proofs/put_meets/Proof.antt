@@ -1,5 +1,5 @@
 -- `put_meets` meets its contract: each turn puts one entry and the byte behind it.
-use Prim.Native.Nat.{ℕ, _-_}
+use Prim.Native.Nat.{_-_}
 use native.Mathlib.Omega.{arith}
 use borrow.Author.Needs.{needs}
 use Rattle.house_types.proofs.Printing.{Printing, print-start, print-room, print-place, print-step, print-end}

@@ -1,6 +1,5 @@
 -- `main` keeps every bound: the line is a part of the bytes that `request::line` answers.
 use mathlib.Core.Path.{sym}
-use native.Mathlib.Omega.{arith}
 use lib.Seq.{length-take-le}
 use Rattle.request.proofs.Replies.{count-fits}
 use borrow.Author.Needs.{needs}

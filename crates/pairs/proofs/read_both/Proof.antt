@@ -1,5 +1,4 @@
 -- `read_both` meets its contract: the first record is read, and the second where the first is accepted.
-use mathlib.Core.Path.{sym, _∙_}
 use Rattle.pairs.proofs.Readings.{reads-first-refused, reads-second-refused, reads-accepted}
 use borrow.Author.Needs.{needs}
 use Rattle.pairs.proofs.read_both.Statement.{statement}

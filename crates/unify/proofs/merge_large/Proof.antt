@@ -1,5 +1,5 @@
 -- `merge_large` meets its contract: the arrays have room for any two graphs.
-use mathlib.Core.Logic.{inl, inr}
+use mathlib.Core.Logic.{inl}
 use Prim.Native.Nat.{ℕ}
 use native.Mathlib.Omega.{arith}
 use lib.ListN.{length-replicate}

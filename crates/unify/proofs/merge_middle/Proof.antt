@@ -1,5 +1,5 @@
 -- `merge_middle` meets its contract: the arrays have room for two graphs of middle size.
-use mathlib.Core.Logic.{inl, inr}
+use mathlib.Core.Logic.{inl}
 use Prim.Native.Nat.{ℕ}
 use native.Mathlib.Omega.{arith}
 use lib.ListN.{length-replicate}

@@ -1,5 +1,5 @@
 -- `merge_small` meets its contract: the arrays have room for two small graphs.
-use mathlib.Core.Logic.{inl, inr}
+use mathlib.Core.Logic.{inr}
 use Prim.Native.Nat.{ℕ}
 use native.Mathlib.Omega.{arith}
 use lib.ListN.{length-replicate}

@@ -1,5 +1,4 @@
 -- `generalize_by_cells` meets its contract: the cells are filled and the list is tested; then the common part is written.
-use Prim.Native.Nat.{ℕ}
 use mathlib.Core.Path.{refl, sym, _∙_}
 use mathlib.Core.Bool.{true}
 use mathlib.Core.Logic.{⊎-elim, inl, inr}

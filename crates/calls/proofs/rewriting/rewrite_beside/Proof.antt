@@ -1,5 +1,5 @@
 -- `rewrite_beside` meets its contract: the table is tested, then the list; then the record is rewritten.
-use mathlib.Core.Path.{refl, sym, _∙_}
+use mathlib.Core.Path.{sym, _∙_}
 use mathlib.Core.Logic.{⊎-elim, inl, inr}
 use borrow.Author.Tests.{not-true, not-false}
 use Rattle.acceptance.proofs.Acceptance.{opened-accepted}

@@ -1,5 +1,4 @@
 -- `unify_by_cells` meets its contract: the cells are filled and the list is tested; then the combination is written.
-use Prim.Native.Nat.{ℕ}
 use mathlib.Core.Path.{refl, sym, _∙_}
 use mathlib.Core.Bool.{false}
 use mathlib.Core.Logic.{⊎-elim, inl, inr}

@@ -1,7 +1,6 @@
 -- `find` meets its contract: on the way up no node's root changes.
 use Prim.Native.Nat.{ℕ, _<_}
 use native.Mathlib.Omega.{arith}
-use borrow.Author.Needs.{needs}
 use Rattle.classes.specs.Forest.{Forest}
 use Rattle.classes.proofs.Roots.{Climbing, climb-start, climb-done, climb-bound, climb-next, climb-next-bound}
 use Rattle.classes.proofs.forest.find.Statement.{statement}

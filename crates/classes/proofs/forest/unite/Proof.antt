@@ -1,5 +1,4 @@
 -- `unite` meets its contract: the greater root gets the lesser for its parent.
-use borrow.Author.Needs.{needs}
 use native.Mathlib.Omega.{arith}
 use Rattle.classes.proofs.Roots.{unite-bounds, unite-below, unite-above, unite-none}
 use Rattle.classes.proofs.forest.unite.Statement.{statement}

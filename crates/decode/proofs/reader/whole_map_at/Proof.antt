@@ -1,5 +1,5 @@
 -- `reader::whole_map_at` meets its contract: the tests say which case of `mapStep` holds.
-use Prim.Native.Nat.{_-_, _<_, _≤_}
+use Prim.Native.Nat.{_-_, _<_}
 use native.Mathlib.Omega.{arith}
 use lib.ListN.{length}
 use borrow.Author.Needs.{needs}

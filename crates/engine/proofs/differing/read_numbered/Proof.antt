@@ -1,11 +1,6 @@
 -- `read_numbered` meets its contract: two records are read; where both are accepted, the second graph is numbered as written.
-use mathlib.Core.Path.{_≡_, refl, subst}
-use mathlib.Core.List.{List}
-use Prim.Native.Nat.{ℕ}
+use mathlib.Core.Path.{refl}
 use native.Mathlib.Omega.{arith}
-use Rattle.record.specs.Read.{reading}
-use Rattle.pairs.specs.declared.PairVerdict.{PairVerdict}
-use Rattle.pairs.specs.Pair.{ReadsBoth}
 use Rattle.pairs.proofs.Readings.{both-loaded, optional-none, reads-plain}
 use Rattle.engine.proofs.Differences.{renumbered, numbered-refused, numbered-both}
 use borrow.Author.Needs.{needs}

@@ -1,5 +1,5 @@
 -- `turn_words` meets its contract. The loop's invariant: the words are turned for the rows before j.
-use Prim.Native.Nat.{ℕ, _+_, _*_, _^_, _-_, _≤_, _<_}
+use Prim.Native.Nat.{ℕ, _^_, _-_, _≤_, _<_}
 use mathlib.Core.Path.{_≡_, sym, ap, subst, _∙_}
 use native.Mathlib.Omega.{arith}
 use lib.ListN.{length, getD, length-replicate, getD-replicate}

@@ -1,5 +1,4 @@
 -- `clear` meets its contract. The loop's invariant: the classes before c have the label top.
-use mathlib.Core.Path.{refl}
 use Prim.Native.Nat.{_-_, _≤_}
 use native.Mathlib.Omega.{arith}
 use Rattle.merging.proofs.Lowering.{Cleared, cleared-step}

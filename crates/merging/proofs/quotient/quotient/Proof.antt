@@ -1,4 +1,3 @@
-use borrow.Author.Needs.{needs}
 -- `quotient` meets its contract. The loop's invariant: the rows of the nodes before x are built.
 use mathlib.Core.Path.{_≡_, refl, _∙_, ap}
 use Prim.Native.Nat.{ℕ, _+_, _-_}

@@ -1,5 +1,4 @@
 -- `exporting::export_graph` meets its contract: the graph is numbered as written and measured; then its node bytes are written and its rows made.
-use mathlib.Core.Path.{sym, _∙_}
 use native.Mathlib.Omega.{arith}
 use borrow.Author.Tests.{not-true, not-false}
 use Rattle.planning.proofs.Exports.{makes-none, makes-full, export-large, export-few-rows, export-few-bytes, lendable}

@@ -1,6 +1,6 @@
 -- `filling::are_stated` meets its contract. The loop's invariant: the labels before v are such as a record can state.
 use mathlib.Core.Path.{_≡_, ap, subst}
-use Prim.Native.Nat.{ℕ, _-_, _≤_, _<_}
+use Prim.Native.Nat.{_-_, _≤_}
 use native.Mathlib.Omega.{arith}
 use borrow.Author.Needs.{needs}
 use Rattle.lattice.specs.Label.{Label}

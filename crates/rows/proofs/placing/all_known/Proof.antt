@@ -1,8 +1,7 @@
 -- `placing::all_known` meets its contract. The loop's invariant: all rows are known exactly where those from i on are.
-use mathlib.Core.Path.{_≡_, refl, sym, _∙_}
+use mathlib.Core.Path.{refl, sym, _∙_}
 use borrow.Author.Tests.{not-true, not-false}
 use Prim.Native.Nat.{_-_, _≤_}
-use lib.ListN.{length}
 use borrow.Author.Needs.{needs}
 use Rattle.rows.proofs.Known.{Left, stop, next, end}
 use Rattle.rows.proofs.placing.all_known.Statement.{statement}

@@ -1,6 +1,5 @@
 -- `placing::place` meets its contract, for a place that is taken and for one that is free.
 use mathlib.Core.Path.{refl, sym}
-use native.Mathlib.Omega.{arith}
 use borrow.Author.Needs.{needs}
 use borrow.Author.Tests.{eq-eqb, ne-eqb}
 use lib.ListN.{getD}
