@@ -5,13 +5,14 @@ use mathlib.Core.Bool.{Bool, true, false, cond, _&&_}
 use mathlib.Core.List.{List}
 use native.Mathlib.Omega.{arith}
 use lib.ListN.{length, getD}
+use Rattle.graphs.proofs.Search.{same-test, true-both}
 use Rattle.acceptance.specs.declared.TableFault.the-variants.{Size, Order, Bounds}
 use Rattle.acceptance.specs.declared.Opened.{Opened}
 use Rattle.acceptance.specs.declared.Opened.the-variants.{Accepted, Refused}
 use Rattle.lattice.specs.Table.{every, below, found, sized, ordered, bounded, accepted, meet, join, sideBound}
 use Rattle.acceptance.specs.Reply.{opened}
 use Rattle.lattice.specs.Words.{related, Words, bit, turned, wordBound, allFound, rowOrdered, OrderWords, Sided, Lower}
-use Rattle.lattice.proofs.Every.{and-left, and-right, and-both, every-at, every-all, same-test, true-not-false}
+use Rattle.lattice.proofs.Every.{and-left, and-right, every-at, every-all, true-not-false}
 use Rattle.lattice.proofs.OrderLaws.{Ordered, facts-ordered, rows-facts, rows-ordered, row-bit, side, sided, turned-words}
 use Rattle.lattice.proofs.WordLaws.{word-below}
 use Rattle.lattice.proofs.BoundLaws.{bound-same, other-side}
@@ -80,7 +81,7 @@ module _ (n : ℕ) (t down : List ℕ) (passed : OrderWords n t down) where
         λ a b l r. every-at _ n b (every-at _ n a h l) r in
         every-all _ n λ a l.
         every-all _ n λ b r.
-        and-both (found (meet n t a b)) (found (join n t a b))
+        true-both (found (meet n t a b)) (found (join n t a b))
         (other-side n t (f .2) table-ordered up false (omega (arith, f .0)) all a b l r)
         (other-side n t (f .2) table-ordered up true (omega (arith, f .0)) all a b l r))
         λ h. every-all _ n λ a l. every-all _ n λ b r. both up a b (every-at _ n b (every-at _ n a h l) r)

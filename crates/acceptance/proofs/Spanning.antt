@@ -14,6 +14,7 @@ use lib.Dec.{leb, eqb}
 use lib.Pow.{pow-pos}
 use borrow.Author.Count.{below-more}
 use borrow.Author.Tests.{eq-eqb, ne-eqb, eqb-true, le-leb, leb-true, not-true}
+use Rattle.graphs.proofs.Search.{not-true-false, true-both}
 use Rattle.lattice.specs.Table.{every, implies}
 use Rattle.lattice.specs.Words.{
   bit,
@@ -36,7 +37,7 @@ use Rattle.lattice.specs.Words.{
   Lower,
   BoundsWithin,
 }
-use Rattle.lattice.proofs.Every.{and-left, and-right, and-both, true-not-false, not-true-false, implies-from, every-at, every-all, every-fails, every-same}
+use Rattle.lattice.proofs.Every.{and-left, and-right, true-not-false, implies-from, every-at, every-all, every-fails, every-same}
 use Rattle.lattice.proofs.Bits.{no-bit, without-bit, without-less, cleared-bit, cleared-less, part-bit, part-from, short-inside}
 use Rattle.lattice.proofs.Parts.{cleared-part}
 use Rattle.acceptance.proofs.Covering.{
@@ -78,7 +79,7 @@ pair-lower ws i j = go (eqb j i) refl where
       (not-true (eqb j i) (and-right (bit (getD ws i 0) j) (not (eqb j i)) (sym (cleared-bit (getD ws i 0) i j) ∙ h))))) ∙
       sym
       (implies-from (bit (getD ws i 0) j) (partOf (getD ws j 0) (getD ws i 0) && implies (bit (getD ws j 0) i) (eqb i j)) λ h.
-      and-both (partOf (getD ws j 0) (getD ws i 0)) (implies (bit (getD ws j 0) i) (eqb i j))
+      true-both (partOf (getD ws j 0) (getD ws i 0)) (implies (bit (getD ws j 0) i) (eqb i j))
       (part-from (getD ws j 0) (getD ws i 0) λ k f. ap (λ (a : ℕ). bit (getD ws a 0) k) (sym q) ∙ f)
       (implies-from (bit (getD ws j 0) i) (eqb i j) λ f. eq-eqb i j (sym q)))
   go false e =
@@ -210,8 +211,8 @@ module _ (n : ℕ) (ws : List ℕ) (some : 0 < n) where
 
   row-inside : every n (rowSet n ws) ≡ true → (i : ℕ) → i < n → rowInside (getD ws (n - 1) 0) (getD ws i 0) i ≡ true
   row-inside set i l =
-      and-both (partOf (getD ws i 0) (getD ws (n - 1) 0) && bit (getD ws i 0) i) (bit (getD ws i 0) 0)
-      (and-both (partOf (getD ws i 0) (getD ws (n - 1) 0)) (bit (getD ws i 0) i)
+      true-both (partOf (getD ws i 0) (getD ws (n - 1) 0) && bit (getD ws i 0) i) (bit (getD ws i 0) 0)
+      (true-both (partOf (getD ws i 0) (getD ws (n - 1) 0)) (bit (getD ws i 0) i)
       (part-from (getD ws i 0) (getD ws (n - 1) 0) λ j e. set-greatest set j (short-inside n (getD ws i 0) j some (set-short set i l) e))
       (set-own set i l))
       (set-least set i l)
@@ -231,8 +232,8 @@ module _ (n : ℕ) (ws : List ℕ) (some : 0 < n) where
       let wide : all < 2 * 2 ^ (n - 1) = div-lt-iff-lt-mul (pow-pos (n - 1)) .0 (omega arith) in
       let less : row / 2 ^ (n - 1) < 2 = div-lt-iff-lt-mul (pow-pos (n - 1)) .1 (omega arith) in
       let shorter : leb (row / 2 ^ (n - 1)) 1 ≡ true = le-leb (row / 2 ^ (n - 1)) 1 (omega arith) in
-      and-both (leb (row / 2 ^ (n - 1)) 1 && bit row i && bit row 0) (bit all i)
-      (and-both (leb (row / 2 ^ (n - 1)) 1 && bit row i) (bit row 0) (and-both (leb (row / 2 ^ (n - 1)) 1) (bit row i) shorter own) least)
+      true-both (leb (row / 2 ^ (n - 1)) 1 && bit row i && bit row 0) (bit all i)
+      (true-both (leb (row / 2 ^ (n - 1)) 1 && bit row i) (bit row 0) (true-both (leb (row / 2 ^ (n - 1)) 1) (bit row i) shorter own) least)
       (part-bit row all part i own)
 
   pub top-fails : leb (getD ws (n - 1) 0 / 2 ^ (n - 1)) 1 ≡ false → every n (rowSet n ws) ≡ false
@@ -254,7 +255,7 @@ module _ (n : ℕ) (ws : List ℕ) where
   pub rows-hold : every n (rowSet n ws) ≡ true → ((i : ℕ) → i < n → Spanned ws i) → every n (rowOrdered n ws) ≡ true
   unfolding rowOrdered
   rows-hold h spans =
-      every-all _ n λ i l. and-both (rowSet n ws i) (pairsOrdered ws i) (every-at _ n i h l) (pairs-hold (rows-owned h) spans i l)
+      every-all _ n λ i l. true-both (rowSet n ws i) (pairsOrdered ws i) (every-at _ n i h l) (pairs-hold (rows-owned h) spans i l)
 
   pub rows-fail : (i : ℕ) → i < n → pairsOrdered ws i ≡ false → every n (rowOrdered n ws) ≡ false
   unfolding rowOrdered

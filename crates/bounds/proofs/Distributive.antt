@@ -11,11 +11,12 @@ use lib.ListN.{getD}
 use lib.Dec.{eqb}
 use lib.Bits.{bitAnd, bitOr, and-lt, or-lt}
 use borrow.Author.Tests.{eq-eqb, ne-eqb, eqb-true, not-true}
+use Rattle.graphs.proofs.Search.{same-test, not-true-false, true-both}
 use Rattle.lattice.specs.Table.{every, implies, below, foundAs, accepted, meet, join, cell, admits}
 use Rattle.lattice.specs.Words.{Words, bit, without}
 use Rattle.bounds.specs.Primes.{wordIrreducible, wordPrime}
 use Rattle.bounds.specs.Sets.{distributive, smaller, irreducible, setOf}
-use Rattle.lattice.proofs.Every.{and-left, and-right, and-both, implies-at, implies-from, every-at, every-all, same-test, not-true-false, not-false-true, true-not-false, below-suc, or-cases, or-from-left, or-from-right}
+use Rattle.lattice.proofs.Every.{and-left, and-right, implies-at, implies-from, every-at, every-all, not-false-true, true-not-false, below-suc, or-cases, or-from-left, or-from-right}
 use Rattle.lattice.proofs.WordLaws.{word-below, word-same, word-and}
 use Rattle.lattice.proofs.Bits.{bit-word, bits-same, and-bit, or-bit}
 use Rattle.lattice.proofs.Seeking.{without-inside}
@@ -68,7 +69,7 @@ module _ (n : ℕ) (t : List ℕ) (ok : accepted n t ≡ true) where
   smaller-below : (a b j : ℕ) → a < n → b < n → j < n → below t a b ≡ true → smaller t b j ≡ true → smaller t a j ≡ true
   smaller-below a b j la lb lj ab less =
       let bj : below t b j ≡ true = and-left (below t b j) (not (eqb b j)) less in
-      and-both (below t a j) (not (eqb a j)) (below-transitive n t ok a b j la lb lj ab bj)
+      true-both (below t a j) (not (eqb a j)) (below-transitive n t ok a b j la lb lj ab bj)
       (ap not
       (ne-eqb a j λ q.
       true-not-false (eqb b j)
@@ -85,15 +86,15 @@ module _ (n : ℕ) (t : List ℕ) (ok : accepted n t ≡ true) where
       let pairs : every n (λ a. every n λ b. implies (smaller t a j && smaller t b j) (not (foundAs j (join n t a b)))) ≡ true =
       and-right (not (eqb j 0)) _ h in
       let least : smaller t 0 j ≡ true =
-      and-both (below t 0 j) (not (eqb 0 j)) (zero-least n t ok j l)
+      true-both (below t 0 j) (not (eqb 0 j)) (zero-least n t ok j l)
       (ap not (ne-eqb 0 j λ q. true-not-false (eqb j 0) (eq-eqb j 0 (sym q)) (not-true (eqb j 0) (and-left (not (eqb j 0)) _ h)))) in
       let joins : (x y z : ℕ) → x < n → y < n → Join n t x y z → smaller t x j ≡ true → smaller t y j ≡ true → smaller t z j ≡ true =
       λ x y z lx ly r sx sy.
       let other : not (foundAs j (join n t x y)) ≡ true =
       implies-at (smaller t x j && smaller t y j) (not (foundAs j (join n t x y)))
       (every-at (λ b. implies (smaller t x j && smaller t b j) (not (foundAs j (join n t x b)))) n y (every-at _ n x pairs lx) ly)
-      (and-both (smaller t x j) (smaller t y j) sx sy) in
-      and-both (below t z j) (not (eqb z j))
+      (true-both (smaller t x j) (smaller t y j) sx sy) in
+      true-both (below t z j) (not (eqb z j))
       (r .least j l (and-left (below t x j) (not (eqb x j)) sx) (and-left (below t y j) (not (eqb y j)) sy))
       (ap (λ o. not (foundAs j o)) (sym (r .is)) ∙ other) in
       let (k, lk, less, most) = greatest-passing (λ d. smaller t d j) least joins in (
@@ -106,7 +107,7 @@ module _ (n : ℕ) (t : List ℕ) (ok : accepted n t ≡ true) where
   pub covers-irreducible : (j k : ℕ) → j < n → k < n → Covers n t j k → irreducible n t j ≡ true
   unfolding irreducible
   covers-irreducible j k l lk covers =
-      and-both (not (eqb j 0)) _
+      true-both (not (eqb j 0)) _
       (ap not
       (ne-eqb j 0 λ q.
       not-smaller 0
@@ -143,7 +144,7 @@ module _ (n : ℕ) (t : List ℕ) (ok : accepted n t ≡ true) where
     one a b la lb e =
         below-by-sets a b la lb λ j l i f.
         and-right (irreducible n t j) (below t j b)
-        (sym (set-bit b j l) ∙ ap (λ (w : ℕ). bit w j) (sym e) ∙ set-bit a j l ∙ and-both (irreducible n t j) (below t j a) i f)
+        (sym (set-bit b j l) ∙ ap (λ (w : ℕ). bit w j) (sym e) ∙ set-bit a j l ∙ true-both (irreducible n t j) (below t j a) i f)
 
   -- the overlap of two sets is the set of the meet
   overlap : (a b m : ℕ) → a < n → b < n → Meet n t a b m → bitAnd (setOf n t a) (setOf n t b) ≡ setOf n t m
@@ -155,7 +156,7 @@ module _ (n : ℕ) (t : List ℕ) (ok : accepted n t ≡ true) where
       (same-test (below t j a && below t j b) (below t j m)
       (λ e. k .greatest j l (and-left (below t j a) (below t j b) e) (and-right (below t j a) (below t j b) e))
       (λ e.
-      and-both (below t j a) (below t j b) (below-transitive n t ok j m a l (k .type) la e (k .left))
+      true-both (below t j a) (below t j b) (below-transitive n t ok j m a l (k .type) la e (k .left))
       (below-transitive n t ok j m b l (k .type) lb e (k .right))))
     where
       spread : (i x y z : Bool) → (x && y) ≡ z → ((i && x) && (i && y)) ≡ (i && z)
@@ -242,7 +243,7 @@ module _ (n : ℕ) (t : List ℕ) (ok : accepted n t ≡ true) where
         let under : (x m : ℕ) → x < n → Meet n t j x m → not (below t j x) ≡ true → below t m k ≡ true =
         λ x m lx mm f.
         covers m (mm .type) ∙
-        and-both (below t m j) (not (eqb m j)) (mm .left)
+        true-both (below t m j) (not (eqb m j)) (mm .left)
         (ap not
         (ne-eqb m j λ q. true-not-false (below t j x) (subst (λ (w : ℕ). below t w x ≡ true) q (mm .right)) (not-true (below t j x) f))) in
         let least : not (below t j 0) ≡ true =

@@ -11,11 +11,12 @@ use lib.Seq.{getD-set-same, getD-set-other}
 use lib.Bits.{bitAnd, bitOr, or-add-and, and-le-r}
 use lib.Dec.{eqb}
 use borrow.Author.Tests.{eq-eqb, ne-eqb, eqb-true}
+use Rattle.graphs.proofs.Search.{true-both}
 use Rattle.lattice.specs.Table.{every, cell}
 use Rattle.lattice.specs.Words.{word, bit, without, turned, holder}
 use Rattle.bounds.specs.Primes.{wordIrreducible, wordSplits, wordPrime, Finds}
 use Rattle.bounds.specs.Sets.{setIn, wordIn, asSets, cellIn, meetIn, joinIn, Apart, Among, MeetsHeld, JoinsHeld, Above, SoughtBy, Sets}
-use Rattle.lattice.proofs.Every.{and-left, and-right, and-both, or-cases, implies-from, every-fails, true-not-false, below-suc, last-nothing, last-only}
+use Rattle.lattice.proofs.Every.{and-left, and-right, or-cases, implies-from, every-fails, true-not-false, below-suc, last-nothing, last-only}
 use Rattle.lattice.proofs.Bits.{no-bit, and-bit, or-bit, part-from, cleared-bit}
 use Rattle.lattice.proofs.Seeking.{without-inside}
 
@@ -28,7 +29,7 @@ module _ {n : ℕ} {sets : List ℕ} {set left : ℕ} (a : Among n sets set left
         inside = without-inside n left (2 ^ c) (a .inside);
         kept = λ k l e.
             cleared-bit left c k ∙
-            and-both (bit left k) (not (eqb k c)) (a .kept k l e)
+            true-both (bit left k) (not (eqb k c)) (a .kept k l e)
             (ap not (ne-eqb k c λ q. other (ap (λ (i : ℕ). getD sets i 0) (sym q) ∙ e)));
       }
 
@@ -75,7 +76,7 @@ gather-next {sets} {set} {part} {left} i j g l e =
           λ k f. g .above .one .3 k (and-left (bit part k) (bit (wordIn sets j) k) (sym (and-bit part (wordIn sets j) k) ∙ f)),
         );
         kept = λ k h.
-            and-bit part (wordIn sets j) k ∙ and-both (bit part k) (bit (wordIn sets j) k) (g .above .kept k h) (h j l (g .members j e));
+            and-bit part (wordIn sets j) k ∙ true-both (bit part k) (bit (wordIn sets j) k) (g .above .kept k h) (h j l (g .members j e));
       };
       members = λ k f. g .members k (and-left (bit left k) (not (eqb k i)) (sym (cleared-bit left i k) ∙ f));
     }
@@ -219,7 +220,7 @@ module _ (n : ℕ) (sets : List ℕ) (cells : List (List ℕ)) (a b : ℕ) where
                 let both : (j : ℕ) → bit (setIn sets k) j ≡ true → bit (setIn sets a) j && bit (setIn sets b) j ≡ true =
                 λ j f. sym (and-bit (setIn sets a) (setIn sets b) j) ∙ ap (λ (w : ℕ). bit w j) (sym e) ∙ f in
                 and-bit (wordIn sets a) (wordIn sets b) k ∙
-                and-both (bit (wordIn sets a) k) (bit (wordIn sets b) k)
+                true-both (bit (wordIn sets a) k) (bit (wordIn sets b) k)
                 (meets-held .lower k a l la
                 (part-from (setIn sets k) (setIn sets a) λ j f. and-left (bit (setIn sets a) j) (bit (setIn sets b) j) (both j f)))
                 (meets-held .lower k b l lb

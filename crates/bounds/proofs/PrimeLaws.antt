@@ -10,10 +10,11 @@ use native.Mathlib.Omega.{arith}
 use lib.ListN.{getD}
 use lib.Dec.{eqb}
 use borrow.Author.Tests.{eq-eqb, ne-eqb, eqb-true, not-true}
+use Rattle.graphs.proofs.Search.{same-test, not-true-false, true-both}
 use Rattle.lattice.specs.Table.{every, found, implies, below, accepted, meetBelow, isResidual, residual, admits}
 use Rattle.lattice.specs.Words.{digit, word, related, Words, bit, without, turned, holder, Sided, Inside}
 use Rattle.bounds.specs.Primes.{wordIrreducible, wordSplits, wordPrime}
-use Rattle.lattice.proofs.Every.{and-left, and-right, and-both, implies-at, implies-from, every-at, every-all, same-test, not-true-false, not-false-true, true-not-false, below-or-not, below-suc, last-passes, last-found, found-some}
+use Rattle.lattice.proofs.Every.{and-left, and-right, implies-at, implies-from, every-at, every-all, not-false-true, true-not-false, below-or-not, below-suc, last-passes, last-found, found-some}
 use Rattle.lattice.proofs.WordLaws.{word-below, word-bits}
 use Rattle.lattice.proofs.Bits.{bit-word, bits-same, without-bit, without-most, cleared-bit}
 use Rattle.lattice.proofs.OrderLaws.{row-bit}
@@ -101,7 +102,7 @@ module _ (n : ℕ) (t : List ℕ) (ok : accepted n t ≡ true) where
       λ d ld.
       same-test (below t d (s .0)) (below t d j && not (eqb d j))
       (λ g.
-      and-both (below t d j) (not (eqb d j)) (below-transitive n t ok d (s .0) j ld (k .type) l g (k .left))
+      true-both (below t d j) (not (eqb d j)) (below-transitive n t ok d (s .0) j ld (k .type) l g (k .left))
       (ap not
       (ne-eqb d j λ same.
       true-not-false (below t j p)
@@ -260,7 +261,7 @@ module _ (n : ℕ) (t ws : List ℕ) (ok : accepted n t ≡ true) (words : Words
           join-of (meetBelow n t p q) n (omega arith) in
           let r : (m : ℕ) × Meet n t (e .0) q m = meet-exists n t ok (e .0) q (e .1) lq in
           last-found (isResidual n t p q) n (e .0) (e .1)
-          (and-both (meetBelow n t p q (e .0)) (every n (λ d. implies (meetBelow n t p q d) (below t d (e .0))))
+          (true-both (meetBelow n t p q (e .0)) (every n (λ d. implies (meetBelow n t p q d) (below t d (e .0))))
           (under (e .0) (r .0) (r .1) ∙ not-false-true (below t (r .0) p) (greatest-under (e .0) (r .0) (e .1) (r .1) (e .3)))
           (every-all _ n λ d l. implies-from (meetBelow n t p q d) (below t d (e .0)) (e .2 d l)))
 
@@ -289,7 +290,7 @@ module _ (n : ℕ) (t ws : List ℕ) (ok : accepted n t ≡ true) (words : Words
             (λ e.
             c .greatest d (y .0) ld (z .is)
             (covers (y .0) (z .type) ∙
-            and-both (below t (y .0) j) (not (eqb (y .0) j)) (z .right)
+            true-both (below t (y .0) j) (not (eqb (y .0) j)) (z .right)
             (ap not
             (ne-eqb (y .0) j λ same.
             true-not-false (below t j d) (subst (λ (i : ℕ). below t i d ≡ true) same (z .left)) (not-true (below t j d) e))))),

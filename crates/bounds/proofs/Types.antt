@@ -9,11 +9,12 @@ use native.Mathlib.Omega.{arith}
 use lib.ListN.{length, getD}
 use lib.Bits.{bitAnd, bitOr}
 use borrow.Author.Tests.{eq-eqb}
+use Rattle.graphs.proofs.Search.{not-true-false, true-both}
 use Rattle.lattice.specs.Table.{every, below, sized, ordered, accepted, meet, join, cell, filled, boundRow, overwrite}
 use Rattle.lattice.specs.Words.{word, related, Words, bit, turned, Inside}
 use Rattle.bounds.specs.Primes.{wordIrreducible, wordPrime}
 use Rattle.bounds.specs.Sets.{distributive, irreducible, setOf, setIn, asSets, cellIn, meetIn, joinIn, Apart, Held, Sets, Holding}
-use Rattle.lattice.proofs.Every.{and-left, and-right, and-both, not-true-false, true-not-false}
+use Rattle.lattice.proofs.Every.{and-left, and-right, true-not-false}
 use Rattle.lattice.proofs.WordLaws.{word-same, word-and, word-cut}
 use Rattle.lattice.proofs.Bits.{bit-word, no-bit, and-bit, part-bit, word-inside}
 use Rattle.lattice.proofs.Rows.{length-overwrite}
@@ -100,7 +101,7 @@ module _ (n : ℕ) (t : List ℕ) (ok : accepted n t ≡ true) where
               and-right (irreducible n t j) (below t j a)
               (sym (set-bit n t ok a j l) ∙ ap (λ (w : ℕ). bit w j) (sym (sets-are ws words made a la)) ∙
               part-bit (setIn sets k) (setIn sets a) part j
-              (ap (λ (w : ℕ). bit w j) (sets-are ws words made k lk) ∙ set-bit n t ok k j l ∙ and-both (irreducible n t j) (below t j k) i e));
+              (ap (λ (w : ℕ). bit w j) (sets-are ws words made k lk) ∙ set-bit n t ok k j l ∙ true-both (irreducible n t j) (below t j k) i e));
         }
     held-sets true sets made =
         record {

@@ -24,11 +24,6 @@ use Rattle.decode.proofs.Labels.{label-known, label-long, label-alone}
 
 -- Lists.
 
-pub getD-member : {X : Type 0} (xs : List X) (i : ℕ) (d : X) → i < length xs → List·Memᴰ (getD xs i d) xs
-getD-member [] i d h = absurd (omega arith)
-getD-member (x ∷ xs) zero d h = List·Memᴰ·head refl
-getD-member (x ∷ xs) (suc i) d h = List·Memᴰ·tail (getD-member xs i d (omega arith))
-
 pub drop-member : {X : Type 0} {x : X} (k : ℕ) (xs : List X) → List·Memᴰ x (drop k xs) → List·Memᴰ x xs
 drop-member zero xs m = m
 drop-member (suc k) [] m = m

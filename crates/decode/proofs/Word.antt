@@ -16,11 +16,9 @@ use lib.ListN.{getD, drop}
 use lib.Pow.{shr-shr, shr-lt, high, pow-add, pow-mono}
 use lib.Seq.{getD-drop, drop-drop}
 use Rattle.graphs.specs.Rows.{from}
+use Rattle.lattice.proofs.Bits.{half-shift}
 use Rattle.decode.specs.Decode.{takeTarget, takeLinks}
 use Rattle.decode.specs.Word.{wordOf, takeWord}
-
-half-shift : (w i : ℕ) → w / 2 ^ suc i ≡ w / 2 / 2 ^ i
-half-shift w i = ap (λ (k : ℕ). w / 2 ^ k) (omega arith) ∙ sym (shr-shr w 1 i)
 
 no-shift : (w : ℕ) → w / 1 ≡ w
 no-shift w = omega arith

@@ -2,7 +2,7 @@
 -- where the definition keeps it, so the two graphs are alike. The reasons are those of the definition too.
 use mathlib.Core.Path.{_≡_, refl, sym, _∙_, ap, ap₂, subst}
 use mathlib.Core.Bool.{Bool, true, false, cond}
-use mathlib.Core.List.{List, [], _∷_, List·Memᴰ}
+use mathlib.Core.List.{List, [], List·Memᴰ}
 use mathlib.Core.Logic.{_↔_}
 use mathlib.Core.Option.{Option, none, some, Option·getD}
 use Prim.Native.Nat.{ℕ, _*_, _/_, _%_, _≤_, _<_}
@@ -39,7 +39,8 @@ use Rattle.layout.proofs.Reaching.{reached-inside}
 use Rattle.layout.proofs.Order.{place-before}
 use Rattle.encode.specs.Marks.{marksAlong}
 use Rattle.encode.proofs.WrittenForm.{marks-tell}
-use Rattle.visits.specs.Walks.{Reaches, one, more}
+use Rattle.visits.specs.Walks.{Reaches}
+use Rattle.record.proofs.Words.{reaches-walk, reaches-inside}
 use Rattle.cover.specs.Cover.{Lying}
 use Rattle.groups.specs.Marks.{At, Marked}
 use Rattle.groups.proofs.Leading.{at-one, one-at, at-link, link-stands, Says, follows-it, leads-covered, leads-bare, mark-says}
@@ -57,27 +58,11 @@ use Rattle.reasons.proofs.Explaining.{reason-one, reason-two, reason-three}
 
 -- A node that links reach is the end of a path.
 module _ {ws : List ℕ} (sound : Sound ws) where
-  reaches-path : {v w : ℕ} → Reaches ws v w → (f : ℕ) × (p : List ℕ) × (follow (graphIn ws .link) (some v) (f ∷ p) ≡ some w)
-  unfolding follow
-  reaches-path (one {v} {w} l) =
-      (featureAt ws (l .place), [], link-at sound v (l .place) (l .inside) (l .low) (l .high) ∙ ap some (l .target-is))
-  reaches-path (more {v} {w} {x} l r) =
-      let (f, p, e) = reaches-path r in (
-        featureAt ws (l .place),
-        f ∷ p,
-        ap (λ (o : Option ℕ). follow (graphIn ws .link) o (f ∷ p))
-            (link-at sound v (l .place) (l .inside) (l .low) (l .high) ∙ ap some (l .target-is)) ∙ e,
-      )
-
-  reaches-inside : {v w : ℕ} → Reaches ws v w → v < size ws
-  reaches-inside (one l) = l .inside
-  reaches-inside (more l r) = l .inside
-
   acyclic-words : (n : ℕ) (t : List ℕ) → AnySize (tableLabels n t) (graphIn ws) → ((v : ℕ) → v < size ws → Reached (graphIn ws) v) →
       (v : ℕ) → Reaches ws v v → ⊥
   acyclic-words n t any reached v r =
-      let (f, p, e) = reaches-path r in
-      any .acyclic v f p (reached v (reaches-inside r)) e
+      let (f, p, e) = reaches-walk sound r in
+      any .acyclic v f p (reached v (reaches-inside sound r)) e
 
 -- Both graphs.
 module _ {n : ℕ} {t gw sw map : List ℕ} (asked : Asked n t gw sw map) where

@@ -4,12 +4,12 @@ use mathlib.Core.Path.{_≡_, refl, sym, _∙_, ap, ap₂}
 use mathlib.Core.Bool.{Bool, cond}
 use mathlib.Core.Logic.{_⊎_, ⊎-elim}
 use mathlib.Core.List.{List, [], _∷_, _++_, map, List·Memᴰ, List·Memᴰ·head, List·Memᴰ·tail}
-use Prim.Native.Nat.{ℕ, zero, suc, _+_, _≤_, _<_}
+use Prim.Native.Nat.{ℕ, _+_, _≤_, _<_}
 use native.Mathlib.Nat.{zero-add}
 use native.Mathlib.Omega.{arith}
 use borrow.Author.Tests.{le-leb, lt-leb}
 use lib.Dec.{leb}
-use lib.ListN.{length, getD, drop}
+use lib.ListN.{length, drop}
 use lib.Seq.{sets, sets-eq}
 use Rattle.graphs.specs.Number.{Canonical, manyLinks, manyNodes}
 use Rattle.lattice.specs.Label.{Label}
@@ -23,11 +23,6 @@ pub map-listed : {X Y : Type 0} {f g : X → Y} (xs : List X) → ((x : X) → L
 map-listed [] e = refl
 map-listed {Y = Y} (x ∷ xs) e =
     ap₂ (λ (y : Y) (ys : List Y). y ∷ ys) (e x (List·Memᴰ·head refl)) (map-listed xs (λ z m. e z (List·Memᴰ·tail m)))
-
-pub getD-member : (vs : List ℕ) (i : ℕ) → i < length vs → List·Memᴰ (getD vs i 0) vs
-getD-member [] i h = absurd (omega arith)
-getD-member (v ∷ vs) zero h = List·Memᴰ·head refl
-getD-member (v ∷ vs) (suc i) h = List·Memᴰ·tail (getD-member vs i (omega arith))
 
 -- the same for an output that is equal to the one that is yielded
 pub yields-by : {A : Type 0} {y : Yield A} {a : A} {l last : List ℕ} → last ≡ l → y ≡ yielding a l → yielding a last ≡ y

@@ -17,10 +17,11 @@ use Rattle.graphs.specs.Rows.{Row, from, target, linksOf}
 use Rattle.graphs.specs.Number.{Canonical, canonical, counted, indexOf, linkCount, outDegree, manyLinks, manyNodes, rowOf, visit, written}
 use Rattle.graphs.specs.Difference.{Link}
 use Rattle.graphs.specs.Reasons.{alongLinks, orderIn, writtenOrder}
-use Rattle.graphs.proofs.Lists.{mem-reverse, mem-unreverse, getD-index, index-within, tells-eqb}
+use Rattle.graphs.proofs.Lists.{mem-reverse, mem-unreverse, getD-index, index-within, tells-eqb, getD-member}
 use Rattle.graphs.proofs.Rows.{linksOf-length}
 use Rattle.graphs.proofs.Form.Invariant.{linksOf-cong}
 use Rattle.graphs.proofs.Form.Visited.{Grown, visit-all}
+use Rattle.graphs.proofs.Reasons.{option-same}
 use Rattle.lattice.specs.Label.{Label, noLabel}
 use Rattle.layout.specs.Layout.{Sound, Place, header, longest, size, linksFrom, rowEnd, featureAt, targetAt, linksAt, linksBetween, graphIn}
 use Rattle.layout.proofs.Spans.{linkAt, links-at, links-none, links-cons}
@@ -34,7 +35,7 @@ use Rattle.encoder.proofs.WrittenRows.{ranges-upto, sum-reverse, row-ascending,
 use Rattle.encode.specs.declared.Written.the-variants as outcome
 use Rattle.encode.specs.Encode.{yielding, writtenOut}
 use Rattle.encode.proofs.Links.{linksOf-links, target-member}
-use Rattle.encode.proofs.Outcomes.{map-listed, getD-member, fitted-short, fitted-room, both-short, both-narrow, both-room}
+use Rattle.encode.proofs.Outcomes.{map-listed, fitted-short, fitted-room, both-short, both-narrow, both-room}
 use Rattle.encode.specs.declared.Marked.the-variants as marked
 use Rattle.encode.specs.Marks.{MarksFit, Noted, noting, fittedBoth, marksAlong, markedOut}
 use Rattle.encode.proofs.MarkedRows.{marks-length}
@@ -107,10 +108,6 @@ module _ {ws : List ℕ} (sound : Sound ws) where
         here : Inside v
         here = inside v (List·Memᴰ·head refl)
 
-        option-same : (o : Option ℕ) → o ≡ Option·map (λ x. x) o
-        option-same none = refl
-        option-same (some x) = refl
-
   module _ {count : ℕ} {numbers visited : List ℕ} (numbered : Numbers ws count numbers visited) (all : length visited ≡ 255) where
     start : Inside 0
     start = sound .shaped .nonempty
@@ -180,7 +177,7 @@ module _ {ws : List ℕ} (sound : Sound ws) where
       visited-seen i h =
           let low : i < length (reverse seen) = omega (arith, counted-is, length-reverse seen) in
           subst (λ (v : ℕ). List·Memᴰ v seen) (sym (numbered .by-number seen e i (omega (arith, counted-is))))
-          (mem-unreverse (getD-member (reverse seen) i low))
+          (mem-unreverse (getD-member (reverse seen) i 0 low))
 
       rows-are : map (rowOf eqb g (reverse seen)) (reverse seen) ≡ numberedRows ws numbers (take count visited)
       rows-are =

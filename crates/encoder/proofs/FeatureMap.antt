@@ -16,6 +16,7 @@ use lib.Pow.{pow-mono, shl-exact}
 use Rattle.graphs.specs.Rows.{from, target}
 use Rattle.graphs.specs.Number.{countSome}
 use Rattle.graphs.specs.Large.{Ascending}
+use Rattle.graphs.proofs.Lists.{count-small}
 use Rattle.encoder.specs.Encode.{bitsFrom}
 use Rattle.encoder.specs.NumberedRows.{lowBytes}
 
@@ -86,14 +87,10 @@ bits-renamed name links f (suc k) =
     ap₂ (λ (a b : ℕ). a + 2 * b) (ap countSome (target-renamed f name links) ∙ count-renamed name (target links f))
     (bits-renamed name links (suc f) k)
 
-pub bit-small : {X : Type 0} (o : Option X) → countSome o ≤ 1
-bit-small none = omega arith
-bit-small (some x) = omega arith
-
 pub bits-small : (links : List (ℕ × ℕ)) (f k : ℕ) → bitsFrom links f k < 2 ^ k
 unfolding bitsFrom
 bits-small links f zero = omega arith
-bits-small links f (suc k) = omega (arith, pow-suc 2 k, bit-small (target links f), bits-small links (suc f) k)
+bits-small links f (suc k) = omega (arith, pow-suc 2 k, count-small (target links f), bits-small links (suc f) k)
 
 -- a link below the features asked sets no bit
 bits-later : (l : ℕ × ℕ) (ls : List (ℕ × ℕ)) (f k : ℕ) → l .0 < f → bitsFrom (l ∷ ls) f k ≡ bitsFrom ls f k

@@ -3,11 +3,12 @@ use mathlib.Core.Path.{_≡_, refl, sym, _∙_, ap, ap₂, subst}
 use mathlib.Core.Bool.{Bool, cond}
 use mathlib.Core.List.{List, _∷_, _++_}
 use mathlib.Core.Option.{Option, none, some}
-use Prim.Native.Nat.{ℕ, _+_, _*_, _/_, _%_, _≤_, _<_}
+use Prim.Native.Nat.{ℕ, _+_, _*_, _≤_}
 use native.Mathlib.Omega.{arith}
 use borrow.Author.Tests.{ne-eqb}
 use lib.ListN.{length, take, drop, length-append, length-drop, take-append-drop}
 use lib.Seq.{take-append-seam, drop-append-seam}
+use Rattle.graphs.proofs.Walk.{some-injective}
 use Rattle.acceptance.specs.declared.Opened.{Opened}
 use Rattle.acceptance.specs.Reply.{opened}
 use Rattle.replies.specs.Reply.{Result, lengthOf, resulting}
@@ -16,14 +17,11 @@ use Rattle.demands.specs.Demand.{WrittenRecord, Leaves}
 use Rattle.gathering.specs.Gathering.{twoBytes, stateOf, typesIn, tableIn, headIn, behindTable, roomIn, lengthAt, firstOf, gatheredIn, joining, settledBy, settled, adding, comparedWith, comparing, finishedWith, finishing}
 use Rattle.gathering.proofs.Told.{length-told}
 use Rattle.gathering.proofs.Beginning.{table-long}
+use Rattle.gathering.proofs.Spans.{two-bytes-read}
 use Rattle.gathered.specs.Calls.{blank, takenBy, taken, instead}
 use Rattle.gathered.specs.Theorem.{bytesOf, Holds}
-use Rattle.gathered.proofs.Mixture.{some-injective, settled-answer}
+use Rattle.gathered.proofs.Mixture.{settled-answer}
 use Rattle.gathered.proofs.Records.{written-some, written-short, joining-leaves, joining-room}
-
--- A number of 16 bits is read back from its two bytes.
-two-bytes-read : (x : ℕ) → x < 65536 → x % 256 + 256 * (x / 256 % 256) ≡ x
-two-bytes-read x h = omega arith
 
 first-some : (part rest : List ℕ) → 1 ≤ length part → firstOf (length part) (part ++ rest) ≡ some part
 first-some part rest h =

@@ -18,6 +18,7 @@ use Rattle.lattice.proofs.AnySize.{below-transitive, below-both}
 use Rattle.acceptance.proofs.Acceptance.{opened-accepted}
 use Rattle.record.specs.Read.{Reading, refused, accepted, reading, graphOfRows}
 use Rattle.record.proofs.Theorems.{accepted-of-any-size}
+use Rattle.record.proofs.Accepted.{accepted-injective}
 use Rattle.replies.specs.Reply.{Result, lengthOf}
 use Rattle.demands.specs.Demand.{WrittenRecord, CommonPart, Rewritten}
 use Rattle.demands.proofs.Demands.{common-part, rewriting-means, written-one-form}
@@ -28,9 +29,6 @@ use Rattle.gathered.specs.Theorem.{bytesOf, Holds, AllBelow, LeastAbove}
 use Rattle.gathered.proofs.Mixture.{adding-kept}
 use Rattle.gathered.proofs.Records.{rewriting-refused, generalizing-refused, joining-leaves, joining-room}
 use Rattle.gathered.proofs.Holding.{head-are, adding-is, adding-holds, adding-answer}
-
-accepted-injective : {a b : List (Row Label)} → accepted a ≡ accepted b → a ≡ b
-accepted-injective e = cc
 
 module _ (n : ℕ) (t : List ℕ) (opens : opened n t ≡ Accepted) where
   ok : table.accepted n t ≡ true

@@ -11,9 +11,6 @@ use Rattle.gathering.specs.Gathering.{settled, settledBy, typesIn, tableIn, gat
 use Rattle.gathering.proofs.Told.{none-some}
 use Rattle.gathered.specs.Calls.{Call, add, order, finish, stateAfter, keptWhere, additions, alone}
 
-pub some-injective : {A : Type 0} {x y : A} → some x ≡ some y → x ≡ y
-some-injective e = cc
-
 pub settled-answer : (state : List ℕ) (r : Result) (o : Option ℕ) → settledBy state o r .reply ≡ (r .reply)
 settled-answer state r none = refl
 settled-answer state r (some l) = refl

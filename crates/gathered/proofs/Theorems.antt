@@ -12,6 +12,7 @@ use lib.Dec.{leb, eqb}
 use lib.ListN.{length, take, drop, length-drop}
 use Rattle.graphs.specs.Rows.{Row}
 use Rattle.graphs.specs.Number.{canonical}
+use Rattle.graphs.proofs.Walk.{some-injective}
 use Rattle.lattice.specs.Label.{Label}
 use Rattle.acceptance.specs.declared.Opened.{Opened}
 use Rattle.acceptance.specs.declared.Opened.the-variants as table
@@ -39,7 +40,7 @@ use Rattle.gathering.proofs.Told.{none-some, length-told}
 use Rattle.gathered.specs.Calls.{Call, add, order, finish, stateAfter, keptWhere, additions, alone, blank, takenBy, taken, instead, folded}
 use Rattle.gathered.specs.Theorem.{bytesOf, Holds, LeastAbove}
 use Rattle.gathered.proofs.Mixture as Mixture
-use Rattle.gathered.proofs.Mixture.{some-injective, adding-kept}
+use Rattle.gathered.proofs.Mixture.{adding-kept}
 use Rattle.gathered.proofs.Records.{Why, joining-room, joining-why}
 use Rattle.gathered.proofs.Refusing.{begin-refused, finish-refused}
 use Rattle.gathered.proofs.Least.{least-after, least-once}

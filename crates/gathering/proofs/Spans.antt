@@ -9,6 +9,10 @@ use lib.Seq.{take-all, drop-length, drop-drop, getD-drop, set-split, take-suc-se
 use Rattle.gathering.specs.Gathering.{twoBytes, behindTable, roomIn, lengthAt}
 use Rattle.gathering.specs.Parts.{Span, PartsOf}
 
+-- A number of 16 bits is read back from its two bytes.
+pub two-bytes-read : (x : ℕ) → x < 65536 → x % 256 + 256 * (x / 256 % 256) ≡ x
+two-bytes-read x h = omega arith
+
 -- The end of the next bytes: all of them, or as many as there are.
 module _ (bytes : List ℕ) (at count : ℕ) (low : at ≤ length bytes) where
   pub span-inside : count < length bytes - at → Span bytes at count (at + count)

@@ -25,6 +25,7 @@ use mathlib.Core.List.{
   Memᴰ·append-right,
 }
 use mathlib.Core.Logic.{_⊎_, inl, inr, ⊎-elim}
+use mathlib.Core.Option.{Option, none, some}
 use Prim.Native.Nat.{ℕ, zero, suc, _+_, _≤_, _<_, zero-le}
 use native.Mathlib.Decide.{ℕ-discrete}
 use native.Mathlib.Nat.{add-zero, suc-add, add-suc}
@@ -34,7 +35,7 @@ use lib.Dec.{eqb}
 use lib.ListN.{length, getD}
 use Rattle.graphs.specs.Graph.{TellsApart}
 use Rattle.graphs.specs.Rows.{from, features}
-use Rattle.graphs.specs.Number.{member, indexOf}
+use Rattle.graphs.specs.Number.{member, indexOf, countSome}
 use Rattle.graphs.specs.Large.{Distinct}
 
 -- Numbers in a row.
@@ -64,6 +65,16 @@ unfolding from
 getD-from g d zero k i h = absurd (omega arith)
 getD-from g d (suc n) k zero h = ap g (sym (add-zero k))
 getD-from g d (suc n) k (suc i) h = getD-from g d n (suc k) i (omega arith) ∙ ap g (suc-add k i ∙ sym (add-suc k i))
+
+-- an entry of a list is a member
+pub getD-member : {X : Type 0} (xs : List X) (i : ℕ) (d : X) → i < length xs → List·Memᴰ (getD xs i d) xs
+getD-member [] i d h = absurd (omega arith)
+getD-member (x ∷ xs) zero d h = List·Memᴰ·head refl
+getD-member (x ∷ xs) (suc i) d h = List·Memᴰ·tail (getD-member xs i d (omega arith))
+
+pub count-small : {X : Type 0} (o : Option X) → countSome o ≤ 1
+count-small none = omega arith
+count-small (some x) = omega arith
 
 -- every feature is listed
 pub mem-features : (f : ℕ) → f < 64 → List·Memᴰ f features

@@ -2,7 +2,7 @@
 -- exactly where the paths of g are paths of s with labels below, and no node of g meets two nodes of s exactly where paths that share
 -- in g share in s.
 use mathlib.Core.Path.{_≡_, refl, sym, _∙_, ap}
-use mathlib.Core.Bool.{Bool, true, false, not, _&&_, _||_}
+use mathlib.Core.Bool.{Bool, true, false, not, _||_}
 use mathlib.Core.List.{List, [], _∷_, _++_, List·Memᴰ, List·Memᴰ·head, List·Memᴰ·tail, List·Memᴰ·not-nil}
 use mathlib.Core.Logic.{_↔_}
 use mathlib.Core.Option.{Option, none, some}
@@ -19,26 +19,19 @@ use Rattle.graphs.proofs.Walk.{none-some, some-unique, snoc-induction, 
 use Rattle.graphs.proofs.Lists.{mem-features}
 use Rattle.graphs.proofs.Finite.{within-reached, reached-within}
 use Rattle.graphs.proofs.Product.{both-some, product-walk}
-
-pub and-true : (a b : Bool) → (a && b) ≡ true → (a ≡ true) × (b ≡ true)
-and-true true b e = (refl, e)
-and-true false b e = let z : _≡_ {A = ℕ} 0 1 = cc in absurd (omega arith)
-
-pub true-and : (a b : Bool) → a ≡ true → b ≡ true → (a && b) ≡ true
-true-and true b e h = h
-true-and false b e h = e
+use Rattle.graphs.proofs.Search.{both-true, true-both}
 
 pub allOf-true : {X : Type 0} (xs : List X) (test : X → Bool) → allOf xs test ≡ true → (x : X) → List·Memᴰ x xs → test x ≡ true
 unfolding allOf
 allOf-true [] test e x m = absurd (List·Memᴰ·not-nil m)
-allOf-true (y ∷ ys) test e x (List·Memᴰ·head q) = ap test q ∙ and-true (test y) (allOf ys test) e .0
-allOf-true (y ∷ ys) test e x (List·Memᴰ·tail m) = allOf-true ys test (and-true (test y) (allOf ys test) e .1) x m
+allOf-true (y ∷ ys) test e x (List·Memᴰ·head q) = ap test q ∙ both-true (test y) (allOf ys test) e .0
+allOf-true (y ∷ ys) test e x (List·Memᴰ·tail m) = allOf-true ys test (both-true (test y) (allOf ys test) e .1) x m
 
 pub true-allOf : {X : Type 0} (xs : List X) (test : X → Bool) → ((x : X) → List·Memᴰ x xs → test x ≡ true) → allOf xs test ≡ true
 unfolding allOf
 true-allOf [] test h = refl
 true-allOf (y ∷ ys) test h =
-    true-and (test y) (allOf ys test) (h y (List·Memᴰ·head refl)) (true-allOf ys test (λ x m. h x (List·Memᴰ·tail m)))
+    true-both (test y) (allOf ys test) (h y (List·Memᴰ·head refl)) (true-allOf ys test (λ x m. h x (List·Memᴰ·tail m)))
 
 there-some : {X Y : Type 0} (o : Option X) (i : Option Y) {x : X} → there o i ≡ true → o ≡ some x → (y : Y) × (i ≡ some y)
 there-some none i e q = none-some q
@@ -86,13 +79,13 @@ module _ (𝓛 : Labels) {A B : Type 0} (sameA : A → A → Bool) (sameB : B �
     fits x t =
         let xs = meetings s g k in
         allOf-true xs (fitsAt 𝓛 sameA sameB s g)
-        (and-true (allOf xs (fitsAt 𝓛 sameA sameB s g)) (allOf xs λ x. allOf xs (sharesAt 𝓛 sameA sameB s g x)) e .0) x (together-listed x t)
+        (both-true (allOf xs (fitsAt 𝓛 sameA sameB s g)) (allOf xs λ x. allOf xs (sharesAt 𝓛 sameA sameB s g x)) e .0) x (together-listed x t)
 
     shares : (x y : A × B) → Together x → Together y → x .1 ≡ y .1 → x .0 ≡ y .0
     unfolding subsumes
     shares x y t u q =
         let xs = meetings s g k in
-        let all = and-true (allOf xs (fitsAt 𝓛 sameA sameB s g)) (allOf xs λ x. allOf xs (sharesAt 𝓛 sameA sameB s g x)) e .1 in
+        let all = both-true (allOf xs (fitsAt 𝓛 sameA sameB s g)) (allOf xs λ x. allOf xs (sharesAt 𝓛 sameA sameB s g x)) e .1 in
         let one = allOf-true xs (λ x. allOf xs (sharesAt 𝓛 sameA sameB s g x)) all x (together-listed x t) in
         either (sameB (x .1) (y .1)) (tellsB (x .1) (y .1) .1 q) (allOf-true xs (sharesAt 𝓛 sameA sameB s g x) one y (together-listed y u))
       where
@@ -103,14 +96,14 @@ module _ (𝓛 : Labels) {A B : Type 0} (sameA : A → A → Bool) (sameB : B �
     label-fits : (x : A × B) → Together x → 𝓛 .le (s .label (x .0)) (g .label (x .1)) ≡ true
     unfolding fitsAt
     label-fits x t =
-        and-true (𝓛 .le (s .label (x .0)) (g .label (x .1))) (allOf features λ f. there (g .link (x .1) f) (s .link (x .0) f)) (fits x t) .0
+        both-true (𝓛 .le (s .label (x .0)) (g .label (x .1))) (allOf features λ f. there (g .link (x .1) f) (s .link (x .0) f)) (fits x t) .0
 
     link-fits : (x : A × B) → Together x → (f : ℕ) (w : B) → g .link (x .1) f ≡ some w → (v : A) × (s .link (x .0) f ≡ some v)
     unfolding fitsAt
     link-fits x t f w l =
         there-some (g .link (x .1) f) (s .link (x .0) f)
         (allOf-true features (λ f. there (g .link (x .1) f) (s .link (x .0) f))
-        (and-true (𝓛 .le (s .label (x .0)) (g .label (x .1))) (allOf features λ f. there (g .link (x .1) f) (s .link (x .0) f)) (fits x t) .1)
+        (both-true (𝓛 .le (s .label (x .0)) (g .label (x .1))) (allOf features λ f. there (g .link (x .1) f) (s .link (x .0) f)) (fits x t) .1)
         f (mem-features f (narrow (x .1) w f (t .0, t .2) l))) l
 
     both-walk : (p : List ℕ) (w : B) → walk g p ≡ some w → (v : A) × (walk s p ≡ some v)
@@ -140,7 +133,7 @@ module _ (𝓛 : Labels) {A B : Type 0} (sameA : A → A → Bool) (sameB : B �
     below-fits : (x : A × B) → Together x → fitsAt 𝓛 sameA sameB s g x ≡ true
     unfolding fitsAt
     below-fits x (p, hs, hg) =
-        true-and (𝓛 .le (s .label (x .0)) (g .label (x .1))) (allOf features λ f. there (g .link (x .1) f) (s .link (x .0) f))
+        true-both (𝓛 .le (s .label (x .0)) (g .label (x .1))) (allOf features λ f. there (g .link (x .1) f) (s .link (x .0) f))
         (let (v, h, l) = b .paths p (x .1) hg in
         ap (λ (u : A). 𝓛 .le (s .label u) (g .label (x .1))) (some-unique hs h) ∙ l)
         (true-allOf features (λ f. there (g .link (x .1) f) (s .link (x .0) f))
@@ -160,7 +153,7 @@ module _ (𝓛 : Labels) {A B : Type 0} (sameA : A → A → Bool) (sameB : B �
     unfolding subsumes
     below-subsumes =
         let xs = meetings s g k in
-        true-and (allOf xs (fitsAt 𝓛 sameA sameB s g)) (allOf xs λ x. allOf xs (sharesAt 𝓛 sameA sameB s g x))
+        true-both (allOf xs (fitsAt 𝓛 sameA sameB s g)) (allOf xs λ x. allOf xs (sharesAt 𝓛 sameA sameB s g x))
         (true-allOf xs (fitsAt 𝓛 sameA sameB s g) (λ x m. below-fits x (listed-together x m)))
         (true-allOf xs (λ x. allOf xs (sharesAt 𝓛 sameA sameB s g x))
         (λ x m. true-allOf xs (sharesAt 𝓛 sameA sameB s g x) (λ y n. below-shares x y (listed-together x m) (listed-together y n))))

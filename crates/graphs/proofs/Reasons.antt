@@ -31,11 +31,11 @@ along-same {X = X} P d e value same (more {v = v} {w = w} r rs) =
     ∙ ap (λ (u : ℕ). map {B = X} (λ l. value (u, l .0) (l .1)) (linksOf (e .link u) features)) (r .1))
     (along-same P d e value same rs)
 
-module _ {L X : Type 0} (same : ℕ → ℕ → Bool) (d : Graph L ℕ) (value : Link ℕ → ℕ → X) where
-  option-same : (o : Option ℕ) → o ≡ Option·map (λ x. x) o
-  option-same none = refl
-  option-same (some x) = refl
+pub option-same : (o : Option ℕ) → o ≡ Option·map (λ x. x) o
+option-same none = refl
+option-same (some x) = refl
 
+module _ {L X : Type 0} (same : ℕ → ℕ → Bool) (d : Graph L ℕ) (value : Link ℕ → ℕ → X) where
   row-length : (nodes : List ℕ) (v : ℕ) → length (map (λ l. value (v, l .0) (l .1)) (linksOf (d .link v) features)) ≡ length (rowOf same d nodes v .1)
   unfolding rowOf
   row-length nodes v =

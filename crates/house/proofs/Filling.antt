@@ -1,7 +1,7 @@
 -- This file is about the loops that make the type table: each turn stores one byte of the table, and the rest is still to be stored.
 use Prim.Native.Nat.{ℕ, suc, _+_, _-_, _<_, _≤_}
 use mathlib.Core.Path.{_≡_, refl, sym, ap, _∙_}
-use mathlib.Core.Bool.{Bool, true, _&&_}
+use mathlib.Core.Bool.{Bool}
 use mathlib.Core.List.{List, _++_}
 use native.Mathlib.Numerals.{add-one}
 use native.Mathlib.Omega.{arith}
@@ -12,10 +12,6 @@ use Rattle.lattice.specs.Words.{word}
 use Rattle.lattice.proofs.WordLaws.{word-below}
 use Rattle.house.specs.House.{listed, byteOf, houseTable, tabled}
 use Rattle.house.proofs.Entries.{length-listed}
-
--- two tests that passed leave the third to decide
-pub third-decides : {a b c : Bool} → a ≡ true → b ≡ true → c ≡ (a && b && c)
-third-decides f g = rw (f, g)
 
 -- eight bits are a byte
 pub byte-fits : (p : ℕ → Bool) (w j : ℕ) → j ≤ 8 → 8 ≤ j → w ≡ word j p → w < 256

@@ -6,10 +6,11 @@ use mathlib.Core.Option.{some}
 use native.Mathlib.Omega.{arith}
 use lib.ListN.{length, getD}
 use borrow.Author.Tests.{eq-eqb}
+use Rattle.graphs.proofs.Search.{true-both}
 use Rattle.lattice.specs.Table.{found, below, sized, ordered, bounded, accepted, isMeet, meet, join, residual, admits}
 use Rattle.lattice.specs.Words.{bit}
 use Rattle.lattice.proofs.Bits.{bit-word}
-use Rattle.lattice.proofs.Every.{and-left, and-right, and-both, implies-from, every-all, last-found}
+use Rattle.lattice.proofs.Every.{and-left, and-right, implies-from, every-all, last-found}
 use Rattle.lattice.proofs.OrderLaws.{Ordered, facts-ordered}
 use Rattle.lattice.proofs.BoundLaws.{other-side}
 use Rattle.lattice.proofs.Laws.{meet-unique, residual-unique}
@@ -58,8 +59,8 @@ lesser-found a b la lb =
     let is : IsLesser a b (lesser a b) = lesser-grades a b la in
     let lm : lesser a b < 64 = is .type in
     last-found (isMeet 64 houseTable a b) 64 (lesser a b) lm
-    (and-both (below houseTable (lesser a b) a && below houseTable (lesser a b) b) _
-    (and-both (below houseTable (lesser a b) a) (below houseTable (lesser a b) b) (is-below lm la (lesser-left is)) (is-below lm lb (lesser-right is)))
+    (true-both (below houseTable (lesser a b) a && below houseTable (lesser a b) b) _
+    (true-both (below houseTable (lesser a b) a) (below houseTable (lesser a b) b) (is-below lm la (lesser-left is)) (is-below lm lb (lesser-right is)))
     (every-all _ 64 λ d ld.
     implies-from (below houseTable d a && below houseTable d b) (below houseTable d (lesser a b)) λ e.
     is-below ld lm
@@ -70,11 +71,11 @@ lesser-found a b la lb =
 pub table-accepted : accepted 64 houseTable ≡ true
 unfolding accepted sized bounded
 table-accepted =
-    and-both (sized 64 houseTable && ordered 64 houseTable) (bounded 64 houseTable)
-    (and-both (sized 64 houseTable) (ordered 64 houseTable) (eq-eqb (length houseTable) 512 length-table) (facts-ordered 64 houseTable order))
+    true-both (sized 64 houseTable && ordered 64 houseTable) (bounded 64 houseTable)
+    (true-both (sized 64 houseTable) (ordered 64 houseTable) (eq-eqb (length houseTable) 512 length-table) (facts-ordered 64 houseTable order))
     (every-all _ 64 λ a la.
     every-all _ 64 λ b lb.
-    and-both (found (meet 64 houseTable a b)) (found (join 64 houseTable a b)) (lesser-found a b la lb)
+    true-both (found (meet 64 houseTable a b)) (found (join 64 houseTable a b)) (lesser-found a b la lb)
     (other-side 64 houseTable length-table order false true (omega arith) lesser-found a b la lb))
 
 -- the meet of the definition is the lesser

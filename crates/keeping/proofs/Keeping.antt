@@ -11,7 +11,7 @@ use lib.ListN.{length, getD, set, length-set}
 use lib.Seq.{getD-set-same, getD-set-other}
 use Rattle.graphs.specs.Rows.{from}
 use Rattle.graphs.specs.Large.{Distinct}
-use Rattle.graphs.proofs.Lists.{distinct-bound, from-member}
+use Rattle.graphs.proofs.Lists.{distinct-bound, from-member, length-from}
 use Rattle.graphs.proofs.Search.{true-false}
 use Rattle.lattice.specs.Labels.{tableLabels}
 use Rattle.layout.specs.Layout.{longest, labelFrom, size, rowFrom, linksFrom, rowEnd, targetAt, Node, Shaped, Place, rowsEnd}
@@ -381,11 +381,6 @@ places-source place (suc k) i m =
     ⊎-elim (λ (e : i ≡ place k). (k, omega arith, e))
     (λ (n : List·Memᴰ i (placesOf place k)). let (v, h, e) = places-source place k i n in (v, omega arith, e)) (List·Memᴰ·cases-cons m)
 
-from-length : (f k : ℕ) → length (from f k) ≡ k
-unfolding from
-from-length f zero = refl
-from-length f (suc k) = ap suc (from-length (suc f) k)
-
 module _ {s order : List ℕ} {place : ℕ → ℕ} (f : TargetsFirst s order place) where
   one-place : (v w : ℕ) → v < size s → w < size s → place v ≡ place w → v ≡ w
   one-place v w h l e = sym (f .stands v h) ∙ ap (λ (i : ℕ). getD order i 0) e ∙ f .stands w l
@@ -422,7 +417,7 @@ module _ {s order : List ℕ} {place : ℕ → ℕ} (f : TargetsFirst s order pl
             arith,
             distinct-bound (i ∷ placesOf place (size s)) (from 0 (size s)) (outside, places-distinct (size s) (omega arith)) inside,
             places-length place (size s),
-            from-length 0 (size s),
+            length-from 0 (size s),
           ))
         where
           outside : List·Memᴰ i (placesOf place (size s)) → ⊥

@@ -13,9 +13,10 @@ use lib.Dec.{leb, eqb}
 use lib.ListN.{getD}
 use lib.Pow.{mod-pow-add, shr-shr, shr-lt, pow-mono, pow-pos, pow-add, shl-exact}
 use borrow.Author.Tests.{eq-eqb, ne-eqb, eqb-true, leb-true}
+use Rattle.graphs.proofs.Search.{true-both}
 use Rattle.lattice.specs.Table.{below}
 use Rattle.lattice.specs.Words.{digit, word, related, bit, without, partOf}
-use Rattle.lattice.proofs.Every.{and-right, and-both, true-not-false}
+use Rattle.lattice.proofs.Every.{and-right, true-not-false}
 use Rattle.lattice.proofs.WordLaws.{word-below, word-same, word-bits, word-cut, pow-twice, turn-more, turn-fits}
 
 two : 0 < 2
@@ -177,7 +178,7 @@ without-most a b = omega (arith, without-rest a b)
 
 pub without-less : (a b j : ℕ) → bit a j ≡ true → bit b j ≡ true → without a b < a
 without-less a b j e f =
-    omega (arith, without-rest a b, bit-positive (bitAnd a b) j (and-bit a b j ∙ and-both (bit a j) (bit b j) e f))
+    omega (arith, without-rest a b, bit-positive (bitAnd a b) j (and-bit a b j ∙ true-both (bit a j) (bit b j) e f))
 
 -- a word with a standing bit cleared is less
 pub cleared-less : (w j : ℕ) → bit w j ≡ true → without w (2 ^ j) < w
@@ -187,7 +188,7 @@ cleared-less w j e = without-less w (2 ^ j) j e (one-bit j j ∙ eq-eqb j j refl
 pub cleared-bit : (w j k : ℕ) → bit (without w (2 ^ j)) k ≡ (bit w k && not (eqb k j))
 cleared-bit w j k = without-bit w (2 ^ j) k ∙ ap (λ (b : Bool). bit w k && not b) (one-bit j k)
 
-half-shift : (w i : ℕ) → w / 2 ^ suc i ≡ w / 2 / 2 ^ i
+pub half-shift : (w i : ℕ) → w / 2 ^ suc i ≡ w / 2 / 2 ^ i
 half-shift w i = ap (λ (k : ℕ). w / 2 ^ k) (omega arith) ∙ sym (shr-shr w 1 i)
 
 -- below the lowest standing bit are the trailing zeros

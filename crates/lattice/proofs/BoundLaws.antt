@@ -13,9 +13,10 @@ use lib.ListN.{length, getD}
 use lib.Dec.{leb, eqb}
 use lib.Bits.{bitAnd, and-comm}
 use borrow.Author.Tests.{le-leb, eq-eqb, eqb-true}
+use Rattle.graphs.proofs.Search.{same-test, true-both}
 use Rattle.lattice.specs.Table.{every, last, implies, found, isMeet, isJoin, meet, join, sideBound}
 use Rattle.lattice.specs.Words.{word, related, Words, holder, wordBound, allFound}
-use Rattle.lattice.proofs.Every.{and-left, and-right, and-both, implies-at, implies-from, every-at, every-all, same-test, last-same, last-passes, last-found, found-some, true-not-false, below-or-not, below-suc}
+use Rattle.lattice.proofs.Every.{and-left, and-right, implies-at, implies-from, every-at, every-all, last-same, last-passes, last-found, found-some, true-not-false, below-or-not, below-suc}
 use Rattle.lattice.proofs.WordLaws.{word-same, word-bits, word-and}
 use Rattle.lattice.proofs.OrderLaws.{Side, Ordered, side}
 
@@ -35,7 +36,7 @@ module _ (n : ℕ) (rel : ℕ → ℕ → Bool) (ws : List ℕ) (few : n ≤ 64)
       let bits : (j : ℕ) → j < 64 → rel c j ≡ (rel a j && rel b j) =
       word-bits 64 (rel c) (λ j. rel a j && rel b j) (sym (words c lc) ∙ eqb-true _ _ h ∙ common) in
       let own : rel a c && rel b c ≡ true = sym (bits c (omega arith)) ∙ laws .self c lc in
-      and-both (rel a c && rel b c) (every n λ d. implies (rel a d && rel b d) (rel c d)) own
+      true-both (rel a c && rel b c) (every n λ d. implies (rel a d && rel b d) (rel c d)) own
       (every-all _ n λ d l. implies-from (rel a d && rel b d) (rel c d) λ e. bits d (omega arith) ∙ e))
       λ h.
       let own : rel a c && rel b c ≡ true = and-left (rel a c && rel b c) _ h in
@@ -47,7 +48,7 @@ module _ (n : ℕ) (rel : ℕ → ℕ → Bool) (ws : List ℕ) (few : n ≤ 64)
       same-test (rel c j) (rel a j && rel b j)
       (λ e.
       let s : j < n = laws .inside c j lc l e in
-      and-both (rel a j) (rel b j)
+      true-both (rel a j) (rel b j)
       (laws .chain a c j la lc s (and-left (rel a c) (rel b c) own) e)
       (laws .chain b c j lb lc s (and-right (rel a c) (rel b c) own) e))
       λ e.
@@ -99,7 +100,7 @@ module _ (n : ℕ) (rel : ℕ → ℕ → Bool) (laws : Side n rel) (end : ℕ) 
         passes .0,
         and-left (rel a c) (rel b c) own,
         and-right (rel a c) (rel b c) own,
-        λ d l e f. implies-at (rel a d && rel b d) (rel c d) (every-at _ n d most l) (and-both (rel a d) (rel b d) e f),
+        λ d l e f. implies-at (rel a d && rel b d) (rel c d) (every-at _ n d most l) (true-both (rel a d) (rel b d) e f),
       )
 
   -- there is a type that has a and b on its side, and is itself on the side of every type before k that has both
@@ -129,7 +130,7 @@ module _ (n : ℕ) (rel : ℕ → ℕ → Bool) (laws : Side n rel) (end : ℕ) 
       λ d r f g.
           below-suc r
           (λ q.
-          absurd (true-not-false (rel d a && rel d b) (and-both (rel d a) (rel d b) f g) (ap (λ (i : ℕ). rel i a && rel i b) q ∙ e)))
+          absurd (true-not-false (rel d a && rel d b) (true-both (rel d a) (rel d b) f g) (ap (λ (i : ℕ). rel i a && rel i b) q ∙ e)))
           (λ s. under d s f g),
     )
 
@@ -137,7 +138,7 @@ module _ (n : ℕ) (rel : ℕ → ℕ → Bool) (laws : Side n rel) (end : ℕ) 
   other-found a b la lb =
       let (c, lc, ca, cb, under) = shared-bound a b la lb n (omega arith) in
       last-found (isBound n (λ i j. rel j i) a b) n c lc
-      (and-both (rel c a && rel c b) _ (and-both (rel c a) (rel c b) ca cb)
+      (true-both (rel c a && rel c b) _ (true-both (rel c a) (rel c b) ca cb)
       (every-all _ n λ d l.
       implies-from (rel d a && rel d b) (rel d c) λ e. under d l (and-left (rel d a) (rel d b) e) (and-right (rel d a) (rel d b) e)))
 

@@ -9,6 +9,7 @@ use native.Mathlib.Numerals.{add-one}
 use native.Mathlib.Omega.{arith}
 use lib.Dec.{ltb}
 use borrow.Author.Tests.{ltb-true, ltb-false, not-true, not-false}
+use Rattle.graphs.proofs.Search.{not-true-false, true-both}
 use Rattle.lattice.specs.Table.{every, last, implies, found}
 
 pub and-left : (a b : Bool) → a && b ≡ true → a ≡ true
@@ -18,10 +19,6 @@ and-left false b h = h
 pub and-right : (a b : Bool) → a && b ≡ true → b ≡ true
 and-right true b h = h
 and-right false b h = let z : _≡_ {A = ℕ} 0 1 = cc in absurd (omega arith)
-
-pub and-both : (a b : Bool) → a ≡ true → b ≡ true → a && b ≡ true
-and-both true b g h = h
-and-both false b g h = g
 
 -- two tests that passed leave the third to decide
 pub third-decides : {a b c : Bool} → a ≡ true → b ≡ true → c ≡ (a && b && c)
@@ -34,17 +31,6 @@ implies-at false b h g = let z : _≡_ {A = ℕ} 0 1 = cc in absurd (omega arith
 pub implies-from : (a b : Bool) → (a ≡ true → b ≡ true) → implies a b ≡ true
 implies-from true b h = h refl
 implies-from false b h = refl
-
--- two tests that are true together are equal
-pub same-test : (a b : Bool) → (a ≡ true → b ≡ true) → (b ≡ true → a ≡ true) → a ≡ b
-same-test true b f g = sym (f refl)
-same-test false true f g = g refl
-same-test false false f g = refl
-
--- a test that is not true is false
-pub not-true-false : (a : Bool) → (a ≡ true → ⊥) → a ≡ false
-not-true-false true h = absurd (h refl)
-not-true-false false h = refl
 
 pub not-false-true : (a : Bool) → (a ≡ false → ⊥) → a ≡ true
 not-false-true true h = refl
@@ -72,7 +58,7 @@ every-at p (suc n) k h l =
 pub every-all : (p : ℕ → Bool) (n : ℕ) → ((k : ℕ) → k < n → p k ≡ true) → every n p ≡ true
 unfolding every
 every-all p zero h = refl
-every-all p (suc n) h = and-both (every n p) (p n) (every-all p n λ k l. h k (omega arith)) (h n (omega arith))
+every-all p (suc n) h = true-both (every n p) (p n) (every-all p n λ k l. h k (omega arith)) (h n (omega arith))
 
 pub every-none : (p : ℕ → Bool) → every 0 p ≡ true
 unfolding every
@@ -80,7 +66,7 @@ every-none p = refl
 
 pub every-more : (p : ℕ → Bool) (k : ℕ) → every k p ≡ true → p k ≡ true → every (k + 1) p ≡ true
 unfolding every
-every-more p k h g = rw add-one (and-both (every k p) (p k) h g)
+every-more p k h g = rw add-one (true-both (every k p) (p k) h g)
 
 pub every-fails : (p : ℕ → Bool) (n k : ℕ) → k < n → p k ≡ false → every n p ≡ false
 every-fails p n k l h = not-true-false (every n p) λ e. true-not-false (p k) (every-at p n k e l) h

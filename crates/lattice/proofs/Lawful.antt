@@ -12,10 +12,11 @@ use native.Mathlib.Omega.{arith}
 use lib.Dec.{leb, eqb}
 use borrow.Author.Tests.{eq-eqb, eqb-true, le-leb, leb-true}
 use Rattle.graphs.specs.Label.{Labels, Lattice}
+use Rattle.graphs.proofs.Search.{true-both}
 use Rattle.lattice.specs.Label.{Label, plain}
 use Rattle.lattice.specs.Table.{below, accepted, meet, join, cell}
 use Rattle.lattice.specs.Labels.{tableLabels, Known}
-use Rattle.lattice.proofs.Every.{below-or-not, and-left, and-right, and-both}
+use Rattle.lattice.proofs.Every.{below-or-not, and-left, and-right}
 use Rattle.lattice.proofs.Laws.{
   Meet,
   Join,
@@ -98,7 +99,7 @@ module _ (n : ℕ) (t : List ℕ) (x y : Label) where
       let b = below t (x .type) (y .type) in
       let l = leb (y .lowest) (x .lowest) in
       let h = leb (x .highest) (y .highest) in
-      and-both (b && l) h (and-both b l (i .type) (le-leb (y .lowest) (x .lowest) (i .lowest))) (le-leb (x .highest) (y .highest) (i .highest))
+      true-both (b && l) h (true-both b l (i .type) (le-leb (y .lowest) (x .lowest) (i .lowest))) (le-leb (x .highest) (y .highest) (i .highest))
 
 -- The contradiction: type 0, or an empty range.
 

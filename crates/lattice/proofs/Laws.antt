@@ -9,9 +9,10 @@ use native.Mathlib.Omega.{arith}
 use lib.ListN.{length, getD}
 use lib.Dec.{eqb}
 use borrow.Author.Tests.{eq-eqb, eqb-true}
+use Rattle.graphs.proofs.Search.{true-both}
 use Rattle.lattice.specs.Table.{every, found, implies, below, sized, ordered, bounded, accepted, isMeet, isJoin, meet, join, restores, isWanted, wanted, meetBelow, isResidual, residual, admits, filled, boundRow}
 use Rattle.lattice.specs.Words.{related, Words, Sided}
-use Rattle.lattice.proofs.Every.{and-left, and-right, and-both, implies-at, implies-from, every-at, every-all, last-passes, last-found, found-some}
+use Rattle.lattice.proofs.Every.{and-left, and-right, implies-at, implies-from, every-at, every-all, last-passes, last-found, found-some}
 use Rattle.lattice.proofs.OrderLaws.{Ordered, ordered-facts, side, sided}
 use Rattle.lattice.proofs.Sizes.{size-facts}
 use Rattle.lattice.proofs.Rows.{getD-overwrite, row-bound}
@@ -124,7 +125,7 @@ module _ (n : ℕ) (t : List ℕ) (ok : accepted n t ≡ true) where
         left = and-left (below t m a) (below t m b) sides;
         right = and-right (below t m a) (below t m b) sides;
         greatest = λ c l f g.
-            implies-at (below t c a && below t c b) (below t c m) (every-at _ n c most l) (and-both (below t c a) (below t c b) f g);
+            implies-at (below t c a && below t c b) (below t c m) (every-at _ n c most l) (true-both (below t c a) (below t c b) f g);
       }
 
   -- every two types have a meet
@@ -147,7 +148,7 @@ module _ (n : ℕ) (t : List ℕ) (ok : accepted n t ≡ true) where
         left = and-left (below t a m) (below t b m) sides;
         right = and-right (below t a m) (below t b m) sides;
         least = λ c l f g.
-            implies-at (below t a c && below t b c) (below t m c) (every-at _ n c most l) (and-both (below t a c) (below t b c) f g);
+            implies-at (below t a c && below t b c) (below t m c) (every-at _ n c most l) (true-both (below t a c) (below t b c) f g);
       }
 
   -- every two types have a join
@@ -199,7 +200,7 @@ module _ (n : ℕ) (t : List ℕ) (ok : accepted n t ≡ true) where
   unfolding wanted isWanted
   wanted-unique p q c lq lc exact most =
       let passes : isWanted n t p q c ≡ true =
-      and-both (restores n t p q c) (every n (λ d. implies (restores n t p q d) (below t d c))) (meet-restoring p q c exact)
+      true-both (restores n t p q c) (every n (λ d. implies (restores n t p q d) (below t d c))) (meet-restoring p q c exact)
       (every-all _ n λ d l. implies-from (restores n t p q d) (below t d c) λ e. most d l (restores-meet p q d lq l e)) in
       let r : (i : ℕ) × (wanted n t p q ≡ some i) = found-some (wanted n t p q) (last-found (isWanted n t p q) n c lc passes) in
       let i : Wanted n t p q (r .0) = wanted-sound p q (r .0) lq (r .1) in
@@ -242,7 +243,7 @@ module _ (n : ℕ) (t : List ℕ) (ok : accepted n t ≡ true) where
   residual-unique p q c lq lc under most =
       let m : (k : ℕ) × Meet n t c q k = meet-exists c q lc lq in
       let passes : isResidual n t p q c ≡ true =
-      and-both (meetBelow n t p q c) (every n (λ d. implies (meetBelow n t p q d) (below t d c)))
+      true-both (meetBelow n t p q c) (every n (λ d. implies (meetBelow n t p q d) (below t d c)))
       (meet-below n t p q c (m .0) (m .1 .is) ∙ under (m .0) (m .1 .is))
       (every-all _ n λ d l.
       implies-from (meetBelow n t p q d) (below t d c) λ e.

@@ -9,9 +9,10 @@ use native.Mathlib.Omega.{arith}
 use lib.ListN.{length, getD, List·getD-eq-default}
 use lib.Dec.{leb, eqb}
 use borrow.Author.Tests.{eq-eqb, eqb-true, le-leb, leb-true}
+use Rattle.graphs.proofs.Search.{same-test, true-both}
 use Rattle.lattice.specs.Table.{every, implies, below, ordered, confined, reflexive, antisymmetric, transitive, least, greatest}
 use Rattle.lattice.specs.Words.{word, related, Words, bit, turned, partOf, pairOrdered, rowOrdered, Sided}
-use Rattle.lattice.proofs.Every.{and-left, and-right, and-both, implies-at, implies-from, every-at, every-all, same-test, true-not-false, below-or-not}
+use Rattle.lattice.proofs.Every.{and-left, and-right, implies-at, implies-from, every-at, every-all, true-not-false, below-or-not}
 use Rattle.lattice.proofs.WordLaws.{word-same, word-cut, bits-part-of, part-of-bits, short-bits, bits-short}
 use Rattle.lattice.proofs.Bits.{bit-word}
 
@@ -41,7 +42,7 @@ module _ (n : ℕ) (t : List ℕ) where
             eqb-true i j
             (implies-at (below t i j && below t j i) (eqb i j)
             (every-at _ n j (every-at _ n i (and-right (confined n t && reflexive n t) (antisymmetric n t) h₂) l) s)
-            (and-both (below t i j) (below t j i) e f));
+            (true-both (below t i j) (below t j i) e f));
         chain = λ i j k l s r e f.
             implies-at (below t i j && below t j k) (below t i k)
             (every-at _ n k
@@ -49,7 +50,7 @@ module _ (n : ℕ) (t : List ℕ) where
             (every-at _ n i (and-right (confined n t && reflexive n t && antisymmetric n t) (transitive n t) h₃) l)
             s)
             r)
-            (and-both (below t i j) (below t j k) e f);
+            (true-both (below t i j) (below t j k) e f);
         bottom = λ i l.
             every-at _ n i (and-right (confined n t && reflexive n t && antisymmetric n t && transitive n t) (least n t) h₄) l;
         top = λ i l.
@@ -102,7 +103,7 @@ module _ (n : ℕ) (t ws : List ℕ) (few : n ≤ 64) (words : Words n t false w
   facts-pair : Ordered n t → (i j : ℕ) → i < n → j < n → below t j i ≡ true → pairOrdered ws i j ≡ true
   unfolding pairOrdered
   facts-pair o i j l s e =
-      and-both (partOf (getD ws j 0) (getD ws i 0)) (implies (bit (getD ws j 0) i) (eqb i j))
+      true-both (partOf (getD ws j 0) (getD ws i 0)) (implies (bit (getD ws j 0) i) (eqb i j))
       (rw (words j s, words i l)
       (bits-part-of 64 (related t false j) (related t false i) λ k r f. o .chain k j i (o .inside j k s r f) s l f e))
       (implies-from (bit (getD ws j 0) i) (eqb i j) λ f. eq-eqb i j (o .anti i j l s (sym (row-bit j i s (omega arith)) ∙ f) e))

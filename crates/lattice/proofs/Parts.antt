@@ -5,8 +5,9 @@ use mathlib.Core.Bool.{Bool, true, false, not, _&&_, _||_}
 use lib.Bits.{bitOr}
 use lib.Dec.{eqb}
 use borrow.Author.Tests.{eq-eqb, ne-eqb, not-true}
+use Rattle.graphs.proofs.Search.{same-test, not-true-false, true-both}
 use Rattle.lattice.specs.Words.{bit, without, partOf}
-use Rattle.lattice.proofs.Every.{and-left, and-right, and-both, true-not-false, not-true-false, same-test}
+use Rattle.lattice.proofs.Every.{and-left, and-right, true-not-false}
 use Rattle.lattice.proofs.Bits.{or-bit, cleared-bit, part-bit, part-from}
 
 -- two words are parts of a third where their union is
@@ -14,7 +15,7 @@ pub or-part : (a b m : ℕ) → partOf (bitOr a b) m ≡ (partOf a m && partOf b
 or-part a b m =
     same-test (partOf (bitOr a b) m) (partOf a m && partOf b m)
     (λ h.
-    and-both (partOf a m) (partOf b m)
+    true-both (partOf a m) (partOf b m)
     (part-from a m λ j e. part-bit (bitOr a b) m h j (or-bit a b j ∙ first (bit a j) (bit b j) e))
     (part-from b m λ j e. part-bit (bitOr a b) m h j (or-bit a b j ∙ second (bit a j) (bit b j) e)))
     (λ h.
@@ -39,7 +40,7 @@ pub cleared-part : (a b i : ℕ) → partOf a (without b (2 ^ i)) ≡ (partOf a 
 cleared-part a b i =
     same-test (partOf a (without b (2 ^ i))) (partOf a b && not (bit a i))
     (λ h.
-    and-both (partOf a b) (not (bit a i))
+    true-both (partOf a b) (not (bit a i))
     (part-from a b λ j e. and-left (bit b j) (not (eqb j i)) (sym (cleared-bit b i j) ∙ part-bit a (without b (2 ^ i)) h j e))
     (ap not
     (not-true-false (bit a i) λ e.
@@ -49,7 +50,7 @@ cleared-part a b i =
     (λ h.
     part-from a (without b (2 ^ i)) λ j e.
     cleared-bit b i j ∙
-    and-both (bit b j) (not (eqb j i)) (part-bit a b (and-left (partOf a b) (not (bit a i)) h) j e)
+    true-both (bit b j) (not (eqb j i)) (part-bit a b (and-left (partOf a b) (not (bit a i)) h) j e)
     (ap not
     (ne-eqb j i λ q.
     true-not-false (bit a i) (subst (λ (k : ℕ). bit a k ≡ true) q e)

@@ -9,9 +9,10 @@ use native.Mathlib.Omega.{arith}
 use lib.Dec.{leb}
 use borrow.Author.Tests.{le-leb, leb-true}
 use Rattle.graphs.specs.Label.{Labels}
+use Rattle.graphs.proofs.Search.{true-both}
 use Rattle.lattice.specs.Label.{Ranged}
 use Rattle.lattice.specs.Labels.{withRanges, LevelIn, NonEmpty, RangeInside}
-use Rattle.lattice.proofs.Every.{below-or-not, and-left, and-right, and-both}
+use Rattle.lattice.proofs.Every.{below-or-not, and-left, and-right}
 
 module _ {T : Type 0} (x y : Ranged T) where
   ends-inside : NonEmpty x → RangeInside x y → (y .lowest ≤ x .lowest) × (x .highest ≤ y .highest)
@@ -34,7 +35,7 @@ module _ (𝓣 : Labels) (x y : Ranged (𝓣 .L)) where
     ),
     λ (type, inside).
         let (low, high) = ends-inside x y some-level inside in
-        and-both (b && l) h (and-both b l type (le-leb (y .lowest) (x .lowest) low)) (le-leb (x .highest) (y .highest) high),
+        true-both (b && l) h (true-both b l type (le-leb (y .lowest) (x .lowest) low)) (le-leb (x .highest) (y .highest) high),
   )
     where
       b : Bool

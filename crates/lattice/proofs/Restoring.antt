@@ -10,21 +10,10 @@ use lib.ListN.{getD}
 use lib.Dec.{eqb}
 use lib.Bits.{bitAnd, bitOr, and-comm, and-self}
 use borrow.Author.Tests.{eq-eqb, ne-eqb, eqb-true, not-true}
+use Rattle.graphs.proofs.Search.{same-test, true-both}
 use Rattle.lattice.specs.Table.{every, implies, below, accepted, restores, isWanted, wanted, cell, meet}
 use Rattle.lattice.specs.Words.{related, Words, bit, without, partOf, wordRestores, Restoring, WantedOver, holder, Sided, Inside}
-use Rattle.lattice.proofs.Every.{
-  and-left,
-  and-right,
-  and-both,
-  implies-at,
-  implies-from,
-  every-at,
-  every-all,
-  same-test,
-  true-not-false,
-  not-false-true,
-  last-same,
-}
+use Rattle.lattice.proofs.Every.{and-left, and-right, implies-at, implies-from, every-at, every-all, true-not-false, not-false-true, last-same}
 use Rattle.lattice.proofs.WordLaws.{word-same, word-and, bits-part-of}
 use Rattle.lattice.proofs.Bits.{no-bit, part-bit, part-from}
 use Rattle.lattice.proofs.Parts.{or-part, cleared-part}
@@ -111,7 +100,7 @@ module _ (n : ℕ) (t ws : List ℕ) (ok : accepted n t ≡ true) (words : Words
       is .greatest j (accepted-facts n t ok .inside d j ld l f) f (and-right (below t j d) (below t j q) e))
       (λ e.
       let i : j < n = accepted-facts n t ok .inside m j (is .type) l e in
-      and-both (below t j d) (below t j q) (below-transitive n t ok j m d i (is .type) ld e (is .left))
+      true-both (below t j d) (below t j q) (below-transitive n t ok j m d i (is .type) ld e (is .left))
       (below-transitive n t ok j m q i (is .type) lq e (is .right))))
 
   pub meet-word : (d q : ℕ) → d < n → q < n → bitAnd (getD ws d 0) (getD ws q 0) ≡ getD ws (cell (meet n t d q)) 0
@@ -161,7 +150,7 @@ module _ (n : ℕ) (t ws : List ℕ) (ok : accepted n t ≡ true) (words : Words
         below-antisymmetric n t ok d c s l (most d s f) (sym (row-bit n t ws few words d c s (omega (arith, few))) ∙ g) in
         true-not-false (restores n t p q d) f (ap (restores n t p q) one ∙ e) in
         cleared-part (getD ws d 0) (getD ws c 0) c ∙
-        and-both (partOf (getD ws d 0) (getD ws c 0)) (not (bit (getD ws d 0) c)) (below-part d c s l (most d s f))
+        true-both (partOf (getD ws d 0) (getD ws c 0)) (not (bit (getD ws d 0) c)) (below-part d c s l (most d s f))
         (not-bit (bit (getD ws d 0) c) apart)) in
         true-not-false (bit (getD ws c 0) c) (laws .own c l)
         (not-true (bit (getD ws c 0) c)
@@ -181,7 +170,7 @@ module _ (n : ℕ) (t ws : List ℕ) (ok : accepted n t ≡ true) (words : Words
         let whole : partOf u (getD ws c 0) ≡ true = ap (λ (w : ℕ). partOf w (getD ws c 0)) (sym same) ∙ part-self (getD ws c 0) in
         let most : (d : ℕ) → d < n → restores n t p q d ≡ true → below t d c ≡ true =
         λ d s f. part-below d c s l (part-all (getD ws c 0) d whole s f) in
-        and-both (restores n t p q c) (every n (λ d. implies (restores n t p q d) (below t d c))) (own-restores c l same most)
+        true-both (restores n t p q c) (every n (λ d. implies (restores n t p q d) (below t d c))) (own-restores c l same most)
         (every-all _ n λ d s. implies-from (restores n t p q d) (below t d c) (most d s)))
         (λ h.
         let here : restores n t p q c ≡ true = and-left (restores n t p q c) _ h in

@@ -9,9 +9,10 @@ use lib.ListN.{getD}
 use lib.Bits.{bitAnd}
 use lib.Dec.{ltb, eqb}
 use borrow.Author.Tests.{eq-eqb, ne-eqb, eqb-true}
+use Rattle.graphs.proofs.Search.{not-true-false}
 use Rattle.lattice.specs.Table.{cell, found}
 use Rattle.lattice.specs.Words.{bit, without, holder, wordBound, Sided, Inside, Seeking}
-use Rattle.lattice.proofs.Every.{and-left, not-true-false, true-not-false, last-nothing, last-only}
+use Rattle.lattice.proofs.Every.{and-left, true-not-false, last-nothing, last-only}
 use Rattle.lattice.proofs.Bits.{no-bit, and-bit, without-bit, without-most, cleared-bit, cleared-less}
 use Rattle.lattice.proofs.Rows.{holder-found}
 

@@ -12,8 +12,9 @@ use lib.Bits.{bitAnd, and-block}
 use mir.Val.{boolByte}
 use lib.Pow.{high, low, pow-pos, pow-mono, shl-exact}
 use borrow.Author.Tests.{eq-eqb, eqb-true, le-leb, leb-true}
+use Rattle.graphs.proofs.Search.{same-test, not-true-false, true-both}
 use Rattle.lattice.specs.Words.{digit, word, partOf}
-use Rattle.lattice.proofs.Every.{and-left, and-right, and-both, same-test, not-true-false, below-or-not}
+use Rattle.lattice.proofs.Every.{and-left, and-right, below-or-not}
 
 digit-below : (b : Bool) (w : ℕ) → digit b * w ≤ w
 digit-below true w = omega arith
@@ -76,7 +77,7 @@ word-and (suc k) p q =
 -- a word is part of another where all its bits are set in the other
 pub bits-part-of : (k : ℕ) (p q : ℕ → Bool) → ((j : ℕ) → j < k → p j ≡ true → q j ≡ true) → partOf (word k p) (word k q) ≡ true
 bits-part-of k p q h =
-    eq-eqb _ _ (word-and k p q ∙ word-same k _ p λ j l. same-test (p j && q j) (p j) (and-left (p j) (q j)) λ e. and-both (p j) (q j) e (h j l e))
+    eq-eqb _ _ (word-and k p q ∙ word-same k _ p λ j l. same-test (p j && q j) (p j) (and-left (p j) (q j)) λ e. true-both (p j) (q j) e (h j l e))
 
 pub part-of-bits : (k : ℕ) (p q : ℕ → Bool) → partOf (word k p) (word k q) ≡ true → (j : ℕ) → j < k → p j ≡ true → q j ≡ true
 part-of-bits k p q h j l e =

@@ -1,7 +1,7 @@
 -- This file is about the links between two places of words: which they are, and how many. The features of the links ascend along the
 -- places exactly where they ascend along the list.
-use mathlib.Core.Path.{_≡_, refl, sym, _∙_, ap, ap₂, subst}
-use mathlib.Core.List.{List, [], _∷_, _++_, map, List·Memᴰ, List·Memᴰ·head, List·Memᴰ·tail, List·Memᴰ·not-nil, List·Memᴰ·cases-cons}
+use mathlib.Core.Path.{_≡_, sym, _∙_, ap, ap₂, subst}
+use mathlib.Core.List.{List, [], _∷_, _++_, map, List·Memᴰ, List·Memᴰ·head, List·Memᴰ·tail, List·Memᴰ·not-nil, List·Memᴰ·cases-cons, map-append}
 use mathlib.Core.Logic.{⊎-elim}
 use Prim.Native.Nat.{ℕ, zero, suc, _+_, _-_, _≤_, _<_}
 use native.Mathlib.Decide.{ℕ-discrete}
@@ -24,10 +24,6 @@ slice-more {A} a b l d low high =
     ap (λ (n : ℕ). drop a (take n l)) e
     ∙ ap (drop a) (take-suc l b d high)
     ∙ drop-append-le a (take b l) (getD l b d ∷ []) (omega (arith, length-take-le b l (omega arith)))
-
-map-append : {X Y : Type 0} (f : X → Y) (xs ys : List X) → map f (xs ++ ys) ≡ map f xs ++ map f ys
-map-append f [] ys = refl
-map-append {Y = Y} f (x ∷ xs) ys = ap (λ (l : List Y). f x ∷ l) (map-append f xs ys)
 
 -- a part depends on its places alone
 pub slice-same : (ws ws′ : List ℕ) (n a b : ℕ) → a + n ≡ b → b ≤ length ws → b ≤ length ws′ → Same ws ws′ a b →

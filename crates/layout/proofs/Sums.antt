@@ -11,7 +11,7 @@ use Rattle.layout.specs.Layout.{Shaped, header, size, rowFrom, linksFrom
 use Rattle.layout.proofs.Spans.{length-links}
 use Rattle.layout.proofs.Rows.{rows-more}
 
-links-append : (rs ss : List (Row Label)) → linksIn (rs ++ ss) ≡ linksIn rs + linksIn ss
+pub links-append : (rs ss : List (Row Label)) → linksIn (rs ++ ss) ≡ linksIn rs + linksIn ss
 unfolding linksIn
 links-append [] ss = omega arith
 links-append (r ∷ rs) ss = omega (arith, links-append rs ss)

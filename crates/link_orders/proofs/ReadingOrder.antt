@@ -2,7 +2,7 @@
 -- a list. A list of 64 features, none twice, leaves none out.
 use mathlib.Core.Path.{_≡_, refl, sym, _∙_, ap, subst}
 use mathlib.Core.Bool.{Bool, true, false, cond, not, _&&_}
-use mathlib.Core.List.{List, [], _∷_, List·Memᴰ, List·Memᴰ·head, List·Memᴰ·tail}
+use mathlib.Core.List.{List, [], _∷_, List·Memᴰ}
 use mathlib.Core.Logic.{_↔_, ⊎-elim}
 use Prim.Native.Nat.{ℕ, zero, suc, _+_, _≤_, _<_}
 use native.Mathlib.Decide.{ℕ-discrete, decLt}
@@ -13,9 +13,10 @@ use lib.Seq.{getD-set-same, getD-set-other}
 use borrow.Author.Tests.{leb-true, le-leb, eqb-true, eq-eqb, ne-eqb}
 use Rattle.graphs.specs.Rows.{from}
 use Rattle.graphs.specs.Difference.{placeIn}
-use Rattle.graphs.proofs.Lists.{from-range, length-from, remove, distinct-bound, distinct-from, full-places}
+use Rattle.graphs.proofs.Lists.{from-range, length-from, remove, distinct-bound, distinct-from, full-places, getD-member}
+use Rattle.graphs.proofs.Search.{not-true-false, true-both}
 use Rattle.lattice.specs.Table.{every}
-use Rattle.lattice.proofs.Every.{and-left, and-right, and-both, every-at, every-all, not-true-false}
+use Rattle.lattice.proofs.Every.{and-left, and-right, every-at, every-all}
 use Rattle.link_orders.specs.LinkOrders.{isReadingOrder, EachOnce}
 
 -- What the test says of a list.
@@ -58,9 +59,9 @@ reading list e =
 pub reading-back : (list : List ℕ) → Reading list → isReadingOrder list ≡ true
 unfolding isReadingOrder fresh
 reading-back list r =
-    and-both (eqb (length list) 64) (every 64 (fresh list)) (eq-eqb (length list) 64 (r .long))
+    true-both (eqb (length list) 64) (every 64 (fresh list)) (eq-eqb (length list) 64 (r .long))
     (every-all (fresh list) 64 λ i h.
-    and-both (leb (suc (getD list i 0)) 64) (every i λ j. not (eqb (getD list j 0) (getD list i 0)))
+    true-both (leb (suc (getD list i 0)) 64) (every i λ j. not (eqb (getD list j 0) (getD list i 0)))
     (le-leb (suc (getD list i 0)) 64 (r .low i h))
     (every-all (λ j. not (eqb (getD list j 0) (getD list i 0))) i λ j l.
     not-so (eqb (getD list j 0) (getD list i 0)) (λ q. r .apart j i l h (eqb-true (getD list j 0) (getD list i 0) q))))
@@ -79,11 +80,6 @@ module _ {list : List ℕ} (r : Reading list) where
 
 -- The test passes exactly the lists of all 64 features, each once.
 
-getD-listed : (xs : List ℕ) (i : ℕ) → i < length xs → List·Memᴰ (getD xs i 0) xs
-getD-listed [] i h = absurd (omega arith)
-getD-listed (x ∷ xs) zero h = List·Memᴰ·head refl
-getD-listed (x ∷ xs) (suc i) h = List·Memᴰ·tail (getD-listed xs i (omega arith))
-
 once-reading : {list : List ℕ} → EachOnce list → Reading list
 once-reading {list} o = record { long = o .long; low = low; apart = apart }
   where
@@ -94,13 +90,13 @@ once-reading {list} o = record { long = o .long; low = low; apart = apart }
         go : Dec (getD list i 0 < 64) → getD list i 0 < 64
         go (yes l) = l
         go (no d) =
-            let (rest, shorter, other) = remove (getD-listed list i (omega (arith, o .long))) in
+            let (rest, shorter, other) = remove (getD-member list i 0 (omega (arith, o .long))) in
             let bound : length (from 0 64) ≤ length rest =
             distinct-bound (from 0 64) rest (distinct-from 0 64)
             (λ f m.
             let (at, l, e, _) = o .once f (from-range 0 64 f m .1) in
             ⊎-elim (λ (q : f ≡ getD list i 0). absurd (omega (arith, from-range 0 64 f m))) (λ k. k)
-            (other f (subst (λ (x : ℕ). List·Memᴰ x list) e (getD-listed list at (omega (arith, o .long)))))) in
+            (other f (subst (λ (x : ℕ). List·Memᴰ x list) e (getD-member list at 0 (omega (arith, o .long)))))) in
             absurd (omega (arith, o .long, length-from 0 64))
 
     apart : (i j : ℕ) → i < j → j < 64 → getD list i 0 ≡ getD list j 0 → ⊥

@@ -12,11 +12,12 @@ use Rattle.graphs.specs.Rows.{from, target}
 use Rattle.graphs.specs.Order.{allOf}
 use Rattle.graphs.proofs.Lists.{from-member}
 use Rattle.graphs.proofs.Order.{allOf-true}
+use Rattle.graphs.proofs.Search.{true-left}
 use Rattle.lattice.specs.Label.{isFull}
 use Rattle.encoder.specs.Encode.{encoded, encodedRows, encodedRow, encodedLabel, bitsFrom}
 use Rattle.listed.specs.Listing.{statedRows, span, sets, precedes, Run}
 use Rattle.listed.specs.Numbers.{linkBytes}
-use Rattle.listed.proofs.Order.{Before, false-true, or-left, parts, parts-before, prefix-before, before-parts}
+use Rattle.listed.proofs.Order.{Before, false-true, parts, parts-before, prefix-before, before-parts}
 
 -- The bytes of one number, by the numbers before it.
 unfoldable piece : List ℕ → ℕ → List ℕ
@@ -85,7 +86,7 @@ sets-small F = go (eqb F 1)
 
 byte-rises : (x y : ℕ) → x < y → parts (x ∷ []) (y ∷ []) ≡ true
 unfolding parts
-byte-rises x y l = or-left (ltb x y) (eqb x y && false) (lt-ltb x y l)
+byte-rises x y l = true-left (ltb x y) (eqb x y && false) (lt-ltb x y l)
 
 rise : (n F : ℕ) (p : List ℕ) (x y : ℕ) → span n F p .0 ≤ x → x < y → y ≤ span n F p .1 → parts (piece p x) (piece p y) ≡ true
 unfolding span piece

@@ -9,7 +9,7 @@ use native.Mathlib.Omega.{arith}
 use native.Mathlib.Decide.{ℕ-discrete, decLe}
 use borrow.Author.Tests.{lt-ltb, ltb-true, eq-eqb, eqb-true}
 use lib.Dec.{eqb, ltb}
-use Rattle.graphs.proofs.Order.{and-true, true-and}
+use Rattle.graphs.proofs.Search.{both-true, true-both, either-true, true-right, true-left}
 use Rattle.listed.specs.Listing.{precedes, firstAfter}
 
 abbrev pub Before : List ℕ → List ℕ → Type 0
@@ -18,32 +18,20 @@ Before xs ys = precedes xs ys ≡ true
 pub false-true : {X : Type 0} → false ≡ true → X
 false-true e = let z : _≡_ {A = ℕ} 0 1 = cc in absurd (omega arith)
 
-or-true : (a b : Bool) → (a || b) ≡ true → (a ≡ true) ⊎ (b ≡ true)
-or-true true b e = inl refl
-or-true false b e = inr e
-
-pub or-right : (a b : Bool) → b ≡ true → (a || b) ≡ true
-or-right true b e = refl
-or-right false b e = e
-
-pub or-left : (a b : Bool) → a ≡ true → (a || b) ≡ true
-or-left true b e = refl
-or-left false b e = false-true e
-
 pub less-before : (x y : ℕ) (xs ys : List ℕ) → x < y → Before (x ∷ xs) (y ∷ ys)
 unfolding precedes
-less-before x y xs ys h = or-left (ltb x y) (eqb x y && precedes xs ys) (lt-ltb x y h)
+less-before x y xs ys h = true-left (ltb x y) (eqb x y && precedes xs ys) (lt-ltb x y h)
 
 pub same-before : (x : ℕ) (xs ys : List ℕ) → Before xs ys → Before (x ∷ xs) (x ∷ ys)
 unfolding precedes
-same-before x xs ys h = or-right (ltb x x) (eqb x x && precedes xs ys) (true-and (eqb x x) (precedes xs ys) (eq-eqb x x refl) h)
+same-before x xs ys h = true-right (ltb x x) (eqb x x && precedes xs ys) (true-both (eqb x x) (precedes xs ys) (eq-eqb x x refl) h)
 
 pub before-parts : (x y : ℕ) (xs ys : List ℕ) → Before (x ∷ xs) (y ∷ ys) → (x < y) ⊎ ((x ≡ y) × Before xs ys)
 unfolding precedes
 before-parts x y xs ys h =
     ⊎-elim (λ e. inl (ltb-true x y e))
-    (λ e. let (p, q) = and-true (eqb x y) (precedes xs ys) e in inr (eqb-true x y p, q))
-    (or-true (ltb x y) (eqb x y && precedes xs ys) h)
+    (λ e. let (p, q) = both-true (eqb x y) (precedes xs ys) e in inr (eqb-true x y p, q))
+    (either-true (ltb x y) (eqb x y && precedes xs ys) h)
 
 pub before-irrefl : (xs : List ℕ) → Before xs xs → ⊥
 unfolding precedes
@@ -92,12 +80,12 @@ pub parts-before : (xs ys us vs : List ℕ) → parts xs ys ≡ true → Before 
 unfolding parts
 parts-before [] ys us vs h = false-true h
 parts-before (x ∷ xs) [] us vs h = false-true h
-parts-before (x ∷ xs) (y ∷ ys) us vs h = go (parts-before xs ys us vs) (or-true (ltb x y) (eqb x y && parts xs ys) h)
+parts-before (x ∷ xs) (y ∷ ys) us vs h = go (parts-before xs ys us vs) (either-true (ltb x y) (eqb x y && parts xs ys) h)
   where
     go : (parts xs ys ≡ true → Before (xs ++ us) (ys ++ vs)) → (ltb x y ≡ true) ⊎ ((eqb x y && parts xs ys) ≡ true) → Before (x ∷ xs ++ us) (y ∷ ys ++ vs)
     go rest (inl l) = less-before x y (xs ++ us) (ys ++ vs) (ltb-true x y l)
     go rest (inr e) =
-        let (p, q) = and-true (eqb x y) (parts xs ys) e in
+        let (p, q) = both-true (eqb x y) (parts xs ys) e in
         subst (λ (m : ℕ). Before (x ∷ xs ++ us) (m ∷ ys ++ vs)) (eqb-true x y p) (same-before x (xs ++ us) (ys ++ vs) (rest q))
 
 pub prefix-before : (xs us vs : List ℕ) → Before us vs → Before (xs ++ us) (xs ++ vs)

@@ -11,7 +11,7 @@ use lib.ListN.{length, getD, length-append, length-map, List·getD-append}
 use lib.Seq.{getD-append-add, getD-take}
 use Rattle.graphs.specs.Rows.{from, target}
 use Rattle.graphs.specs.Order.{allOf}
-use Rattle.graphs.proofs.Order.{and-true}
+use Rattle.graphs.proofs.Search.{both-true}
 use Rattle.lattice.specs.Label.{isFull}
 use Rattle.encoder.specs.Encode.{encoded, encodedRows, encodedRow, encodedLabel, bitsFrom}
 use Rattle.listed.specs.Listing.{heir, linkSet, statedRows, span, recordOf, Run}
@@ -254,7 +254,7 @@ tested-small : (xs : List ℕ) → allOf xs (λ b. ltb b 256) ≡ true → Small
 unfolding allOf
 tested-small [] e = small-none
 tested-small (x ∷ xs) e =
-    let (a, b) = and-true (ltb x 256) (allOf xs λ b. ltb b 256) e in
+    let (a, b) = both-true (ltb x 256) (allOf xs λ b. ltb b 256) e in
     small-cons x xs (ltb-true x 256 a) (tested-small xs b)
 
 unfoldable linksSmall : ℕ → ℕ → Bool

@@ -17,7 +17,8 @@ use Rattle.graphs.specs.Large.{Ascending, linksIn}
 use Rattle.graphs.specs.Order.{allOf}
 use Rattle.graphs.specs.Unify.{anyOf, deep, holds}
 use Rattle.graphs.proofs.Lists.{from-member, flatMap-member}
-use Rattle.graphs.proofs.Order.{and-true, true-and, allOf-true, true-allOf}
+use Rattle.graphs.proofs.Order.{allOf-true, true-allOf}
+use Rattle.graphs.proofs.Search.{both-true, true-both}
 use Rattle.lattice.specs.Label.{Label, plain, isFull, noLabel}
 use Rattle.lattice.proofs.Relabel.{relabelRow, relabelForm, canonical-relabel}
 use Rattle.encoder.specs.Encode.{encoded}
@@ -69,8 +70,8 @@ same-links [] [] e = refl
 same-links [] (y ∷ ys) e = false-true e
 same-links (x ∷ xs) [] e = false-true e
 same-links (x ∷ xs) (y ∷ ys) e =
-    let (a, r) = and-true (eqb (x .0) (y .0)) (eqb (x .1) (y .1) && sameLinks xs ys) e in
-    let (b, s) = and-true (eqb (x .1) (y .1)) (sameLinks xs ys) r in
+    let (a, r) = both-true (eqb (x .0) (y .0)) (eqb (x .1) (y .1) && sameLinks xs ys) e in
+    let (b, s) = both-true (eqb (x .1) (y .1)) (sameLinks xs ys) r in
     let f : x .0 ≡ y .0 = eqb-true (x .0) (y .0) a in
     let g : x .1 ≡ y .1 = eqb-true (x .1) (y .1) b in
     let one : _≡_ {A = ℕ × ℕ} x y = ap₂ {C = ℕ × ℕ} (λ (u v : ℕ). (u, v)) f g in
@@ -80,8 +81,8 @@ links-same : (xs : List (ℕ × ℕ)) → sameLinks xs xs ≡ true
 unfolding sameLinks
 links-same [] = refl
 links-same (x ∷ xs) =
-    true-and (eqb (x .0) (x .0)) (eqb (x .1) (x .1) && sameLinks xs xs) (eq-eqb (x .0) (x .0) refl)
-    (true-and (eqb (x .1) (x .1)) (sameLinks xs xs) (eq-eqb (x .1) (x .1) refl) (links-same xs))
+    true-both (eqb (x .0) (x .0)) (eqb (x .1) (x .1) && sameLinks xs xs) (eq-eqb (x .0) (x .0) refl)
+    (true-both (eqb (x .1) (x .1)) (sameLinks xs xs) (eq-eqb (x .1) (x .1) refl) (links-same xs))
 
 same-all : (xs ys : Links) → sameAll xs ys ≡ true → xs ≡ ys
 unfolding sameAll
@@ -89,13 +90,13 @@ same-all [] [] e = refl
 same-all [] (y ∷ ys) e = false-true e
 same-all (x ∷ xs) [] e = false-true e
 same-all (x ∷ xs) (y ∷ ys) e =
-    let (a, r) = and-true (sameLinks x y) (sameAll xs ys) e in
+    let (a, r) = both-true (sameLinks x y) (sameAll xs ys) e in
     ap₂ {C = Links} (λ u v. u ∷ v) (same-links x y a) (same-all xs ys r)
 
 all-same : (xs : Links) → sameAll xs xs ≡ true
 unfolding sameAll
 all-same [] = refl
-all-same (x ∷ xs) = true-and (sameLinks x x) (sameAll xs xs) (links-same x) (all-same xs)
+all-same (x ∷ xs) = true-both (sameLinks x x) (sameAll xs xs) (links-same x) (all-same xs)
 
 same-numbers : (xs ys : List ℕ) → sameNumbers xs ys ≡ true → xs ≡ ys
 unfolding sameNumbers
@@ -103,12 +104,12 @@ same-numbers [] [] e = refl
 same-numbers [] (y ∷ ys) e = false-true e
 same-numbers (x ∷ xs) [] e = false-true e
 same-numbers (x ∷ xs) (y ∷ ys) e =
-    let (a, r) = and-true (eqb x y) (sameNumbers xs ys) e in
+    let (a, r) = both-true (eqb x y) (sameNumbers xs ys) e in
     ap₂ {C = List ℕ} (λ u v. u ∷ v) (eqb-true x y a) (same-numbers xs ys r)
 
 within-bounds : (s : ℕ × ℕ) (x : ℕ) → within s x ≡ true → (s .0 ≤ x) × (x ≤ s .1)
 unfolding within
-within-bounds s x e = let (a, b) = and-true (leb (s .0) x) (leb x (s .1)) e in (leb-true (s .0) x a, leb-true x (s .1) b)
+within-bounds s x e = let (a, b) = both-true (leb (s .0) x) (leb x (s .1)) e in (leb-true (s .0) x a, leb-true x (s .1) b)
 
 -- Rows and their links alone.
 
@@ -253,7 +254,7 @@ small-shaped n F form f s = go (loops (linksOfRows form)) (loops-rows form ∙ s
 full-plain : (l : Label) → isFull l ≡ true → l ≡ plain (l .type)
 unfolding isFull
 full-plain l e =
-    let (a, b) = and-true (eqb (l .lowest) 0) (eqb (l .highest) 255) e in
+    let (a, b) = both-true (eqb (l .lowest) 0) (eqb (l .highest) 255) e in
     let low : l .lowest ≡ 0 = eqb-true (l .lowest) 0 a in
     let high : l .highest ≡ 255 = eqb-true (l .highest) 255 b in
     ap₂ {C = Label} (λ (u v : ℕ). record { type = l .type; lowest = u; highest = v }) low high
@@ -278,7 +279,7 @@ module _ (n F : ℕ) (f : Counts F) where
   small-told [] s = false-true (small-shaped n F [] f s)
   small-told (a ∷ []) s =
       let sh = small-shaped n F (a ∷ []) f s in
-      let (w₀, e₀) = and-true (within (span 2 F (1 ∷ 1 ∷ [])) (codeOf (a .1))) (sameLinks (a .1) (linkSet 0 (codeOf (a .1)))) sh in
+      let (w₀, e₀) = both-true (within (span 2 F (1 ∷ 1 ∷ [])) (codeOf (a .1))) (sameLinks (a .1) (linkSet 0 (codeOf (a .1)))) sh in
       let b₀ = within-bounds (span 2 F (1 ∷ 1 ∷ [])) (codeOf (a .1)) w₀ in
       let t₀ = typed-row (a ∷ []) s a (List·Memᴰ·head refl) in
       record {
@@ -289,9 +290,9 @@ module _ (n F : ℕ) (f : Counts F) where
       }
   small-told (a ∷ b ∷ []) s =
       let sh = small-shaped n F (a ∷ b ∷ []) f s in
-      let (w₀, r₀) = and-true (within (span 2 F (1 ∷ 2 ∷ [])) (codeOf (a .1))) _ sh in
-      let (e₀, r₁) = and-true (sameLinks (a .1) (linkSet 0 (codeOf (a .1)))) _ r₀ in
-      let (w₁, e₁) = and-true (within (span 2 F (1 ∷ codeOf (a .1) ∷ 1 ∷ 2 ∷ [])) (codeOf (b .1))) _ r₁ in
+      let (w₀, r₀) = both-true (within (span 2 F (1 ∷ 2 ∷ [])) (codeOf (a .1))) _ sh in
+      let (e₀, r₁) = both-true (sameLinks (a .1) (linkSet 0 (codeOf (a .1)))) _ r₀ in
+      let (w₁, e₁) = both-true (within (span 2 F (1 ∷ codeOf (a .1) ∷ 1 ∷ 2 ∷ [])) (codeOf (b .1))) _ r₁ in
       let b₀ = within-bounds (span 2 F (1 ∷ 2 ∷ [])) (codeOf (a .1)) w₀ in
       let b₁ = within-bounds (span 2 F (1 ∷ codeOf (a .1) ∷ 1 ∷ 2 ∷ [])) (codeOf (b .1)) w₁ in
       let t₀ = typed-row (a ∷ b ∷ []) s a (List·Memᴰ·head refl) in
@@ -306,11 +307,11 @@ module _ (n F : ℕ) (f : Counts F) where
       }
   small-told (a ∷ b ∷ c ∷ []) s =
       let sh = small-shaped n F (a ∷ b ∷ c ∷ []) f s in
-      let (w₀, r₀) = and-true (within (span 2 F (1 ∷ 3 ∷ [])) (codeOf (a .1))) _ sh in
-      let (e₀, r₁) = and-true (sameLinks (a .1) (linkSet 0 (codeOf (a .1)))) _ r₀ in
-      let (w₁, r₂) = and-true (within (span 2 F (1 ∷ codeOf (a .1) ∷ 1 ∷ 3 ∷ [])) (codeOf (b .1))) _ r₁ in
-      let (e₁, r₃) = and-true (sameLinks (b .1) (linkSet 1 (codeOf (b .1)))) _ r₂ in
-      let (w₂, e₂) = and-true (within (span 2 F (1 ∷ codeOf (b .1) ∷ 1 ∷ codeOf (a .1) ∷ 1 ∷ 3 ∷ [])) (codeOf (c .1))) _ r₃ in
+      let (w₀, r₀) = both-true (within (span 2 F (1 ∷ 3 ∷ [])) (codeOf (a .1))) _ sh in
+      let (e₀, r₁) = both-true (sameLinks (a .1) (linkSet 0 (codeOf (a .1)))) _ r₀ in
+      let (w₁, r₂) = both-true (within (span 2 F (1 ∷ codeOf (a .1) ∷ 1 ∷ 3 ∷ [])) (codeOf (b .1))) _ r₁ in
+      let (e₁, r₃) = both-true (sameLinks (b .1) (linkSet 1 (codeOf (b .1)))) _ r₂ in
+      let (w₂, e₂) = both-true (within (span 2 F (1 ∷ codeOf (b .1) ∷ 1 ∷ codeOf (a .1) ∷ 1 ∷ 3 ∷ [])) (codeOf (c .1))) _ r₃ in
       let b₀ = within-bounds (span 2 F (1 ∷ 3 ∷ [])) (codeOf (a .1)) w₀ in
       let b₁ = within-bounds (span 2 F (1 ∷ codeOf (a .1) ∷ 1 ∷ 3 ∷ [])) (codeOf (b .1)) w₁ in
       let b₂ = within-bounds (span 2 F (1 ∷ codeOf (b .1) ∷ 1 ∷ codeOf (a .1) ∷ 1 ∷ 3 ∷ [])) (codeOf (c .1)) w₂ in
@@ -344,7 +345,7 @@ ascends-links : (ls : List (ℕ × ℕ)) → ascends ls ≡ true → Ascending l
 unfolding ascends
 ascends-links [] e = tt
 ascends-links (l ∷ ls) e =
-    let (a, b) = and-true (allOf ls (λ m. ltb (l .0) (m .0))) (ascends ls) e in
+    let (a, b) = both-true (allOf ls (λ m. ltb (l .0) (m .0))) (ascends ls) e in
     (λ m i. ltb-true (l .0) (m .0) (allOf-true ls (λ m. ltb (l .0) (m .0)) a m i), ascends-links ls b)
 
 few-links : (rows : List (Row Label)) → ((r : Row Label) → List·Memᴰ r rows → length (r .1) ≤ 2) → linksIn rows ≤ 2 * length rows
@@ -384,23 +385,23 @@ module _ (n F : ℕ) (small : n ≤ 64) (f : Counts F) where
       size = length-map rows (λ r. r .1)
 
       both : (allOf ks (proper F (length ks)) ≡ true) × ((not (loops ks) && (holds (λ seen. eqb (length seen) (length ks)) (visit eqb (linkIn ks) 255 0 []) && inPlace ks (canonical eqb (bare ks)))) ≡ true)
-      both = and-true (allOf ks (proper F (length ks))) (not (loops ks) && (holds (λ seen. eqb (length seen) (length ks)) (visit eqb (linkIn ks) 255 0 []) && inPlace ks (canonical eqb (bare ks)))) e
+      both = both-true (allOf ks (proper F (length ks))) (not (loops ks) && (holds (λ seen. eqb (length seen) (length ks)) (visit eqb (linkIn ks) 255 0 []) && inPlace ks (canonical eqb (bare ks)))) e
 
       two : (not (loops ks) ≡ true) × ((holds (λ seen. eqb (length seen) (length ks)) (visit eqb (linkIn ks) 255 0 []) && inPlace ks (canonical eqb (bare ks))) ≡ true)
-      two = and-true (not (loops ks)) (holds (λ seen. eqb (length seen) (length ks)) (visit eqb (linkIn ks) 255 0 []) && inPlace ks (canonical eqb (bare ks))) (both .1)
+      two = both-true (not (loops ks)) (holds (λ seen. eqb (length seen) (length ks)) (visit eqb (linkIn ks) 255 0 []) && inPlace ks (canonical eqb (bare ks))) (both .1)
 
       three : (holds (λ seen. eqb (length seen) (length ks)) (visit eqb (linkIn ks) 255 0 []) ≡ true) × (inPlace ks (canonical eqb (bare ks)) ≡ true)
-      three = and-true (holds (λ seen. eqb (length seen) (length ks)) (visit eqb (linkIn ks) 255 0 [])) (inPlace ks (canonical eqb (bare ks))) (two .1)
+      three = both-true (holds (λ seen. eqb (length seen) (length ks)) (visit eqb (linkIn ks) 255 0 [])) (inPlace ks (canonical eqb (bare ks))) (two .1)
 
       row : (r : Row Label) → List·Memᴰ r rows → (ascends (r .1) ≡ true) × (length (r .1) ≤ 2) × ((l : ℕ × ℕ) → List·Memᴰ l (r .1) → (l .0 < F) × (l .1 < length rows))
       row r m =
           let p = allOf-true ks (proper F (length ks)) (both .0) (r .1) (map-member (λ (s : Row Label). s .1) m) in
-          let (up, q) = and-true (ascends (r .1)) (leb (length (r .1)) 2 && allOf (r .1) λ l. ltb (l .0) F && ltb (l .1) (length ks)) p in
-          let (short, all) = and-true (leb (length (r .1)) 2) (allOf (r .1) λ l. ltb (l .0) F && ltb (l .1) (length ks)) q in (
+          let (up, q) = both-true (ascends (r .1)) (leb (length (r .1)) 2 && allOf (r .1) λ l. ltb (l .0) F && ltb (l .1) (length ks)) p in
+          let (short, all) = both-true (leb (length (r .1)) 2) (allOf (r .1) λ l. ltb (l .0) F && ltb (l .1) (length ks)) q in (
             up,
             leb-true (length (r .1)) 2 short,
             λ l i.
-                let (a, b) = and-true (ltb (l .0) F) (ltb (l .1) (length ks)) (allOf-true (r .1) (λ l. ltb (l .0) F && ltb (l .1) (length ks)) all l i) in
+                let (a, b) = both-true (ltb (l .0) F) (ltb (l .1) (length ks)) (allOf-true (r .1) (λ l. ltb (l .0) F && ltb (l .1) (length ks)) all l i) in
                 let c = ltb-true (l .1) (length ks) b in
                 (ltb-true (l .0) F a, omega (arith, size)),
           )
@@ -446,7 +447,7 @@ module _ (n F : ℕ) (small : n ≤ 64) (f : Counts F) where
           go manyNodes q = false-true q
           go manyLinks q = false-true q
           go (written form) q =
-              let (a, b) = and-true (sameAll (map (λ r. r .1) form) ks) (sameNumbers (map (λ r. r .0) form) (from 0 (length ks))) q in
+              let (a, b) = both-true (sameAll (map (λ r. r .1) form) ks) (sameNumbers (map (λ r. r .0) form) (from 0 (length ks))) q in
               ap written (in-place rows form (labelIn rows) 0 (λ i h. ap (labelIn rows) (zero-add i)) (same-all (map (λ r. r .1) form) ks a)
               (same-numbers (map (λ r. r .0) form) (from 0 (length ks)) b ∙ ap (from 0) size))
 

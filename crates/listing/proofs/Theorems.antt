@@ -26,6 +26,7 @@ use Rattle.encode.specs.Encode.{yielding, fitted}
 use Rattle.record.specs.declared.GraphFault.{GraphFault}
 use Rattle.record.specs.Read as graph
 use Rattle.record.proofs.Theorems.{accepted-fits, written-accepted}
+use Rattle.record.proofs.Accepted.{accepted-injective}
 use Rattle.replies.specs.declared.Side.the-variants.{First}
 use Rattle.replies.specs.declared.Reply.{Reply}
 use Rattle.replies.specs.declared.Reply.the-variants.{Length, End, Table, Graph, NoRoom, FeatureCount, NotListed}
@@ -63,9 +64,6 @@ listed-exactly n F t bytes = (
         unranged = unranged;
       },
 )
-  where
-    accepted-injective : {x y : List (Row Label)} → graph.accepted x ≡ graph.accepted y → x ≡ y
-    accepted-injective e = cc
 
 -- The call has no bytes, or a record that is accepted.
 abbrev pub Read : ℕ → List ℕ → Type 0

@@ -3,7 +3,7 @@ use mathlib.Core.Path.{_≡_, refl, sym, ap₂}
 use mathlib.Core.List.{List}
 use Prim.Native.Nat.{ℕ}
 use Rattle.graphs.specs.Rows.{Row}
-use Rattle.graphs.proofs.Search.{not-true}
+use Rattle.graphs.proofs.Search.{not-true-false}
 use Rattle.graphs.proofs.Below.{map-below}
 use Rattle.lattice.specs.Label.{Label}
 use Rattle.layout.specs.Layout.{rowsOf}
@@ -20,7 +20,7 @@ module _ (n : ℕ) (t : List ℕ) (s g : List (Row Label)) (rules : Rules n g) w
   -- The order's answer tells whether s is below g.
   order-found : (answer : Order) (map : List ℕ) → Orders n t s g answer map → isBelow answer ≡ rowsBelow n t s g
   order-found order.Below map orders = sym (order-test n t s g rules .1 (map-below (orders .yes-stands refl)))
-  order-found order.NotBelow map orders = sym (not-true (rowsBelow n t s g) (λ q. orders .no-stands refl (order-test n t s g rules .0 q)))
+  order-found order.NotBelow map orders = sym (not-true-false (rowsBelow n t s g) (λ q. orders .no-stands refl (order-test n t s g rules .0 q)))
 
 -- The order's answers in both directions give one of the four replies.
 pub compared-ordered : {n : ℕ} (t : List ℕ) {s g : List ℕ} → Loaded n s → Loaded n g → {lower upper : Order} {map map′ : List ℕ} →

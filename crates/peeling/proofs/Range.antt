@@ -6,10 +6,9 @@ use Prim.Native.Nat.{ℕ, suc, _≤_, _<_}
 use native.Mathlib.Omega.{arith}
 use borrow.Author.Tests.{leb-true, le-leb, eqb-false, ne-eqb, not-true}
 use lib.Dec.{eqb, leb}
-use Rattle.graphs.proofs.Search.{both-true, true-both}
+use Rattle.graphs.proofs.Search.{both-true, true-both, same-test, not-true-false}
 use Rattle.lattice.specs.Label.{Label}
 use Rattle.lattice.specs.Labels.{Known}
-use Rattle.lattice.proofs.Every.{same-test, not-true-false}
 use Rattle.peeling.specs.Range.{labelInRange}
 
 -- The type is not "0 or at least n", the levels are "0 to 255", and the lowest is not "above the highest".

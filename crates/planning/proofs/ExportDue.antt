@@ -13,7 +13,7 @@ use lib.ListN.{length}
 use Rattle.graphs.specs.Rows.{Row}
 use Rattle.graphs.specs.Large.{linksIn}
 use Rattle.graphs.specs.Number.{Canonical, written}
-use Rattle.graphs.proofs.Search.{both-true, true-both, not-true}
+use Rattle.graphs.proofs.Search.{both-true, true-both, not-true-false}
 use Rattle.lattice.specs.Label.{Label}
 use Rattle.acceptance.specs.declared.TableFault.{TableFault}
 use Rattle.acceptance.specs.declared.Opened.{Opened}
@@ -119,7 +119,7 @@ module _ (n : ℕ) (t bytes : List ℕ) (rows : List lent.Row) (nodes : List ℕ
   room-result (e, (form, f, short)) =
       form-result e form f
       ∙ ap (λ (b : Bool). cond b (exportedAs (Counts (length form) (length (lentRows form))) (filled (lentRows form) rows) (filled (lentNodes form) nodes)) (exportedAs NoRoom rows nodes))
-      (not-true (fits form rows nodes) (λ q. let (a, b) = fits-exact form rows nodes .0 q in ⊎-elim (λ (h : length rows < linksIn form). omega arith) (λ (h : length nodes < length form * 3). omega arith) short))
+      (not-true-false (fits form rows nodes) (λ q. let (a, b) = fits-exact form rows nodes .0 q in ⊎-elim (λ (h : length rows < linksIn form). omega arith) (λ (h : length nodes < length form * 3). omega arith) short))
 
   pub counts-result : Opens → (form : List (Row Label)) → WrittenForm n bytes form → Room form →
       result ≡ exportedAs (Counts (length form) (linksIn form)) (filled (lentRows form) rows) (filled (lentNodes form) nodes)

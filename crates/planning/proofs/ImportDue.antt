@@ -14,7 +14,7 @@ use Rattle.graphs.specs.Graph.{Reached}
 use Rattle.graphs.specs.Rows.{Row}
 use Rattle.graphs.specs.Number.{Canonical, canonical, written, member}
 use Rattle.graphs.proofs.Lists.{tells-eqb, member-true, member-false}
-use Rattle.graphs.proofs.Search.{not-true, true-false}
+use Rattle.graphs.proofs.Search.{not-true-false, true-false}
 use Rattle.graphs.proofs.Form.Rules.{form-nodes}
 use Rattle.graphs.proofs.Form.Large.{canonical-fits}
 use Rattle.lattice.specs.Label.{Label}
@@ -97,7 +97,7 @@ module _ (n : ℕ) (nodes : List ℕ) (rows : List lent.Row) (formed : Formed no
     λ e.
         ⊎-elim (λ found. found) (λ all. true-false (labels-exact .1 all) e)
         (below-search (λ v. OutsideLabel n (labelIn nodes v)) (λ v. InsideLabel n (labelIn nodes v)) (λ v. label-decide n (labelIn nodes v)) (nodesIn nodes)),
-    λ (v, h, o). not-true (inRange n (tableRows nodes rows)) (λ e. label-clash n (labelIn nodes v) o (labels-exact .0 e v h)),
+    λ (v, h, o). not-true-false (inRange n (tableRows nodes rows)) (λ e. label-clash n (labelIn nodes v) o (labels-exact .0 e v h)),
   )
 
 module _ (nodes : List ℕ) (rows : List lent.Row) (formed : Formed nodes rows) where
@@ -112,7 +112,7 @@ module _ (nodes : List ℕ) (rows : List lent.Row) (formed : Formed nodes rows) 
       )
 
   loopless-exact : (cyclic (tableRows nodes rows) ≡ false) ↔ (Loops nodes rows → ⊥)
-  loopless-exact = (λ e l. true-false (loops-exact .1 l) e, λ h. not-true (cyclic (tableRows nodes rows)) (λ e. h (loops-exact .0 e)))
+  loopless-exact = (λ e l. true-false (loops-exact .1 l) e, λ h. not-true-false (cyclic (tableRows nodes rows)) (λ e. h (loops-exact .0 e)))
 
   all-exact : (reachesAll (tableRows nodes rows) ≡ true) ↔ ((v : ℕ) → v < nodesIn nodes → Reached (tableGraph nodes rows) v)
   all-exact =
@@ -143,7 +143,7 @@ module _ (nodes : List ℕ) (rows : List lent.Row) (formed : Formed nodes rows) 
     λ e.
         ⊎-elim (λ found. found) (λ all. true-false (all-exact .1 all) e)
         (below-search (λ v. Reached (tableGraph nodes rows) v → ⊥) (λ v. Reached (tableGraph nodes rows) v) reached-decide (nodesIn nodes)),
-    λ (v, h, off). not-true (reachesAll (tableRows nodes rows)) (λ e. off (all-exact .0 e v h)),
+    λ (v, h, off). not-true-false (reachesAll (tableRows nodes rows)) (λ e. off (all-exact .0 e v h)),
   )
 
 -- The refusals of a graph, by the tests.

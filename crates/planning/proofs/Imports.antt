@@ -14,7 +14,7 @@ use lib.Seq.{length-take-le, take-all}
 use Rattle.graphs.specs.Rows.{Row}
 use Rattle.graphs.specs.Large.{linksIn}
 use Rattle.graphs.proofs.Lists.{from-member}
-use Rattle.graphs.proofs.Search.{not-true}
+use Rattle.graphs.proofs.Search.{not-true-false}
 use Rattle.lattice.specs.Label.{Label}
 use Rattle.acceptance.specs.declared.TableFault.{TableFault}
 use Rattle.acceptance.specs.declared.Opened.the-variants as opened
@@ -70,7 +70,7 @@ module _ (n : ℕ) (nodes targets : List ℕ) where
   unstated types labelled out =
       let (v, h, high) = labelled .unknown refl in
       let m : List·Memᴰ (placedRow nodes targets v) graph = Memᴰ·map (placedRow nodes targets) (from-member 0 (nodesIn nodes) v (omega arith) (omega arith)) in
-      let out-of : inRange n graph ≡ false = not-true (inRange n graph) (λ e. omega (arith, in-range n graph .0 e (placedRow nodes targets v) m .0 .1 .type)) in
+      let out-of : inRange n graph ≡ false = not-true-false (inRange n graph) (λ e. omega (arith, in-range n graph .0 e (placedRow nodes targets v) m .0 .1 .type)) in
       sym (ap (λ (b : Bool). rewritten (cond b (cond (cyclic graph) (refused Cyclic) (cond (reachesAll graph) (accepted graph) (refused Unreached))) (refused OutOfRange)) out) out-of)
 
   pub fillable : Placeable nodes targets → {b : Bool} → Labelled nodes b → b ≡ true → Fillable nodes targets

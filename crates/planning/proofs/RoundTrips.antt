@@ -25,7 +25,7 @@ use Rattle.encoder.specs.Encode.{encoded}
 use Rattle.encode.specs.declared.Written.the-variants as outcome
 use Rattle.encode.specs.Encode.{writtenOut, fitted, yielding}
 use Rattle.record.specs.Read.{Reading, accepted, reading, graphOfRows}
-use Rattle.record.proofs.Accepted.{Rules, accepted-rules}
+use Rattle.record.proofs.Accepted.{Rules, accepted-rules, accepted-injective}
 use Rattle.record.proofs.Rewritten.{rules-read, written-injective}
 use Rattle.record.proofs.Theorems.{written-accepted}
 use Rattle.rows.specs.declared.Row as lent
@@ -135,9 +135,6 @@ same-form : (n : ℕ) (bytes : List ℕ) (form other : List (Row Label)) → Wri
 same-form n bytes form other w v =
     let e : w .graph ≡ v .graph = accepted-injective (sym (w .reads) ∙ v .reads) in
     written-injective (sym (w .is) ∙ ap (λ (g : List (Row Label)). canonical eqb (graphOfRows g)) e ∙ v .is)
-  where
-    accepted-injective : {x y : List (Row Label)} → accepted x ≡ accepted y → x ≡ y
-    accepted-injective e = cc
 
 -- What export fills where it answers counts.
 module _ (n : ℕ) (t bytes : List ℕ) (rows : List lent.Row) (nodes : List ℕ) (a b : ℕ) (counts : exporting n t bytes rows nodes .reply ≡ Counts a b)

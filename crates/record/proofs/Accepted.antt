@@ -14,7 +14,7 @@ use Rattle.graphs.specs.Rows.{Row, from}
 use Rattle.graphs.specs.Number.{canonical, written}
 use Rattle.graphs.specs.Large.{linksIn}
 use Rattle.graphs.proofs.Lists.{from-range, tells-eqb}
-use Rattle.graphs.proofs.Search.{true-false, not-true}
+use Rattle.graphs.proofs.Search.{true-false, not-true-false}
 use Rattle.graphs.proofs.Form.Large.{canonical-fits}
 use Rattle.lattice.specs.Label.{Label, noLabel}
 use Rattle.lattice.specs.Labels.{tableLabels, Known, OfAnySize}
@@ -46,6 +46,10 @@ rules-linked rules =
       targets = λ r m. rules .ranged r m .1;
     }
 
+-- the rows of an accepted record are determined
+pub accepted-injective : {a b : List (Row Label)} → accepted a ≡ accepted b → a ≡ b
+accepted-injective e = cc
+
 -- an accepted record keeps the rules
 pub accepted-rules : (n : ℕ) (bytes : List ℕ) (rows : List (Row Label)) → reading n bytes ≡ accepted rows → Rules n rows
 accepted-rules n bytes rows ok = rules (reading-says n bytes (accepted rows) .0 ok)
@@ -71,7 +75,7 @@ accepted-rules n bytes rows ok = rules (reading-says n bytes (accepted rows) .0 
 module _ (n : ℕ) (t : List ℕ) {l : Label} where
   in-range-consistent : LabelInRange n l → tableLabels n t .contradiction l ≡ false
   in-range-consistent (nonzero, _, up) =
-      not-true (tableLabels n t .contradiction l)
+      not-true-false (tableLabels n t .contradiction l)
       (λ e. ⊎-elim (λ (z : l .type ≡ 0). omega arith) (λ (h : l .highest < l .lowest). omega arith) (contradiction-parts n t l e))
 
   pub consistent-in-range : Known n l → tableLabels n t .contradiction l ≡ false → LabelInRange n l

@@ -9,11 +9,11 @@ use borrow.Author.Tests.{leb-true, le-leb, eqb-true, eq-eqb}
 use lib.Dec.{eqb, leb}
 use lib.ListN.{length, getD}
 use Rattle.graphs.specs.Rows.{Row}
-use Rattle.graphs.proofs.Search.{both-true, true-both, true-false}
+use Rattle.graphs.proofs.Search.{both-true, true-both, true-false, not-true-false}
 use Rattle.graphs.proofs.Order.{allOf-true, true-allOf}
 use Rattle.lattice.specs.Label.{Label}
 use Rattle.lattice.specs.Table.{every}
-use Rattle.lattice.proofs.Every.{every-at, every-all, not-true-false}
+use Rattle.lattice.proofs.Every.{every-at, every-all}
 use Rattle.lattice.proofs.Lawful.{known-more}
 use Rattle.layout.specs.Layout.{size, linksFrom, rowEnd, labelAt, linksAt, featureAt, rowsOf}
 use Rattle.layout.proofs.Rows.{rows-member, rows-source}

@@ -6,7 +6,7 @@ use mathlib.Core.Option.{some}
 use Prim.Native.Nat.{ℕ, _≤_}
 use native.Mathlib.Omega.{arith}
 use Rattle.graphs.specs.Rows.{Row}
-use Rattle.graphs.proofs.Search.{not-true}
+use Rattle.graphs.proofs.Search.{not-true-false}
 use Rattle.lattice.specs.Label.{Label}
 use Rattle.layout.specs.Layout.{size, labelAt, rowsOf, Shaped, Sound}
 use Rattle.peeling.specs.declared.Shape.{Shape}
@@ -47,7 +47,7 @@ module _ (n : ℕ) {ws : List ℕ} (shaped : Shaped ws) (small : size ws ≤ 255
   out-of-range count fails =
       refuses n (judged n (some own)) ws OutOfRange
       (ap (λ (b : Bool). cond b later (refused OutOfRange))
-      (not-true (inRange n own) (λ e. count .no-stands fails (rows-ranged shaped n (in-range n own .0 e)))))
+      (not-true-false (inRange n own) (λ e. count .no-stands fails (rows-ranged shaped n (in-range n own .0 e)))))
 
   module _ {passed : Bool} {incoming : List ℕ} (count : Count n ws passed incoming) (yes : passed ≡ true) where
     ranged : Ranged n ws
@@ -84,7 +84,7 @@ module _ (n : ℕ) {ws : List ℕ} (shaped : Shaped ws) (small : size ws ≤ 255
       no-cycle : (shape ≡ shapes.Cyclic → ⊥) → cyclic own ≡ false
       no-cycle other =
           let (place, sorted) = peels .sorted other in
-          not-true (cyclic own) (λ e. sorted-rows sound sorted (cyclic-exact own rows-linked .0 e))
+          not-true-false (cyclic own) (λ e. sorted-rows sound sorted (cyclic-exact own rows-linked .0 e))
 
       -- 7
       pub unreached : shape ≡ shapes.Apart → ReadsAs n (judged n (some own)) (Refused Unreached) ws

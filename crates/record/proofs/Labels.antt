@@ -12,10 +12,9 @@ use lib.Dec.{eqb, leb}
 use lib.ListN.{length, length-append, getD, drop}
 use lib.Seq.{drop-at, drop-append-add}
 use Rattle.graphs.specs.Rows.{Row, features}
-use Rattle.graphs.proofs.Search.{true-false, both-true, cond-some}
+use Rattle.graphs.proofs.Search.{true-false, both-true, cond-some, same-test}
 use Rattle.graphs.proofs.Walk.{some-injective, none-some}
 use Rattle.lattice.specs.Label.{Label, plain}
-use Rattle.lattice.proofs.Every.{same-test}
 use Rattle.lattice.proofs.Lawful.{label-parts}
 use Rattle.decode.specs.Decode.{Taken, changed, takeLinks, isRanged, labelLength, labelOf, takeRow, takeRows, bitOf, whole, decoded}
 use Rattle.encoder.specs.Encode.{isFull, encodedLabel}

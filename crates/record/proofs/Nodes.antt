@@ -27,10 +27,10 @@ use Rattle.graphs.specs.Graph.{follow, Reached}
 use Rattle.graphs.specs.Rows.{Row, from, target}
 use Rattle.graphs.specs.Large.{ManyNodes, ManyLinks, linksIn}
 use Rattle.graphs.proofs.Walk.{some-injective, none-some, follow-start}
-use Rattle.graphs.proofs.Lists.{from-member, length-from, distinct-bound}
+use Rattle.graphs.proofs.Lists.{from-member, length-from, distinct-bound, getD-member}
 use Rattle.lattice.specs.Label.{Label, noLabel}
 use Rattle.record.specs.Read.{graphOfRows}
-use Rattle.decode.proofs.Decoded.{getD-member, Decoded}
+use Rattle.decode.proofs.Decoded.{Decoded}
 use Rattle.record.proofs.Readings.{InRange}
 
 pub record Linked (rows : List (Row Label)) : Type 0 where

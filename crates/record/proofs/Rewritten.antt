@@ -14,7 +14,7 @@ use Rattle.graphs.specs.Rows.{Row}
 use Rattle.graphs.specs.Number.{Canonical, canonical, written}
 use Rattle.graphs.proofs.Walk.{some-injective, walk-append}
 use Rattle.graphs.proofs.Lists.{tells-eqb, full-list}
-use Rattle.graphs.proofs.Search.{not-true}
+use Rattle.graphs.proofs.Search.{not-true-false}
 use Rattle.graphs.proofs.Form.Canonical.{canonical-idempotent, canonical-exact}
 use Rattle.lattice.specs.Label.{Label, noLabel}
 use Rattle.graphs.proofs.Form.Rules.{
@@ -51,7 +51,7 @@ rules-read n rows rules =
     reading-says n (encoded rows) (accepted rows) .1 (
       rules-decoded rules,
       in-range n rows .1 (rules .ranged),
-      not-true (cyclic rows) (λ q. rules .acyclic (cyclic-exact rows (rules-linked rules) .0 q)),
+      not-true-false (cyclic rows) (λ q. rules .acyclic (cyclic-exact rows (rules-linked rules) .0 q)),
       reaches-exact rows (rules-linked rules) .1 (rules .short, rules .reached),
     )
 

@@ -17,13 +17,13 @@ use Rattle.graphs.specs.Graph.{Graph, Reached, TellsApart}
 use Rattle.graphs.specs.Rows.{Row, from, target}
 use Rattle.graphs.specs.Number.{countSome, canonical, written}
 use Rattle.graphs.specs.Large.{Ascending, linksIn}
-use Rattle.graphs.proofs.Lists.{getD-from}
+use Rattle.graphs.proofs.Lists.{getD-from, count-small}
 use Rattle.graphs.proofs.Form.Rules.{form-labels}
 use Rattle.lattice.specs.Label.{Label, isFull, graphOfRows}
 use Rattle.decode.specs.Decode.{Taken, changed, takeTarget, takeLinks, takeRow, takeRows, bitOf, whole, decoded}
 use Rattle.decode.proofs.Decoded.{Proper}
 use Rattle.encoder.specs.Encode.{bitsFrom, encodedLabel, encodedRow, encodedRows, encoded}
-use Rattle.encoder.proofs.FeatureMap.{Within, bit-small, target-absent, target-first, target-later}
+use Rattle.encoder.proofs.FeatureMap.{Within, target-absent, target-first, target-later}
 use Rattle.record.specs.Spelled.{spelledLabel, spelledRow, spelledRows, spelled}
 use Rattle.record.proofs.Labels.{SevenBits, States, encoded-states, spelled-states, row-behind}
 
@@ -32,11 +32,11 @@ bits-at : (links : List (ℕ × ℕ)) (f k i : ℕ) → i < k → (bitsFrom link
 unfolding bitsFrom
 bits-at links f zero i h = absurd (omega arith)
 bits-at links f (suc k) zero h =
-    let small : countSome (target links f) ≤ 1 = bit-small (target links f) in
+    let small : countSome (target links f) ≤ 1 = count-small (target links f) in
     let e : (countSome (target links f) + 2 * bitsFrom links (suc f) k) / 1 % 2 ≡ countSome (target links f) = omega arith in
     e ∙ ap (λ (n : ℕ). countSome (target links n)) (sym (add-zero f))
 bits-at links f (suc k) (suc i) h =
-    let small : countSome (target links f) ≤ 1 = bit-small (target links f) in
+    let small : countSome (target links f) ≤ 1 = count-small (target links f) in
     let all : ℕ = countSome (target links f) + 2 * bitsFrom links (suc f) k in
     let half : all / 2 ≡ bitsFrom links (suc f) k = omega arith in
     let p : suc i ≡ 1 + i = omega arith in

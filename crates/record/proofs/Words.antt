@@ -12,7 +12,7 @@ use native.Mathlib.Omega.{arith}
 use lib.ListN.{length}
 use Rattle.graphs.specs.Graph.{Reached, walk, follow}
 use Rattle.graphs.specs.Rows.{Row}
-use Rattle.graphs.proofs.Search.{not-true}
+use Rattle.graphs.proofs.Search.{not-true-false}
 use Rattle.graphs.proofs.Walk.{some-injective, none-some, follow-nil, follow-none, follow-last, snoc-induction, reached-root, reached-link}
 use Rattle.lattice.specs.Label.{Label}
 use Rattle.layout.specs.Layout.{size, linksFrom, rowEnd, labelAt, featureAt, linksAt, rowsOf, graphIn, Shaped, Sound}
@@ -96,7 +96,7 @@ module _ {ws : List ℕ} (sound : Sound ws) where
   leads-inside : (v w : ℕ) → Leads ws v w → w < size ws
   leads-inside v w l = omega (arith, sound .targets v (l .place) (l .inside) (l .low) (l .high), l .target-is)
 
-  reaches-walk : {v w : ℕ} → Reaches ws v w →
+  pub reaches-walk : {v w : ℕ} → Reaches ws v w →
       (f : ℕ) × (p : List ℕ) × (follow (graphIn ws .link) (some v) (f ∷ p) ≡ some w)
   unfolding follow
   reaches-walk {v} {w} (one l) = let (f, e) = leads-link v w l in (f, [], e)
@@ -105,7 +105,7 @@ module _ {ws : List ℕ} (sound : Sound ws) where
       let (g, p, q) = reaches-walk r in
       (f, g ∷ p, ap (λ o. follow (graphIn ws .link) o (g ∷ p)) e ∙ q)
 
-  reaches-inside : {v w : ℕ} → Reaches ws v w → v < size ws
+  pub reaches-inside : {v w : ℕ} → Reaches ws v w → v < size ws
   reaches-inside (one l) = l .inside
   reaches-inside (more l r) = l .inside
 
@@ -156,7 +156,7 @@ module _ {ws : List ℕ} (sound : Sound ws) where
     -- 7: where no link leads to a node beside the root
     pub apart-unreached : {w : ℕ} → 0 < w → w < size ws → ((v : ℕ) → Leads ws v w → ⊥) → reachesAll (rowsOf ws) ≡ false
     apart-unreached {w} positive inside apart =
-        not-true (reachesAll (rowsOf ws))
+        not-true-false (reachesAll (rowsOf ws))
         (λ q. reached-entered w positive apart (reaches-exact (rowsOf ws) linked .0 q .1 w (omega (arith, held-length ws))))
 
     module _ {place : ℕ → ℕ} (sorted : Earlier ws place) where

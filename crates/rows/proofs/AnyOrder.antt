@@ -10,8 +10,7 @@ use lib.ListN.{length}
 use Rattle.graphs.specs.Rows.{features, from}
 use Rattle.graphs.specs.Large.{Distinct}
 use Rattle.graphs.proofs.Lists.{distinct-bound}
-use Rattle.graphs.proofs.Search.{not-true, true-false}
-use Rattle.lattice.proofs.Every.{same-test}
+use Rattle.graphs.proofs.Search.{not-true-false, true-false, same-test}
 use Rattle.rows.specs.declared.Row.{Row}
 use Rattle.rows.specs.Rows.{isOf, targetIn, someOf, allKnown, hasTwice, labelIn, nodesIn, tableRows}
 use Rattle.rows.specs.Reordered.{Reordered, same, kept, swapped, again, SameMembers}
@@ -94,7 +93,7 @@ module _ {xs ys : List Row} (members : SameMembers xs ys) where
 
     members-once : hasTwice ys ≡ false
     members-once =
-        not-true (hasTwice ys) (λ e.
+        not-true-false (hasTwice ys) (λ e.
         let (zs, l, all) = shorter ys one-target e in
         omega (arith, distinct-bound xs zs (once-distinct xs once) (λ r m. all r (members .0 r m))))
 

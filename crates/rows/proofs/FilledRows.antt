@@ -2,7 +2,7 @@
 -- another by the builder. The file shows which rows the words then hold.
 use mathlib.Core.Path.{_≡_, refl, sym, _∙_, ap, ap₂, subst}
 use mathlib.Core.Bool.{true, false}
-use mathlib.Core.List.{List, [], _∷_, _++_, map, append-nil, List·Memᴰ, Memᴰ·of-map}
+use mathlib.Core.List.{List, [], _∷_, _++_, map, append-nil, List·Memᴰ, Memᴰ·of-map, map-append}
 use mathlib.Core.Option.{Option, none, some}
 use Prim.Native.Nat.{ℕ, zero, suc, _+_, _-_, _*_, _≤_, _<_}
 use native.Mathlib.Decide.{ℕ-discrete}
@@ -19,14 +19,11 @@ use Rattle.layout.specs.Layout.{header, longest, labelFrom, linkWord, linksBetw
 use Rattle.layout.specs.Builder.{Built, Open, Same, putLabel}
 use Rattle.layout.proofs.Spans.{links-none}
 use Rattle.layout.proofs.Builder.{length-put, label-put, put-before, Orderly, built-begin, built-kept, built-shaped, closed-rows, label-same, links-put, row-closes, rows-kept, same-before, same-trans, size-is, size-kept, size-rows}
+use Rattle.layout.proofs.Sums.{links-append}
 use Rattle.rows.specs.Rows.{labelIn, nodesIn}
 use Rattle.rows.specs.Filling.{cell, cellAt, placedLinks, placedRow, placedRows, Labelled, Fillable, RowFilled, Filled}
 
 -- Lists.
-
-map-append : {X Y : Type 0} (f : X → Y) (xs ys : List X) → map f (xs ++ ys) ≡ map f xs ++ map f ys
-map-append f [] ys = refl
-map-append {Y = Y} f (x ∷ xs) ys = ap (λ (l : List Y). f x ∷ l) (map-append f xs ys)
 
 from-append : (a k m : ℕ) → from a (k + m) ≡ from a k ++ from (a + k) m
 unfolding from
@@ -63,11 +60,6 @@ links-few next k m =
       ap length (ap (linksOf next) (from-append 0 k m) ∙ linksOf-append next (from 0 k) (from (0 + k) m)),
       length-append (linksOf next (from 0 k)) (linksOf next (from (0 + k) m)),
     )
-
-pub linksIn-append : (rs ss : List (Row Label)) → linksIn (rs ++ ss) ≡ linksIn rs + linksIn ss
-unfolding linksIn
-linksIn-append [] ss = omega arith
-linksIn-append (r ∷ rs) ss = omega (arith, linksIn-append rs ss)
 
 -- Cells.
 
@@ -205,14 +197,14 @@ module _ (nodes targets : List ℕ) where
 
   more-links : (v : ℕ) → linksIn (placedRows nodes targets (v + 1)) ≡ linksIn (placedRows nodes targets v) + length (placedLinks targets v)
   unfolding linksIn
-  more-links v = omega (arith, ap linksIn (along-rows v), linksIn-append (placedRows nodes targets v) (placedRow nodes targets v ∷ []))
+  more-links v = omega (arith, ap linksIn (along-rows v), links-append (placedRows nodes targets v) (placedRow nodes targets v ∷ []))
 
   rows-few : (k m : ℕ) → linksIn (placedRows nodes targets k) ≤ linksIn (placedRows nodes targets (k + m))
   rows-few k m =
       omega (
         arith,
         ap linksIn (ap (map (placedRow nodes targets)) (from-append 0 k m) ∙ map-append (placedRow nodes targets) (from 0 k) (from (0 + k) m)),
-        linksIn-append (placedRows nodes targets k) (map (placedRow nodes targets) (from (0 + k) m)),
+        links-append (placedRows nodes targets k) (map (placedRow nodes targets) (from (0 + k) m)),
       )
 
 module _ {nodes targets : List ℕ} where

@@ -11,7 +11,7 @@ use borrow.Author.Tests.{eq-eqb, ne-eqb}
 use lib.ListN.{length, getD}
 use Rattle.graphs.specs.Rows.{Row, from, target, linksOf, addLink}
 use Rattle.graphs.specs.Large.{Ascending, Distinct}
-use Rattle.graphs.proofs.Lists.{from-member, from-range, mem-features}
+use Rattle.graphs.proofs.Lists.{from-member, from-range, mem-features, getD-member}
 use Rattle.graphs.proofs.Rows.{linksOf-member}
 use Rattle.lattice.specs.Label.{Label, noLabel}
 use Rattle.rows.specs.declared.Row as lent
@@ -84,15 +84,10 @@ once-from next (r ∷ rs) d h = go (someOf (r .parent) (r .feature) rs) refl (on
 
 -- The rows of a graph.
 module _ (form : List (Row Label)) (proper : (r : Row Label) → List·Memᴰ r form → Ascending (r .1) × ((l : ℕ × ℕ) → List·Memᴰ l (r .1) → l .0 < 64)) where
-  member-at : (rs : List (Row Label)) (i : ℕ) → i < length rs → List·Memᴰ (getD rs i (noLabel, [])) rs
-  member-at [] i h = absurd (omega arith)
-  member-at (r ∷ rs) zero h = List·Memᴰ·head refl
-  member-at (r ∷ rs) (suc i) h = List·Memᴰ·tail (member-at rs i (omega arith))
-
   pub lent-table : tableRows (lentNodes form) (lentRows form) ≡ form
   lent-table =
       table-of-lent form (λ i h.
-      let (up, small) = proper (getD form i (noLabel, [])) (member-at form i h) in
+      let (up, small) = proper (getD form i (noLabel, [])) (getD-member form i (noLabel, []) h) in
       tidy 64 0 (getD form i (noLabel, []) .1) up (λ l m. (omega arith, omega (arith, small l m))))
 
   nodes-are : nodesIn (lentNodes form) ≡ length form

@@ -1,7 +1,7 @@
 -- This file is about making a planning table: the rows are made link by link along the words, and the node bytes are written label by
 -- label.
 use mathlib.Core.Path.{_≡_, refl, sym, _∙_, ap, ap₂, subst}
-use mathlib.Core.List.{List, [], _∷_, _++_, map, append-assoc, append-nil}
+use mathlib.Core.List.{List, [], _∷_, _++_, map, append-assoc, append-nil, map-append}
 use Prim.Native.Nat.{ℕ, zero, suc, _+_, _-_, _*_, _≤_, _<_}
 use native.Mathlib.Nat.{add-zero}
 use native.Mathlib.Numerals.{add-one}
@@ -20,10 +20,6 @@ use Rattle.layout.proofs.Sums.{degree, links-of-more, rows-end}
 use Rattle.rows.specs.declared.Row as lent
 use Rattle.rows.specs.Rows.{filled, lentLink, lentFrom, lentRows, lentNodes}
 use Rattle.rows.specs.Lending.{Lendable}
-
-map-append : {X Y : Type 0} (f : X → Y) (xs ys : List X) → map f (xs ++ ys) ≡ map f xs ++ map f ys
-map-append f [] ys = refl
-map-append {Y = Y} f (x ∷ xs) ys = ap (λ (l : List Y). f x ∷ l) (map-append f xs ys)
 
 -- one row more
 module _ (ws : List ℕ) where

@@ -9,7 +9,7 @@ use native.Mathlib.Omega.{arith}
 use borrow.Author.Tests.{eq-eqb, eqb-true, le-leb, leb-true, lt-ltb}
 use lib.Dec.{eqb, leb}
 use lib.ListN.{length, getD}
-use Rattle.graphs.proofs.Search.{both-true, true-both, not-true, true-false}
+use Rattle.graphs.proofs.Search.{both-true, true-both, not-true-false, true-false}
 use Rattle.rows.specs.declared.Row.{Row}
 use Rattle.rows.specs.Rows.{noRow, isOf, nodesIn, isSized, isKnown, allKnown, someOf, hasTwice}
 use Rattle.rows.specs.Faults.{Sized, Unsized, KnownRow, UnknownRow, Twice}
@@ -52,7 +52,7 @@ module _ (nodes : List ℕ) (count : ℕ) where
   pub unsized-exact : (isSized nodes count ≡ false) ↔ Unsized nodes count
   unsized-exact = (
     λ e. go e (ℕ-discrete (length nodes % 3) 0) (decLe 1 (nodesIn nodes)) (decLe (nodesIn nodes) 255) (decLe count 2048),
-    λ fault. not-true (isSized nodes count) (λ e. clash (sized-exact .0 e) fault),
+    λ fault. not-true-false (isSized nodes count) (λ e. clash (sized-exact .0 e) fault),
   )
     where
       go : isSized nodes count ≡ false → Dec (length nodes % 3 ≡ 0) → Dec (1 ≤ nodesIn nodes) → Dec (nodesIn nodes ≤ 255) → Dec (count ≤ 2048) → Unsized nodes count
@@ -77,7 +77,7 @@ module _ (n : ℕ) (r : Row) where
   unknown-exact : (isKnown n r ≡ false) ↔ UnknownRow n r
   unknown-exact = (
     λ e. go e (decLt (r .feature) 64) (decLt (r .parent) n) (decLt (r .target) n),
-    λ fault. not-true (isKnown n r) (λ e. clash (known-exact .0 e) fault),
+    λ fault. not-true-false (isKnown n r) (λ e. clash (known-exact .0 e) fault),
   )
     where
       go : isKnown n r ≡ false → Dec (r .feature < 64) → Dec (r .parent < n) → Dec (r .target < n) → UnknownRow n r
@@ -124,7 +124,7 @@ module _ (n : ℕ) where
   pub some-unknown-exact : (rs : List Row) → (allKnown n rs ≡ false) ↔ ((r : Row) × List·Memᴰ r rs × UnknownRow n r)
   some-unknown-exact rs = (
     some-unknown rs,
-    λ (r, m, u). not-true (allKnown n rs) (λ e. true-false (known-exact n r .1 (all-known rs e r m)) (unknown-exact n r .1 u)),
+    λ (r, m, u). not-true-false (allKnown n rs) (λ e. true-false (known-exact n r .1 (all-known rs e r m)) (unknown-exact n r .1 u)),
   )
 
 -- 15
@@ -189,4 +189,4 @@ pub twice-exact : (rs : List Row) → (hasTwice rs ≡ true) ↔ Twice rs
 twice-exact rs = (two-places rs, λ (i, j, l, k, p, f). places-two rs i j l k p f)
 
 pub once-exact : (rs : List Row) → (hasTwice rs ≡ false) ↔ (Twice rs → ⊥)
-once-exact rs = (λ e two. true-false (twice-exact rs .1 two) e, λ none. not-true (hasTwice rs) (λ e. none (twice-exact rs .0 e)))
+once-exact rs = (λ e two. true-false (twice-exact rs .1 two) e, λ none. not-true-false (hasTwice rs) (λ e. none (twice-exact rs .0 e)))

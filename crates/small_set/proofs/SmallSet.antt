@@ -53,6 +53,7 @@ use Rattle.graphs.specs.Difference.{
 }
 use Rattle.graphs.specs.Reasons.{reasonAt, writtenOrder, alongLinks}
 use Rattle.graphs.specs.OfRows.{samePair}
+use Rattle.graphs.proofs.Search.{true-both}
 use Rattle.acceptance.specs.declared.TableFault.the-variants.{Bounds}
 use Rattle.acceptance.specs.declared.Opened.the-variants.{Accepted, Refused}
 use Rattle.lattice.specs.Table.{every, last, below, sized, confined, reflexive, antisymmetric, transitive, least, greatest, ordered, isMeet, isJoin, meet, join, bounded, restores, isWanted, wanted, implies, found, upto}
@@ -60,7 +61,7 @@ use Rattle.lattice.specs.Words.{word}
 use Rattle.bounds.specs.Sets.{distributive, irreducible, setOf}
 use Rattle.acceptance.specs.Reply.{opened}
 use Rattle.lattice.specs.Labels.{tableLabels, wantedLabel}
-use Rattle.lattice.proofs.Every.{and-both, implies-at, every-at, found-some}
+use Rattle.lattice.proofs.Every.{implies-at, every-at, found-some}
 use Rattle.acceptance.proofs.Acceptance.{opened-accepted}
 use Rattle.lattice.proofs.Lawful.{inside}
 use Rattle.decode.specs.Decode.{bitOf, labelLength, labelOf, takeLinks, takeRow, takeRows, decoded}
@@ -173,7 +174,7 @@ no-unwanted n t first second out g s opens all e f told =
     found-some (wanted n t p q)
     (implies-at (not (eqb p 0) && below t p q) (found (wanted n t p q))
     (every-at _ n q (every-at _ n p all (size .typed v r .type)) (meet-known n t ok g s general specific lies v .type))
-    (and-both (not (eqb p 0)) (below t p q) (ap not nonzero) (inside n t x y (label-below n t ok g s general specific lies v) .type))) in
+    (true-both (not (eqb p 0)) (below t p q) (ap not nonzero) (inside n t x y (label-below n t ok g s general specific lies v) .type))) in
     nothing c (type-exact n t ok g s general specific lies v c .0 is)
 
 never-unwanted : NeverUnwanted threeMiddles

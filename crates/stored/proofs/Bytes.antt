@@ -3,17 +3,14 @@ use mathlib.Core.Path.{_≡_, refl, sym, _∙_, ap, ap₂}
 use mathlib.Core.Bool.{Bool, true, false, cond, _&&_}
 use mathlib.Core.List.{List, [], _∷_, _++_}
 use mathlib.Core.Option.{none, some}
-use Prim.Native.Nat.{ℕ, _+_, _*_, _/_, _%_, _<_}
+use Prim.Native.Nat.{ℕ, _+_, _<_}
 use native.Mathlib.Omega.{arith}
 use borrow.Author.Tests.{le-leb, eq-eqb, eqb-true}
 use lib.Dec.{eqb, leb}
 use lib.ListN.{length, take, drop, length-append}
 use lib.Seq.{take-append-seam, drop-append-seam}
+use Rattle.gathering.proofs.Spans.{two-bytes-read}
 use Rattle.versions.specs.State.{twoBytes, measured, takeMeasured, startsWith}
-
--- A number of 16 bits is read back from its two bytes.
-pub two-bytes-read : (x : ℕ) → x < 65536 → x % 256 + 256 * (x / 256 % 256) ≡ x
-two-bytes-read x h = omega arith
 
 -- A record behind its length is read back.
 pub measured-taken : (bytes rest : List ℕ) → length bytes < 65536 → takeMeasured (measured bytes ++ rest) ≡ some (bytes, rest)

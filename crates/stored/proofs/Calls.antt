@@ -11,6 +11,7 @@ use lib.Dec.{ltb}
 use lib.ListN.{length, getD, set, drop, length-append, length-drop, length-set}
 use lib.Seq.{drop-append-seam}
 use Rattle.graphs.specs.Rows.{Row}
+use Rattle.graphs.proofs.Walk.{some-injective}
 use Rattle.lattice.specs.Label.{Label}
 use Rattle.acceptance.specs.declared.Opened.the-variants.{Accepted}
 use Rattle.acceptance.specs.declared.Opened.{Opened}
@@ -29,7 +30,7 @@ use Rattle.stored.specs.Theorem.{Versions, Holds}
 use Rattle.stored.proofs.Records.{program-written}
 use Rattle.stored.proofs.Way.{state-long, state-fits}
 use Rattle.stored.proofs.Stops.{way-meets, met-silent}
-use Rattle.stored.proofs.Held.{some-injective, held-complete, empty-held}
+use Rattle.stored.proofs.Held.{held-complete, empty-held}
 
 -- A put or a drop of a version leaves 16 versions, and each that exists is a written record.
 

@@ -10,6 +10,7 @@ use borrow.Author.Tests.{lt-ltb, le-ltb, ltb-true, ltb-false, le-leb, lt-leb, le
 use lib.Dec.{ltb, leb}
 use lib.ListN.{length, getD, set, drop, List·getD-eq-default}
 use Rattle.graphs.specs.Rows.{Row}
+use Rattle.graphs.proofs.Walk.{some-injective}
 use Rattle.lattice.specs.Label.{Label}
 use Rattle.acceptance.specs.declared.Opened.{Opened}
 use Rattle.acceptance.specs.declared.Opened.the-variants.{Accepted, Refused}
@@ -31,7 +32,7 @@ use Rattle.store.specs.Calls.{settled, inTable, putting, dropping, fetching}
 use Rattle.stored.specs.Theorem.{Versions, Holds, HoldsNone, PutChecked, VersionChecked, PutDue, DropDue, ReadDue}
 use Rattle.stored.specs.Theorem as due
 use Rattle.stored.proofs.Records.{program-written}
-use Rattle.stored.proofs.Held.{some-injective, held-sound, held-complete}
+use Rattle.stored.proofs.Held.{held-sound, held-complete}
 use Rattle.stored.proofs.Stops.{way-meets}
 use Rattle.stored.proofs.Calls.{set-versions, putting-is, dropping-is, fetching-is}
 

@@ -9,6 +9,7 @@ use native.Mathlib.Omega.{arith}
 use borrow.Author.Tests.{leb-true}
 use lib.Dec.{eqb, leb}
 use lib.ListN.{length, getD, drop, replicate}
+use Rattle.graphs.proofs.Walk.{some-injective}
 use Rattle.acceptance.specs.declared.Opened.the-variants.{Accepted}
 use Rattle.acceptance.specs.Reply.{opened}
 use Rattle.demands.specs.Demand.{WrittenRecord}
@@ -34,9 +35,6 @@ use Rattle.stored.specs.Theorem.{Versions, Holds}
 use Rattle.stored.proofs.Bytes.{starts-with}
 use Rattle.stored.proofs.Records.{combination-written}
 use Rattle.stored.proofs.Way.{reached-held}
-
-pub some-injective : {A : Type 0} {x y : A} → some x ≡ some y → x ≡ y
-some-injective e = cc
 
 record-made : (m : Made) (p : List ℕ) → recordIn m ≡ some p → m ≡ made p
 record-made (made b) p e = ap made (some-injective e)

@@ -9,6 +9,7 @@ use native.Mathlib.Decide.{ℕ-discrete}
 use lib.ListN.{getD, set}
 use lib.Seq.{getD-set-same, getD-set-other}
 use Rattle.graphs.specs.Rows.{Row}
+use Rattle.graphs.proofs.Walk.{some-injective}
 use Rattle.lattice.specs.Label.{Label}
 use Rattle.acceptance.specs.declared.Opened.the-variants.{Accepted}
 use Rattle.acceptance.specs.Reply.{opened}
@@ -22,7 +23,6 @@ use Rattle.store.specs.Calls.{putting, dropping}
 use Rattle.stored.specs.Turns.{Call, put, remove, fetch, called, writtenIn, done, whereGiven, programsAfter, Drops, Keeps}
 use Rattle.stored.specs.Turns as turns
 use Rattle.stored.specs.Theorem.{Holds}
-use Rattle.stored.proofs.Held.{some-injective}
 use Rattle.stored.proofs.Calls.{called-holds, put-given}
 
 -- a version that is taken out is absent

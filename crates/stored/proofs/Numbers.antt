@@ -7,6 +7,7 @@ use Prim.Native.Nat.{ℕ, _≤_, _<_}
 use native.Mathlib.Omega.{arith}
 use lib.ListN.{length, getD, set}
 use Rattle.graphs.specs.Rows.{Row}
+use Rattle.graphs.proofs.Walk.{some-injective}
 use Rattle.lattice.specs.Label.{Label}
 use Rattle.acceptance.specs.declared.TableFault.{TableFault}
 use Rattle.acceptance.specs.declared.TableFault.the-variants.{Size, Order, Bounds}
@@ -26,7 +27,6 @@ use Rattle.contents.specs.Contents.{writtenRecord}
 use Rattle.store.specs.Calls.{putting, dropping, fetching}
 use Rattle.stored.specs.Theorem.{Holds, HoldsNone, Met, too-large, unwanted, short, PutChecked, VersionChecked, PutDue, DropDue, ReadDue}
 use Rattle.stored.specs.Theorem as due
-use Rattle.stored.proofs.Held.{some-injective}
 use Rattle.stored.proofs.Exact.{put-exact, drop-exact, read-exact}
 
 -- The numbers that are met on a way: 11, 13 and 21.

@@ -10,6 +10,7 @@ use borrow.Author.Tests.{lt-ltb}
 use lib.ListN.{length, getD, set, drop, replicate, length-append}
 use lib.Seq.{append-snoc, set-append-seam, getD-append-seam, take-append-seam}
 use Rattle.graphs.specs.Number.{Canonical}
+use Rattle.graphs.proofs.Walk.{some-injective}
 use Rattle.lattice.specs.Label.{Label}
 use Rattle.acceptance.specs.declared.Opened.the-variants.{Accepted}
 use Rattle.acceptance.specs.Reply.{opened}
@@ -27,7 +28,7 @@ use Rattle.store.specs.Calls.{settled, putting}
 use Rattle.stored.specs.Turns.{onLength, putsFrom}
 use Rattle.stored.specs.Theorem.{Versions, Holds, Passed, start, absent, steps}
 use Rattle.stored.proofs.Way.{passed-on}
-use Rattle.stored.proofs.Held.{some-injective, empty-held}
+use Rattle.stored.proofs.Held.{empty-held}
 use Rattle.stored.proofs.Stops.{way-meets, met-silent}
 use Rattle.stored.proofs.Calls.{set-versions, over-length, written-over, putting-is}
 

@@ -3,15 +3,14 @@ use mathlib.Core.Path.{_≡_, refl, sym, _∙_, ap}
 use mathlib.Core.Bool.{Bool, cond}
 use mathlib.Core.List.{List, [], _∷_, _++_, append-assoc, append-nil}
 use mathlib.Core.Option.{Option, none, some, bind, map-eq-some-iff}
-use Prim.Native.Nat.{ℕ, suc, _+_, _*_, _/_, _^_, _≤_, _<_}
+use Prim.Native.Nat.{ℕ, suc, _+_, _*_, _/_, _^_, _<_}
 use native.Mathlib.Omega.{arith}
-use native.Mathlib.Nat.{two-pow-succ}
 use borrow.Author.Tests.{ne-eqb}
 use lib.ListN.{length, getD, replicate}
 use lib.Seq.{append-snoc}
-use Rattle.graphs.specs.Number.{countSome}
 use Rattle.acceptance.specs.declared.Opened.the-variants.{Accepted}
 use Rattle.acceptance.specs.Reply.{opened}
+use Rattle.gathering.proofs.Spans.{two-bytes-read}
 use Rattle.demands.specs.Demand.{WrittenRecord}
 use Rattle.versions.specs.State.{
   Made,
@@ -32,8 +31,9 @@ use Rattle.versions.specs.State.{
   unpacked,
 }
 use Rattle.versions.proofs.Loops.{restoredOn, on-end, on-absent, on-present}
+use Rattle.versions.proofs.SlotLaws.{map-below}
 use Rattle.stored.specs.Theorem.{Versions}
-use Rattle.stored.proofs.Bytes.{two-bytes-read, measured-taken}
+use Rattle.stored.proofs.Bytes.{measured-taken}
 use Rattle.gathered.proofs.Records.{written-short}
 use Rattle.stored.proofs.Records.{made-injective, stopped-made, difference-written, difference-restored}
 
@@ -41,18 +41,6 @@ use Rattle.stored.proofs.Records.{made-injective, stopped-made, differe
 pub then-made : (m : Made) (next : List ℕ → Made) (b : List ℕ) → andThen m next ≡ made b → (x : List ℕ) × (m ≡ made x) × (next x ≡ made b)
 then-made (made x) next b e = (x, refl, e)
 then-made (stopped r) next b e = stopped-made e
-
--- The map.
-
-count-one : {X : Type 0} (o : Option X) → countSome o ≤ 1
-count-one none = omega arith
-count-one (some x) = omega arith
-
--- The map has no more bits than there are versions.
-map-small : (ps : Programs) → mapOf ps < 2 ^ length ps
-unfolding mapOf
-map-small [] = omega arith
-map-small (p ∷ ps) = omega (arith, count-one p, map-small ps, two-pow-succ (length ps))
 
 -- A map of 0 says that no version exists.
 pub map-zero : (ps : Programs) → mapOf ps ≡ 0 → ps ≡ replicate (length ps) none
@@ -97,7 +85,7 @@ module _ (n : ℕ) (t : List ℕ) where
         unpacked n t (stateOf ps part ds ++ rest) ≡ some ps
     unfolding unpacked stateOf twoBytes bind
     state-unpacked ps versions ds rest e there =
-        let small : mapOf ps < 65536 = omega (arith, map-small ps, ap (λ (k : ℕ). 2 ^ k) (versions .sixteen)) in
+        let small : mapOf ps < 65536 = omega (arith, map-below ps, ap (λ (k : ℕ). 2 ^ k) (versions .sixteen)) in
         ap (λ (x : ℕ). unpackedBy n t x (measured part ++ ds ++ rest)) (two-bytes-read (mapOf ps) small) ∙
         ap (λ (b : Bool). cond b (some noPrograms) (bind (takeMeasured (measured part ++ ds ++ rest)) λ part. restored n t (part .0) 16 (mapOf ps) (part .1)))
         (ne-eqb (mapOf ps) 0 (λ z. omega arith)) ∙

@@ -12,6 +12,7 @@ use lib.Seq.{getD-set-same, getD-set-other, take-append-seam, drop-append-seam}
 use Rattle.graphs.specs.Graph.{SameMeaning}
 use Rattle.graphs.specs.Rows.{Row}
 use Rattle.graphs.specs.Number.{Canonical, canonical, written}
+use Rattle.graphs.proofs.Walk.{some-injective}
 use Rattle.lattice.specs.Label.{Label}
 use Rattle.lattice.specs.Labels.{tableLabels}
 use Rattle.lattice.specs.Table.{admits}
@@ -38,7 +39,7 @@ use Rattle.stored.specs.Turns.{Call, put, remove, fetch, called, bufferA
 use Rattle.stored.specs.Theorem.{Versions, Holds, HoldsNone, Changed, Alike, PutChecked, VersionChecked, PutDue, DropDue, ReadDue}
 use Rattle.stored.specs.Theorem as due
 use Rattle.stored.proofs.Records.{made-injective, stopped-made, program-written}
-use Rattle.stored.proofs.Held.{some-injective, absent-all, held-sound, held-complete, empty-way, empty-held}
+use Rattle.stored.proofs.Held.{absent-all, held-sound, held-complete, empty-way, empty-held}
 use Rattle.stored.proofs.Held as Held
 use Rattle.stored.proofs.Stops.{never-met}
 use Rattle.stored.proofs.Calls.{set-versions, holds-long, over-length, written-over, putting-is, dropping-is, fetching-is, calls-hold}

@@ -32,8 +32,8 @@ use Rattle.graphs.specs.Unify.{
 }
 use Rattle.graphs.specs.OfRows.{sameEither}
 use Rattle.graphs.proofs.Walk.{none-some, some-injective, snoc-induction, follow-start, follow-last, walk-snoc}
-use Rattle.graphs.proofs.Lists.{from-member, from-range, tells-eqb}
-use Rattle.graphs.proofs.Search.{not-true, anyOf-true, anyOf-finds}
+use Rattle.graphs.proofs.Lists.{from-member, from-range, tells-eqb, length-from}
+use Rattle.graphs.proofs.Search.{not-true-false, anyOf-true, anyOf-finds, same-test}
 use Rattle.graphs.proofs.Form.Bisimilar.{Alike, absent, present, Bisimilar}
 use Rattle.graphs.proofs.Form.Invariant.{bisimilar-canonical}
 use Rattle.graphs.proofs.Unification.Beside.{
@@ -66,11 +66,6 @@ use Rattle.unify.proofs.Sharing.{classOf, one-related, related-one, cla
 
 -- Lists.
 
-length-from : (f k : ℕ) → length (from f k) ≡ k
-unfolding from
-length-from f zero = refl
-length-from f (suc k) = ap suc (length-from (suc f) k)
-
 fold-same : {X : Type 0} (s t : X → Label → Label) (d : Label) (vs : List X) → ((v : X) (i : Label) → List·Memᴰ v vs → s v i ≡ t v i) →
     foldr s d vs ≡ foldr t d vs
 fold-same s t d [] e = refl
@@ -86,12 +81,6 @@ fold-left : (s : ℕ ⊎ ℕ → Label → Label) (d : Label) (vs ws : List ℕ)
     foldr s d (map inl vs ++ map inr ws) ≡ foldr (λ v. s (inl v)) (foldr (λ v. s (inr v)) d ws) vs
 fold-left s d [] ws = fold-right s d ws
 fold-left s d (v ∷ vs) ws = ap (s (inl v)) (fold-left s d vs ws)
-
-bool-same : (s t : Bool) → (s ≡ true → t ≡ true) → (t ≡ true → s ≡ true) → s ≡ t
-bool-same true true f g = refl
-bool-same true false f g = sym (f refl)
-bool-same false true f g = g refl
-bool-same false false f g = refl
 
 any-same : {X : Type 0} (s t : X → Bool) (xs : List X) → ((x : X) → s x ≡ t x) → anyOf xs s ≡ anyOf xs t
 unfolding anyOf
@@ -313,7 +302,7 @@ module _ (n : ℕ) (meets : ℕ → ℕ → ℕ) {a b graph : List ℕ} (left : 
 
     pub cycle-none : hasCycle eqb eqb (graphIn a) (from 0 (size a)) (graphIn b) (from 0 (size b)) ≡ false
     cycle-none =
-        not-true (hasCycle eqb eqb (graphIn a) (from 0 (size a)) (graphIn b) (from 0 (size b)))
+        not-true-false (hasCycle eqb eqb (graphIn a) (from 0 (size a)) (graphIn b) (from 0 (size b)))
         (λ e.
         let (p, x, k, w) = deep-walk (rows .link) (size a + size b) 0 (sym cycle-is ∙ e) in
         omega (arith, k, falls p 0 x (m .closed .rows .some) w, sorted .inside 0 (within (m .closed .rows .some)), m .built .sized))
@@ -350,7 +339,7 @@ module _ (n : ℕ) (meets : ℕ → ℕ → ℕ) {a b graph : List ℕ} (left : 
       -- Both accounts agree on which nodes are in the class.
       test : (y : ℕ ⊎ ℕ) → Inside left right y → sameEither (name y) c ≡ eqb (cls y) i
       test y y-in =
-          bool-same (sameEither (name y) c) (eqb (cls y) i)
+          same-test (sameEither (name y) c) (eqb (cls y) i)
           (λ e. eq-eqb (cls y) i (name-class y x y-in x-in (tells (name y) c .0 e ∙ sym x-name) ∙ x-class))
           (λ e. tells (name y) c .1 (class-name y x y-in x-in (eqb-true (cls y) i e ∙ sym x-class) ∙ x-name))
 
@@ -394,7 +383,7 @@ module _ (n : ℕ) (meets : ℕ → ℕ → ℕ) {a b graph : List ℕ} (left : 
   pub clash-is : clashes ≡ anyOf (from 0 (size graph)) (λ x. contradicts (labelAt graph x))
   unfolding hasClash
   clash-is =
-      bool-same (anyOf (nodesBeside (from 0 (size a)) (from 0 (size b))) here)
+      same-test (anyOf (nodesBeside (from 0 (size a)) (from 0 (size b))) here)
       (anyOf (from 0 (size graph)) there) forth back
     where
       here : ℕ ⊎ ℕ → Bool

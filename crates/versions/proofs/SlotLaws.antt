@@ -3,7 +3,7 @@ use mathlib.Core.Path.{_≡_, refl, sym, _∙_, ap, ap₂, subst}
 use mathlib.Core.Bool.{Bool, cond}
 use mathlib.Core.List.{List, [], _∷_, _++_, append-assoc, map}
 use mathlib.Core.Option.{Option, none, some}
-use Prim.Native.Nat.{ℕ, zero, suc, _+_, _-_, _*_, _/_, _%_, _^_, _≤_, _<_}
+use Prim.Native.Nat.{ℕ, zero, suc, _+_, _-_, _*_, _^_, _≤_, _<_}
 use native.Mathlib.Decide.{decLt, ℕ-discrete}
 use native.Mathlib.Nat.{two-pow-succ}
 use native.Mathlib.Omega.{arith}
@@ -14,8 +14,9 @@ use lib.Pow.{pow-mono}
 use lib.Seq.{take-nil, take-suc, drop-cons, take-append-seam, drop-append-seam, take-append-le, drop-append-le, drop-at, length-take-le, take-take, drop-drop, getD-take, getD-drop, getD-set-same, getD-set-other, ext-getD, take-length, take-at, paste, length-paste}
 use Rattle.graphs.specs.Rows.{from}
 use Rattle.graphs.specs.Number.{countSome}
-use Rattle.graphs.proofs.Lists.{length-from, getD-from}
+use Rattle.graphs.proofs.Lists.{length-from, getD-from, count-small}
 use Rattle.gathering.specs.Gathering.{twoBytes, lengthAt, firstOf}
+use Rattle.gathering.proofs.Spans.{two-bytes-read}
 use Rattle.versions.specs.State.{Programs, noPrograms, mapOf, measured}
 use Rattle.versions.specs.Slots.{measuredIn, slotAt, programsIn, Slotted, Parted, Absent}
 use Rattle.versions.specs.Promise.{EndsAt, NoneFrom, Puts}
@@ -64,10 +65,6 @@ module _ (slots : List ℕ) (v : ℕ) where
   record-length slotted h =
       length-take-le (lengthAt (drop (v * 4856) slots)) (drop (v * 4856 + 2) slots)
       (omega (arith, slotted .short v h, slotted .long, length-drop (v * 4856 + 2) slots))
-
--- A number of 16 bits is read back from its two bytes.
-pub two-bytes-read : (x : ℕ) → x < 65536 → x % 256 + 256 * (x / 256 % 256) ≡ x
-two-bytes-read x h = omega arith
 
 pub length-two-bytes : (x : ℕ) → length (twoBytes x) ≡ 2
 unfolding twoBytes
@@ -417,15 +414,11 @@ seeking-next {slots} {version} {v} seeking h e =
 
 -- The map of versions, from the last down.
 
-count-one : {X : Type 0} (o : Option X) → countSome o ≤ 1
-count-one none = omega arith
-count-one (some x) = omega arith
-
 -- The map has no more bits than there are versions.
-map-below : (ps : Programs) → mapOf ps < 2 ^ length ps
+pub map-below : (ps : Programs) → mapOf ps < 2 ^ length ps
 unfolding mapOf
 map-below [] = omega arith
-map-below (p ∷ ps) = omega (arith, count-one p, map-below ps, two-pow-succ (length ps))
+map-below (p ∷ ps) = omega (arith, count-small p, map-below ps, two-pow-succ (length ps))
 
 pub map-small : (ps : Programs) → length ps ≤ 16 → mapOf ps < 65536
 map-small ps h = omega (arith, map-below ps, pow-mono h)

@@ -13,7 +13,7 @@ use Rattle.graphs.specs.Number.{canonical}
 use Rattle.graphs.specs.Generalize.{generalization}
 use Rattle.graphs.specs.Unify.{Unified, cycle, clash, unified, unification}
 use Rattle.graphs.specs.OfRows.{samePair, sameEither}
-use Rattle.graphs.proofs.Search.{not-true}
+use Rattle.graphs.proofs.Search.{not-true-false}
 use Rattle.graphs.proofs.Difference.ByNumber.{by-number-order}
 use Rattle.lattice.specs.Label.{Label}
 use Rattle.acceptance.specs.declared.Opened.{Opened}
@@ -224,7 +224,7 @@ module _ (n : ℕ) (t list : List ℕ) (opens : table.opened n t ≡ opened.Acce
   breaks : (bytes : List ℕ) → Breaks n t list bytes → readingAppropriate n t list bytes ≡ refused Inappropriate
   breaks bytes (rows, reads, never) =
       judged-by bytes rows reads false
-      (not-true (appropriate t list rows) (λ e. never (appropriate-exact n t list rows (accepted-rules n bytes rows reads) .0 e)))
+      (not-true-false (appropriate t list rows) (λ e. never (appropriate-exact n t list rows (accepted-rules n bytes rows reads) .0 e)))
 
   fits : (bytes : List ℕ) (good : Fits n t list bytes) → readingAppropriate n t list bytes ≡ accepted (good .0)
   fits bytes (rows, reads, obeys) = judged-by bytes rows reads true (appropriate-exact n t list rows (accepted-rules n bytes rows reads) .1 obeys)

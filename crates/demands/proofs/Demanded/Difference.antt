@@ -14,7 +14,7 @@ use Rattle.graphs.specs.Number.{canonical, written}
 use Rattle.graphs.specs.Order.{subsumes}
 use Rattle.graphs.specs.Difference.{Link, StrictOrder, byNumber, byReading}
 use Rattle.graphs.proofs.Lists.{tells-eqb}
-use Rattle.graphs.proofs.Search.{true-false, not-true}
+use Rattle.graphs.proofs.Search.{true-false, not-true-false}
 use Rattle.graphs.proofs.Below.{same-refl, same-sym}
 use Rattle.lattice.specs.Label.{Label}
 use Rattle.lattice.specs.Table as table
@@ -201,7 +201,7 @@ module _ (n : ℕ) (t a b : List ℕ) (g s : List (Row Label)) (given : Given n 
         subst (λ (r : Result). (r .reply ≡ replies.NotBelow) ↔ (lies ≡ false)) (sym call-is)
         (chosen-below (writtenOut (canonical eqb (remainder earlier n t g s)) out) out lies all) in (
           λ q z. true-false (lies-exact .1 z) (there q),
-          λ y. back (not-true lies (λ z. y (lies-exact .0 z))),
+          λ y. back (not-true-false lies (λ z. y (lies-exact .0 z))),
         )
 
     -- 13 is replied exactly where s is below g and some node of s has no wanted type.

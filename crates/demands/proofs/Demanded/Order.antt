@@ -8,7 +8,7 @@ use Prim.Native.Nat.{ℕ}
 use native.Mathlib.Omega.{arith}
 use Rattle.graphs.specs.Graph.{Below}
 use Rattle.graphs.specs.Rows.{Row}
-use Rattle.graphs.proofs.Search.{true-false, not-true}
+use Rattle.graphs.proofs.Search.{true-false, not-true-false}
 use Rattle.graphs.proofs.Walk.{none-some}
 use Rattle.lattice.specs.Label.{Label}
 use Rattle.acceptance.specs.declared.Opened.{Opened}
@@ -77,10 +77,10 @@ module _ (n : ℕ) (t a b : List ℕ) (s g : List (Row Label)) (given : Given n 
   upper = order-test n t g s (accepted-rules n a s (given .first))
 
   not-lower : (rowsBelow n t s g ≡ false) ↔ (Below (tableLabels n t) (graphOfRows s) (graphOfRows g) → ⊥)
-  not-lower = (λ q x. true-false (lower .1 x) q, λ none. not-true (rowsBelow n t s g) (λ q. none (lower .0 q)))
+  not-lower = (λ q x. true-false (lower .1 x) q, λ none. not-true-false (rowsBelow n t s g) (λ q. none (lower .0 q)))
 
   not-upper : (rowsBelow n t g s ≡ false) ↔ (Below (tableLabels n t) (graphOfRows g) (graphOfRows s) → ⊥)
-  not-upper = (λ q x. true-false (upper .1 x) q, λ none. not-true (rowsBelow n t g s) (λ q. none (upper .0 q)))
+  not-upper = (λ q x. true-false (upper .1 x) q, λ none. not-true-false (rowsBelow n t g s) (λ q. none (upper .0 q)))
 
   -- an answer is given exactly where the tests give it
   answer-exact : (x y : Bool) → (ordering n t a b ≡ compared x y) ↔ ((rowsBelow n t s g ≡ x) × (rowsBelow n t g s ≡ y))

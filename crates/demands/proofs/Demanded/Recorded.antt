@@ -18,14 +18,12 @@ use Rattle.acceptance.specs.declared.Opened.the-variants.{Accepted}
 use Rattle.acceptance.specs.Reply.{opened}
 use Rattle.lattice.specs.Labels.{tableLabels, OfAnySize}
 use Rattle.acceptance.proofs.Acceptance.{opened-accepted}
-use Rattle.record.specs.Read.{reading, accepted, graphOfRows}
+use Rattle.record.specs.Read.{reading, graphOfRows}
 use Rattle.record.proofs.Rewritten.{form-again}
 use Rattle.record.proofs.Theorems.{written-reads}
+use Rattle.record.proofs.Accepted.{accepted-injective}
 use Rattle.demands.specs.Demand.{Large, formBytes, recordOf, RecordOf}
 use Rattle.demands.proofs.Results.{record-form, seven-bits}
-
-accepted-injective : {x y : List (Row Label)} → accepted x ≡ accepted y → x ≡ y
-accepted-injective e = cc
 
 module _ (n : ℕ) (t : List ℕ) (opens : opened n t ≡ Accepted) {C : Type 0} (same : C → C → Bool) (tells : TellsApart same) (k : Graph Label C)
     (size : OfAnySize n t k) where

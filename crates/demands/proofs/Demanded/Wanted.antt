@@ -17,7 +17,7 @@ use Rattle.graphs.specs.Rows.{Row, from}
 use Rattle.graphs.specs.Difference.{meetOver, meetWhere}
 use Rattle.graphs.proofs.Walk.{some-unique}
 use Rattle.graphs.proofs.Lists.{tells-eqb, from-range}
-use Rattle.graphs.proofs.Search.{true-false, not-true}
+use Rattle.graphs.proofs.Search.{true-false, not-true-false}
 use Rattle.graphs.proofs.Below.{walk-map, same-sym}
 use Rattle.graphs.proofs.Unification.Beside.{Operands}
 use Rattle.graphs.proofs.Difference.Wanted.{meetOver-under, label-under}
@@ -255,7 +255,7 @@ module _ (n : ℕ) (t : List ℕ) (ok : table.accepted n t ≡ true) (g s : List
         (v, specific .reached v l, λ c is. true-false (label-found v ∙ ap table.found (type-exact v c .1 is)) missed),
     λ (v, r, nothing).
         every-fails (λ v. table.found (wantedAt n t s g v)) (length s) v (node-inside v r)
-        (not-true (table.found (wantedAt n t s g v))
+        (not-true-false (table.found (wantedAt n t s g v))
         (λ q. let (c, e) = found-some (typeWanted v) (sym (label-found v) ∙ q) in nothing c (type-exact v c .0 e))),
   )
 

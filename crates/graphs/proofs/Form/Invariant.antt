@@ -16,16 +16,12 @@ use Rattle.graphs.specs.Number.{canonical, counted, countSome, each, ent
 use Rattle.graphs.specs.Reasons.{orderIn, writtenOrder}
 use Rattle.graphs.specs.Relations.{LiesOver}
 use Rattle.graphs.proofs.Form.Bisimilar.{Alike, absent, present, Bisimilar, same-bisimilar}
+use Rattle.graphs.proofs.Search.{same-test}
 
 -- lists of related elements
 pub data Pointwise {A B : Type 0} (R : A → B → Type 0) : List A → List B → Type 0 where
   empty : Pointwise R [] []
   more : {v : A} {w : B} {vs : List A} {ws : List B} → R v w → Pointwise R vs ws → Pointwise R (v ∷ vs) (w ∷ ws)
-
-bool-ext : (a b : Bool) → (a ≡ true → b ≡ true) → (b ≡ true → a ≡ true) → a ≡ b
-bool-ext true b there back = sym (there refl)
-bool-ext false true there back = back refl
-bool-ext false false there back = refl
 
 pub pointwise-length : {A B : Type 0} {R : A → B → Type 0} {vs : List A} {ws : List B} → Pointwise R vs ws → length vs ≡ length ws
 pointwise-length empty = refl
@@ -80,7 +76,7 @@ module _ {L A B : Type 0} (sameA : A → A → Bool) (sameB : B → B → Bool) 
     (R : A → B → Type 0) (g : Graph L A) (h : Graph L B) (b : Bisimilar R g h) where
   related-same : (v v′ : A) (w w′ : B) → R v w → R v′ w′ → sameA v v′ ≡ sameB w w′
   related-same v v′ w w′ r r′ =
-      bool-ext (sameA v v′) (sameB w w′)
+      same-test (sameA v v′) (sameB w w′)
       (λ e. tellsB w w′ .1 (b .forth v v′ w w′ r r′ (tellsA v v′ .0 e)))
       (λ e. tellsA v v′ .1 (b .back v v′ w w′ r r′ (tellsB w w′ .0 e)))
 

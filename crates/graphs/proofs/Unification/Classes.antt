@@ -18,7 +18,7 @@ use Rattle.graphs.proofs.Walk.{some-injective, none-some}
 use Rattle.graphs.proofs.Lists.{mem-features}
 use Rattle.graphs.proofs.Search.{
   true-false,
-  not-true,
+  not-true-false,
   true-or-false,
   cond-some,
   listed-length,
@@ -35,7 +35,7 @@ use Rattle.graphs.proofs.Unification.Related.{Related, roots, back, nex
 
 module _ {N : Type 0} {same : N → N → Bool} (tells : TellsApart same) where
   apart-false : (x y : N) → (x ≡ y → ⊥) → same x y ≡ false
-  apart-false x y h = not-true (same x y) (λ e. h (tells x y .0 e))
+  apart-false x y h = not-true-false (same x y) (λ e. h (tells x y .0 e))
 
   false-apart : (x y : N) → same x y ≡ false → x ≡ y → ⊥
   false-apart x y h e = true-false (tells x y .1 e) h

@@ -32,7 +32,7 @@ use Rattle.graphs.specs.Unify.{
 }
 use Rattle.graphs.specs.Difference.{select}
 use Rattle.graphs.proofs.Below.{below-trans}
-use Rattle.graphs.proofs.Search.{true-false, not-true, anyOf-true, anyOf-finds, select-listed}
+use Rattle.graphs.proofs.Search.{true-false, not-true-false, anyOf-true, anyOf-finds, select-listed}
 use Rattle.graphs.proofs.Unification.Unifier.{
   below-no-cycle,
   below-no-clash,
@@ -68,7 +68,7 @@ module _ {L N : Type 0} where
   answer-graph false false w v = (λ e. (refl, refl, cc), λ e. ap unified (e .2))
 
 false-not : {b : Bool} {P : Type 0} → (b ≡ true) ↔ P → (b ≡ false) ↔ (P → ⊥)
-false-not {b} (there, back) = (λ e p. true-false (back p) e, λ h. not-true b (λ e. h (there e)))
+false-not {b} (there, back) = (λ e p. true-false (back p) e, λ h. not-true-false b (λ e. h (there e)))
 
 module _ {𝓛 : Labels} (lattice : Lattice 𝓛) {A B : Type 0} {sameA : A → A → Bool} {sameB : B → B → Bool}
     {g : Graph (𝓛 .L) A} {gs : List A} {h : Graph (𝓛 .L) B} {hs : List B} (given : Operands sameA sameB g gs h hs) where
@@ -146,7 +146,7 @@ module _ {𝓛 : Labels} (lattice : Lattice 𝓛) {A B : Type 0} {sameA : A → 
                   class-reached lattice given c .1 (k, tells (name c) c .0 e),
             );
         features = class-features lattice given;
-        consistent = λ c r. not-true (𝓛 .contradiction (u .label c)) (λ e. no-clash (unification-clash is lattice .1 (c, r, e)));
+        consistent = λ c r. not-true-false (𝓛 .contradiction (u .label c)) (λ e. no-clash (unification-clash is lattice .1 (c, r, e)));
         acyclic = λ c f p r e. no-cycle (unification-cycle is .1 (c, f, p, r, e));
       }
     where

@@ -1,7 +1,7 @@
 -- `is_below` meets its contract: the three tests decide the order by grades.
 use borrow.Author.Tests.{lt-leb, le-leb}
+use Rattle.lattice.proofs.Every.{third-decides}
 use Rattle.house.specs.House.{under}
-use Rattle.house.proofs.Filling.{third-decides}
 use Rattle.house.proofs.is_below.Statement.{statement}
 use Rattle.house.proofs.is_below.Tie as tie
 

@@ -6,9 +6,8 @@ use native.Mathlib.Omega.{arith}
 use borrow.Author.Needs.{needs}
 use borrow.Author.Tests.{eq-eqb, eqb-true}
 use lib.Dec.{eqb}
-use Rattle.graphs.proofs.Search.{both-true}
+use Rattle.graphs.proofs.Search.{both-true, same-test, true-both}
 use Rattle.lattice.specs.Label.{Label, isFull}
-use Rattle.lattice.proofs.Every.{and-both, same-test}
 use Rattle.layout.specs.Layout.{levels}
 use Rattle.layout.specs.Builder.{stated}
 use Rattle.layout.proofs.is_full.Statement.{statement}
@@ -20,7 +19,7 @@ full-word l h =
     same-test (eqb (l .lowest * levels + l .highest) 255) (eqb (l .lowest) 0 && eqb (l .highest) 255)
     (λ e.
     let q = eqb-true (l .lowest * levels + l .highest) 255 e in
-    and-both (eqb (l .lowest) 0) (eqb (l .highest) 255) (eq-eqb (l .lowest) 0 (omega (arith, q))) (eq-eqb (l .highest) 255 (omega (arith, q))))
+    true-both (eqb (l .lowest) 0) (eqb (l .highest) 255) (eq-eqb (l .lowest) 0 (omega (arith, q))) (eq-eqb (l .highest) 255 (omega (arith, q))))
     (λ e.
     let (p, q) = both-true (eqb (l .lowest) 0) (eqb (l .highest) 255) e in
     eq-eqb (l .lowest * levels + l .highest) 255 (omega (arith, eqb-true (l .lowest) 0 p, eqb-true (l .highest) 255 q)))

@@ -5,10 +5,10 @@ use mathlib.Core.Bool.{false}
 use mathlib.Core.List.{List}
 use mathlib.Core.Path.{_≡_, sym, _∙_}
 use native.Mathlib.Omega.{arith}
+use Rattle.graphs.proofs.Search.{same-test, not-true-false}
 use Rattle.lattice.specs.Label.{Label}
 use Rattle.lattice.specs.Labels.{tableLabels}
 use Rattle.lattice.specs.Table.{below}
-use Rattle.lattice.proofs.Every.{not-true-false, same-test}
 use Rattle.lattice.proofs.Lawful.{Inside, inside, inside-le}
 use Rattle.layout.specs.Builder.{stated}
 use Rattle.subsume.proofs.is_label_below.Statement.{statement}
