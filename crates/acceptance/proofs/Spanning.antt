@@ -37,7 +37,7 @@ use Rattle.lattice.specs.Words.{
   Lower,
   BoundsWithin,
 }
-use Rattle.lattice.proofs.Every.{and-left, and-right, true-not-false, implies-from, every-at, every-all, every-fails, every-same}
+use Rattle.lattice.proofs.Every.{and-left, and-right, true-not-false, implies-from, every-at, every-all, every-fails, every-same, and-with-true}
 use Rattle.lattice.proofs.Bits.{no-bit, without-bit, without-less, cleared-bit, cleared-less, part-bit, part-from, short-inside}
 use Rattle.lattice.proofs.Parts.{cleared-part}
 use Rattle.acceptance.proofs.Covering.{
@@ -52,10 +52,6 @@ use Rattle.acceptance.proofs.Covering.{
   covers-more,
   covers-bounded,
 }
-
-and-yes : (b : Bool) → b && true ≡ b
-and-yes true = refl
-and-yes false = refl
 
 -- of a type j strictly below i: the pair is ordered where what is below j is strictly below i
 pair-lower : (ws : List ℕ) (i j : ℕ)
@@ -85,7 +81,7 @@ pair-lower ws i j = go (eqb j i) refl where
   go false e =
       let apart : eqb i j ≡ false = ne-eqb i j λ q. true-not-false (eqb j i) (eq-eqb j i (sym q)) e in
       ap₂ (λ (x y : Bool). implies x y)
-      (cleared-bit (getD ws i 0) i j ∙ ap (λ (b : Bool). bit (getD ws i 0) j && not b) e ∙ and-yes (bit (getD ws i 0) j))
+      (cleared-bit (getD ws i 0) i j ∙ ap (λ (b : Bool). bit (getD ws i 0) j && not b) e ∙ and-with-true (bit (getD ws i 0) j))
       (cleared-part (getD ws j 0) (getD ws i 0) i ∙
       ap (λ (b : Bool). partOf (getD ws j 0) (getD ws i 0) && b) (apart-only (bit (getD ws j 0) i) (eqb i j) apart))
 

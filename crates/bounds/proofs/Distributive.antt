@@ -11,12 +11,12 @@ use lib.ListN.{getD}
 use lib.Dec.{eqb}
 use lib.Bits.{bitAnd, bitOr, and-lt, or-lt}
 use borrow.Author.Tests.{eq-eqb, ne-eqb, eqb-true, not-true}
-use Rattle.graphs.proofs.Search.{same-test, not-true-false, true-both}
+use Rattle.graphs.proofs.Search.{same-test, not-true-false, true-both, either-true, true-left, true-right}
 use Rattle.lattice.specs.Table.{every, implies, below, foundAs, accepted, meet, join, cell, admits}
 use Rattle.lattice.specs.Words.{Words, bit, without}
 use Rattle.bounds.specs.Primes.{wordIrreducible, wordPrime}
 use Rattle.bounds.specs.Sets.{distributive, smaller, irreducible, setOf}
-use Rattle.lattice.proofs.Every.{and-left, and-right, implies-at, implies-from, every-at, every-all, not-false-true, true-not-false, below-suc, or-cases, or-from-left, or-from-right}
+use Rattle.lattice.proofs.Every.{and-left, and-right, implies-at, implies-from, every-at, every-all, not-false-true, true-not-false, below-suc}
 use Rattle.lattice.proofs.WordLaws.{word-below, word-same, word-and}
 use Rattle.lattice.proofs.Bits.{bit-word, bits-same, and-bit, or-bit}
 use Rattle.lattice.proofs.Seeking.{without-inside}
@@ -178,8 +178,8 @@ module _ (n : ℕ) (t : List ℕ) (ok : accepted n t ≡ true) where
         let s : (m : ℕ) × (m < n) × Splits n t j m = prime j l (r .0) (r .1) (r .2) in
         not-false-true (below t j a || below t j b) λ f.
         let none : (x : ℕ) → x < n → below t j x ≡ false → below t x (s .0) ≡ true = λ x lx g. s .2 x lx ∙ ap not g in
-        let ja : below t j a ≡ false = not-true-false (below t j a) λ g. true-not-false _ (or-from-left (below t j a) (below t j b) g) f in
-        let jb : below t j b ≡ false = not-true-false (below t j b) λ g. true-not-false _ (or-from-right (below t j a) (below t j b) g) f in
+        let ja : below t j a ≡ false = not-true-false (below t j a) λ g. true-not-false _ (true-left (below t j a) (below t j b) g) f in
+        let jb : below t j b ≡ false = not-true-false (below t j b) λ g. true-not-false _ (true-right (below t j a) (below t j b) g) f in
         true-not-false (below t j c) e
         (not-true (below t j c) (sym (s .2 c (k .type)) ∙ k .least (s .0) (s .1) (none a la ja) (none b lb jb)))
 
@@ -193,7 +193,7 @@ module _ (n : ℕ) (t : List ℕ) (ok : accepted n t ≡ true) where
         same-test (below t j a || below t j b) (below t j c)
         (λ e.
         ⊎-elim (λ f. below-transitive n t ok j a c l la (k .type) f (k .left)) (λ f. below-transitive n t ok j b c l lb (k .type) f (k .right))
-        (or-cases (below t j a) (below t j b) e))
+        (either-true (below t j a) (below t j b) e))
         (prime-below a b c j la lb k l i)) ∙
         sym (set-bit c j l)
       where

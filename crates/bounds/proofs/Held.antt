@@ -11,12 +11,12 @@ use lib.Seq.{getD-set-same, getD-set-other}
 use lib.Bits.{bitAnd, bitOr, or-add-and, and-le-r}
 use lib.Dec.{eqb}
 use borrow.Author.Tests.{eq-eqb, ne-eqb, eqb-true}
-use Rattle.graphs.proofs.Search.{true-both}
+use Rattle.graphs.proofs.Search.{true-both, either-true}
 use Rattle.lattice.specs.Table.{every, cell}
 use Rattle.lattice.specs.Words.{word, bit, without, turned, holder}
 use Rattle.bounds.specs.Primes.{wordIrreducible, wordSplits, wordPrime, Finds}
 use Rattle.bounds.specs.Sets.{setIn, wordIn, asSets, cellIn, meetIn, joinIn, Apart, Among, MeetsHeld, JoinsHeld, Above, SoughtBy, Sets}
-use Rattle.lattice.proofs.Every.{and-left, and-right, or-cases, implies-from, every-fails, true-not-false, below-suc, last-nothing, last-only}
+use Rattle.lattice.proofs.Every.{and-left, and-right, implies-from, every-fails, true-not-false, below-suc, last-nothing, last-only}
 use Rattle.lattice.proofs.Bits.{no-bit, and-bit, or-bit, part-from, cleared-bit}
 use Rattle.lattice.proofs.Seeking.{without-inside}
 
@@ -250,7 +250,7 @@ module _ (n : ℕ) (sets : List ℕ) (cells : List (List ℕ)) (a b : ℕ) where
             apart = joins-held .apart;
             inside = λ j l e.
                 ⊎-elim (λ f. joins-held .inside a m la lm f j l (under j e)) (λ f. joins-held .inside b m lb lm f j l (under j e))
-                (or-cases (bit (setIn sets a) m) (bit (setIn sets b) m) (sym (or-bit (setIn sets a) (setIn sets b) m) ∙ in-union));
+                (either-true (bit (setIn sets a) m) (bit (setIn sets b) m) (sym (or-bit (setIn sets a) (setIn sets b) m) ∙ in-union));
             kept = λ k l e. above .kept k λ j lj f. joins-held .upper k j l lj (ap (λ (w : ℕ). bit w j) e ∙ f);
           }
 

@@ -1,4 +1,5 @@
--- This file says what opening a table for meets or for joins ensures, and what meets and joins may rely on afterwards.
+-- This file says what opening a table for meets or for joins ensures, and what meets and joins may rely on afterwards. Paper 12: "Opening such
+-- a table then fills neither; other tables use the old form."
 use Prim.Native.Nat.{ℕ, _-_}
 use mathlib.Core.Path.{_≡_}
 use mathlib.Core.Bool.{Bool, true, false}
@@ -21,13 +22,14 @@ pub record Opening (up : Bool) (n : ℕ) (t : List ℕ) (bound : ℕ → ℕ →
   pub long : length cells ≡ length cells₀
   pub holds : accepted n t ≡ true → Holding up n t bound sets cells₀ cells
 
--- The table is accepted and distributive, and the words hold its types as sets, whatever the cells are.
+-- "Opening such a table": the table is accepted and distributive, and the words hold its types as sets, whatever the cells are.
 pub record SetsHeld (up : Bool) (n : ℕ) (t sets : List ℕ) : Type 0 where
   pub ok : accepted n t ≡ true
   pub spread : distributive n t ≡ true
   pub holding : (cells : List (List ℕ)) → Holding up n t (sideBound n t up) sets cells cells
 
--- The table passes the tests of refusals 1 and 2, and is not distributive if it is accepted. The words say that they hold no sets.
+-- "Other tables": the table passes the tests of refusals 1 and 2, and is not distributive if it is accepted. The words say that they hold no
+-- sets.
 pub record CellsNeeded (n : ℕ) (t sets : List ℕ) : Type 0 where
   pub size : sized n t ≡ true
   pub order : ordered n t ≡ true
@@ -40,7 +42,7 @@ pub record Chooses (up : Bool) (n : ℕ) (t : List ℕ) (answer : Form) (sets : 
   pub as-sets : answer ≡ AsSets → SetsHeld up n t sets
   pub as-cells : answer ≡ AsCells → CellsNeeded n t sets
 
--- The answer is that of acceptance; if the table is accepted, the lent cells hold the bounds of one side.
+-- "The old form": the answer is that of acceptance; if the table is accepted, the lent cells hold the bounds of one side.
 pub record Fills (up : Bool) (n : ℕ) (t : List ℕ) (answer : Opened) (cells₀ cells : List (List ℕ)) : Type 0 where
   pub answers : answer ≡ opened n t
   pub long : length cells ≡ length cells₀

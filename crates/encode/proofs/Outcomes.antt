@@ -1,9 +1,9 @@
 -- This file shows what writing answers and leaves, for each form of a graph and each output. The file also has two laws of lists that the
 -- rows of a form go by.
-use mathlib.Core.Path.{_≡_, refl, sym, _∙_, ap, ap₂}
+use mathlib.Core.Path.{_≡_, sym, _∙_, ap, ap₂}
 use mathlib.Core.Bool.{Bool, cond}
 use mathlib.Core.Logic.{_⊎_, ⊎-elim}
-use mathlib.Core.List.{List, [], _∷_, _++_, map, List·Memᴰ, List·Memᴰ·head, List·Memᴰ·tail}
+use mathlib.Core.List.{List, _++_}
 use Prim.Native.Nat.{ℕ, _+_, _≤_, _<_}
 use native.Mathlib.Nat.{zero-add}
 use native.Mathlib.Omega.{arith}
@@ -18,11 +18,6 @@ use Rattle.encode.specs.declared.Marked.{Marked}
 use Rattle.encode.specs.declared.Marked.the-variants as marked
 use Rattle.encode.specs.Encode.{Yield, yielding, fitted, writtenOut}
 use Rattle.encode.specs.Marks.{Noted, noting, fittedBoth, markedOut}
-
-pub map-listed : {X Y : Type 0} {f g : X → Y} (xs : List X) → ((x : X) → List·Memᴰ x xs → f x ≡ g x) → map f xs ≡ map g xs
-map-listed [] e = refl
-map-listed {Y = Y} (x ∷ xs) e =
-    ap₂ (λ (y : Y) (ys : List Y). y ∷ ys) (e x (List·Memᴰ·head refl)) (map-listed xs (λ z m. e z (List·Memᴰ·tail m)))
 
 -- the same for an output that is equal to the one that is yielded
 pub yields-by : {A : Type 0} {y : Yield A} {a : A} {l last : List ℕ} → last ≡ l → y ≡ yielding a l → yielding a last ≡ y

@@ -17,7 +17,7 @@ use Rattle.graphs.specs.Rows.{Row, from, target, linksOf}
 use Rattle.graphs.specs.Number.{Canonical, canonical, counted, indexOf, linkCount, outDegree, manyLinks, manyNodes, rowOf, visit, written}
 use Rattle.graphs.specs.Difference.{Link}
 use Rattle.graphs.specs.Reasons.{alongLinks, orderIn, writtenOrder}
-use Rattle.graphs.proofs.Lists.{mem-reverse, mem-unreverse, getD-index, index-within, tells-eqb, getD-member}
+use Rattle.graphs.proofs.Lists.{mem-reverse, mem-unreverse, getD-index, index-within, tells-eqb, getD-member, map-listed}
 use Rattle.graphs.proofs.Rows.{linksOf-length}
 use Rattle.graphs.proofs.Form.Invariant.{linksOf-cong}
 use Rattle.graphs.proofs.Form.Visited.{Grown, visit-all}
@@ -35,7 +35,7 @@ use Rattle.encoder.proofs.WrittenRows.{ranges-upto, sum-reverse, row-ascending,
 use Rattle.encode.specs.declared.Written.the-variants as outcome
 use Rattle.encode.specs.Encode.{yielding, writtenOut}
 use Rattle.encode.proofs.Links.{linksOf-links, target-member}
-use Rattle.encode.proofs.Outcomes.{map-listed, fitted-short, fitted-room, both-short, both-narrow, both-room}
+use Rattle.encode.proofs.Outcomes.{fitted-short, fitted-room, both-short, both-narrow, both-room}
 use Rattle.encode.specs.declared.Marked.the-variants as marked
 use Rattle.encode.specs.Marks.{MarksFit, Noted, noting, fittedBoth, marksAlong, markedOut}
 use Rattle.encode.proofs.MarkedRows.{marks-length}

@@ -1,7 +1,7 @@
 -- This file has the laws of lists that the theory of graphs needs: membership as a test, in `from`, `flatMap` and reversals; the place of
 -- an element; lists without repetition; and the pigeonhole principle, by which a list without repetition inside another is no longer than
 -- the other.
-use mathlib.Core.Path.{_≡_, refl, sym, _∙_, ap, subst}
+use mathlib.Core.Path.{_≡_, refl, sym, _∙_, ap, subst, ap₂}
 use mathlib.Core.Bool.{Bool, true, false, cond, _||_}
 use mathlib.Core.List.{
   List,
@@ -65,6 +65,12 @@ unfolding from
 getD-from g d zero k i h = absurd (omega arith)
 getD-from g d (suc n) k zero h = ap g (sym (add-zero k))
 getD-from g d (suc n) k (suc i) h = getD-from g d n (suc k) i (omega arith) ∙ ap g (suc-add k i ∙ sym (add-suc k i))
+
+-- functions that agree on a list map it alike
+pub map-listed : {X Y : Type 0} {f g : X → Y} (xs : List X) → ((x : X) → List·Memᴰ x xs → f x ≡ g x) → map f xs ≡ map g xs
+map-listed [] e = refl
+map-listed {Y = Y} (x ∷ xs) e =
+    ap₂ (λ (y : Y) (ys : List Y). y ∷ ys) (e x (List·Memᴰ·head refl)) (map-listed xs (λ z m. e z (List·Memᴰ·tail m)))
 
 -- an entry of a list is a member
 pub getD-member : {X : Type 0} (xs : List X) (i : ℕ) (d : X) → i < length xs → List·Memᴰ (getD xs i d) xs

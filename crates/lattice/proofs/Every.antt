@@ -1,7 +1,7 @@
 -- This file turns tests into facts: it says what a conjunction, an implication, and `every` and `last` of `Table` state where they are true.
 use Prim.Native.Nat.{ℕ, zero, suc, _+_, _<_, _≤_}
 use mathlib.Core.Path.{_≡_, refl, sym, ap, subst, _∙_}
-use mathlib.Core.Bool.{Bool, true, false, cond, not, _&&_, _||_}
+use mathlib.Core.Bool.{Bool, true, false, cond, not, _&&_}
 use mathlib.Core.Option.{Option, none, some}
 use mathlib.Core.Logic.{_⊎_, inl, inr, ⊎-elim}
 use native.Mathlib.Nat.{not-suc-le-zero, eq-or-lt-of-le, le-of-suc-le-suc}
@@ -19,6 +19,10 @@ and-left false b h = h
 pub and-right : (a b : Bool) → a && b ≡ true → b ≡ true
 and-right true b h = h
 and-right false b h = let z : _≡_ {A = ℕ} 0 1 = cc in absurd (omega arith)
+
+pub and-with-true : (b : Bool) → b && true ≡ b
+and-with-true true = refl
+and-with-true false = refl
 
 -- two tests that passed leave the third to decide
 pub third-decides : {a b c : Bool} → a ≡ true → b ≡ true → c ≡ (a && b && c)
@@ -152,15 +156,3 @@ refuted {b} e h = sym e ∙ not-true b h
 
 pub held : {b p : Bool} → b ≡ p → not b ≡ false → p ≡ true
 held {b} e h = sym e ∙ not-false b h
-
-pub or-cases : (a b : Bool) → a || b ≡ true → (a ≡ true) ⊎ (b ≡ true)
-or-cases true b e = inl refl
-or-cases false b e = inr e
-
-pub or-from-left : (a b : Bool) → a ≡ true → a || b ≡ true
-or-from-left true b e = refl
-or-from-left false b e = absurd (true-not-false false e refl)
-
-pub or-from-right : (a b : Bool) → b ≡ true → a || b ≡ true
-or-from-right true b e = refl
-or-from-right false b e = e

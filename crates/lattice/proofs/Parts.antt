@@ -5,7 +5,7 @@ use mathlib.Core.Bool.{Bool, true, false, not, _&&_, _||_}
 use lib.Bits.{bitOr}
 use lib.Dec.{eqb}
 use borrow.Author.Tests.{eq-eqb, ne-eqb, not-true}
-use Rattle.graphs.proofs.Search.{same-test, not-true-false, true-both}
+use Rattle.graphs.proofs.Search.{same-test, not-true-false, true-both, true-left, true-right}
 use Rattle.lattice.specs.Words.{bit, without, partOf}
 use Rattle.lattice.proofs.Every.{and-left, and-right, true-not-false}
 use Rattle.lattice.proofs.Bits.{or-bit, cleared-bit, part-bit, part-from}
@@ -16,20 +16,13 @@ or-part a b m =
     same-test (partOf (bitOr a b) m) (partOf a m && partOf b m)
     (λ h.
     true-both (partOf a m) (partOf b m)
-    (part-from a m λ j e. part-bit (bitOr a b) m h j (or-bit a b j ∙ first (bit a j) (bit b j) e))
-    (part-from b m λ j e. part-bit (bitOr a b) m h j (or-bit a b j ∙ second (bit a j) (bit b j) e)))
+    (part-from a m λ j e. part-bit (bitOr a b) m h j (or-bit a b j ∙ true-left (bit a j) (bit b j) e))
+    (part-from b m λ j e. part-bit (bitOr a b) m h j (or-bit a b j ∙ true-right (bit a j) (bit b j) e)))
     (λ h.
     part-from (bitOr a b) m λ j e.
     either j (bit a j) refl (part-bit a m (and-left (partOf a m) (partOf b m) h) j)
     (part-bit b m (and-right (partOf a m) (partOf b m) h) j) (sym (or-bit a b j) ∙ e))
   where
-    first : (x y : Bool) → x ≡ true → (x || y) ≡ true
-    first x y e = rw e
-
-    second : (x y : Bool) → y ≡ true → (x || y) ≡ true
-    second true y e = refl
-    second false y e = e
-
     either : (j : ℕ) (x : Bool) → bit a j ≡ x → (bit a j ≡ true → bit m j ≡ true) → (bit b j ≡ true → bit m j ≡ true)
         → (bit a j || bit b j) ≡ true → bit m j ≡ true
     either j true e f g h = f e

@@ -11,7 +11,7 @@ use lib.ListN.{length, getD, set, length-set}
 use lib.Seq.{getD-set-same, getD-set-other}
 use Rattle.lattice.specs.Words.{digit, word, bit, without, turned, Spread}
 use Rattle.lattice.proofs.Bits.{cleared-bit, no-bit}
-use Rattle.lattice.proofs.Every.{and-left}
+use Rattle.lattice.proofs.Every.{and-left, and-with-true}
 use Rattle.lattice.proofs.WordLaws.{word-below}
 
 no-digit : (j x : ℕ) → digit false * 2 ^ j + x ≡ x
@@ -20,10 +20,6 @@ no-digit j x = omega arith
 both-ways : (b : Bool) → (b && not b) ≡ false
 both-ways true = refl
 both-ways false = refl
-
-and-with-true : (b : Bool) → (b && true) ≡ b
-and-with-true true = refl
-and-with-true false = refl
 
 module _ (word j : ℕ) (old : List ℕ) where
   -- before the first bit

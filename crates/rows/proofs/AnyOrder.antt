@@ -9,13 +9,13 @@ use native.Mathlib.Omega.{arith}
 use lib.ListN.{length}
 use Rattle.graphs.specs.Rows.{features, from}
 use Rattle.graphs.specs.Large.{Distinct}
-use Rattle.graphs.proofs.Lists.{distinct-bound}
+use Rattle.graphs.proofs.Lists.{distinct-bound, map-listed}
 use Rattle.graphs.proofs.Search.{not-true-false, true-false, same-test}
 use Rattle.rows.specs.declared.Row.{Row}
 use Rattle.rows.specs.Rows.{isOf, targetIn, someOf, allKnown, hasTwice, labelIn, nodesIn, tableRows}
 use Rattle.rows.specs.Reordered.{Reordered, same, kept, swapped, again, SameMembers}
 use Rattle.rows.proofs.Placed.{is-own, cond-false}
-use Rattle.rows.proofs.Tables.{is-of, row-is, target-row, linksOf-same, map-same, stated}
+use Rattle.rows.proofs.Tables.{is-of, row-is, target-row, linksOf-same}
 use Rattle.rows.proofs.Tests.{all-known-exact, some-source, some-member}
 
 -- a row gives the target of its parent and feature, where no two rows have one parent and feature
@@ -118,7 +118,7 @@ module _ {xs ys : List Row} (members : SameMembers xs ys) where
     pub members-table : (nodes : List ℕ) → tableRows nodes xs ≡ tableRows nodes ys
     unfolding tableRows
     members-table nodes =
-        map-same (stated nodes xs) (stated nodes ys) (from 0 (nodesIn nodes)) (λ v m.
+        map-listed (from 0 (nodesIn nodes)) (λ v m.
         ap (λ (ls : List (ℕ × ℕ)). (labelIn nodes v, ls)) (linksOf-same (targetIn xs v) (targetIn ys v) features (λ f i. target-same v f)))
 
 -- of two tables with as many of the same rows, 15 applies to both or to neither

@@ -13,13 +13,13 @@ use lib.Dec.{eqb}
 use lib.ListN.{length, length-map, length-append}
 use Rattle.graphs.specs.Rows.{Row, features, from, linksOf, addLink}
 use Rattle.graphs.specs.Large.{Ascending, Distinct, linksIn}
-use Rattle.graphs.proofs.Lists.{distinct-append, distinct-bound, features-small, from-range}
+use Rattle.graphs.proofs.Lists.{distinct-append, distinct-bound, features-small, from-range, map-listed}
 use Rattle.graphs.proofs.Rows.{linksOf-source, linksOf-ascending}
 use Rattle.lattice.specs.Label.{Label}
 use Rattle.rows.specs.declared.Row as lent
 use Rattle.rows.specs.Rows.{isOf, targetIn, labelIn, nodesIn, tableRows, lentLink, lentFrom}
 use Rattle.rows.specs.Placing.{placeOf, Placed}
-use Rattle.rows.specs.Filling.{cell, cellAt, placedLinks, placedRow, placedRows}
+use Rattle.rows.specs.Filling.{cell, cellAt, placedLinks, placedRows}
 
 -- Rows.
 
@@ -112,11 +112,6 @@ linksOf-same next onto [] h = refl
 linksOf-same next onto (f ∷ fs) h =
     ap₂ (addLink f) (h f (List·Memᴰ·head refl)) (linksOf-same next onto fs (λ g m. h g (List·Memᴰ·tail m)))
 
-pub map-same : {X Y : Type 0} (f g : X → Y) (xs : List X) → ((x : X) → List·Memᴰ x xs → f x ≡ g x) → map f xs ≡ map g xs
-map-same f g [] h = refl
-map-same {X} {Y} f g (x ∷ xs) h =
-    ap₂ (λ (y : Y) (ys : List Y). y ∷ ys) (h x (List·Memᴰ·head refl)) (map-same f g xs (λ z m. h z (List·Memᴰ·tail m)))
-
 cell-place : (o : Option ℕ) → cell (placeOf o) ≡ o
 cell-place none = refl
 cell-place (some w) = ap cell (add-one w)
@@ -125,7 +120,7 @@ pub placed-table : (nodes targets : List ℕ) (rows : List lent.Row) → nodesIn
     placedRows nodes targets (nodesIn nodes) ≡ tableRows nodes rows
 unfolding tableRows placedLinks
 placed-table nodes targets rows few placed =
-    map-same (placedRow nodes targets) (stated nodes rows) (from 0 (nodesIn nodes)) (λ v m.
+    map-listed (from 0 (nodesIn nodes)) (λ v m.
     ap (λ (ls : List (ℕ × ℕ)). (labelIn nodes v, ls))
     (linksOf-same (cellAt targets v) (targetIn rows v) features (λ f i.
     ap cell (placed .told v f (omega (arith, from-range 0 (nodesIn nodes) v m .1)) (features-small f i)) ∙ cell-place (targetIn rows v f))))

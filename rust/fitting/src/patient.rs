@@ -7,8 +7,8 @@ use crate::table::Table;
 use crate::{engine, explain};
 use record_engine::{Refusal, STORE_LENGTH, Store};
 
-/// The first bytes of the file.
-const SIGNATURE: &[u8; 8] = b"FITTING\n";
+/// The fixed first bytes of the file.
+const FIRST_BYTES: &[u8; 8] = b"FITTING\n";
 
 /// The number of the format.
 const FORMAT: u8 = 1;
@@ -23,9 +23,9 @@ pub struct Patient {
     pub store: Store,
 }
 
-/// Whether bytes are meant to be a patient's file: they begin with the letters of the signature.
+/// Whether bytes are meant to be a patient's file: they begin with the letters of the fixed first bytes.
 pub fn is_meant(bytes: &[u8]) -> bool {
-    bytes.starts_with(&SIGNATURE[..7])
+    bytes.starts_with(&FIRST_BYTES[..7])
 }
 
 impl Patient {
@@ -39,7 +39,7 @@ impl Patient {
     pub fn bytes(&self) -> Vec<u8> {
         let Patient { table, store } = self;
         let (text, used) = (text(table), store.used());
-        let mut bytes = SIGNATURE.to_vec();
+        let mut bytes = FIRST_BYTES.to_vec();
         bytes.extend([FORMAT, table.n as u8]);
         bytes.extend(&table.bytes);
         bytes.extend((text.len() as u32).to_le_bytes());
@@ -92,10 +92,10 @@ enum Fault {
 
 fn opened(name: &str, bytes: &[u8]) -> Result<Patient, Fault> {
     let mut rest = Rest { bytes, at: 0 };
-    if !bytes.starts_with(SIGNATURE) {
+    if !bytes.starts_with(FIRST_BYTES) {
         let (what, advice) = match is_meant(bytes) && bytes.len() > 7 {
             true => (
-                "the signature of a patient's file does not end as it was written",
+                "the fixed first bytes of a patient's file do not end as they were written",
                 "a transfer as text changes line ends: fetch the file again, as bytes",
             ),
             false => (
@@ -105,7 +105,7 @@ fn opened(name: &str, bytes: &[u8]) -> Result<Patient, Fault> {
         };
         return Err(Fault::Other(what.to_string(), advice.to_string()));
     }
-    rest.take(SIGNATURE.len(), "the signature")?;
+    rest.take(FIRST_BYTES.len(), "the fixed first bytes")?;
     let [format] = rest.array("the number of the format")?;
     if format != FORMAT {
         let what = format!("this patient's file has the format {format}");
@@ -299,7 +299,7 @@ mod tests {
             let told = told(bytes);
             assert!(told.contains(what), "{told}");
         };
-        begins(b"FITTINGS", "does not end as it was written");
+        begins(b"FITTINGS", "do not end as they were written");
         begins(b"PATIENT\n", "this is no patient's file");
         begins(&changed(8, 2), "has the format 2");
         begins(&changed(9, 200), "in the table\n");
