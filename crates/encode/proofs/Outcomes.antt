@@ -1,5 +1,4 @@
--- This file shows what writing answers and leaves, for each form of a graph and each output. The file also has two laws of lists that the
--- rows of a form go by.
+-- This file shows what writing answers and leaves, for each form of a graph and each output.
 use mathlib.Core.Path.{_≡_, sym, _∙_, ap, ap₂}
 use mathlib.Core.Bool.{Bool, cond}
 use mathlib.Core.Logic.{_⊎_, ⊎-elim}
@@ -19,7 +18,7 @@ use Rattle.encode.specs.declared.Marked.the-variants as marked
 use Rattle.encode.specs.Encode.{Yield, yielding, fitted, writtenOut}
 use Rattle.encode.specs.Marks.{Noted, noting, fittedBoth, markedOut}
 
--- the same for an output that is equal to the one that is yielded
+-- an output that is equal to the one that is yielded is as good
 pub yields-by : {A : Type 0} {y : Yield A} {a : A} {l last : List ℕ} → last ≡ l → y ≡ yielding a l → yielding a last ≡ y
 yields-by {a = a} q e = ap (yielding a) q ∙ sym e
 

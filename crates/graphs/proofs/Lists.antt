@@ -1,6 +1,6 @@
--- This file has the laws of lists that the theory of graphs needs: membership as a test, in `from`, `flatMap` and reversals; the place of
--- an element; lists without repetition; and the pigeonhole principle, by which a list without repetition inside another is no longer than
--- the other.
+-- This file has the laws of lists: membership as a test, in `from`, `flatMap` and reversals; entries by their place, and the place of an
+-- element; lists without repetition; and the pigeonhole principle, by which a list without repetition inside another is no longer than the
+-- other.
 use mathlib.Core.Path.{_≡_, refl, sym, _∙_, ap, subst, ap₂}
 use mathlib.Core.Bool.{Bool, true, false, cond, _||_}
 use mathlib.Core.List.{
@@ -78,6 +78,7 @@ getD-member [] i d h = absurd (omega arith)
 getD-member (x ∷ xs) zero d h = List·Memᴰ·head refl
 getD-member (x ∷ xs) (suc i) d h = List·Memᴰ·tail (getD-member xs i d (omega arith))
 
+-- an option counts as 0 or 1
 pub count-small : {X : Type 0} (o : Option X) → countSome o ≤ 1
 count-small none = omega arith
 count-small (some x) = omega arith

@@ -31,6 +31,7 @@ along-same {X = X} P d e value same (more {v = v} {w = w} r rs) =
     ∙ ap (λ (u : ℕ). map {B = X} (λ l. value (u, l .0) (l .1)) (linksOf (e .link u) features)) (r .1))
     (along-same P d e value same rs)
 
+-- renaming by the same names changes nothing
 pub option-same : (o : Option ℕ) → o ≡ Option·map (λ x. x) o
 option-same none = refl
 option-same (some x) = refl

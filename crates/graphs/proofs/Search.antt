@@ -1,6 +1,6 @@
 -- This file says what a search along a list finds: the first value (`firstOf`), whether a test holds somewhere (`anyOf`), and where it
 -- holds (`select`). The features are such a list. Each search is described by membership, so that no proof about unification has to look
--- at the order of a list.
+-- at the order of a list. The file begins with the laws of tests, by which a test is known to be true or false.
 use mathlib.Core.Path.{_≡_, refl, sym, _∙_, ap, subst}
 use mathlib.Core.Bool.{Bool, true, false, cond, _&&_, _||_, true≢false}
 use mathlib.Core.List.{List, [], _∷_, List·Memᴰ, List·Memᴰ·head, List·Memᴰ·tail, List·Memᴰ·not-nil, List·Memᴰ·cases-cons}

@@ -1,5 +1,5 @@
--- The wanted label of p over q, for p below q, is the greatest label of the table whose meet with q is p. There is none exactly where
--- there is no wanted type: type, lowest and highest level are found apart, and there is always a wanted level.
+-- The wanted label of p over q, for p below q, is the greatest label of the table whose meet with q is p. Its type, lowest and highest level
+-- are found apart, and there is always a wanted level.
 use Prim.Native.Nat.{ℕ, _-_, _<_, _≤_, min, max}
 use mathlib.Core.Path.{_≡_, refl, sym, ap, subst, _∙_}
 use mathlib.Core.Bool.{Bool, true, false, cond}
