@@ -3,7 +3,7 @@
 -- both below x′, have a meet u; and u and y, both below y′, have a meet, which is the meet of x and y.
 use Prim.Native.Nat.{ℕ, zero, suc, _+_, _-_, _^_, _<_, _≤_}
 use mathlib.Core.Path.{_≡_, refl, sym, ap, ap₂, subst, _∙_}
-use mathlib.Core.Bool.{Bool, true, false, not, _&&_, _||_}
+use mathlib.Core.Bool.{Bool, true, false, not, _&&_, _||_, and-false}
 use mathlib.Core.List.{List}
 use mathlib.Core.Logic.{_⊎_, inl, inr, ⊎-elim}
 use native.Mathlib.Nat.{not-suc-le-zero}
@@ -91,11 +91,7 @@ module _ (n : ℕ) (ws : List ℕ) (few : n ≤ 64) (low : Lower n ws) where
   four : (a b c d : Bool) → (a ≡ true → b ≡ true) → (d ≡ true → c ≡ true) → ((a && (b && c)) && d) ≡ (a && d)
   four false b c d f g = refl
   four true b c true f g = rw (f refl, g refl)
-  four true b c false f g = none (b && c)
-    where
-      none : (x : Bool) → x && false ≡ false
-      none true = refl
-      none false = refl
+  four true b c false f g = and-false (b && c)
 
   -- with x below a and y below b: what x, a, b and y have in common is what x and y have in common
   common-outer : (x y a b w u : ℕ) → x < n → y < n → a < n → b < n → bit (getD ws a 0) x ≡ true → bit (getD ws b 0) y ≡ true

@@ -3,7 +3,7 @@
 -- below a taken type c, the word of c is less than that of i, so what is below x is below c, and what is below c is strictly below i.
 use Prim.Native.Nat.{ℕ, zero, suc, _+_, _*_, _-_, _/_, _^_, _<_, _≤_}
 use mathlib.Core.Path.{_≡_, refl, sym, ap, ap₂, subst, _∙_}
-use mathlib.Core.Bool.{Bool, true, false, not, _&&_}
+use mathlib.Core.Bool.{Bool, true, false, not, _&&_, and-true}
 use mathlib.Core.List.{List}
 use mathlib.Core.Logic.{_⊎_, inl, inr, ⊎-elim}
 use native.Mathlib.Nat.{not-suc-le-zero, div-lt-iff-lt-mul}
@@ -37,7 +37,7 @@ use Rattle.lattice.specs.Words.{
   Lower,
   BoundsWithin,
 }
-use Rattle.lattice.proofs.Every.{and-left, and-right, true-not-false, implies-from, every-at, every-all, every-fails, every-same, and-with-true}
+use Rattle.lattice.proofs.Every.{and-left, and-right, true-not-false, implies-from, every-at, every-all, every-fails, every-same}
 use Rattle.lattice.proofs.Bits.{no-bit, without-bit, without-less, cleared-bit, cleared-less, part-bit, part-from, short-inside}
 use Rattle.lattice.proofs.Parts.{cleared-part}
 use Rattle.acceptance.proofs.Covering.{
@@ -81,7 +81,7 @@ pair-lower ws i j = go (eqb j i) refl where
   go false e =
       let apart : eqb i j ≡ false = ne-eqb i j λ q. true-not-false (eqb j i) (eq-eqb j i (sym q)) e in
       ap₂ (λ (x y : Bool). implies x y)
-      (cleared-bit (getD ws i 0) i j ∙ ap (λ (b : Bool). bit (getD ws i 0) j && not b) e ∙ and-with-true (bit (getD ws i 0) j))
+      (cleared-bit (getD ws i 0) i j ∙ ap (λ (b : Bool). bit (getD ws i 0) j && not b) e ∙ and-true (bit (getD ws i 0) j))
       (cleared-part (getD ws j 0) (getD ws i 0) i ∙
       ap (λ (b : Bool). partOf (getD ws j 0) (getD ws i 0) && b) (apart-only (bit (getD ws j 0) i) (eqb i j) apart))
 

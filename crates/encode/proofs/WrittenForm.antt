@@ -17,11 +17,11 @@ use Rattle.graphs.specs.Rows.{Row, from, target, linksOf}
 use Rattle.graphs.specs.Number.{Canonical, canonical, counted, indexOf, linkCount, outDegree, manyLinks, manyNodes, rowOf, visit, written}
 use Rattle.graphs.specs.Difference.{Link}
 use Rattle.graphs.specs.Reasons.{alongLinks, orderIn, writtenOrder}
+use Rattle.graphs.proofs.Walk.{option-same}
 use Rattle.graphs.proofs.Lists.{mem-reverse, mem-unreverse, getD-index, index-within, tells-eqb, getD-member, map-listed}
 use Rattle.graphs.proofs.Rows.{linksOf-length}
 use Rattle.graphs.proofs.Form.Invariant.{linksOf-cong}
 use Rattle.graphs.proofs.Form.Visited.{Grown, visit-all}
-use Rattle.graphs.proofs.Reasons.{option-same}
 use Rattle.lattice.specs.Label.{Label, noLabel}
 use Rattle.layout.specs.Layout.{Sound, Place, header, longest, size, linksFrom, rowEnd, featureAt, targetAt, linksAt, linksBetween, graphIn}
 use Rattle.layout.proofs.Spans.{linkAt, links-at, links-none, links-cons}

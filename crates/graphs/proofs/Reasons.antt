@@ -14,6 +14,7 @@ use Rattle.graphs.specs.Number.{canonical, counted, indexOf, linkCount, 
 use Rattle.graphs.specs.Large.{linksIn}
 use Rattle.graphs.specs.Difference.{Link}
 use Rattle.graphs.specs.Reasons.{alongLinks, linksFromRow, linksInOrder, orderIn, writtenOrder}
+use Rattle.graphs.proofs.Walk.{option-same}
 use Rattle.graphs.proofs.Rows.{linksOf-length}
 use Rattle.graphs.proofs.Form.Invariant.{Pointwise, empty, more, pointwise-length, pointwise-append, pointwise-at, linksOf-cong}
 use Rattle.graphs.proofs.Form.Canonical.{canonical-written, form-walk}
@@ -30,11 +31,6 @@ along-same {X = X} P d e value same (more {v = v} {w = w} r rs) =
     (linksOf-cong (d .link v) (e .link v) (λ f. same v f (r .0)) features)
     ∙ ap (λ (u : ℕ). map {B = X} (λ l. value (u, l .0) (l .1)) (linksOf (e .link u) features)) (r .1))
     (along-same P d e value same rs)
-
--- renaming by the same names changes nothing
-pub option-same : (o : Option ℕ) → o ≡ Option·map (λ x. x) o
-option-same none = refl
-option-same (some x) = refl
 
 module _ {L X : Type 0} (same : ℕ → ℕ → Bool) (d : Graph L ℕ) (value : Link ℕ → ℕ → X) where
   row-length : (nodes : List ℕ) (v : ℕ) → length (map (λ l. value (v, l .0) (l .1)) (linksOf (d .link v) features)) ≡ length (rowOf same d nodes v .1)

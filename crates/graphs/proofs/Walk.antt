@@ -1,7 +1,7 @@
 -- This file has the laws of walks: along two paths in turn, with one feature more at the end, and to the nodes that are reached.
 use mathlib.Core.Path.{_≡_, refl, sym, _∙_, ap}
 use mathlib.Core.List.{List, [], _∷_, _++_, append-nil, append-assoc}
-use mathlib.Core.Option.{Option, none, some}
+use mathlib.Core.Option.{Option, none, some, Option·map, map-id}
 use Prim.Native.Nat.{ℕ}
 use native.Mathlib.Omega.{arith}
 use Rattle.graphs.specs.Graph.{Graph, step, follow, walk, Reached}
@@ -15,6 +15,10 @@ none-some e = let z : _≡_ {A = ℕ} 0 1 = cc in absurd (omega arith)
 -- an option holds at most one value
 pub some-unique : {A : Type 0} {o : Option A} {v w : A} → o ≡ some v → o ≡ some w → v ≡ w
 some-unique d e = some-injective (sym d ∙ e)
+
+-- naming a value by itself changes nothing
+pub option-same : {A : Type 0} (o : Option A) → o ≡ Option·map (λ x. x) o
+option-same o = ap (λ h. h o) (sym map-id)
 
 -- Induction over a list from its end.
 pub snoc-induction :

@@ -2,7 +2,7 @@
 -- says what the bit operations and the counts of zeros tell about bits.
 use Prim.Native.Nat.{ℕ, zero, suc, _+_, _*_, _-_, _/_, _%_, _^_, _<_, _≤_}
 use mathlib.Core.Path.{_≡_, refl, sym, ap, ap₂, subst, _∙_}
-use mathlib.Core.Bool.{Bool, true, false, not, _&&_, _||_}
+use mathlib.Core.Bool.{Bool, true, false, not, _&&_, _||_, and-false}
 use mathlib.Core.List.{List}
 use native.Mathlib.Nat.{mod-lt, zero-div, div-eq-of-lt, mod-eq-of-lt, two-pow-succ, div-lt-iff-lt-mul, le-div-iff-mul-le, lt-of-lt-of-le, add-zero, add-suc, add-mul, mul-assoc, mul-comm}
 use native.Mathlib.Decide.{decLe}
@@ -245,11 +245,7 @@ lowest-cleared w l s =
 
     keep : (j k : ℕ) (b : Bool) → eqb k j ≡ b → bit w j ≡ true → bit w k && eqb k j ≡ eqb k j
     keep j k true e h = let q : k ≡ j = eqb-true k j e in rw (e, q, h)
-    keep j k false e h = rw e (none (bit w k))
-      where
-        none : (b : Bool) → b && false ≡ false
-        none true = refl
-        none false = refl
+    keep j k false e h = rw e (and-false (bit w k))
 
 -- above the highest standing bit are the leading zeros
 pub highest-bit : (w : ℕ) → w < 2 ^ 64 → 0 < w → (leadingZeros 64 w ≤ 63) × (63 - leadingZeros 64 w < 64) × (bit w (63 - leadingZeros 64 w) ≡ true)

@@ -1,7 +1,7 @@
 -- This file turns tests into facts: it says what a conjunction, an implication, and `every` and `last` of `Table` state where they are true.
 use Prim.Native.Nat.{ℕ, zero, suc, _+_, _<_, _≤_}
 use mathlib.Core.Path.{_≡_, refl, sym, ap, subst, _∙_}
-use mathlib.Core.Bool.{Bool, true, false, cond, not, _&&_}
+use mathlib.Core.Bool.{Bool, true, false, cond, not, _&&_, and-true}
 use mathlib.Core.Option.{Option, none, some}
 use mathlib.Core.Logic.{_⊎_, inl, inr, ⊎-elim}
 use native.Mathlib.Nat.{not-suc-le-zero, eq-or-lt-of-le, le-of-suc-le-suc}
@@ -19,10 +19,6 @@ and-left false b h = h
 pub and-right : (a b : Bool) → a && b ≡ true → b ≡ true
 and-right true b h = h
 and-right false b h = let z : _≡_ {A = ℕ} 0 1 = cc in absurd (omega arith)
-
-pub and-with-true : (b : Bool) → b && true ≡ b
-and-with-true true = refl
-and-with-true false = refl
 
 -- two tests that passed leave the third to decide
 pub third-decides : {a b c : Bool} → a ≡ true → b ≡ true → c ≡ (a && b && c)
@@ -116,10 +112,7 @@ every-done p k n l s h = let e : k ≡ n = omega arith in sym (subst (λ (m : �
 -- a flag that tells of the numbers below k, where k passes, and at the end of a loop
 pub all-kept : (p : ℕ → Bool) (k : ℕ) (r : Bool) → r ≡ every k p → p k ≡ true → r ≡ every (k + 1) p
 unfolding every
-all-kept p k r e f = rw (add-one, f) (e ∙ go (every k p)) where
-  go : (b : Bool) → b ≡ (b && true)
-  go true = refl
-  go false = refl
+all-kept p k r e f = rw (add-one, f) (e ∙ sym (and-true (every k p)))
 
 pub every-end : (p : ℕ → Bool) (k n : ℕ) (r : Bool) → k ≤ n → n ≤ k → r ≡ every k p → r ≡ every n p
 every-end p k n r l s e = let q : k ≡ n = omega arith in e ∙ ap (λ (m : ℕ). every m p) q

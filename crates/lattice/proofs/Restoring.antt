@@ -2,7 +2,7 @@
 -- q is the greatest of these types: each of them is below that type, and that type is below one of them.
 use Prim.Native.Nat.{ℕ, _+_, _-_, _^_, _<_, _≤_}
 use mathlib.Core.Path.{_≡_, refl, sym, ap, subst, _∙_}
-use mathlib.Core.Bool.{Bool, true, false, not, _&&_}
+use mathlib.Core.Bool.{Bool, true, false, not, _&&_, and-true}
 use mathlib.Core.List.{List}
 use native.Mathlib.Numerals.{add-one}
 use native.Mathlib.Omega.{arith}
@@ -48,11 +48,7 @@ module _ (ws : List ℕ) (lower over k u : ℕ) (r : Restoring k ws lower over u
   unfolding every
   restoring-kept e m =
       rw (add-one, r m, ne-eqb (bitAnd (getD ws k 0) over) lower e)
-      (go (every k λ c. implies (wordRestores ws lower over c) (partOf (getD ws c 0) m)))
-    where
-      go : (b : Bool) → b ≡ (b && true)
-      go true = refl
-      go false = refl
+      (sym (and-true (every k λ c. implies (wordRestores ws lower over c) (partOf (getD ws c 0) m))))
 
   pub restoring-done : (n : ℕ) → k ≤ n → n ≤ k → Restoring n ws lower over u
   restoring-done n l s = let e : k ≡ n = omega arith in subst (λ (i : ℕ). Restoring i ws lower over u) e r

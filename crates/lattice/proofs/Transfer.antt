@@ -7,13 +7,14 @@ use mathlib.Core.Path.{_≡_, refl, sym, ap, ap₂, subst, _∙_}
 use mathlib.Core.Bool.{Bool, true}
 use mathlib.Core.List.{List, List·Memᴰ}
 use mathlib.Core.Logic.{_↔_}
-use mathlib.Core.Option.{Option, some, Option·map, map-id}
+use mathlib.Core.Option.{some}
 use Rattle.graphs.specs.Label.{Labels}
 use Rattle.graphs.specs.Graph.{Graph, Below, SameMeaning, AnySize, Reached, walk}
 use Rattle.graphs.specs.Map.{NodeMap, Exact}
 use Rattle.graphs.specs.Generalize.{both, generalizationBy, generalization}
 use Rattle.graphs.specs.Unify.{unificationBy, unification}
 use Rattle.graphs.specs.Difference.{Link, difference, meetOver}
+use Rattle.graphs.proofs.Walk.{option-same}
 use Rattle.graphs.proofs.Below.{exact-same, same-sym, same-trans, walk-map}
 use Rattle.graphs.proofs.Finite.{same-any-size}
 use Rattle.graphs.proofs.Product as Product
@@ -36,9 +37,6 @@ use Rattle.lattice.proofs.Lawful.{KnownLabel, known, known-label, label
 -- a graph with labels of a table as one with any labels
 abbrev pub lower : {n : ℕ} {A : Type 0} → Graph (KnownLabel n) A → Graph Label A
 lower g = relabel (λ x. x .0) g
-
-map-same : {A : Type 0} (o : Option A) → o ≡ Option·map (λ v. v) o
-map-same o = ap (λ h. h o) (sym map-id)
 
 module _ (n : ℕ) (t : List ℕ) (ok : accepted n t ≡ true) where
   abbrev raw : Labels
@@ -64,7 +62,7 @@ module _ (n : ℕ) (t : List ℕ) (ok : accepted n t ≡ true) where
     lower-lift =
         record {
           root = refl;
-          links = λ v f r. map-same (g .link v f);
+          links = λ v f r. option-same (g .link v f);
           labels = lifted-label;
           injective = λ v w r q e. e;
         }
@@ -183,7 +181,7 @@ module _ (n : ℕ) (t : List ℕ) (ok : accepted n t ≡ true) where
     generalization-exact =
         record {
           root = refl;
-          links = λ x f r. map-same (both (g .link (x .0) f) (h .link (x .1) f));
+          links = λ x f r. option-same (both (g .link (x .0) f) (h .link (x .1) f));
           labels = λ x r.
               let d = Product.product-walks raw g h (r .0) (x .0) (x .1) .0 (r .1) in
               join-label n t ok (known n t ok (g .label (x .0))) (known n t ok (h .label (x .1))) ∙

@@ -1,7 +1,7 @@
 -- Turning the words of an order round by their set bits: one bit for each type of a word is set in the words that are turned.
 use Prim.Native.Nat.{ℕ, suc, _+_, _*_, _^_, _<_}
 use mathlib.Core.Path.{_≡_, refl, sym, ap, _∙_}
-use mathlib.Core.Bool.{Bool, true, false, not, _&&_}
+use mathlib.Core.Bool.{Bool, true, false, not, _&&_, and-true, and-not-self}
 use mathlib.Core.List.{List}
 use native.Mathlib.Decide.{ℕ-discrete}
 use native.Mathlib.Omega.{arith}
@@ -11,15 +11,11 @@ use lib.ListN.{length, getD, set, length-set}
 use lib.Seq.{getD-set-same, getD-set-other}
 use Rattle.lattice.specs.Words.{digit, word, bit, without, turned, Spread}
 use Rattle.lattice.proofs.Bits.{cleared-bit, no-bit}
-use Rattle.lattice.proofs.Every.{and-left, and-with-true}
+use Rattle.lattice.proofs.Every.{and-left}
 use Rattle.lattice.proofs.WordLaws.{word-below}
 
 no-digit : (j x : ℕ) → digit false * 2 ^ j + x ≡ x
 no-digit j x = omega arith
-
-both-ways : (b : Bool) → (b && not b) ≡ false
-both-ways true = refl
-both-ways false = refl
 
 module _ (word j : ℕ) (old : List ℕ) where
   -- before the first bit
@@ -28,7 +24,7 @@ module _ (word j : ℕ) (old : List ℕ) where
       record {
         long = long;
         part = λ i l e. e;
-        spread = λ i l. sym (ap (λ (b : Bool). digit b * 2 ^ j + getD old i 0) (both-ways (bit word i)) ∙ no-digit j (getD old i 0));
+        spread = λ i l. sym (ap (λ (b : Bool). digit b * 2 ^ j + getD old i 0) (and-not-self (bit word i)) ∙ no-digit j (getD old i 0));
       }
 
   module _ (left : ℕ) (new : List ℕ) (so-far : Spread word j old left new) where
@@ -61,13 +57,13 @@ module _ (word j : ℕ) (old : List ℕ) where
         go k s (no other) =
             getD-set-other new i k v 0 other ∙ so-far .spread k s ∙
             sym (ap (λ (b : Bool). digit (bit word k && not b) * 2 ^ j + getD old k 0)
-            (cleared-bit left i k ∙ ap (λ (b : Bool). bit left k && not b) (ne-eqb k i other) ∙ and-with-true (bit left k)))
+            (cleared-bit left i k ∙ ap (λ (b : Bool). bit left k && not b) (ne-eqb k i other) ∙ and-true (bit left k)))
 
 -- after the last bit
 pub spread-end : (word j : ℕ) (old new : List ℕ) → Spread word j old 0 new → (i : ℕ) → i < 64 → getD new i 0 ≡ digit (bit word i) * 2 ^ j + getD old i 0
 spread-end word j old new done i l =
     done .spread i l ∙
-    ap (λ (b : Bool). digit b * 2 ^ j + getD old i 0) (ap (λ (b : Bool). bit word i && not b) (no-bit i) ∙ and-with-true (bit word i))
+    ap (λ (b : Bool). digit b * 2 ^ j + getD old i 0) (ap (λ (b : Bool). bit word i && not b) (no-bit i) ∙ and-true (bit word i))
 
 -- The words that are turned, row by row.
 

@@ -1,6 +1,6 @@
 -- Whether bytes begin with others, compared one by one.
 use mathlib.Core.Path.{_≡_, refl, _∙_, ap, ap₂}
-use mathlib.Core.Bool.{Bool, true, false, _&&_}
+use mathlib.Core.Bool.{Bool, true, false, _&&_, and-false}
 use mathlib.Core.List.{List, [], _∷_}
 use Prim.Native.Nat.{ℕ, suc, _+_, _≤_, _<_}
 use native.Mathlib.Omega.{arith}
@@ -15,11 +15,7 @@ pub starts-short : (start bytes : List ℕ) → length bytes < length start → 
 unfolding startsWith
 starts-short [] bytes h = absurd (omega arith)
 starts-short (x ∷ xs) [] h = refl
-starts-short (x ∷ xs) (b ∷ bs) h = ap (λ (r : Bool). eqb x b && r) (starts-short xs bs (omega arith)) ∙ go (eqb x b)
-  where
-    go : (t : Bool) → (t && false) ≡ false
-    go true = refl
-    go false = refl
+starts-short (x ∷ xs) (b ∷ bs) h = ap (λ (r : Bool). eqb x b && r) (starts-short xs bs (omega arith)) ∙ and-false (eqb x b)
 
 none-starts : (bytes : List ℕ) → startsWith [] bytes ≡ true
 unfolding startsWith
